@@ -15,8 +15,8 @@ use pfs_base::{Instance, MOST_MACHINES};
 use pfs_insert::{HeadsTails, Inserter, Placed};
 use pfs_order::Seq;
 use pfs_wave::{
-    EightBands, FiveBands, Lanes, MeteredLanes, Method, OneBand, ThirteenBands, ThreeBands,
-    TwentySixBands, TwoBands, Wavefront, Width, method_for,
+    Band, EightBands, FiveBands, Lanes, Long, MeteredLanes, Method, OneBand, Short, ThirteenBands,
+    ThreeBands, TwentySixBands, TwoBands, Wavefront, Width, method_for,
 };
 use std::alloc::Global;
 
@@ -93,7 +93,8 @@ pub(crate) fn best_place(
 {
     match method_for(instance) {
         Method::HeadsTails => best_by_rows(alloc, instance, sequence, job),
-        Method::Wavefront(width) => best_in_width(alloc, instance, width, sequence, job),
+        Method::Wavefront16(width) => best_in_width::<Short>(alloc, instance, width, sequence, job),
+        Method::Wavefront32(width) => best_in_width::<Long>(alloc, instance, width, sequence, job),
     }
 }
 
@@ -128,14 +129,14 @@ fn best_by_rows(
 }
 
 // `best_place` by a wavefront of a given width.
-fn best_in_width(
+fn best_in_width<B: Band>(
     alloc: Global,
     instance: &Instance,
     width: Width,
     sequence: &Seq,
     job: usize,
 ) -> Result<Placed<u64>, CallFault>
-    requires served { IsServed instance.now.shop (lanes_of width) }
+    requires served { IsServed instance.now.shop (lanes_of width) B.CAP }
     requires size { sequence.now.size ≡ instance.now.shop.jobs }
     requires job { job < instance.now.shop.jobs }
     requires absent { Contains sequence.now.jobs job → ⊥ }
@@ -144,13 +145,13 @@ fn best_in_width(
     ensures memory { IfErr result (λ why. why ≡ CallFault.Memory) }
 {
     match width {
-        Width::Lanes8 => best_in_lanes::<OneBand>(alloc, instance, sequence, job),
-        Width::Lanes16 => best_in_lanes::<TwoBands>(alloc, instance, sequence, job),
-        Width::Lanes24 => best_in_lanes::<ThreeBands>(alloc, instance, sequence, job),
-        Width::Lanes40 => best_in_lanes::<FiveBands>(alloc, instance, sequence, job),
-        Width::Lanes64 => best_in_lanes::<EightBands>(alloc, instance, sequence, job),
-        Width::Lanes104 => best_in_lanes::<ThirteenBands>(alloc, instance, sequence, job),
-        Width::Lanes208 => best_in_lanes::<TwentySixBands>(alloc, instance, sequence, job),
+        Width::Lanes8 => best_in_lanes::<OneBand<B>>(alloc, instance, sequence, job),
+        Width::Lanes16 => best_in_lanes::<TwoBands<B>>(alloc, instance, sequence, job),
+        Width::Lanes24 => best_in_lanes::<ThreeBands<B>>(alloc, instance, sequence, job),
+        Width::Lanes40 => best_in_lanes::<FiveBands<B>>(alloc, instance, sequence, job),
+        Width::Lanes64 => best_in_lanes::<EightBands<B>>(alloc, instance, sequence, job),
+        Width::Lanes104 => best_in_lanes::<ThirteenBands<B>>(alloc, instance, sequence, job),
+        Width::Lanes208 => best_in_lanes::<TwentySixBands<B>>(alloc, instance, sequence, job),
     }
 }
 
@@ -161,7 +162,7 @@ fn best_in_lanes<L: Lanes>(
     sequence: &Seq,
     job: usize,
 ) -> Result<Placed<u64>, CallFault>
-    requires served { IsServed instance.now.shop L.WIDTH }
+    requires served { IsServed instance.now.shop L.WIDTH L.Band.CAP }
     requires size { sequence.now.size ≡ instance.now.shop.jobs }
     requires job { job < instance.now.shop.jobs }
     requires absent { Contains sequence.now.jobs job → ⊥ }

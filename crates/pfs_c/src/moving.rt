@@ -12,8 +12,8 @@ use pfs_base::{Bench, Instance, MOST_PASSES};
 use pfs_insert::{HeadsTails, Inserter};
 use pfs_order::Seq;
 use pfs_wave::{
-    EightBands, FiveBands, Lanes, MeteredLanes, Method, OneBand, ThirteenBands, ThreeBands,
-    TwentySixBands, TwoBands, Wavefront, Width, method_for,
+    Band, EightBands, FiveBands, Lanes, Long, MeteredLanes, Method, OneBand, Short, ThirteenBands,
+    ThreeBands, TwentySixBands, TwoBands, Wavefront, Width, method_for,
 };
 use std::alloc::Global;
 
@@ -35,7 +35,12 @@ pub(crate) fn make_visits(
 {
     match method_for(instance) {
         Method::HeadsTails => visit_by_rows(alloc, instance, seq, list, passes),
-        Method::Wavefront(width) => visit_in_width(alloc, instance, width, seq, list, passes),
+        Method::Wavefront16(width) => visit_in_width::<Short>(
+            alloc, instance, width, seq, list, passes,
+        ),
+        Method::Wavefront32(width) => visit_in_width::<Long>(
+            alloc, instance, width, seq, list, passes,
+        ),
     }
 }
 
@@ -62,7 +67,7 @@ fn visit_by_rows(
 }
 
 // What `make_visits` does, by a wavefront of a given width.
-fn visit_in_width(
+fn visit_in_width<B: Band>(
     alloc: Global,
     instance: &Instance,
     width: Width,
@@ -70,7 +75,7 @@ fn visit_in_width(
     list: &[u32],
     passes: u32,
 ) -> Result<(), CallFault>
-    requires served { IsServed instance.now.shop (lanes_of width) }
+    requires served { IsServed instance.now.shop (lanes_of width) B.CAP }
     requires size { seq.old.size ≡ instance.now.shop.jobs }
     requires jobs { All (λ job. job < instance.now.shop.jobs) list.now }
     requires few { length list.now ≤ instance.now.shop.jobs }
@@ -79,13 +84,13 @@ fn visit_in_width(
     ensures memory { IfErr result (λ why. why ≡ CallFault.Memory) }
 {
     match width {
-        Width::Lanes8 => visit_in_lanes::<OneBand>(alloc, instance, seq, list, passes),
-        Width::Lanes16 => visit_in_lanes::<TwoBands>(alloc, instance, seq, list, passes),
-        Width::Lanes24 => visit_in_lanes::<ThreeBands>(alloc, instance, seq, list, passes),
-        Width::Lanes40 => visit_in_lanes::<FiveBands>(alloc, instance, seq, list, passes),
-        Width::Lanes64 => visit_in_lanes::<EightBands>(alloc, instance, seq, list, passes),
-        Width::Lanes104 => visit_in_lanes::<ThirteenBands>(alloc, instance, seq, list, passes),
-        Width::Lanes208 => visit_in_lanes::<TwentySixBands>(alloc, instance, seq, list, passes),
+        Width::Lanes8 => visit_in_lanes::<OneBand<B>>(alloc, instance, seq, list, passes),
+        Width::Lanes16 => visit_in_lanes::<TwoBands<B>>(alloc, instance, seq, list, passes),
+        Width::Lanes24 => visit_in_lanes::<ThreeBands<B>>(alloc, instance, seq, list, passes),
+        Width::Lanes40 => visit_in_lanes::<FiveBands<B>>(alloc, instance, seq, list, passes),
+        Width::Lanes64 => visit_in_lanes::<EightBands<B>>(alloc, instance, seq, list, passes),
+        Width::Lanes104 => visit_in_lanes::<ThirteenBands<B>>(alloc, instance, seq, list, passes),
+        Width::Lanes208 => visit_in_lanes::<TwentySixBands<B>>(alloc, instance, seq, list, passes),
     }
 }
 
@@ -97,7 +102,7 @@ fn visit_in_lanes<L: Lanes>(
     list: &[u32],
     passes: u32,
 ) -> Result<(), CallFault>
-    requires served { IsServed instance.now.shop L.WIDTH }
+    requires served { IsServed instance.now.shop L.WIDTH L.Band.CAP }
     requires size { seq.old.size ≡ instance.now.shop.jobs }
     requires jobs { All (λ job. job < instance.now.shop.jobs) list.now }
     requires few { length list.now ≤ instance.now.shop.jobs }

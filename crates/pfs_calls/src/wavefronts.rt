@@ -9,8 +9,8 @@ use pfs_insert::{HeadsTails, Inserter};
 use pfs_order::Seq;
 use pfs_tests::shops::shop;
 use pfs_wave::{
-    EightBands, FiveBands, Lanes, MeteredLanes, OneBand, ThirteenBands, ThreeBands, TwentySixBands,
-    TwoBands, Wavefront, Width, is_served, method_for,
+    Band, EightBands, FiveBands, Lanes, Long, MeteredLanes, OneBand, Short, ThirteenBands,
+    ThreeBands, TwentySixBands, TwoBands, Wavefront, Width, is_served, method_for,
 };
 
 /// Inserts the jobs of a shop into a sequence in the order of their numbers, each at its best place. The arguments are
@@ -21,32 +21,38 @@ pub(crate) fn wavefronts_call(rt: &HostRuntime, words: &[String]) -> Result<(), 
     let times = numbers(rt, words, 2)?;
     let instance = shop(rt.alloc(), number(words, 0)?, number(words, 1)?, &times)?;
     println!(rt; "{:?}", method_for(&instance))?;
-    if is_served(&instance, Width::Lanes8) {
-        insert_all::<OneBand>(rt, &instance)?;
+    insert_in_widths::<Short>(rt, &instance)?;
+    insert_in_widths::<Long>(rt, &instance)
+}
+
+// Inserts all jobs with each width that serves the shop.
+fn insert_in_widths<B: Band>(rt: &HostRuntime, instance: &Instance) -> Result<(), Stop> {
+    if is_served(instance, Width::Lanes8, B::CAP) {
+        insert_all::<OneBand<B>>(rt, instance)?;
     }
-    if is_served(&instance, Width::Lanes16) {
-        insert_all::<TwoBands>(rt, &instance)?;
+    if is_served(instance, Width::Lanes16, B::CAP) {
+        insert_all::<TwoBands<B>>(rt, instance)?;
     }
-    if is_served(&instance, Width::Lanes24) {
-        insert_all::<ThreeBands>(rt, &instance)?;
+    if is_served(instance, Width::Lanes24, B::CAP) {
+        insert_all::<ThreeBands<B>>(rt, instance)?;
     }
-    if is_served(&instance, Width::Lanes40) {
-        insert_all::<FiveBands>(rt, &instance)?;
+    if is_served(instance, Width::Lanes40, B::CAP) {
+        insert_all::<FiveBands<B>>(rt, instance)?;
     }
-    if is_served(&instance, Width::Lanes64) {
-        insert_all::<EightBands>(rt, &instance)?;
+    if is_served(instance, Width::Lanes64, B::CAP) {
+        insert_all::<EightBands<B>>(rt, instance)?;
     }
-    if is_served(&instance, Width::Lanes104) {
-        insert_all::<ThirteenBands>(rt, &instance)?;
+    if is_served(instance, Width::Lanes104, B::CAP) {
+        insert_all::<ThirteenBands<B>>(rt, instance)?;
     }
-    if is_served(&instance, Width::Lanes208) {
-        insert_all::<TwentySixBands>(rt, &instance)?;
+    if is_served(instance, Width::Lanes208, B::CAP) {
+        insert_all::<TwentySixBands<B>>(rt, instance)?;
     }
     Ok(())
 }
 
 fn insert_all<L: Lanes>(rt: &HostRuntime, instance: &Instance) -> Result<(), Stop>
-    requires { IsServed instance.now.shop L.WIDTH }
+    requires { IsServed instance.now.shop L.WIDTH L.Band.CAP }
 {
     let mut seq = Seq::new(rt.alloc(), instance.jobs())?;
     let mut bench = MeteredLanes::<L>::new(rt.alloc(), instance)?;

@@ -13,8 +13,8 @@ use pfs_base::{Bench, Instance, Length, MOST_PASSES, MOST_ROUNDS, Shop, Span};
 use pfs_insert::{HeadsTails, Inserter};
 use pfs_order::Order;
 use pfs_wave::{
-    EightBands, FiveBands, Lanes, MeteredLanes, Method, OneBand, ThirteenBands, ThreeBands,
-    TwentySixBands, TwoBands, Wavefront, Width, method_for,
+    Band, EightBands, FiveBands, Lanes, Long, MeteredLanes, Method, OneBand, Short, ThirteenBands,
+    ThreeBands, TwentySixBands, TwoBands, Wavefront, Width, method_for,
 };
 use rand_core::SeedableRng;
 use rand_pcg::Pcg32;
@@ -55,8 +55,11 @@ pub fn solve(
 {
     match method_for(instance) {
         Method::HeadsTails => solve_by_rows(alloc, instance, rounds, take, passes, seed),
-        Method::Wavefront(width) => {
-            solve_in_width(alloc, instance, width, rounds, take, passes, seed)
+        Method::Wavefront16(width) => {
+            solve_in_width::<Short>(alloc, instance, width, rounds, take, passes, seed)
+        }
+        Method::Wavefront32(width) => {
+            solve_in_width::<Long>(alloc, instance, width, rounds, take, passes, seed)
         }
     }
 }
@@ -90,7 +93,10 @@ pub fn improve(
         Method::HeadsTails => {
             improve_by_rows(alloc, instance, start, first, count, take, passes, seed)
         }
-        Method::Wavefront(width) => improve_in_width(
+        Method::Wavefront16(width) => improve_in_width::<Short>(
+            alloc, instance, width, start, first, count, take, passes, seed,
+        ),
+        Method::Wavefront32(width) => improve_in_width::<Long>(
             alloc, instance, width, start, first, count, take, passes, seed,
         ),
     }
@@ -127,7 +133,7 @@ fn solve_by_rows(
 }
 
 // `solve` by a wavefront of a given width.
-fn solve_in_width(
+fn solve_in_width<B: Band>(
     alloc: Global,
     instance: &Instance,
     width: Width,
@@ -136,7 +142,7 @@ fn solve_in_width(
     passes: u32,
     seed: u64,
 ) -> Result<Solution, SearchFault>
-    requires served { IsServed instance.now.shop (lanes_of width) }
+    requires served { IsServed instance.now.shop (lanes_of width) B.CAP }
     requires some { 1 ≤ take }
     requires few { take ≤ instance.now.shop.jobs }
     requires rounds { rounds ≤ MOST_ROUNDS }
@@ -147,15 +153,23 @@ fn solve_in_width(
     ensures fault { IfErr result (λ fault. fault ≡ SearchFault.Memory 0) }
 {
     match width {
-        Width::Lanes8 => solve_in_lanes::<OneBand>(alloc, instance, rounds, take, passes, seed),
-        Width::Lanes16 => solve_in_lanes::<TwoBands>(alloc, instance, rounds, take, passes, seed),
-        Width::Lanes24 => solve_in_lanes::<ThreeBands>(alloc, instance, rounds, take, passes, seed),
-        Width::Lanes40 => solve_in_lanes::<FiveBands>(alloc, instance, rounds, take, passes, seed),
-        Width::Lanes64 => solve_in_lanes::<EightBands>(alloc, instance, rounds, take, passes, seed),
-        Width::Lanes104 => solve_in_lanes::<ThirteenBands>(
+        Width::Lanes8 => solve_in_lanes::<OneBand<B>>(alloc, instance, rounds, take, passes, seed),
+        Width::Lanes16 => solve_in_lanes::<TwoBands<B>>(
             alloc, instance, rounds, take, passes, seed,
         ),
-        Width::Lanes208 => solve_in_lanes::<TwentySixBands>(
+        Width::Lanes24 => solve_in_lanes::<ThreeBands<B>>(
+            alloc, instance, rounds, take, passes, seed,
+        ),
+        Width::Lanes40 => solve_in_lanes::<FiveBands<B>>(
+            alloc, instance, rounds, take, passes, seed,
+        ),
+        Width::Lanes64 => solve_in_lanes::<EightBands<B>>(
+            alloc, instance, rounds, take, passes, seed,
+        ),
+        Width::Lanes104 => solve_in_lanes::<ThirteenBands<B>>(
+            alloc, instance, rounds, take, passes, seed,
+        ),
+        Width::Lanes208 => solve_in_lanes::<TwentySixBands<B>>(
             alloc, instance, rounds, take, passes, seed,
         ),
     }
@@ -170,7 +184,7 @@ fn solve_in_lanes<L: Lanes>(
     passes: u32,
     seed: u64,
 ) -> Result<Solution, SearchFault>
-    requires served { IsServed instance.now.shop L.WIDTH }
+    requires served { IsServed instance.now.shop L.WIDTH L.Band.CAP }
     requires some { 1 ≤ take }
     requires few { take ≤ instance.now.shop.jobs }
     requires rounds { rounds ≤ MOST_ROUNDS }
@@ -231,7 +245,7 @@ fn improve_by_rows(
 }
 
 // `improve` by a wavefront of a given width, from an order and its makespan.
-fn improve_in_width(
+fn improve_in_width<B: Band>(
     alloc: Global,
     instance: &Instance,
     width: Width,
@@ -242,7 +256,7 @@ fn improve_in_width(
     passes: u32,
     seed: u64,
 ) -> Result<Solution, SearchFault>
-    requires served { IsServed instance.now.shop (lanes_of width) }
+    requires served { IsServed instance.now.shop (lanes_of width) B.CAP }
     requires order_jobs { length start.order ≡ instance.now.shop.jobs }
     requires span { start.span ≡ makespan_of instance.now.shop start.order }
     requires some { 1 ≤ take }
@@ -255,25 +269,25 @@ fn improve_in_width(
     ensures fault { IfErr result (λ fault. fault ≡ SearchFault.Memory 0) }
 {
     match width {
-        Width::Lanes8 => improve_in_lanes::<OneBand>(
+        Width::Lanes8 => improve_in_lanes::<OneBand<B>>(
             alloc, instance, start, first, count, take, passes, seed,
         ),
-        Width::Lanes16 => improve_in_lanes::<TwoBands>(
+        Width::Lanes16 => improve_in_lanes::<TwoBands<B>>(
             alloc, instance, start, first, count, take, passes, seed,
         ),
-        Width::Lanes24 => improve_in_lanes::<ThreeBands>(
+        Width::Lanes24 => improve_in_lanes::<ThreeBands<B>>(
             alloc, instance, start, first, count, take, passes, seed,
         ),
-        Width::Lanes40 => improve_in_lanes::<FiveBands>(
+        Width::Lanes40 => improve_in_lanes::<FiveBands<B>>(
             alloc, instance, start, first, count, take, passes, seed,
         ),
-        Width::Lanes64 => improve_in_lanes::<EightBands>(
+        Width::Lanes64 => improve_in_lanes::<EightBands<B>>(
             alloc, instance, start, first, count, take, passes, seed,
         ),
-        Width::Lanes104 => improve_in_lanes::<ThirteenBands>(
+        Width::Lanes104 => improve_in_lanes::<ThirteenBands<B>>(
             alloc, instance, start, first, count, take, passes, seed,
         ),
-        Width::Lanes208 => improve_in_lanes::<TwentySixBands>(
+        Width::Lanes208 => improve_in_lanes::<TwentySixBands<B>>(
             alloc, instance, start, first, count, take, passes, seed,
         ),
     }
@@ -290,7 +304,7 @@ fn improve_in_lanes<L: Lanes>(
     passes: u32,
     seed: u64,
 ) -> Result<Solution, SearchFault>
-    requires served { IsServed instance.now.shop L.WIDTH }
+    requires served { IsServed instance.now.shop L.WIDTH L.Band.CAP }
     requires order_jobs { length start.order ≡ instance.now.shop.jobs }
     requires span { start.span ≡ makespan_of instance.now.shop start.order }
     requires some { 1 ≤ take }

@@ -3,7 +3,7 @@ use Rattle.std.proofs.Common.{arith}
 use Rattle.pfs_wave.specs.Wavefront.{CappedLeastLaw}
 
 pub capped_least_law : CappedLeastLaw
-capped_least_law values others count place same is small =
+capped_least_law cap values others count place same is small =
     let inside = is.within in
     let here = same place inside in (
       record {

@@ -1,6 +1,7 @@
 pub mod BandSteps
 pub mod BestFound
 pub mod CappedLeast
+pub mod EightLanes
 pub mod FilledSteps
 pub mod HeldLemmas
 pub mod JoinedRows
@@ -10,6 +11,7 @@ pub mod OneBandLemmas
 pub mod ServedPaths
 pub mod ShopRows
 pub mod SkewedTimes
+pub mod SmallLanes
 pub mod Steps
 pub mod PaddedTables
 pub mod PastRows

@@ -1,4 +1,4 @@
--- Every path of a shop that a wavefront serves is below 65,535, the greatest value of 16 bits.
+-- Every path of a shop that a wavefront serves is below its cap, the greatest value of a lane.
 use Rattle.std.proofs.Common.{◌≡◌, ℕ, zero, suc, ◌+◌, ◌-◌, ◌*◌, ◌<◌, ◌≤◌, List, [], ◌∷◌, length, arith, refl}
 use Rattle.std.proofs.Math.Nat.{mul-le-mul_right, add-mul}
 use Rattle.std.specs.List.{All}
@@ -15,9 +15,9 @@ greatest_all [] k d lt = absurd (omega arith)
 greatest_all (x ∷ xs) zero d lt = omega (arith, greatest-cons x xs)
 greatest_all (x ∷ xs) (suc k) d lt = omega (arith, greatest-cons x xs, greatest_all xs k d (omega arith))
 
-module _ (shop : FlowShop) (width : ℕ) (served : IsServed shop width) where
+module _ (shop : FlowShop) (width cap : ℕ) (served : IsServed shop width cap) where
   pub served_path : (jobs : List ℕ) (job place : ℕ) → length jobs < shop.jobs → place ≤ length jobs
-      → makespan_with shop jobs job place < 65535
+      → makespan_with shop jobs job place < cap
   served_path jobs job place few within =
       let some = served.some in
       let least : length jobs + shop.machines ≤ shop.jobs + shop.machines - 1 = omega arith in
@@ -28,8 +28,8 @@ module _ (shop : FlowShop) (width : ℕ) (served : IsServed shop width) where
         served.short,
       )
 
-  -- every time of a shop that a wavefront serves has 16 bits
-  pub served_times : All (λ time. time < 65536) shop.times
+  -- every time of a shop that a wavefront serves is at most the cap
+  pub served_times : All (λ time. time ≤ cap) shop.times
   served_times k d lt =
       let some = served.some in
       let many = served.jobs in

@@ -18,8 +18,8 @@ module _ (shop : FlowShop) (jobs : List ℕ) (width : ℕ) (rows others : Rows)
     none_before = λ step lane before lt. same_lane step lane (omega arith) ∙ skewed.none_before step lane before lt;
   }
 
-  pub same_tails : HoldTails shop jobs width rows → HoldTails shop jobs width others
-  same_tails tails = record {
+  pub same_tails : (cap : ℕ) → HoldTails cap shop jobs width rows → HoldTails cap shop jobs width others
+  same_tails cap tails = record {
     lanes = λ step lt. ap length (same step lt) ∙ tails.lanes step lt;
     tails_are = λ row lane lt inside. same_lane (row + lane) lane inside ∙ tails.tails_are row lane lt inside;
   }

@@ -10,13 +10,13 @@ abbrev pub longest_path : FlowShop → ℕ
 longest_path shop = (shop.jobs + shop.machines - 1) * greatest shop.times
 
 -- the shop has at least 8 jobs and at most `width` machines; of more than 24 lanes, at least a third of those that an
--- insertion computes have a cell; and the bound on the shop's paths is below 65,535, the greatest value of 16 bits
-pub record IsServed (shop : FlowShop) (width : ℕ) : Type 0 where
+-- insertion computes have a cell; and the bound on the shop's paths is below `cap`, the greatest value of a lane
+pub record IsServed (shop : FlowShop) (width cap : ℕ) : Type 0 where
   pub jobs : 8 ≤ shop.jobs
   pub some : 1 ≤ shop.machines
   pub few : shop.machines ≤ width
   pub full : 24 < width → (shop.jobs + width) * width ≤ 3 * shop.jobs * shop.machines
-  pub short : longest_path shop < 65535
+  pub short : longest_path shop < cap
 
 -- the number of lanes of a width
 abbrev pub lanes_of : Width → ℕ

@@ -1,6 +1,6 @@
 -- A wavefront: lanes go down the anti-diagonals of Taillard's tables. Lane l of step x contains the value of row x - l
 -- and machine l, so the cell of a row and a lane is computed at the step row + lane. A value is capped where it stops
--- at 65,535.
+-- at `cap`, the greatest number of a lane.
 use Rattle.std.specs.Prelude.{ℕ, ◌≡◌, ◌+◌, ◌-◌, ◌*◌, ◌<◌, ◌≤◌, List, [], min, length, nat_lt, if◌then◌else◌, insert}
 use Rattle.std.specs.List.{slice_index_or, All}
 use Rattle.pfs_base.specs.FlowShop.{FlowShop, time_of}
@@ -41,19 +41,19 @@ pub record IsJobRow (shop : FlowShop) (job width : ℕ) (times : List ℕ) : Typ
   pub times_are : (lane : ℕ) → lane < width → slice_index_or times lane 0 ≡ on_machine shop (time_of shop job) lane
 
 -- the lanes of `tails` contain the tails of the sequence (`heaviest_back`), capped, and 0 after the last machine
-pub record HoldTails (shop : FlowShop) (jobs : List ℕ) (width : ℕ) (tails : Rows) : Type 0 where
+pub record HoldTails (cap : ℕ) (shop : FlowShop) (jobs : List ℕ) (width : ℕ) (tails : Rows) : Type 0 where
   pub lanes : (step : ℕ) → step < length jobs + width → length (tails step) ≡ width
   pub tails_are : (row lane : ℕ) → lane < width → row + lane < length jobs + width
-      → lane_of tails (row + lane) lane ≡ capped (on_machine shop (heaviest_back shop jobs row) lane)
+      → lane_of tails (row + lane) lane ≡ capped cap (on_machine shop (heaviest_back shop jobs row) lane)
 
 -- the lanes of tails, computed from skewed times step by step, contain the tails of the sequence
 abbrev pub TailsLaw : Type 0
 TailsLaw =
-    (shop : FlowShop) (jobs : List ℕ) (width : ℕ) (times tails : Rows) → FitsLanes shop width
+    (cap : ℕ) (shop : FlowShop) (jobs : List ℕ) (width : ℕ) (times tails : Rows) → FitsLanes shop width
     → AreSkewed shop jobs width times
     → ((step : ℕ) → step < length jobs + width
-    → tails step ≡ tails_at times width (length jobs + width) (length jobs + width - step))
-    → HoldTails shop jobs width tails
+    → tails step ≡ tails_at cap times width (length jobs + width) (length jobs + width - step))
+    → HoldTails cap shop jobs width tails
 
 -- the machine whose value a lane contains: the lane's own, or the last machine in the lanes after that
 abbrev pub machine_at : FlowShop → ℕ → ℕ
@@ -62,38 +62,40 @@ machine_at shop lane = min lane (shop.machines - 1)
 -- after the step of a cell, the cell's lane of heads contains its head (`heaviest_front`), capped
 abbrev pub HeadsLaw : Type 0
 HeadsLaw =
-    (shop : FlowShop) (jobs : List ℕ) (width : ℕ) (times : Rows) → FitsLanes shop width
+    (cap : ℕ) (shop : FlowShop) (jobs : List ℕ) (width : ℕ) (times : Rows) → FitsLanes shop width
     → AreSkewed shop jobs width times → (row lane : ℕ) → lane < width → row < length jobs
-    → slice_index_or (heads_at times width (row + lane + 1)) lane 0
-    ≡ capped (heaviest_front shop jobs row (machine_at shop lane))
+    → slice_index_or (heads_at cap times width (row + lane + 1)) lane 0
+    ≡ capped cap (heaviest_front shop jobs row (machine_at shop lane))
 
 -- after the step of a place and a lane, the lane of inserted rows contains the head of the job inserted at the place,
 -- capped
 abbrev pub InsertedRowsLaw : Type 0
 InsertedRowsLaw =
-    (shop : FlowShop) (jobs : List ℕ) (job width : ℕ) (times : Rows) (job_times : List ℕ) → FitsLanes shop width
+    (cap : ℕ) (shop : FlowShop) (jobs : List ℕ) (job width : ℕ) (times : Rows) (job_times : List ℕ)
+    → FitsLanes shop width
     → AreSkewed shop jobs width times → IsJobRow shop job width job_times
     → (place lane : ℕ) → lane < width → place ≤ length jobs
-    → slice_index_or (inserted_at times job_times width (place + lane + 1)) lane 0
-    ≡ capped (heaviest_front shop (insert jobs place job) place (machine_at shop lane))
+    → slice_index_or (inserted_at cap times job_times width (place + lane + 1)) lane 0
+    ≡ capped cap (heaviest_front shop (insert jobs place job) place (machine_at shop lane))
 
 -- after the step of a place and a lane, where the lane is that of the last machine or after it, the lane of sums
 -- contains the makespan with the job at the place, capped
 abbrev pub SumsLaw : Type 0
 SumsLaw =
-    (shop : FlowShop) (jobs : List ℕ) (job width : ℕ) (times tails : Rows) (job_times : List ℕ)
+    (cap : ℕ) (shop : FlowShop) (jobs : List ℕ) (job width : ℕ) (times tails : Rows) (job_times : List ℕ)
     → FitsLanes shop width → AreSkewed shop jobs width times → IsJobRow shop job width job_times
-    → HoldTails shop jobs width tails
+    → HoldTails cap shop jobs width tails
     → (place lane : ℕ) → place ≤ length jobs → lane < width → shop.machines ≤ lane + 1
-    → slice_index_or (sums_at times tails job_times width (place + lane + 1)) lane 0
-    ≡ capped (makespan_with shop jobs job place)
+    → slice_index_or (sums_at cap times tails job_times width (place + lane + 1)) lane 0
+    ≡ capped cap (makespan_with shop jobs job place)
 
 -- the first place of the least capped value, where that is below the cap, is the first place of the least value, and
 -- both values are the same
 abbrev pub CappedLeastLaw : Type 0
 CappedLeastLaw =
-    (values others : ℕ → ℕ) (count place : ℕ) → ((at : ℕ) → at < count → others at ≡ capped (values at))
-    → IsFirstLeast others count place → others place < 65535
+    (cap : ℕ) (values others : ℕ → ℕ) (count place : ℕ)
+    → ((at : ℕ) → at < count → others at ≡ capped cap (values at))
+    → IsFirstLeast others count place → others place < cap
     → IsFirstLeast values count place × (others place ≡ values place)
 
 -- `rows` has the row of each job, and after these a row of zeros

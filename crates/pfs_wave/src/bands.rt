@@ -1,48 +1,49 @@
 //! Rows of lanes of each width.
 ghost use Rattle.std.proofs.Common.{arith};
 
+use crate::band::Band;
 use crate::joined::Joined;
 use crate::lanes::Part;
 use crate::one_band::OneBand;
 
 /// Rows of 16 lanes.
-pub type TwoBands = Joined<OneBand, OneBand>;
+pub type TwoBands<B> = Joined<OneBand<B>, OneBand<B>>;
 
 /// Rows of 24 lanes.
-pub type ThreeBands = Joined<TwoBands, OneBand>;
+pub type ThreeBands<B> = Joined<TwoBands<B>, OneBand<B>>;
 
 /// Rows of 40 lanes.
-pub type FiveBands = Joined<ThreeBands, TwoBands>;
+pub type FiveBands<B> = Joined<ThreeBands<B>, TwoBands<B>>;
 
 /// Rows of 64 lanes.
-pub type EightBands = Joined<FiveBands, ThreeBands>;
+pub type EightBands<B> = Joined<FiveBands<B>, ThreeBands<B>>;
 
 /// Rows of 104 lanes.
-pub type ThirteenBands = Joined<EightBands, FiveBands>;
+pub type ThirteenBands<B> = Joined<EightBands<B>, FiveBands<B>>;
 
 /// Rows of 208 lanes, more than a shop has machines.
-pub type TwentySixBands = Joined<ThirteenBands, ThirteenBands>;
+pub type TwentySixBands<B> = Joined<ThirteenBands<B>, ThirteenBands<B>>;
 
-impl Part for OneBand {
+impl<B: Band> Part for OneBand<B> {
     ghost part = { Prim.omega arith };
 }
 
-impl Part for TwoBands {
+impl<B: Band> Part for TwoBands<B> {
     ghost part = { Prim.omega arith };
 }
 
-impl Part for ThreeBands {
+impl<B: Band> Part for ThreeBands<B> {
     ghost part = { Prim.omega arith };
 }
 
-impl Part for FiveBands {
+impl<B: Band> Part for FiveBands<B> {
     ghost part = { Prim.omega arith };
 }
 
-impl Part for EightBands {
+impl<B: Band> Part for EightBands<B> {
     ghost part = { Prim.omega arith };
 }
 
-impl Part for ThirteenBands {
+impl<B: Band> Part for ThirteenBands<B> {
     ghost part = { Prim.omega arith };
 }

@@ -12,10 +12,10 @@ use pfs_base::{Bench, Length};
 use pfs_insert::Placed;
 use pfs_order::Seq;
 
-/// A bench that also computes heads, tails, inserted rows and sums in lanes of 16 bits, a whole pass over a sequence
-/// at a time. Each pass counts the values of the tables that it computes: a value for each job and machine. Lanes that
-/// contain no value of a table are not counted. Putting times in the lanes' order is not counted either, since it
-/// computes no sum. The bench keeps the times of the last sequence in that order.
+/// A bench that also computes heads, tails, inserted rows and sums in lanes, a whole pass over a sequence at a time.
+/// Each pass counts the values of the tables that it computes: a value for each job and machine. Lanes that contain no
+/// value of a table are not counted. Putting times in the lanes' order is not counted either, since it computes no sum.
+/// The bench keeps the times of the last sequence in that order.
 pub trait LaneBench: Bench {
     /// A row of its lanes.
     type Lanes: Lanes;
@@ -29,7 +29,8 @@ pub trait LaneBench: Bench {
         requires few { length seq.now.jobs < (Self.shop self.old).jobs }
         requires tables { tables.old.jobs ≡ (Self.shop self.old).jobs }
         requires room { Self.counted self.old + length seq.now.jobs * (Self.shop self.old).machines < 2 ^ 64 }
-        ensures tails { HoldTails (Self.shop self.old) seq.now.jobs Self.Lanes.WIDTH (rows_of tables.new.tails) }
+        ensures tails { HoldTails Self.Lanes.Band.CAP (Self.shop self.old) seq.now.jobs Self.Lanes.WIDTH
+            (rows_of tables.new.tails) }
         ensures held { held self.new ≡ seq.now.jobs }
         ensures tables { tables.new.jobs ≡ tables.old.jobs }
         ensures counted { Self.counted self.new
@@ -48,7 +49,8 @@ pub trait LaneBench: Bench {
         requires few { length seq.now.jobs < (Self.shop self.old).jobs }
         requires tables { tables.old.jobs ≡ (Self.shop self.old).jobs }
         requires held { held self.old ≡ seq.now.jobs }
-        requires tails { HoldTails (Self.shop self.old) seq.now.jobs Self.Lanes.WIDTH (rows_of tables.old.tails) }
+        requires tails { HoldTails Self.Lanes.Band.CAP (Self.shop self.old) seq.now.jobs Self.Lanes.WIDTH
+            (rows_of tables.old.tails) }
         requires room { Self.counted self.old
             + (3 * length seq.now.jobs + 2) * (Self.shop self.old).machines < 2 ^ 64 }
         ensures best { IsBestPlace (Self.shop self.old) seq.now.jobs job
@@ -59,5 +61,5 @@ pub trait LaneBench: Bench {
         ensures held { held self.new ≡ held self.old }
         ensures shop { Self.shop self.new ≡ Self.shop self.old };
 
-    ghost served: { (bench : Self) → IsServed (Self.shop bench) Self.Lanes.WIDTH };
+    ghost served: { (bench : Self) → IsServed (Self.shop bench) Self.Lanes.WIDTH Self.Lanes.Band.CAP };
 }

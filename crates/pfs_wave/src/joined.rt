@@ -3,24 +3,27 @@ ghost use Rattle.std.specs.Prelude.{◌≡◌, ℕ, ◌+◌, ◌-◌, ◌*◌, �
 ghost use Rattle.std.proofs.Common.{arith, ◌∙◌};
 ghost use Rattle.std.proofs.lemmas.List.{length-append};
 
+use crate::band::Band;
 use crate::lanes::{Lanes, Part};
-use std::simd::prelude::*;
 
 /// The lanes of `a`, and after them those of `b`.
 #[derive(Drop)]
-pub struct Joined<A: Part, B: Part> {
+pub struct Joined<A: Part, B: Part<Band = A::Band>> {
     a: A,
     b: B,
 }
 
-impl<A: Part, B: Part> Lanes for Joined<A, B> {
+impl<A: Part, B: Part<Band = A::Band>> Lanes for Joined<A, B> {
+    type Band = A::Band;
+
     ghost lanes = { λ row. A.lanes row.a ++ B.lanes row.b };
 
     ghost WIDTH = { A.WIDTH + B.WIDTH };
 
     const WIDTH: usize = A::WIDTH + B::WIDTH;
 
-    ghost wide = { λ row. Prim.omega (arith, length-append (A.lanes row.a) (B.lanes row.b), A.wide row.a, B.wide row.b) };
+    ghost wide = { λ row.
+        Prim.omega (arith, length-append (A.lanes row.a) (B.lanes row.b), A.wide row.a, B.wide row.b) };
 
     ghost some = { Prim.omega (arith, A.some) };
 
@@ -45,7 +48,7 @@ impl<A: Part, B: Part> Lanes for Joined<A, B> {
     }
 
     #[inline(always)]
-    fn band(&self, band: usize) -> u16x8 {
+    fn band(&self, band: usize) -> A::Band {
         let bands = A::WIDTH / 8;
         if band < bands {
             self.a.band(band)
@@ -55,7 +58,7 @@ impl<A: Part, B: Part> Lanes for Joined<A, B> {
     }
 
     #[inline(always)]
-    fn put_band(&mut self, band: usize, values: u16x8) {
+    fn put_band(&mut self, band: usize, values: A::Band) {
         let bands = A::WIDTH / 8;
         if band < bands {
             self.a.put_band(band, values);
@@ -65,12 +68,12 @@ impl<A: Part, B: Part> Lanes for Joined<A, B> {
     }
 
     #[inline(always)]
-    fn last(&self) -> u16 {
+    fn last(&self) -> <A::Band as Band>::Number {
         self.b.last()
     }
 
     #[inline(always)]
-    fn tails(after: &Joined<A, B>, times: &Joined<A, B>, carry: u16x8) -> Joined<A, B> {
+    fn tails(after: &Joined<A, B>, times: &Joined<A, B>, carry: A::Band) -> Joined<A, B> {
         Joined {
             a: A::tails(&after.a, &times.a, after.b.band(0)),
             b: B::tails(&after.b, &times.b, carry),
@@ -82,7 +85,7 @@ impl<A: Part, B: Part> Lanes for Joined<A, B> {
         before: &Joined<A, B>,
         above: &Joined<A, B>,
         times: &Joined<A, B>,
-        carry: u16x8,
+        carry: A::Band,
     ) -> Joined<A, B> {
         let between = before.a.band(A::WIDTH / 8 - 1);
         Joined {
@@ -96,7 +99,7 @@ impl<A: Part, B: Part> Lanes for Joined<A, B> {
         before: &Joined<A, B>,
         inserted: &Joined<A, B>,
         tails: &Joined<A, B>,
-        carry: u16x8,
+        carry: A::Band,
     ) -> Joined<A, B> {
         let between = before.a.band(A::WIDTH / 8 - 1);
         Joined {

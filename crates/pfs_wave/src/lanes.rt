@@ -3,10 +3,13 @@ ghost use Rattle.std.specs.Prelude.{◌≡◌, ℕ, ◌+◌, ◌-◌, ◌*◌, �
 ghost use Rattle.std.specs.List.{slice_index_or};
 ghost use Rattle.pfs_wave.specs.Lanes.{zeros, tails_step, heads_step, sums_step};
 
-use std::simd::prelude::*;
+use crate::band::Band;
 
-/// A row of lanes of 16 bits, in bands of eight. Sums stop at 65,535.
+/// A row of lanes, in bands of eight. Sums stop at the greatest value of a lane.
 pub trait Lanes: Drop {
+    /// Eight lanes.
+    type Band: Band;
+
     /// The values of the lanes.
     ghost lanes: { Self → List ℕ };
 
@@ -24,35 +27,38 @@ pub trait Lanes: Drop {
         ensures { lanes result ≡ lanes self.now };
 
     /// The eight lanes of a band.
-    fn band(&self, band: usize) -> u16x8
+    fn band(&self, band: usize) -> Self::Band
         requires { 8 * band + 8 ≤ WIDTH }
-        ensures { result ≡ take 8 (drop (8 * band) (lanes self.now)) };
+        ensures { Self.Band.lanes result ≡ take 8 (drop (8 * band) (lanes self.now)) };
 
     /// Writes the eight lanes of a band.
-    fn put_band(&mut self, band: usize, values: u16x8)
+    fn put_band(&mut self, band: usize, values: Self::Band)
         requires { 8 * band + 8 ≤ WIDTH }
         ensures { lanes self.new
-            ≡ take (8 * band) (lanes self.old) ++ (values ++ drop (8 * band + 8) (lanes self.old)) };
+            ≡ take (8 * band) (lanes self.old) ++ (Self.Band.lanes values ++ drop (8 * band + 8) (lanes self.old)) };
 
     /// The value of the last lane.
-    fn last(&self) -> u16
-        ensures { result ≡ slice_index_or (lanes self.now) (WIDTH - 1) 0 };
+    fn last(&self) -> <Self::Band as Band>::Number
+        ensures { Self.Band.number result ≡ slice_index_or (lanes self.now) (WIDTH - 1) 0 };
 
     /// The tails of a step from those of the step after it. The first lane of `carry` is the lane after the last one.
-    fn tails(after: &Self, times: &Self, carry: u16x8) -> Self
-        ensures { lanes result ≡ tails_step (slice_index_or carry 0 0) (lanes after.now) (lanes times.now) };
+    fn tails(after: &Self, times: &Self, carry: Self::Band) -> Self
+        ensures { lanes result ≡ tails_step Self.Band.CAP (slice_index_or (Self.Band.lanes carry) 0 0)
+            (lanes after.now) (lanes times.now) };
 
     /// The heads of a step, or the inserted rows: in each lane the greater of the lane before it in `before` (for the
     /// first lane, the last lane of `carry`) and the same lane in `above`, plus the time of the lane.
-    fn heads(before: &Self, above: &Self, times: &Self, carry: u16x8) -> Self
+    fn heads(before: &Self, above: &Self, times: &Self, carry: Self::Band) -> Self
         ensures { lanes result
-            ≡ heads_step (slice_index_or carry 7 0) (lanes before.now) (lanes above.now) (lanes times.now) };
+            ≡ heads_step Self.Band.CAP (slice_index_or (Self.Band.lanes carry) 7 0) (lanes before.now)
+            (lanes above.now) (lanes times.now) };
 
     /// The sums of a step from those of the step before it, the inserted rows and the tails. The last lane of `carry`
     /// is the lane before the first one.
-    fn sums(before: &Self, inserted: &Self, tails: &Self, carry: u16x8) -> Self
+    fn sums(before: &Self, inserted: &Self, tails: &Self, carry: Self::Band) -> Self
         ensures { lanes result
-            ≡ sums_step (slice_index_or carry 7 0) (lanes before.now) (lanes inserted.now) (lanes tails.now) };
+            ≡ sums_step Self.Band.CAP (slice_index_or (Self.Band.lanes carry) 7 0) (lanes before.now)
+            (lanes inserted.now) (lanes tails.now) };
 
     ghost wide: { (row : Self) → length (lanes row) ≡ WIDTH };
 

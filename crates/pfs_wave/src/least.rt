@@ -7,7 +7,7 @@ ghost use Rattle.pfs_wave.specs.Private.LeastSoFar.{IsLeastSoFar};
 #[derive(Clone, Copy, Debug, PartialEq, Eq)]
 pub struct Found {
     pub place: usize,
-    pub sum: u16,
+    pub sum: u32,
 }
 
 // A key that orders places by their sums, and places of equal sums by their numbers.
@@ -31,6 +31,31 @@ pub fn first_least(sums: &[u16]) -> Found
     }
     Found {
         place: (least % 65536) as usize,
-        sum: (least / 65536) as u16,
+        sum: least / 65536,
+    }
+}
+
+// Such a key for sums of 32 bits.
+#[inline(always)]
+fn long_key(place: usize, sum: u32) -> u64
+    requires { place < 2 ^ 16 }
+    ensures { result ≡ sum * 65536 + place }
+{
+    u64::from(sum) * 65536 + place as u64
+}
+
+/// The first place of the least sum of 32 bits.
+pub fn first_least_long(sums: &[u32]) -> Found
+    requires some { 1 ≤ length sums.now }
+    requires few { length sums.now ≤ 2 ^ 16 }
+    ensures { IsLeastSoFar (λ place. slice_index_or sums.now place 0) (length sums.now) result.place result.sum }
+{
+    let mut least = long_key(0, sums[0]);
+    for place in 1..sums.len() {
+        least = least.min(long_key(place, sums[place]));
+    }
+    Found {
+        place: (least % 65536) as usize,
+        sum: (least / 65536) as u32,
     }
 }

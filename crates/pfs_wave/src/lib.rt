@@ -1,7 +1,8 @@
 //! The best place for a job in a sequence, by a wavefront: the anti-diagonals of the tables of heads and tails, in
-//! lanes of 16 bits.
+//! lanes of 16 or 32 bits.
 #![tactic(auto)]
 
+mod band;
 mod bands;
 mod bench;
 mod blends;
@@ -11,23 +12,27 @@ mod kernels;
 mod lanes;
 pub mod laws;
 mod least;
+mod long;
 mod metered;
 mod one_band;
 mod passes;
 mod rows;
 mod served;
+mod short;
 mod skewed;
 mod tables;
 mod times;
-mod vectors;
 mod wavefront;
 
+pub use band::Band;
 pub use bands::{EightBands, FiveBands, ThirteenBands, ThreeBands, TwentySixBands, TwoBands};
 pub use bench::LaneBench;
 pub use joined::Joined;
 pub use lanes::{Lanes, Part};
+pub use long::Long;
 pub use metered::MeteredLanes;
 pub use one_band::OneBand;
 pub use served::{Method, Width, is_served, method_for};
+pub use short::Short;
 pub use tables::Tables;
 pub use wavefront::Wavefront;

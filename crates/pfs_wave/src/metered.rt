@@ -5,6 +5,7 @@ ghost use Rattle.pfs_base.specs.FlowShop.{IsWithin};
 ghost use Rattle.pfs_wave.specs.Served.{IsServed};
 ghost use Rattle.pfs_wave.specs.Wavefront.{HasRows};
 
+use crate::band::Band;
 use crate::bench::LaneBench;
 use crate::lanes::Lanes;
 use crate::skewed::SkewedTimes;
@@ -21,7 +22,7 @@ pub struct MeteredLanes<'a, L: Lanes> {
     bench: Metered<'a>,
     skewed: SkewedTimes<L>,
     ghost within: { IsWithin limits (⟦<Metered<'static> as Bench>⟧.shop bench) },
-    ghost served: { IsServed (⟦<Metered<'static> as Bench>⟧.shop bench) L.WIDTH },
+    ghost served: { IsServed (⟦<Metered<'static> as Bench>⟧.shop bench) L.WIDTH L.Band.CAP },
     ghost rows: { HasRows (⟦<Metered<'static> as Bench>⟧.shop bench) L.WIDTH skewed.rows },
 }
 
@@ -29,7 +30,7 @@ impl<'a, L: Lanes> MeteredLanes<'a, L> {
     /// A bench over an instance, with a count of 0 cells. It reserves memory for the rows of its jobs and for the times
     /// of a sequence, and returns `AllocError` where that fails.
     pub fn new(alloc: Global, instance: &'a Instance) -> Result<MeteredLanes<'a, L>, AllocError>
-        requires { IsServed instance.now.shop L.WIDTH }
+        requires { IsServed instance.now.shop L.WIDTH L.Band.CAP }
         ensures shop { IfOk result (λ made. ⟦<MeteredLanes<'a, L> as Bench>⟧.shop made ≡ instance.now.shop) }
         ensures counted { IfOk result (λ made. ⟦<MeteredLanes<'a, L> as Bench>⟧.counted made ≡ 0) }
     {

@@ -2,25 +2,25 @@
 ghost use Rattle.std.specs.Prelude.{◌≡◌, ℕ, ◌+◌, ◌-◌, ◌*◌, ◌<◌, ◌≤◌, List, ◌++◌, length, take, drop};
 ghost use Rattle.std.proofs.Common.{arith, refl};
 
+use crate::band::Band;
 use crate::lanes::Lanes;
-use crate::vectors::{down, greater, sum, up};
-use std::simd::prelude::*;
 
 /// Eight lanes, in one band.
 #[derive(Drop)]
-pub struct OneBand {
-    one: u16x8,
-    ghost eight: { length one ≡ 8 },
+pub struct OneBand<B: Band> {
+    one: B,
 }
 
-impl Lanes for OneBand {
-    ghost lanes = { λ b. b.one };
+impl<B: Band> Lanes for OneBand<B> {
+    type Band = B;
+
+    ghost lanes = { λ row. B.lanes row.one };
 
     ghost WIDTH = { 8 };
 
     const WIDTH: usize = 8;
 
-    ghost wide = { λ b. b.eight };
+    ghost wide = { λ row. B.eight row.one };
 
     ghost some = { Prim.omega arith };
 
@@ -29,50 +29,53 @@ impl Lanes for OneBand {
     ghost whole = { refl };
 
     #[inline(always)]
-    fn none() -> OneBand {
-        OneBand {
-            one: u16x8::splat(0),
-        }
+    fn none() -> OneBand<B> {
+        OneBand { one: B::zeros() }
     }
 
     #[inline(always)]
-    fn again(&self) -> OneBand {
+    fn again(&self) -> OneBand<B> {
         OneBand { one: self.one }
     }
 
     #[inline(always)]
-    fn band(&self, _band: usize) -> u16x8 {
+    fn band(&self, _band: usize) -> B {
         self.one
     }
 
     #[inline(always)]
-    fn put_band(&mut self, _band: usize, values: u16x8) {
+    fn put_band(&mut self, _band: usize, values: B) {
         self.one = values;
     }
 
     #[inline(always)]
-    fn last(&self) -> u16 {
-        self.one.to_array()[7]
+    fn last(&self) -> B::Number {
+        self.one.last()
     }
 
     #[inline(always)]
-    fn tails(after: &OneBand, times: &OneBand, carry: u16x8) -> OneBand {
+    fn tails(after: &OneBand<B>, times: &OneBand<B>, carry: B) -> OneBand<B> {
         OneBand {
-            one: sum(greater(down(after.one, carry), after.one), times.one),
+            one: after.one.down(carry).greater(after.one).sum(times.one),
         }
     }
 
     #[inline(always)]
-    fn heads(before: &OneBand, above: &OneBand, times: &OneBand, carry: u16x8) -> OneBand {
+    fn heads(before: &OneBand<B>, above: &OneBand<B>, times: &OneBand<B>, carry: B) -> OneBand<B> {
         OneBand {
-            one: sum(greater(up(before.one, carry), above.one), times.one),
+            one: before.one.up(carry).greater(above.one).sum(times.one),
         }
     }
 
     #[inline(always)]
-    fn sums(before: &OneBand, inserted: &OneBand, tails: &OneBand, carry: u16x8) -> OneBand {
+    fn sums(
+        before: &OneBand<B>,
+        inserted: &OneBand<B>,
+        tails: &OneBand<B>,
+        carry: B,
+    ) -> OneBand<B> {
         OneBand {
-            one: greater(up(before.one, carry), sum(inserted.one, tails.one)),
+            one: before.one.up(carry).greater(inserted.one.sum(tails.one)),
         }
     }
 }

@@ -6,9 +6,10 @@ ghost use Rattle.pfs_insert.specs.Insertion.{makespan_with};
 ghost use Rattle.pfs_wave.specs.Lanes.{rows_of};
 ghost use Rattle.pfs_wave.specs.Wavefront.{AreSkewed, FitsLanes, HoldTails, IsJobRow};
 
+use crate::band::Band;
 use crate::kernels::{fill_sums, fill_tails};
 use crate::lanes::Lanes;
-use crate::least::{Found, first_least};
+use crate::least::Found;
 
 /// Fills the tails of a sequence from its skewed times.
 #[inline(always)]
@@ -18,7 +19,7 @@ pub(crate) fn fill_front<L: Lanes>(times: &[L], tails: &mut [L])
     ensures tails { length tails.new ≡ length tails.old }
     ensures filled { (shop : FlowShop) (jobs : List ℕ) → FitsLanes shop L.WIDTH
         → AreSkewed shop jobs L.WIDTH (rows_of (map L.lanes times.now)) → length times.now ≡ length jobs + L.WIDTH
-        → HoldTails shop jobs L.WIDTH (rows_of (map L.lanes tails.new)) }
+        → HoldTails L.Band.CAP shop jobs L.WIDTH (rows_of (map L.lanes tails.new)) }
 {
     fill_tails(times, &mut tails[..times.len()]);
 }
@@ -26,7 +27,12 @@ pub(crate) fn fill_front<L: Lanes>(times: &[L], tails: &mut [L])
 /// The best place of a job in a sequence, and the makespan with the job there, from the skewed times and the tails of
 /// the sequence.
 #[inline(always)]
-pub(crate) fn best_place<L: Lanes>(times: &[L], tails: &[L], job: &L, sums: &mut [u16]) -> Found
+pub(crate) fn best_place<L: Lanes>(
+    times: &[L],
+    tails: &[L],
+    job: &L,
+    sums: &mut [<L::Band as Band>::Number],
+) -> Found
     requires some { L.WIDTH ≤ length times.now }
     requires small { length times.now ≤ 2 ^ 16 }
     requires tails { length times.now ≤ length tails.now }
@@ -34,13 +40,13 @@ pub(crate) fn best_place<L: Lanes>(times: &[L], tails: &[L], job: &L, sums: &mut
     ensures sums { length sums.new ≡ length sums.old }
     ensures best { (shop : FlowShop) (jobs : List ℕ) (inserted : ℕ) → FitsLanes shop L.WIDTH
         → AreSkewed shop jobs L.WIDTH (rows_of (map L.lanes times.now))
-        → HoldTails shop jobs L.WIDTH (rows_of (map L.lanes tails.now))
+        → HoldTails L.Band.CAP shop jobs L.WIDTH (rows_of (map L.lanes tails.now))
         → IsJobRow shop inserted L.WIDTH (L.lanes job.now) → length times.now ≡ length jobs + L.WIDTH
-        → ((place : ℕ) → place ≤ length jobs → makespan_with shop jobs inserted place < 65535)
+        → ((place : ℕ) → place ≤ length jobs → makespan_with shop jobs inserted place < L.Band.CAP)
         → IsBestPlace shop jobs inserted result.place result.sum }
 {
     let steps = times.len();
     let filled = &mut sums[..steps];
     fill_sums(times, &tails[..steps], job, filled);
-    first_least(&filled[L::WIDTH - 1..])
+    L::Band::first_least(&filled[L::WIDTH - 1..])
 }

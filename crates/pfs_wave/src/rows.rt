@@ -4,32 +4,32 @@ ghost use Rattle.std.specs.List.{All, range_with_len};
 ghost use Rattle.pfs_base.specs.FlowShop.{time_of};
 ghost use Rattle.pfs_wave.specs.Wavefront.{HasRows, IsJobRow, on_machine};
 
+use crate::band::Band;
 use crate::lanes::Lanes;
 use pfs_base::Instance;
 use std::alloc::{AllocError, Global};
-use std::simd::prelude::*;
 
 // The time of a job on the machine of a lane, and 0 in a lane after the last machine.
-fn lane_time(instance: &Instance, job: usize, lane: usize) -> u16
+fn lane_time(instance: &Instance, job: usize, lane: usize) -> u32
     requires job { job < instance.now.shop.jobs }
-    requires short { All (λ time. time < 2 ^ 16) instance.now.shop.times }
     ensures { result ≡ on_machine instance.now.shop (time_of instance.now.shop job) lane }
 {
     if lane < instance.machines() {
-        instance.time(job, lane) as u16
+        instance.time(job, lane)
     } else {
         0
     }
 }
 
 // The times of a job in the eight lanes from `first` on.
-fn eight_times(instance: &Instance, job: usize, first: usize) -> u16x8
+fn eight_times<B: Band>(instance: &Instance, job: usize, first: usize) -> B
     requires job { job < instance.now.shop.jobs }
-    requires short { All (λ time. time < 2 ^ 16) instance.now.shop.times }
+    requires short { All (λ time. time ≤ B.CAP) instance.now.shop.times }
     requires few { first < 2 ^ 32 }
-    ensures { result ≡ map (on_machine instance.now.shop (time_of instance.now.shop job)) (range_with_len first 8) }
+    ensures { B.lanes result
+        ≡ map (on_machine instance.now.shop (time_of instance.now.shop job)) (range_with_len first 8) }
 {
-    u16x8::from_array([
+    B::from_times([
         lane_time(instance, job, first),
         lane_time(instance, job, first + 1),
         lane_time(instance, job, first + 2),
@@ -44,7 +44,7 @@ fn eight_times(instance: &Instance, job: usize, first: usize) -> u16x8
 // The times of a job in the lanes of its machines.
 fn job_row<L: Lanes>(instance: &Instance, job: usize) -> L
     requires job { job < instance.now.shop.jobs }
-    requires short { All (λ time. time < 2 ^ 16) instance.now.shop.times }
+    requires short { All (λ time. time ≤ L.Band.CAP) instance.now.shop.times }
     ensures { IsJobRow instance.now.shop job L.WIDTH (L.lanes result) }
 {
     let mut row = L::none();
@@ -59,7 +59,7 @@ fn job_row<L: Lanes>(instance: &Instance, job: usize) -> L
 /// fails.
 pub fn shop_rows<L: Lanes>(alloc: Global, instance: &Instance) -> Result<Vec<L>, AllocError>
     requires machines { instance.now.shop.machines ≤ L.WIDTH }
-    requires short { All (λ time. time < 2 ^ 16) instance.now.shop.times }
+    requires short { All (λ time. time ≤ L.Band.CAP) instance.now.shop.times }
     ensures count { IfOk result (λ rows. length rows.items ≡ instance.now.shop.jobs + 1) }
     ensures rows { IfOk result (λ rows. HasRows instance.now.shop L.WIDTH (map L.lanes rows.items)) }
 {

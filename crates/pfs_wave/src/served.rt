@@ -4,11 +4,14 @@ ghost use Rattle.pfs_base.specs.Paths.{greatest};
 ghost use Rattle.pfs_wave.specs.Served.{IsServed, lanes_of};
 ghost use Rattle.pfs_wave.specs.declared.served.Width.{Width};
 ghost use Rattle.pfs_wave.specs.declared.served.Width.TheVariants.{Lanes208};
-ghost use Rattle.pfs_wave.specs.declared.served.Method.TheVariants.{HeadsTails, Wavefront};
+ghost use Rattle.pfs_wave.specs.declared.served.Method.TheVariants.{HeadsTails, Wavefront16, Wavefront32};
 
+use crate::band::Band;
+use crate::long::Long;
+use crate::short::Short;
 use pfs_base::Instance;
 
-/// The number of lanes of a wavefront, of 16 bits each.
+/// The number of lanes of a wavefront.
 #[derive(Clone, Copy, Debug, PartialEq, Eq)]
 pub enum Width {
     Lanes8,
@@ -43,16 +46,18 @@ impl Width {
 pub enum Method {
     /// Heads and tails in lengths of 64 bits, a row at a time.
     HeadsTails,
-    /// A wavefront of this width.
-    Wavefront(Width),
+    /// A wavefront of this width, whose lanes have 16 bits.
+    Wavefront16(Width),
+    /// A wavefront of this width, whose lanes have 32 bits.
+    Wavefront32(Width),
 }
 
-/// Whether a wavefront of this width serves an instance: it has at least 8 jobs and a lane for each machine, and
-/// (n + m - 1) times its longest time, which bounds every path of n jobs on m machines, is below 65,535. A wavefront of
-/// w lanes computes n + w steps for n jobs. With more than 24 lanes, at least a third of these lanes must have a cell:
-/// with fewer, heads and tails by rows are faster.
-pub fn is_served(instance: &Instance, width: Width) -> bool
-    ensures { IsTrue result ↔ IsServed instance.now.shop (lanes_of width) }
+/// Whether a wavefront of this width, whose lanes have this greatest value, serves an instance: it has at least 8 jobs
+/// and a lane for each machine, and (n + m - 1) times its longest time, which bounds every path of n jobs on m machines,
+/// is below the greatest value. A wavefront of w lanes computes n + w steps for n jobs. With more than 24 lanes, at
+/// least a third of these lanes must have a cell: with fewer, heads and tails by rows are faster.
+pub fn is_served(instance: &Instance, width: Width, cap: u32) -> bool
+    ensures { IsTrue result ↔ IsServed instance.now.shop (lanes_of width) cap }
 {
     let jobs = instance.jobs();
     let machines = instance.machines();
@@ -61,19 +66,30 @@ pub fn is_served(instance: &Instance, width: Width) -> bool
     jobs >= 8
         && machines <= lanes
         && (lanes <= 24 || (jobs + lanes) * lanes <= 3 * jobs * machines)
-        && operations * u64::from(longest_time(instance)) < 65535
+        && operations * u64::from(longest_time(instance)) < u64::from(cap)
 }
 
-/// The narrowest wavefront that serves an instance, or heads and tails where none does.
+/// The narrowest wavefront of 16 bits that serves an instance, or one of 32 bits where none of 16 does, or heads and
+/// tails where none of 32 does.
 pub fn method_for(instance: &Instance) -> Method
-    ensures heads_tails { (result ≡ HeadsTails) ↔ ((width : Width) → ¬ IsServed instance.now.shop (lanes_of width)) }
-    ensures wavefront { (width : Width) → result ≡ Wavefront width → IsServed instance.now.shop (lanes_of width) }
-    ensures narrowest { (width other : Width) → result ≡ Wavefront width
-        → IsServed instance.now.shop (lanes_of other) → lanes_of width ≤ lanes_of other }
+    ensures heads_tails { (result ≡ HeadsTails)
+        ↔ ((width : Width) → ¬ IsServed instance.now.shop (lanes_of width) 2147483647) }
+    ensures short { (width : Width) → result ≡ Wavefront16 width
+        → IsServed instance.now.shop (lanes_of width) 65535 }
+    ensures narrowest { (width other : Width) → result ≡ Wavefront16 width
+        → IsServed instance.now.shop (lanes_of other) 65535 → lanes_of width ≤ lanes_of other }
+    ensures long { (width : Width) → result ≡ Wavefront32 width
+        → IsServed instance.now.shop (lanes_of width) 2147483647 }
+    ensures narrowest_long { (width other : Width) → result ≡ Wavefront32 width
+        → IsServed instance.now.shop (lanes_of other) 2147483647 → lanes_of width ≤ lanes_of other }
+    ensures too_long { (width other : Width) → result ≡ Wavefront32 width
+        → ¬ IsServed instance.now.shop (lanes_of other) 65535 }
 {
     let width = width_for(instance.machines());
-    if is_served(instance, width) {
-        Method::Wavefront(width)
+    if is_served(instance, width, Short::CAP) {
+        Method::Wavefront16(width)
+    } else if is_served(instance, width, Long::CAP) {
+        Method::Wavefront32(width)
     } else {
         Method::HeadsTails
     }

@@ -8,6 +8,7 @@ ghost use Rattle.pfs_insert.specs.Insertion.{makespan_with};
 ghost use Rattle.pfs_wave.specs.Wavefront.{AreSkewed, FitsLanes, HasRows, HoldTails};
 ghost use Rattle.pfs_wave.specs.Private.HeldRows.{HeldTimes, IsHolding};
 
+use crate::band::Band;
 use crate::changes::{kept_rows, write_rows};
 use crate::lanes::Lanes;
 use crate::least::Found;
@@ -52,7 +53,7 @@ impl<L: Lanes> SkewedTimes<L> {
     /// that fails.
     pub fn new(alloc: Global, instance: &Instance) -> Result<SkewedTimes<L>, AllocError>
         requires machines { instance.now.shop.machines ≤ L.WIDTH }
-        requires short { All (λ time. time < 2 ^ 16) instance.now.shop.times }
+        requires short { All (λ time. time ≤ L.Band.CAP) instance.now.shop.times }
         ensures rows { IfOk result (λ made. HasRows instance.now.shop L.WIDTH made.rows) }
         ensures jobs { IfOk result (λ made. made.jobs ≡ []) }
     {
@@ -100,22 +101,27 @@ impl<L: Lanes> SkewedTimes<L> {
         requires { length self.now.jobs + L.WIDTH ≤ length tails.old }
         ensures length { length tails.new ≡ length tails.old }
         ensures tails { (shop : FlowShop) → FitsLanes shop L.WIDTH → HasRows shop L.WIDTH self.now.rows
-            → HoldTails shop self.now.jobs L.WIDTH (rows_of (map L.lanes tails.new)) }
+            → HoldTails L.Band.CAP shop self.now.jobs L.WIDTH (rows_of (map L.lanes tails.new)) }
     {
         fill_front(self.times(), tails);
     }
 
     /// The best place of a job in the sequence, and the makespan with the job there.
     #[inline(always)]
-    pub fn best_place(&self, job: usize, tails: &[L], sums: &mut [u16]) -> Found
+    pub fn best_place(
+        &self,
+        job: usize,
+        tails: &[L],
+        sums: &mut [<L::Band as Band>::Number],
+    ) -> Found
         requires job { job < length self.now.rows }
         requires tails { length self.now.jobs + L.WIDTH ≤ length tails.now }
         requires sums { length self.now.jobs + L.WIDTH ≤ length sums.old }
         ensures length { length sums.new ≡ length sums.old }
         ensures best { (shop : FlowShop) → FitsLanes shop L.WIDTH → HasRows shop L.WIDTH self.now.rows
             → job < shop.jobs
-            → HoldTails shop self.now.jobs L.WIDTH (rows_of (map L.lanes tails.now))
-            → ((place : ℕ) → place ≤ length self.now.jobs → makespan_with shop self.now.jobs job place < 65535)
+            → HoldTails L.Band.CAP shop self.now.jobs L.WIDTH (rows_of (map L.lanes tails.now))
+            → ((place : ℕ) → place ≤ length self.now.jobs → makespan_with shop self.now.jobs job place < L.Band.CAP)
             → IsBestPlace shop self.now.jobs job result.place result.sum }
     {
         best_place(self.times(), tails, &self.rows[job], sums)

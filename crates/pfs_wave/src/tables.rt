@@ -3,6 +3,7 @@ ghost use Rattle.std.specs.Prelude.{◌≡◌, ◌+◌, ◌≤◌, length, map, 
 ghost use Rattle.pfs_wave.specs.Lanes.{zeros};
 ghost use Rattle.pfs_wave.specs.Tables.{WaveTables};
 
+use crate::band::Band;
 use crate::lanes::Lanes;
 use pfs_base::MOST_JOBS;
 use std::alloc::{AllocError, Global};
@@ -14,7 +15,7 @@ use std::marker::Model;
 pub struct Tables<L: Lanes> {
     pub(crate) jobs: usize,
     pub(crate) tails: Vec<L>,
-    pub(crate) sums: Vec<u16>,
+    pub(crate) sums: Vec<<L::Band as Band>::Number>,
 }
 
 impl<L: Lanes> Model for Tables<L> {
@@ -47,7 +48,7 @@ impl<L: Lanes> Tables<L> {
         let tails = rows_of_zeros(alloc, steps)?;
         let mut sums = Vec::new(alloc);
         sums.reserve_exact(steps)?;
-        sums.resize(steps, 0)?;
+        sums.resize(steps, L::Band::nothing())?;
         Ok(Tables { jobs, tails, sums })
     }
 }

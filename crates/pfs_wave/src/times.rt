@@ -6,9 +6,9 @@ ghost use Rattle.pfs_wave.specs.Private.HeldRows.{AreMoved, HoldLanes, HoldOutsi
 ghost use Rattle.pfs_wave.specs.Private.Blending.{AreBlends, past_at};
 ghost use Rattle.pfs_wave.specs.Private.SkewedBand.{IsBandFilled, band_rows};
 
+use crate::band::Band;
 use crate::blends::Blends;
 use crate::lanes::Lanes;
-use std::simd::prelude::*;
 
 /// The rows from `from` to before `to`.
 #[derive(Clone, Copy, Debug, PartialEq, Eq)]
@@ -19,11 +19,11 @@ pub struct Changed {
 
 // One band of a row of the sequence.
 #[inline(always)]
-fn band_of_row<L: Lanes>(rows: &[L], order: &[usize], row: usize, band: usize) -> u16x8
+fn band_of_row<L: Lanes>(rows: &[L], order: &[usize], row: usize, band: usize) -> L::Band
     requires jobs { All (λ job. job < length rows.now) order.now }
     requires band { 8 * band + 8 ≤ L.WIDTH }
     requires row { row < length order.now }
-    ensures { result ≡ band_rows (map L.lanes rows.now) order.now (8 * band) row }
+    ensures { L.Band.lanes result ≡ band_rows (map L.lanes rows.now) order.now (8 * band) row }
 {
     let job = order[row];
     rows[job].band(band)
@@ -31,11 +31,11 @@ fn band_of_row<L: Lanes>(rows: &[L], order: &[usize], row: usize, band: usize) -
 
 // What the blends keep of the rows before a row. They need at most seven of these.
 #[inline(always)]
-fn blends_before<L: Lanes>(rows: &[L], order: &[usize], row: usize, band: usize) -> Blends
+fn blends_before<L: Lanes>(rows: &[L], order: &[usize], row: usize, band: usize) -> Blends<L::Band>
     requires jobs { All (λ job. job < length rows.now) order.now }
     requires band { 8 * band + 8 ≤ L.WIDTH }
     requires row { row ≤ length order.now }
-    ensures { AreBlends (past_at (band_rows (map L.lanes rows.now) order.now (8 * band)) row) result }
+    ensures { AreBlends L.Band.lanes (past_at (band_rows (map L.lanes rows.now) order.now (8 * band)) row) result }
 {
     let mut last = Blends::none();
     for earlier in row.saturating_sub(7)..row {

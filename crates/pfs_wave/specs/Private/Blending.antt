@@ -29,11 +29,11 @@ diagonal past = each_back past 0 1 2 3 4 5 6 7
 
 -- what the blends keep of the last rows: the last row, the last two results of the first blend, and the last four of
 -- the second
-pub record AreBlends (past : Past) (blends : Blends) : Type 0 where
-  pub before : blends.before ≡ each_back past 0 0 0 0 0 0 0 0
-  pub pair_one : blends.pair_one ≡ each_back past 0 1 0 1 0 1 0 1
-  pub pair_two : blends.pair_two ≡ each_back past 1 2 1 2 1 2 1 2
-  pub four_one : blends.four_one ≡ each_back past 0 1 2 3 0 1 2 3
-  pub four_two : blends.four_two ≡ each_back past 1 2 3 4 1 2 3 4
-  pub four_three : blends.four_three ≡ each_back past 2 3 4 5 2 3 4 5
-  pub four_four : blends.four_four ≡ each_back past 3 4 5 6 3 4 5 6
+pub record AreBlends {B N : Type 0} (lanes : B → List ℕ) (past : Past) (blends : Blends B N) : Type 0 where
+  pub before : lanes blends.before ≡ each_back past 0 0 0 0 0 0 0 0
+  pub pair_one : lanes blends.pair_one ≡ each_back past 0 1 0 1 0 1 0 1
+  pub pair_two : lanes blends.pair_two ≡ each_back past 1 2 1 2 1 2 1 2
+  pub four_one : lanes blends.four_one ≡ each_back past 0 1 2 3 0 1 2 3
+  pub four_two : lanes blends.four_two ≡ each_back past 1 2 3 4 1 2 3 4
+  pub four_three : lanes blends.four_three ≡ each_back past 2 3 4 5 2 3 4 5
+  pub four_four : lanes blends.four_four ≡ each_back past 3 4 5 6 3 4 5 6

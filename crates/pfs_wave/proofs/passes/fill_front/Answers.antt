@@ -8,10 +8,11 @@ pub returns-clause-filled : goal.returns-clause-filled
 returns-clause-filled g c shop jobs fits skewed long =
     let lanes = g.L.Lanes.lanes in
     let width = g.L.Lanes.WIDTH in
+    let cap = g.L.Band.Band.CAP in
     let times = c.args.times.now in
     let tails = c.fill_tails.new.tails in
-    let held = tails_law shop jobs width (rows_of (map lanes times)) (rows_of (map lanes tails)) fits skewed
+    let held = tails_law cap shop jobs width (rows_of (map lanes times)) (rows_of (map lanes tails)) fits skewed
     (λ step lt. c.fill_tails.ensures.tails step (omega arith)
-    ∙ ap (λ n. tails_at (rows_of (map lanes times)) width n (n - step)) long) in
+    ∙ ap (λ n. tails_at cap (rows_of (map lanes times)) width n (n - step)) long) in
     same_tails shop jobs width (rows_of (map lanes tails)) _
-    (λ step lt. front_rows lanes tails _ step (omega (arith, c.fill_tails.ensures.steps))) held
+    (λ step lt. front_rows lanes tails _ step (omega (arith, c.fill_tails.ensures.steps))) cap held

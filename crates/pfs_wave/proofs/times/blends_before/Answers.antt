@@ -15,9 +15,9 @@ loop-earlier-preserved g c =
     record {
       begun = omega arith;
       blends =
-          next_is (later_rows band start) count (earlier + 1 - start) _ (omega arith) (c.band_of_row.ensures
+          next_is g.L.Band.Band.lanes (later_rows band start) count (earlier + 1 - start) _ (omega arith) (c.band_of_row.ensures
           ∙ ap band at)
-          (c.push.ensures.next (past_at (later_rows band start) count) c.loop-earlier.invariant.blends);
+          (c.push-last.ensures.next (past_at (later_rows band start) count) c.loop-earlier.invariant.blends);
     }
 
 pub returns : goal.returns
@@ -27,5 +27,5 @@ returns g c =
     let begun = c.loop-earlier.invariant.begun in
     let end = c.loop-earlier.auto.earlier-end in
     let outside = c.loop-earlier-test.false in
-    warm band c.args.row start (c.loop-earlier.earlier - start) _ (omega arith) (omega arith)
+    warm g.L.Band.Band.lanes band c.args.row start (c.loop-earlier.earlier - start) _ (omega arith) (omega arith)
     c.loop-earlier.invariant.blends

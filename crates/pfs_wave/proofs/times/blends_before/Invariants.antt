@@ -9,7 +9,7 @@ invariant-loop-earlier g l =
     let start = l.row - 7 in
     record {
       begun : start ≤ l.earlier;
-      blends : AreBlends
+      blends : AreBlends g.L.Band.Band.lanes
           (past_at (later_rows (band_rows (map g.L.Lanes.lanes l.rows) l.order (8 * l.band)) start)
           (l.earlier - start)) l.last;
     }

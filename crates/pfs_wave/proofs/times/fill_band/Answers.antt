@@ -19,12 +19,12 @@ loop-turn-preserved g c =
     let end = c.min-end.ensures in
     let fits = c.requires.band in
     let none = c.loop-turn.invariant.blends in
-    let one = next_is rows row (row + 1) _ refl c.band_of_row.ensures (c.push-a.ensures.next (past_at rows row) none) in
+    let one = next_is g.L.Band.Band.lanes rows row (row + 1) _ refl c.band_of_row.ensures (c.push-a.ensures.next (past_at rows row) none) in
     let two =
-    next_is rows (row + 1) (row + 2) _ (omega arith) c.band_of_row-in-loop-turn.ensures
+    next_is g.L.Band.Band.lanes rows (row + 1) (row + 2) _ (omega arith) c.band_of_row-in-loop-turn.ensures
     (c.push-b.ensures.next (past_at rows (row + 1)) one) in
     let three =
-    next_is rows (row + 2) (row + 3) _ (omega arith) c.band_of_row-in-loop-turn-2.ensures
+    next_is g.L.Band.Band.lanes rows (row + 2) (row + 3) _ (omega arith) c.band_of_row-in-loop-turn-2.ensures
     (c.push-c.ensures.next (past_at rows (row + 2)) two) in
     let a =
     filled_more lanes rows first from width old c.loop-turn.times row step (row + 1) c.index-times-step.result
@@ -50,7 +50,7 @@ loop-turn-preserved g c =
           (out_is rows (row + 3) c.band_of_row-in-loop-turn-3.ensures
           (c.push-d.ensures.row (past_at rows (row + 3)) three));
       blends =
-          next_is rows (row + 3) (from + 4 * (c.loop-turn.turn + 1)) _ (omega arith)
+          next_is g.L.Band.Band.lanes rows (row + 3) (from + 4 * (c.loop-turn.turn + 1)) _ (omega arith)
           c.band_of_row-in-loop-turn-3.ensures
           (c.push-d.ensures.next (past_at rows (row + 3)) three);
     }
@@ -76,6 +76,6 @@ loop-row-preserved g c =
           (omega arith) fits (g.met.L.Lanes.wide _) c.put_band-in-loop-row.ensures
           (out_is rows row c.band_of_row-in-loop-row.ensures (c.push-one.ensures.row (past_at rows row) last));
       blends =
-          next_is rows row (row + 1) _ refl c.band_of_row-in-loop-row.ensures
+          next_is g.L.Band.Band.lanes rows row (row + 1) _ refl c.band_of_row-in-loop-row.ensures
           (c.push-one.ensures.next (past_at rows row) last);
     }

@@ -9,7 +9,7 @@ invariant-loop-turn g l =
     let band = band_rows (map lanes l.rows) l.order (8 * l.band) in
     record {
       filled : IsBandFilled band (8 * l.band) l.from (l.from + 4 * l.turn) (map lanes l.fn.times) (map lanes l.times);
-      blends : AreBlends (past_at band (l.from + 4 * l.turn)) l.last;
+      blends : AreBlends g.L.Band.Band.lanes (past_at band (l.from + 4 * l.turn)) l.last;
     }
 
 abbrev pub invariant-loop-row : goal.invariant-loop-row
@@ -18,5 +18,5 @@ invariant-loop-row g l =
     let band = band_rows (map lanes l.rows) l.order (8 * l.band) in
     record {
       filled : IsBandFilled band (8 * l.band) l.from l.row (map lanes l.fn.times) (map lanes l.times);
-      blends : AreBlends (past_at band l.row) l.last;
+      blends : AreBlends g.L.Band.Band.lanes (past_at band l.row) l.last;
     }

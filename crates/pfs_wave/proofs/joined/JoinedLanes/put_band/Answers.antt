@@ -12,7 +12,7 @@ returns-then-band-bands g c =
     let is = c.WIDTH-bands.ensures in
     let low = c.if-band-bands.true in
     let inside : 8 * band + 8 ≤ length a = omega arith in
-    put_first a b (8 * band) inside _ c.args.values c.put_band.ensures
+    put_first a b (8 * band) inside _ (g.A.Band.Band.lanes c.args.values) c.put_band.ensures
 
 pub returns-else-band-bands : goal.returns-else-band-bands
 returns-else-band-bands g c =
@@ -25,4 +25,4 @@ returns-else-band-bands g c =
     let is = c.WIDTH-bands.ensures in
     let high = c.if-band-bands.false in
     let here : 8 * band ≡ length a + part = omega arith in
-    put_second a b (8 * band) part here _ c.args.values c.put_band-else-band-bands.ensures
+    put_second a b (8 * band) part here _ (g.A.Band.Band.lanes c.args.values) c.put_band-else-band-bands.ensures

@@ -1,0 +1,11 @@
+use Rattle.std.proofs.Common.{refl}
+use Rattle.pfs_wave.proofs.SmallLanes.{eight_small, lane_small}
+use Rattle.pfs_wave.proofs.long.LongBand.half_from.Goals as goal
+
+pub invariant_of-result : goal.invariant_of-result
+invariant_of-result c =
+    let lane = lane_small 2147483647 c.args.self.values c.args.other.values c.args.self.small c.args.other.small in
+    record {
+      eight = refl;
+      small = eight_small 2147483647 (lane 0) (lane 1) (lane 2) (lane 3) (lane 12) (lane 13) (lane 14) (lane 15);
+    }

@@ -1,0 +1,91 @@
+//! Bands of eight lanes.
+ghost use Rattle.std.specs.Prelude.{◌≡◌, ℕ, ◌≤◌, ◌^◌, ◌∷◌, [], ◌++◌, List, length, map, max, take, drop};
+ghost use Rattle.std.specs.List.{All, slice_index_or};
+ghost use Rattle.std.specs.Simd.Lanes.{zip2};
+ghost use Rattle.pfs_wave.specs.Lanes.{capped_add, zeros};
+ghost use Rattle.pfs_wave.specs.Private.LeastSoFar.{IsLeastSoFar};
+
+use crate::least::Found;
+
+/// Eight lanes, each a number up to `CAP`, at which sums stop.
+pub trait Band: Copy + Drop {
+    /// The number of a lane.
+    type Number: Copy + Drop;
+
+    /// The values of the lanes.
+    ghost lanes: { Self → List ℕ };
+
+    /// The value of a number.
+    ghost number: { Self.Number → ℕ };
+
+    ghost CAP: { ℕ };
+
+    /// The greatest value of a lane.
+    const CAP: u32;
+
+    /// A band of zeros.
+    fn zeros() -> Self
+        ensures { lanes result ≡ zeros 8 };
+
+    /// A band of eight times.
+    fn from_times(times: [u32; 8]) -> Self
+        requires { All (λ time. time ≤ CAP) times }
+        ensures { lanes result ≡ times };
+
+    /// Moves each lane to the next one. Lane 0 is the last lane of `carry`.
+    fn up(self, carry: Self) -> Self
+        ensures { lanes result ≡ slice_index_or (lanes carry) 7 0 ∷ take 7 (lanes self) };
+
+    /// Moves each lane to the one before it. The last lane is the first lane of `carry`.
+    fn down(self, carry: Self) -> Self
+        ensures { lanes result ≡ drop 1 (lanes self) ++ (slice_index_or (lanes carry) 0 0 ∷ []) };
+
+    /// The greater value of each lane.
+    fn greater(self, other: Self) -> Self
+        ensures { lanes result ≡ zip2 max (lanes self) (lanes other) };
+
+    /// The sum of each lane, or `CAP` where the sum is greater.
+    fn sum(self, other: Self) -> Self
+        ensures { lanes result ≡ zip2 (capped_add CAP) (lanes self) (lanes other) };
+
+    /// The odd lanes of `other`, and the even lanes of `self`.
+    fn odd_from(self, other: Self) -> Self
+        ensures { lanes result
+            ≡ slice_index_or (lanes self) 0 0 ∷ slice_index_or (lanes other) 1 0
+            ∷ slice_index_or (lanes self) 2 0 ∷ slice_index_or (lanes other) 3 0
+            ∷ slice_index_or (lanes self) 4 0 ∷ slice_index_or (lanes other) 5 0
+            ∷ slice_index_or (lanes self) 6 0 ∷ slice_index_or (lanes other) 7 0 ∷ [] };
+
+    /// Lanes 2, 3, 6 and 7 of `other`, and the other lanes of `self`.
+    fn pairs_from(self, other: Self) -> Self
+        ensures { lanes result
+            ≡ slice_index_or (lanes self) 0 0 ∷ slice_index_or (lanes self) 1 0
+            ∷ slice_index_or (lanes other) 2 0 ∷ slice_index_or (lanes other) 3 0
+            ∷ slice_index_or (lanes self) 4 0 ∷ slice_index_or (lanes self) 5 0
+            ∷ slice_index_or (lanes other) 6 0 ∷ slice_index_or (lanes other) 7 0 ∷ [] };
+
+    /// The last four lanes of `other`, and the first four of `self`.
+    fn half_from(self, other: Self) -> Self
+        ensures { lanes result
+            ≡ slice_index_or (lanes self) 0 0 ∷ slice_index_or (lanes self) 1 0
+            ∷ slice_index_or (lanes self) 2 0 ∷ slice_index_or (lanes self) 3 0
+            ∷ slice_index_or (lanes other) 4 0 ∷ slice_index_or (lanes other) 5 0
+            ∷ slice_index_or (lanes other) 6 0 ∷ slice_index_or (lanes other) 7 0 ∷ [] };
+
+    /// The number of the last lane.
+    fn last(self) -> Self::Number
+        ensures { number result ≡ slice_index_or (lanes self) 7 0 };
+
+    /// The number 0.
+    fn nothing() -> Self::Number
+        ensures { number result ≡ 0 };
+
+    /// The first place of the least sum.
+    fn first_least(sums: &[Self::Number]) -> Found
+        requires some { 1 ≤ length sums.now }
+        requires few { length sums.now ≤ 2 ^ 16 }
+        ensures { IsLeastSoFar (λ place. slice_index_or (map number sums.now) place 0) (length sums.now)
+            result.place result.sum };
+
+    ghost eight: { (band : Self) → length (lanes band) ≡ 8 };
+}

@@ -1,0 +1,115 @@
+//! Bands of 32-bit lanes.
+ghost use Rattle.std.specs.Prelude.{◌≡◌, ℕ, ◌≤◌, length};
+ghost use Rattle.std.specs.List.{All};
+
+use crate::band::Band;
+use crate::least::{Found, first_least_long};
+use std::simd::prelude::*;
+
+/// Eight lanes of 32 bits, each a number up to 2^31 - 1. So no sum of two lanes wraps, and it stops at 2^31 - 1.
+#[derive(Clone, Copy)]
+pub struct Long {
+    values: u32x8,
+    ghost eight: { length values ≡ 8 },
+    ghost small: { All (λ value. value ≤ 2147483647) values },
+}
+
+impl Band for Long {
+    type Number = u32;
+
+    ghost lanes = { λ band. band.values };
+
+    ghost number = { λ n. n };
+
+    ghost CAP = { 2147483647 };
+
+    const CAP: u32 = 2147483647;
+
+    ghost eight = { λ band. band.eight };
+
+    #[inline(always)]
+    fn zeros() -> Long {
+        Long {
+            values: u32x8::splat(0),
+        }
+    }
+
+    #[inline(always)]
+    fn from_times(times: [u32; 8]) -> Long {
+        Long {
+            values: u32x8::from_array(times),
+        }
+    }
+
+    #[inline(always)]
+    fn up(self, carry: Long) -> Long {
+        Long {
+            values: carry
+                .values
+                .shuffle(self.values, [7, 8, 9, 10, 11, 12, 13, 14]),
+        }
+    }
+
+    #[inline(always)]
+    fn down(self, carry: Long) -> Long {
+        Long {
+            values: self.values.shuffle(carry.values, [1, 2, 3, 4, 5, 6, 7, 8]),
+        }
+    }
+
+    #[inline(always)]
+    fn greater(self, other: Long) -> Long {
+        Long {
+            values: self.values.simd_max(other.values),
+        }
+    }
+
+    #[inline(always)]
+    fn sum(self, other: Long) -> Long {
+        Long {
+            values: (self.values + other.values).simd_min(u32x8::splat(2147483647)),
+        }
+    }
+
+    #[inline(always)]
+    fn odd_from(self, other: Long) -> Long {
+        Long {
+            values: self
+                .values
+                .shuffle(other.values, [0, 9, 2, 11, 4, 13, 6, 15]),
+        }
+    }
+
+    #[inline(always)]
+    fn pairs_from(self, other: Long) -> Long {
+        Long {
+            values: self
+                .values
+                .shuffle(other.values, [0, 1, 10, 11, 4, 5, 14, 15]),
+        }
+    }
+
+    #[inline(always)]
+    fn half_from(self, other: Long) -> Long {
+        Long {
+            values: self
+                .values
+                .shuffle(other.values, [0, 1, 2, 3, 12, 13, 14, 15]),
+        }
+    }
+
+    #[inline(always)]
+    fn last(self) -> u32 {
+        self.values.to_array()[7]
+    }
+
+    #[inline(always)]
+    fn nothing() -> u32 {
+        0
+    }
+
+    #[inline(always)]
+    fn first_least(sums: &[u32]) -> Found {
+        first_least_long(sums)
+    }
+}

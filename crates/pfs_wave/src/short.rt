@@ -1,0 +1,132 @@
+//! Bands of 16-bit lanes.
+ghost use Rattle.std.specs.Prelude.{◌≡◌, ℕ, length};
+ghost use Rattle.std.specs.Simd.Lanes.{zip2};
+ghost use Rattle.pfs_wave.specs.Lanes.{capped_add};
+
+use crate::band::Band;
+use crate::least::{Found, first_least};
+use std::simd::prelude::*;
+
+/// Eight lanes of 16 bits. Sums stop at 65,535, as the processor's do.
+#[derive(Clone, Copy)]
+pub struct Short {
+    values: u16x8,
+    ghost eight: { length values ≡ 8 },
+}
+
+// The sum of each lane, or 65,535 where the sum is greater.
+#[inline(always)]
+fn saturating_sum(a: u16x8, b: u16x8) -> u16x8
+    ensures { result ≡ zip2 (capped_add 65535) a b }
+{
+    a.saturating_add(b)
+}
+
+impl Band for Short {
+    type Number = u16;
+
+    ghost lanes = { λ band. band.values };
+
+    ghost number = { λ n. n };
+
+    ghost CAP = { 65535 };
+
+    const CAP: u32 = 65535;
+
+    ghost eight = { λ band. band.eight };
+
+    #[inline(always)]
+    fn zeros() -> Short {
+        Short {
+            values: u16x8::splat(0),
+        }
+    }
+
+    #[inline(always)]
+    fn from_times(times: [u32; 8]) -> Short {
+        Short {
+            values: u16x8::from_array([
+                times[0] as u16,
+                times[1] as u16,
+                times[2] as u16,
+                times[3] as u16,
+                times[4] as u16,
+                times[5] as u16,
+                times[6] as u16,
+                times[7] as u16,
+            ]),
+        }
+    }
+
+    #[inline(always)]
+    fn up(self, carry: Short) -> Short {
+        Short {
+            values: carry
+                .values
+                .shuffle(self.values, [7, 8, 9, 10, 11, 12, 13, 14]),
+        }
+    }
+
+    #[inline(always)]
+    fn down(self, carry: Short) -> Short {
+        Short {
+            values: self.values.shuffle(carry.values, [1, 2, 3, 4, 5, 6, 7, 8]),
+        }
+    }
+
+    #[inline(always)]
+    fn greater(self, other: Short) -> Short {
+        Short {
+            values: self.values.simd_max(other.values),
+        }
+    }
+
+    #[inline(always)]
+    fn sum(self, other: Short) -> Short {
+        Short {
+            values: saturating_sum(self.values, other.values),
+        }
+    }
+
+    #[inline(always)]
+    fn odd_from(self, other: Short) -> Short {
+        Short {
+            values: self
+                .values
+                .shuffle(other.values, [0, 9, 2, 11, 4, 13, 6, 15]),
+        }
+    }
+
+    #[inline(always)]
+    fn pairs_from(self, other: Short) -> Short {
+        Short {
+            values: self
+                .values
+                .shuffle(other.values, [0, 1, 10, 11, 4, 5, 14, 15]),
+        }
+    }
+
+    #[inline(always)]
+    fn half_from(self, other: Short) -> Short {
+        Short {
+            values: self
+                .values
+                .shuffle(other.values, [0, 1, 2, 3, 12, 13, 14, 15]),
+        }
+    }
+
+    #[inline(always)]
+    fn last(self) -> u16 {
+        self.values.to_array()[7]
+    }
+
+    #[inline(always)]
+    fn nothing() -> u16 {
+        0
+    }
+
+    #[inline(always)]
+    fn first_least(sums: &[u16]) -> Found {
+        first_least(sums)
+    }
+}
