@@ -1,5 +1,5 @@
 //! Sequences of distinct jobs.
-ghost use Rattle.std.specs.Prelude.{◌≡◌, ℕ, ◌<◌, ◌≤◌, ◌↔◌, List, [], length, Contains, IsTrue, IfOk, IfErr};
+ghost use Rattle.std.specs.Prelude.{◌≡◌, ℕ, ◌<◌, ◌≤◌, ◌↔◌, List, [], ◌∷◌, ◌++◌, length, Contains, IsTrue, IfOk, IfErr};
 ghost use Rattle.std.specs.Prelude.{slice_index, insert, remove, vec_len, vec_capacity};
 ghost use Rattle.pfs_base.specs.Limits.{limits};
 ghost use Rattle.pfs_order.specs.Sequence.{IsSequence, IsSize};
@@ -46,6 +46,25 @@ impl Seq {
             Ok(jobs) => Ok(Seq { size, jobs }),
             Err(AllocError) => Err(OrderFault::Memory),
         }
+    }
+
+    /// A sequence of these jobs below a size, with memory for all jobs below it. The only error is `Memory`, if the
+    /// allocation fails.
+    #[tactic(auto, using(crate::proofs::Published::Sequences::size_limit))]
+    pub fn from_jobs(alloc: Global, size: usize, jobs: &[u32]) -> Result<Seq, OrderFault>
+        requires some { 1 ≤ size }
+        requires few { size ≤ MOST_JOBS }
+        requires sequence { IsSequence size jobs.now }
+        ensures made { IfOk result (λ made. made ≡ record { size = size; jobs = jobs.now }) }
+        ensures memory { IfErr result (λ fault. fault ≡ OrderFault.Memory) }
+    {
+        let Ok(mut list) = Vec::with_capacity(alloc, size) else {
+            return Err(OrderFault::Memory);
+        };
+        for job in jobs {
+            push_in_room(&mut list, *job as usize);
+        }
+        Ok(Seq { size, jobs: list })
     }
 
     /// The size: every job is below this number.
@@ -145,6 +164,19 @@ fn put_in_room(jobs: &mut Vec<usize>, place: usize, job: usize)
     ensures capacity { vec_capacity jobs.old ≤ vec_capacity jobs.new }
 {
     match jobs.insert(place, job) {
+        Ok(()) => {}
+        Err(_) => unreachable!(),
+    }
+}
+
+// Appends a job to a list that has room.
+#[inline(always)]
+fn push_in_room(jobs: &mut Vec<usize>, job: usize)
+    requires room { vec_len jobs.old < vec_capacity jobs.old }
+    ensures items { jobs.new.items ≡ jobs.old.items ++ (job ∷ []) }
+    ensures capacity { vec_capacity jobs.old ≤ vec_capacity jobs.new }
+{
+    match jobs.push(job) {
         Ok(()) => {}
         Err(_) => unreachable!(),
     }

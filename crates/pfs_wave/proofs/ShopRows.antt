@@ -6,47 +6,50 @@ use Rattle.std.proofs.lemmas.List.{get_or-take, get_or-drop}
 use Rattle.std.proofs.lemmas.List.FromFn.{get_or-map-range_with_len}
 use Rattle.std.specs.List.{range_with_len}
 use Rattle.pfs_base.specs.FlowShop.{FlowShop, time_of}
+use Rattle.pfs_wave.specs.Private.ShopTimes.{HoldFirst}
 use Rattle.pfs_wave.specs.Wavefront.{IsJobRow, on_machine}
 use Rattle.pfs_wave.proofs.BandSteps.{put_wide, put_band, put_kept}
 
--- the first lanes of a row hold the times of a job
-pub record HoldTimes (shop : FlowShop) (job width : ℕ) (row : List ℕ) (to : ℕ) : Type 0 where
-  pub wide : length row ≡ width
-  pub times_are : (lane : ℕ) → lane < to → get_or row lane 0 ≡ on_machine shop (time_of shop job) lane
-
-pub times_none : (shop : FlowShop) (job width : ℕ) (row : List ℕ) → length row ≡ width → HoldTimes shop job width row 0
-times_none shop job width row wide = record {
+pub values_none : (values : ℕ → ℕ) (width : ℕ) (row : List ℕ) → length row ≡ width → HoldFirst values width row 0
+values_none values width row wide = record {
   wide = wide;
-  times_are = λ lane none. absurd (omega (arith, none));
+  values_are = λ lane none. absurd (omega (arith, none));
 }
 
-pub times_more : (shop : FlowShop) (job width : ℕ) (row new eight : List ℕ) (first to : ℕ)
-    → HoldTimes shop job width row first
-    → first + 8 ≤ width → to ≡ first + 8 → eight ≡ map (on_machine shop (time_of shop job)) (range_with_len first 8)
-    → new ≡ take first row ++ (eight ++ drop (first + 8) row) → HoldTimes shop job width new to
-times_more shop job width row new eight first to so_far fits to_is eight_is is =
+pub values_more : (values : ℕ → ℕ) (width : ℕ) (row new eight : List ℕ) (first to : ℕ)
+    → HoldFirst values width row first → first + 8 ≤ width → to ≡ first + 8
+    → eight ≡ map values (range_with_len first 8) → new ≡ take first row ++ (eight ++ drop (first + 8) row)
+    → HoldFirst values width new to
+values_more values width row new eight first to so_far fits to_is eight_is is =
     let long : length eight ≡ 8 = ap length eight_is in
     record {
       wide = put_wide first width row eight new fits so_far.wide long is;
-      times_are = λ lane lt.
+      values_are = λ lane lt.
           elim (cases_lt lane first) [
             | inl earlier ↦
                 sym (get_or-take first new lane 0 earlier)
                 ∙ ap (λ l. get_or l lane 0) (put_kept first width row eight new fits so_far.wide long is)
-                ∙ get_or-take first row lane 0 earlier ∙ so_far.times_are lane earlier
+                ∙ get_or-take first row lane 0 earlier ∙ so_far.values_are lane earlier
             | inr later ↦
                 let part = lane - first in
                 let whole : first + part ≡ lane = omega arith in
                 ap (λ l. get_or new l 0) (sym whole) ∙ sym (get_or-drop first new part 0)
                 ∙ sym (get_or-take 8 (drop first new) part 0 (omega arith))
                 ∙ ap (λ l. get_or l part 0) (put_band first width row eight new fits so_far.wide long is ∙ eight_is)
-                ∙ get_or-map-range_with_len (on_machine shop (time_of shop job)) first 8 part lane 0 (omega arith) whole
+                ∙ get_or-map-range_with_len values first 8 part lane 0 (omega arith) whole
           ];
     }
 
-pub times_all : (shop : FlowShop) (job width to : ℕ) (row : List ℕ) → HoldTimes shop job width row to → to ≡ width
-    → IsJobRow shop job width row
+pub values_all : (values : ℕ → ℕ) (width to : ℕ) (row : List ℕ) → HoldFirst values width row to → to ≡ width
+    → HoldFirst values width row width
+values_all values width to row hold whole = record {
+  wide = hold.wide;
+  values_are = λ lane lt. hold.values_are lane (omega arith);
+}
+
+pub times_all : (shop : FlowShop) (job width to : ℕ) (row : List ℕ)
+    → HoldFirst (on_machine shop (time_of shop job)) width row to → to ≡ width → IsJobRow shop job width row
 times_all shop job width to row hold whole = record {
   lanes = hold.wide;
-  times_are = λ lane lt. hold.times_are lane (omega arith);
+  times_are = λ lane lt. hold.values_are lane (omega arith);
 }

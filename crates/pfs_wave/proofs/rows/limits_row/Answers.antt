@@ -1,11 +1,12 @@
 use Rattle.std.proofs.Common.{◌∙◌, ◌*◌, ap, length, arith}
+use Rattle.pfs_wave.specs.Private.ShopTimes.{limit_of}
 use Rattle.pfs_wave.proofs.Steps.{length-zeros}
-use Rattle.pfs_wave.proofs.ShopRows.{times_none, times_more, times_all}
-use Rattle.pfs_wave.proofs.rows.job_row.Goals as goal
+use Rattle.pfs_wave.proofs.ShopRows.{values_none, values_more, values_all}
+use Rattle.pfs_wave.proofs.rows.limits_row.Goals as goal
 
 pub loop-band-init : goal.loop-band-init
 loop-band-init g c =
-    times_none c.args.instance.now.shop c.args.job g.L.Lanes.WIDTH _
+    values_none (limit_of c.args.machines) g.L.Lanes.WIDTH _
     (ap length c.none-row.ensures ∙ length-zeros g.L.Lanes.WIDTH)
 
 pub loop-band-preserved : goal.loop-band-preserved
@@ -13,8 +14,8 @@ loop-band-preserved g c =
     let whole = g.met.L.Lanes.whole in
     let is = c.WIDTH-band-end.ensures in
     let inside = c.loop-band-test.true in
-    times_more c.args.instance.now.shop c.args.job g.L.Lanes.WIDTH _ _ _ (8 * c.loop-band.band) _ c.loop-band.invariant
-    (omega arith) (omega arith) c.eight_times.ensures c.put_band.ensures
+    values_more (limit_of c.args.machines) g.L.Lanes.WIDTH _ _ _ (8 * c.loop-band.band) _ c.loop-band.invariant
+    (omega arith) (omega arith) c.eight_limits.ensures c.put_band.ensures.band
 
 pub returns : goal.returns
 returns g c =
@@ -22,4 +23,4 @@ returns g c =
     let is = c.WIDTH-band-end.ensures in
     let end = c.loop-band.auto.band-end in
     let outside = c.loop-band-test.false in
-    times_all c.args.instance.now.shop c.args.job g.L.Lanes.WIDTH _ _ c.loop-band.invariant (omega arith)
+    values_all (limit_of c.args.machines) g.L.Lanes.WIDTH _ _ c.loop-band.invariant (omega arith)
