@@ -6,6 +6,7 @@ pub mod FilledSteps
 pub mod HeldLemmas
 pub mod JoinedRows
 pub mod LeastKey
+pub mod LoadedTimes
 pub mod Longest
 pub mod OneBandLemmas
 pub mod ServedPaths

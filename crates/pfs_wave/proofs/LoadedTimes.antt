@@ -1,12 +1,14 @@
 -- Times that are loaded eight at a time.
-use Rattle.std.proofs.Common.{◌≡◌, ℕ, suc, zero, ◌+◌, ◌<◌, ◌≤◌, ◌^◌, min, List, ◌∷◌, length, take, drop}
+use Rattle.std.proofs.Common.{◌≡◌, ℕ, suc, zero, ◌+◌, ◌<◌, ◌≤◌, min, List, ◌∷◌, length, take, drop}
 use Rattle.std.proofs.Common.{get_or, map, refl, ap, ◌∙◌, add-one, arith}
-use Rattle.std.specs.List.{range_with_len, All}
+use Rattle.std.specs.List.{range_with_len}
 use Rattle.std.specs.Simd.Lanes.{zip2, Each1}
 use Rattle.std.proofs.Math.Seq.{drop-cons}
+use Rattle.std.proofs.lemmas.List.{length-drop, length-take-le}
 use Rattle.std.proofs.lemmas.List.Elements.{All-get_or}
 use Rattle.std.proofs.lemmas.Simd.{Each1-chunk, Each1-from_get_or}
 use Rattle.pfs_wave.specs.Private.ShopTimes.{limited_time}
+use Rattle.pfs_wave.proofs.SmallLanes.{AreSmall}
 use Rattle.pfs_wave.proofs.VectorLemmas.{cons_same}
 
 drop_next : (xs : List ℕ) (i : ℕ) → i < length xs → drop i xs ≡ get_or xs i 0 ∷ drop (i + 1) xs
@@ -34,10 +36,13 @@ limited_eight times limits result at first left right is =
     ∙ lesser_parts times limits (limited_time times at limits) 8 (at + first) first left right
     (λ k l to same. ap (λ i. min (get_or times i 0) (get_or limits l 0)) (omega arith))
 
--- each of eight times fits its lane
-pub short_eight : (times : List ℕ) (at : ℕ) → at + 8 ≤ length times → All (λ time. time < 2 ^ 16) times
-    → Each1 (λ time. time < 2 ^ 16) (take 8 (drop at times))
-short_eight times at room short =
-    Each1-chunk (λ time. time < 2 ^ 16) at 8 times
-    (Each1-from_get_or (λ time. time < 2 ^ 16) times 0
-    (λ i inside. All-get_or (λ time. time < 2 ^ 16) times i 0 inside short))
+-- each of eight times is at most a cap
+pub small_eight : (cap : ℕ) (times : List ℕ) (at : ℕ) → at + 8 ≤ length times → AreSmall cap times
+    → Each1 (λ time. time ≤ cap) (take 8 (drop at times))
+small_eight cap times at room small =
+    Each1-chunk (λ time. time ≤ cap) at 8 times
+    (Each1-from_get_or (λ time. time ≤ cap) times 0
+    (λ i inside. All-get_or (λ time. time ≤ cap) times i 0 inside small))
+
+pub eight_long : (times : List ℕ) (at : ℕ) → at + 8 ≤ length times → length (take 8 (drop at times)) ≡ 8
+eight_long times at room = length-take-le 8 (drop at times) (omega (arith, length-drop at times))

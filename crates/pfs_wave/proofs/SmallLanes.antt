@@ -1,5 +1,5 @@
 -- Lanes up to a cap.
-use Rattle.std.proofs.Common.{ℕ, zero, suc, ◌+◌, ◌*◌, ◌≤◌, max, List, [], ◌∷◌, ◌++◌, length, get_or, arith}
+use Rattle.std.proofs.Common.{ℕ, zero, suc, ◌+◌, ◌*◌, ◌≤◌, max, min, List, [], ◌∷◌, ◌++◌, length, get_or, arith}
 use Rattle.std.proofs.Common.{inl, inr}
 use Rattle.std.proofs.lemmas.Bool.{cases_lt}
 use Rattle.std.proofs.lemmas.List.{get_or_past}
@@ -57,6 +57,13 @@ module _ (cap : ℕ) where
   greater_small (x ∷ xs) (y ∷ ys) small too =
       cons_small (max x y) (zip2 max xs ys) (omega (arith, first_small x xs small, first_small y ys too))
       (greater_small xs ys (rest_small x xs small) (rest_small y ys too))
+
+  pub lesser_small : (xs ys : List ℕ) → AreSmall cap ys → AreSmall cap (zip2 min xs ys)
+  lesser_small [] ys small = none_small
+  lesser_small (x ∷ xs) [] small = none_small
+  lesser_small (x ∷ xs) (y ∷ ys) small =
+      cons_small (min x y) (zip2 min xs ys) (omega (arith, first_small y ys small))
+      (lesser_small xs ys (rest_small y ys small))
 
   pub sum_small : (xs ys : List ℕ) → AreSmall cap (zip2 (capped_add cap) xs ys)
   sum_small [] ys = none_small

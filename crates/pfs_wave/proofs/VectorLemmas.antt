@@ -1,13 +1,14 @@
 -- Lanes of 16 and of 32 bits, as a processor computes them.
 use Rattle.std.proofs.Common.{◌≡◌, ℕ, zero, suc, ◌+◌, ◌-◌, ◌<◌, ◌≤◌, ◌^◌, max, min, cond, List, [], ◌∷◌}
-use Rattle.std.proofs.Common.{length, map, arith, refl, ap, ◌∙◌}
+use Rattle.std.proofs.Common.{length, map, arith, rules, refl, ap, ◌∙◌}
 use Rattle.std.proofs.lemmas.Int.{ints}
+use Rattle.std.proofs.lemmas.Simd.{Each1-weaker}
 use Rattle.std.proofs.lemmas.Bool.Decides.{nat_tests}
 use Rattle.pfs_wave.specs.Lanes.{capped_add}
 use Rattle.pfs_wave.proofs.SmallLanes.{AreSmall, first_small, rest_small}
 use lib.Lanes.{top, zip2, sel_l, Each1}
-use borrow.Rule.Simd.Lanes.{act1, act2}
-use mir.Syntax.{Width, mask, lt, unsigned, wrap_add, bit_not, w16, w32}
+use borrow.Rule.Simd.Lanes.{Asks1, act1, act2}
+use mir.Syntax.{Width, mask, lt, cast, unsigned, wrap_add, bit_not, w16, w32}
 use borrow.Table.Row.{s_int}
 
 abbrev pub less : Width → ℕ → ℕ → ℕ
@@ -19,7 +20,7 @@ wrapped_sum w = act2 wrap_add (s_int w) (s_int w) (s_int w)
 abbrev pub turned : ℕ → ℕ
 turned = act1 bit_not (s_int w16) (s_int w16)
 
-cons_same : {x y : ℕ} {xs ys : List ℕ} → x ≡ y → xs ≡ ys → x ∷ xs ≡ y ∷ ys
+pub cons_same : {x y : ℕ} {xs ys : List ℕ} → x ≡ y → xs ≡ ys → x ∷ xs ≡ y ∷ ys
 cons_same p q = cc
 
 -- ---- the greater lanes
@@ -39,6 +40,45 @@ pub long_greater_is : (xs ys : List ℕ) → sel_l (map (top 31) (zip2 (less w32
 long_greater_is [] ys = refl
 long_greater_is (x ∷ xs) [] = refl
 long_greater_is (x ∷ xs) (y ∷ ys) = cons_same (long_chosen x y) (long_greater_is xs ys)
+
+-- ---- the lesser lanes
+
+chosen_less : (x y : ℕ) → cond (top 15 (less w16 x y)) x y ≡ min x y
+chosen_less x y = grind (arith, nat_tests, ints)
+
+pub lesser_is : (xs ys : List ℕ) → sel_l (map (top 15) (zip2 (less w16) xs ys)) xs ys ≡ zip2 min xs ys
+lesser_is [] ys = refl
+lesser_is (x ∷ xs) [] = refl
+lesser_is (x ∷ xs) (y ∷ ys) = cons_same (chosen_less x y) (lesser_is xs ys)
+
+long_chosen_less : (x y : ℕ) → cond (top 31 (less w32 x y)) x y ≡ min x y
+long_chosen_less x y = grind (arith, nat_tests, ints)
+
+pub long_lesser_is : (xs ys : List ℕ) → sel_l (map (top 31) (zip2 (less w32) xs ys)) xs ys ≡ zip2 min xs ys
+long_lesser_is [] ys = refl
+long_lesser_is (x ∷ xs) [] = refl
+long_lesser_is (x ∷ xs) (y ∷ ys) = cons_same (long_chosen_less x y) (long_lesser_is xs ys)
+
+-- ---- lanes of 32 bits in 16
+
+abbrev pub cut : ℕ → ℕ
+cut = act1 (cast unsigned unsigned w16) (s_int w32) (s_int w16)
+
+abbrev pub CanCut : ℕ → Type 0
+CanCut = Asks1 (cast unsigned unsigned w16) (s_int w32)
+
+cut_one : (x : ℕ) → x ≤ 65535 → cut x ≡ x
+cut_one x small = grind (arith, nat_tests, ints)
+
+pub cut_is : (xs : List ℕ) → Each1 (λ x. x ≤ 65535) xs → map cut xs ≡ xs
+cut_is [] each = refl
+cut_is (x ∷ xs) each = cons_same (cut_one x each.0) (cut_is xs each.1)
+
+can_cut : (x : ℕ) → x ≤ 65535 → CanCut x
+can_cut x small = search rules
+
+pub can_cut_all : (xs : List ℕ) → Each1 (λ x. x ≤ 65535) xs → Each1 CanCut xs
+can_cut_all xs each = Each1-weaker (λ x. x ≤ 65535) CanCut can_cut xs each
 
 -- ---- sums of 16 bits: the processor's saturating sum
 

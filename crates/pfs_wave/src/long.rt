@@ -42,6 +42,13 @@ impl Band for Long {
     }
 
     #[inline(always)]
+    fn load(times: &[u32], at: usize, limits: Long) -> Long {
+        Long {
+            values: u32x8::from_slice(&times[at..]).simd_min(limits.values),
+        }
+    }
+
+    #[inline(always)]
     fn up(self, carry: Long) -> Long {
         Long {
             values: carry

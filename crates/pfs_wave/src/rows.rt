@@ -2,6 +2,7 @@
 ghost use Rattle.std.specs.Prelude.{◌≡◌, ◌+◌, ◌<◌, ◌≤◌, ◌^◌, length, map, IfOk};
 ghost use Rattle.std.specs.List.{All, range_with_len};
 ghost use Rattle.pfs_base.specs.FlowShop.{time_of};
+ghost use Rattle.pfs_wave.specs.Private.ShopTimes.{HoldFirst, limit_of, limited_time};
 ghost use Rattle.pfs_wave.specs.Wavefront.{HasRows, IsJobRow, on_machine};
 
 use crate::band::Band;
@@ -41,8 +42,9 @@ fn eight_times<B: Band>(instance: &Instance, job: usize, first: usize) -> B
     ])
 }
 
-// The times of a job in the lanes of its machines.
-fn job_row<L: Lanes>(instance: &Instance, job: usize) -> L
+// `job_row`, lane by lane.
+#[inline(never)]
+fn row_by_lanes<L: Lanes>(instance: &Instance, job: usize) -> L
     requires job { job < instance.now.shop.jobs }
     requires short { All (λ time. time ≤ L.Band.CAP) instance.now.shop.times }
     ensures { IsJobRow instance.now.shop job L.WIDTH (L.lanes result) }
@@ -52,6 +54,77 @@ fn job_row<L: Lanes>(instance: &Instance, job: usize) -> L
         row.put_band(band, eight_times(instance, job, 8 * band));
     }
     row
+}
+
+// The greatest value of a lane: that of its band, and 0 in a lane after the last machine.
+#[inline(always)]
+fn lane_limit(greatest: u32, machines: usize, lane: usize) -> u32
+    ensures value { result ≡ limit_of greatest machines lane }
+    ensures small { result ≤ greatest }
+{
+    if lane < machines { greatest } else { 0 }
+}
+
+// The greatest values of the eight lanes from `first` on.
+fn eight_limits<B: Band>(machines: usize, first: usize) -> B
+    requires few { first < 2 ^ 32 }
+    ensures { B.lanes result ≡ map (limit_of B.CAP machines) (range_with_len first 8) }
+{
+    let greatest = B::CAP;
+    B::from_times([
+        lane_limit(greatest, machines, first),
+        lane_limit(greatest, machines, first + 1),
+        lane_limit(greatest, machines, first + 2),
+        lane_limit(greatest, machines, first + 3),
+        lane_limit(greatest, machines, first + 4),
+        lane_limit(greatest, machines, first + 5),
+        lane_limit(greatest, machines, first + 6),
+        lane_limit(greatest, machines, first + 7),
+    ])
+}
+
+// The greatest values of all lanes.
+fn limits_row<L: Lanes>(machines: usize) -> L
+    ensures { HoldFirst (limit_of L.Band.CAP machines) L.WIDTH (L.lanes result) L.WIDTH }
+{
+    let mut row = L::none();
+    for band in 0..L::WIDTH / 8 {
+        row.put_band(band, eight_limits(machines, 8 * band));
+    }
+    row
+}
+
+// The times from a place on, one in each lane and at most the limit of the lane.
+#[inline(always)]
+fn limited_row<L: Lanes>(times: &[u32], at: usize, limits: &L) -> L
+    requires inside { at + L.WIDTH ≤ length times.now }
+    requires short { All (λ time. time ≤ L.Band.CAP) times.now }
+    ensures { HoldFirst (limited_time times.now at (L.lanes limits.now)) L.WIDTH (L.lanes result) L.WIDTH }
+{
+    let mut row = L::none();
+    for band in 0..L::WIDTH / 8 {
+        let first = 8 * band;
+        row.put_band(band, L::Band::load(times, at + first, limits.band(band)));
+    }
+    row
+}
+
+// The times of a job in the lanes of its machines. A time is loaded for each lane, in the lanes after the last machine
+// from the jobs after it, and limited to 0 there. For the last jobs there are too few times.
+#[inline(always)]
+fn job_row<L: Lanes>(instance: &Instance, job: usize, limits: &L) -> L
+    requires job { job < instance.now.shop.jobs }
+    requires short { All (λ time. time ≤ L.Band.CAP) instance.now.shop.times }
+    requires limits { HoldFirst (limit_of L.Band.CAP instance.now.shop.machines) L.WIDTH (L.lanes limits.now) L.WIDTH }
+    ensures { IsJobRow instance.now.shop job L.WIDTH (L.lanes result) }
+{
+    let times = instance.times();
+    let at = job * instance.machines();
+    if at + L::WIDTH <= times.len() {
+        limited_row(times, at, limits)
+    } else {
+        row_by_lanes(instance, job)
+    }
 }
 
 /// Makes the rows of an instance: for each job its times, in the lanes of its machines, and 0 in the lanes after the
@@ -66,9 +139,10 @@ pub fn shop_rows<L: Lanes>(alloc: Global, instance: &Instance) -> Result<Vec<L>,
     let jobs = instance.jobs();
     let mut rows = Vec::new(alloc);
     rows.reserve_exact(jobs + 1)?;
+    let limits = limits_row(instance.machines());
     for job in 0..jobs {
-        rows.push(job_row(instance, job))?;
+        rows.push_reserved(job_row(instance, job, &limits));
     }
-    rows.push(L::none())?;
+    rows.push_reserved(L::none());
     Ok(rows)
 }

@@ -1,6 +1,6 @@
 //! Bands of 16-bit lanes.
-ghost use Rattle.std.specs.Prelude.{◌≡◌, ℕ, length};
-ghost use Rattle.std.specs.Simd.Lanes.{zip2};
+ghost use Rattle.std.specs.Prelude.{◌≡◌, ℕ, ◌≤◌, length, min};
+ghost use Rattle.std.specs.Simd.Lanes.{Each1, zip2};
 ghost use Rattle.pfs_wave.specs.Lanes.{capped_add};
 
 use crate::band::Band;
@@ -20,6 +20,23 @@ fn saturating_sum(a: u16x8, b: u16x8) -> u16x8
     ensures { result ≡ zip2 (capped_add 65535) a b }
 {
     a.saturating_add(b)
+}
+
+// The lesser value of each lane.
+#[inline(always)]
+fn lesser(a: u16x8, b: u16x8) -> u16x8
+    ensures { result ≡ zip2 min a b }
+{
+    a.simd_min(b)
+}
+
+// The same values in lanes of 16 bits.
+#[inline(always)]
+fn narrowed(v: u32x8) -> u16x8
+    requires short { Each1 (λ value. value ≤ 65535) v }
+    ensures { result ≡ v }
+{
+    v.cast::<u16>()
 }
 
 impl Band for Short {
@@ -55,6 +72,14 @@ impl Band for Short {
                 times[6] as u16,
                 times[7] as u16,
             ]),
+        }
+    }
+
+    #[inline(always)]
+    fn load(times: &[u32], at: usize, limits: Short) -> Short {
+        let eight = narrowed(u32x8::from_slice(&times[at..]));
+        Short {
+            values: lesser(eight, limits.values),
         }
     }
 

@@ -61,7 +61,7 @@ pub(crate) fn rows_of_zeros<L: Lanes>(alloc: Global, count: usize) -> Result<Vec
     let mut rows = Vec::new(alloc);
     rows.reserve_exact(count)?;
     for _row in 0..count {
-        rows.push(L::none())?;
+        rows.push_reserved(L::none());
     }
     Ok(rows)
 }

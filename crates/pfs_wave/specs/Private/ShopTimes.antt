@@ -2,9 +2,9 @@
 use Rattle.std.specs.Prelude.{◌≡◌, ℕ, ◌+◌, ◌<◌, List, length, min, nat_lt, if◌then◌else◌}
 use Rattle.std.specs.List.{slice_index_or}
 
--- the greatest value of a lane of 16 bits, and 0 after the last machine
-abbrev pub limit_of : ℕ → ℕ → ℕ
-limit_of machines lane = if nat_lt lane machines then 65535 else 0
+-- the greatest value of a lane, and 0 after the last machine
+abbrev pub limit_of : ℕ → ℕ → ℕ → ℕ
+limit_of greatest machines lane = if nat_lt lane machines then greatest else 0
 
 -- the time of a lane, of the times from a place on, or the limit of the lane if that is less
 abbrev pub limited_time : List ℕ → ℕ → List ℕ → ℕ → ℕ

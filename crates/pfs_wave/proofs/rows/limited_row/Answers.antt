@@ -20,12 +20,12 @@ loop-band-preserved g c =
     let first = 8 * c.loop-band.band in
     let fits : first + 8 ≤ g.L.Lanes.WIDTH = omega arith in
     let left : c.args.at + first + 8 ≤ length c.args.times.now = omega (arith, c.requires.inside) in
-    let right : first + 8 ≤ length limits = omega (arith, c.band.ensures.wide) in
-    let eight = limited_eight c.args.times.now limits c.eight_at.result c.args.at first left right
-    (c.eight_at.ensures
-    ∙ ap (λ l. zip2 min (take 8 (drop (c.args.at + first) c.args.times.now)) l) c.band.ensures.band) in
+    let right : first + 8 ≤ length limits = omega (arith, g.met.L.Lanes.wide c.args.limits.now) in
+    let eight = limited_eight c.args.times.now limits (g.L.Band.Band.lanes c.load.result) c.args.at first left right
+    (c.load.ensures
+    ∙ ap (λ l. zip2 min (take 8 (drop (c.args.at + first) c.args.times.now)) l) c.band.ensures) in
     values_more (limited_time c.args.times.now c.args.at limits) g.L.Lanes.WIDTH _ _ _ first _ c.loop-band.invariant
-    fits (omega arith) eight c.put_band.ensures.band
+    fits (omega arith) eight c.put_band.ensures
 
 pub returns : goal.returns
 returns g c =

@@ -6,7 +6,7 @@ use Rattle.pfs_wave.proofs.rows.limits_row.Goals as goal
 
 pub loop-band-init : goal.loop-band-init
 loop-band-init g c =
-    values_none (limit_of c.args.machines) g.L.Lanes.WIDTH _
+    values_none (limit_of g.L.Band.Band.CAP c.args.machines) g.L.Lanes.WIDTH _
     (ap length c.none-row.ensures ∙ length-zeros g.L.Lanes.WIDTH)
 
 pub loop-band-preserved : goal.loop-band-preserved
@@ -14,8 +14,8 @@ loop-band-preserved g c =
     let whole = g.met.L.Lanes.whole in
     let is = c.WIDTH-band-end.ensures in
     let inside = c.loop-band-test.true in
-    values_more (limit_of c.args.machines) g.L.Lanes.WIDTH _ _ _ (8 * c.loop-band.band) _ c.loop-band.invariant
-    (omega arith) (omega arith) c.eight_limits.ensures c.put_band.ensures.band
+    values_more (limit_of g.L.Band.Band.CAP c.args.machines) g.L.Lanes.WIDTH _ _ _ (8 * c.loop-band.band) _ c.loop-band.invariant
+    (omega arith) (omega arith) c.eight_limits.ensures c.put_band.ensures
 
 pub returns : goal.returns
 returns g c =
@@ -23,4 +23,4 @@ returns g c =
     let is = c.WIDTH-band-end.ensures in
     let end = c.loop-band.auto.band-end in
     let outside = c.loop-band-test.false in
-    values_all (limit_of c.args.machines) g.L.Lanes.WIDTH _ _ c.loop-band.invariant (omega arith)
+    values_all (limit_of g.L.Band.Band.CAP c.args.machines) g.L.Lanes.WIDTH _ _ c.loop-band.invariant (omega arith)

@@ -17,7 +17,7 @@ loop-band-preserved g c =
     let inside = c.loop-band-test.true in
     values_more (on_machine c.args.instance.now.shop (time_of c.args.instance.now.shop c.args.job)) g.L.Lanes.WIDTH
     _ _ _ (8 * c.loop-band.band) _ c.loop-band.invariant (omega arith) (omega arith) c.eight_times.ensures
-    c.put_band.ensures.band
+    c.put_band.ensures
 
 pub returns : goal.returns
 returns g c =
