@@ -1,6 +1,6 @@
 """Computations over a bench are inlined where the bench is a value, so that its count stays in a register. In a
 function that is called, each cell of a table would read and write the count in memory. The loops of a wavefront are
-separate functions, which call nothing. Those of up to 24 lanes keep no lanes on the stack."""
+separate functions, which call nothing. Those of up to 24 lanes of 16 bits keep no lanes on the stack."""
 import re
 import subprocess
 
@@ -26,14 +26,14 @@ def test_no_function_of_this_module_is_called(pfs: Program, module: str) -> None
 @pytest.mark.parametrize("loop", ["times::fill_times", "times::move_steps", "kernels::fill_tails",
                                   "kernels::fill_sums"])
 def test_a_loop_of_a_wavefront_stays_in_registers(pfs: Program, loop: str) -> None:
-    """The program has one for each of seven widths. Three have at most 24 lanes. A program without symbols can't be
-    tested and passes."""
+    """The program has one for each of seven widths, with lanes of 16 bits and of 32. Three of 16 bits have at most 24
+    lanes. A program without symbols can't be tested and passes."""
     words = [tool("objdump"), "--disassemble", "--no-show-raw-insn", str(pfs.path)]
     done = subprocess.run(words, capture_output=True, text=True, check=True)
     if "<pfs_" not in done.stdout:
         return
     functions = re.findall(rf"^[0-9a-f]+ <pfs_wave::{loop}\b.*>:\n((?:.+\n)+)", done.stdout, re.MULTILINE)
-    assert len(functions) == 7
+    assert len(functions) == 14
     assert [body for body in functions if re.search(r"\tcall", body)] == []
     in_registers = [body for body in functions if not re.search(r"\t(?:.*xmm.*\(%r[sb]p|.*\(%r[sb]p.*xmm)", body)]
     assert len(in_registers) >= 3

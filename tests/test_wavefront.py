@@ -1,6 +1,7 @@
-"""Instances at the limits of a wavefront. It needs at least 8 jobs, less than 65,535 for the product of the longest
-time and the number of operations on a path, and, with more than 24 lanes, a cell for a third of the lanes that it
-computes. Insertions and searches are compared with those of the second program, or with heads and tails."""
+"""Instances at the limits of a wavefront. It needs at least 8 jobs, and less than the greatest value of a lane for the
+product of the longest time and the number of operations on a path: 65,535 in lanes of 16 bits, and 2^31 - 1 in lanes of
+32 bits. With more than 24 lanes, a third of the lanes that it computes must have a cell. Insertions and searches are
+compared with those of the second program, or with heads and tails."""
 import pathlib
 from random import Random
 
@@ -10,7 +11,10 @@ from support.printed import printed
 from support.program import Program
 from support.second_program import Instance
 
-WIDTHS = {f"Wavefront(Lanes{width})": width for width in (8, 16, 24, 40, 64, 104, 208)}
+# The width and the greatest value of each wavefront, in the order in which a search prefers them.
+WAVEFRONTS = {f"Wavefront{bits}(Lanes{width})": (width, greatest)
+              for bits, greatest in ((16, 2 ** 16 - 1), (32, 2 ** 31 - 1))
+              for width in (8, 16, 24, 40, 64, 104, 208)}
 
 OPTIONS = {b"--take": 3, b"--rounds": 3, b"--seed": 1, b"--passes": 1, b"--cells": True}
 SOLVE = "solve --layout taillard --take 3 --rounds 3 --seed 1 --passes 1 --cells shop"
@@ -52,27 +56,32 @@ SHOPS: dict[str, tuple[Instance, str]] = {
     **{f"{jobs} jobs on {machines} machines, times to {most}": (
         drawn(jobs, machines, most),
         "HeadsTails" if jobs < 8 or machines > 24 else
-        next(method for method, width in WIDTHS.items() if machines <= width))
+        next(method for method, (width, _) in WAVEFRONTS.items() if machines <= width))
        for jobs in (7, 8, 9) for machines in (1, 7, 8, 9, 15, 16, 17, 23, 24, 25) for most in (2, 99)},
     **{f"{jobs} jobs on {machines} machines": (drawn(jobs, machines, 99), method)
        for jobs, machines, method in (
-           (45, 25, "HeadsTails"), (46, 25, "Wavefront(Lanes40)"), (19, 40, "HeadsTails"),
-           (20, 40, "Wavefront(Lanes40)"), (31, 64, "HeadsTails"), (32, 64, "Wavefront(Lanes64)"),
-           (51, 104, "HeadsTails"), (52, 104, "Wavefront(Lanes104)"))},
-    "times of 0": (equal(9, 5, 0), "Wavefront(Lanes8)"),
-    "a longest path of 65,534": (equal(8, 7, 4_681), "Wavefront(Lanes8)"),
-    "a longest path of 65,535": (equal(8, 8, 4_369), "HeadsTails"),
-    "a longest path of 65,536 on 8 machines": (equal(9, 8, 4_096), "HeadsTails"),
-    "a longest path of 65,536 on 9 machines": (equal(8, 9, 4_096), "HeadsTails"),
-    "31 times of 2,114 are 65,534": (with_long_job(8, 24, 2_114), "Wavefront(Lanes24)"),
-    "32 times of 2,048 are 65,536": (with_long_job(9, 24, 2_048), "HeadsTails"),
-    "a long job": (with_long_job(12, 12, 2_849), "Wavefront(Lanes16)"),
-    "a long time": (with_one_long_time(20, 24, 1_523), "Wavefront(Lanes24)"),
-    "a time that is too long": (with_one_long_time(20, 24, 1_525), "HeadsTails"),
+           (45, 25, "HeadsTails"), (46, 25, "Wavefront16(Lanes40)"), (19, 40, "HeadsTails"),
+           (20, 40, "Wavefront16(Lanes40)"), (31, 64, "HeadsTails"), (32, 64, "Wavefront16(Lanes64)"),
+           (51, 104, "HeadsTails"), (52, 104, "Wavefront16(Lanes104)"))},
+    "times of 0": (equal(9, 5, 0), "Wavefront16(Lanes8)"),
+    "a longest path of 65,534": (equal(8, 7, 4_681), "Wavefront16(Lanes8)"),
+    "a longest path of 65,535": (equal(8, 8, 4_369), "Wavefront32(Lanes8)"),
+    "a longest path of 65,536 on 8 machines": (equal(9, 8, 4_096), "Wavefront32(Lanes8)"),
+    "a longest path of 65,536 on 9 machines": (equal(8, 9, 4_096), "Wavefront32(Lanes16)"),
+    "a longest path of 2^31 - 2": (equal(8, 7, 153_391_689), "Wavefront32(Lanes8)"),
+    "a longest path of 2^31": (equal(8, 9, 134_217_728), "HeadsTails"),
+    "31 times of 2,114 are 65,534": (with_long_job(8, 24, 2_114), "Wavefront16(Lanes24)"),
+    "32 times of 2,048 are 65,536": (with_long_job(9, 24, 2_048), "Wavefront32(Lanes24)"),
+    "a long job": (with_long_job(12, 12, 2_849), "Wavefront16(Lanes16)"),
+    "a long time": (with_one_long_time(20, 24, 1_523), "Wavefront16(Lanes24)"),
+    "a time that is too long for 16 bits": (with_one_long_time(20, 24, 1_525), "Wavefront32(Lanes24)"),
+    "43 times of 49,941,480 are 2^31 - 8": (with_one_long_time(20, 24, 49_941_480), "Wavefront32(Lanes24)"),
+    "a time that is too long for 32 bits": (with_one_long_time(20, 24, 49_941_481), "HeadsTails"),
+    "46 jobs on 25 machines, times to 10^7": (drawn(46, 25, 10_000_000), "Wavefront32(Lanes40)"),
     "one time of 10^9": (with_one_long_time(9, 5, 1_000_000_000), "HeadsTails"),
-    "40 jobs": (drawn(40, 6, 30), "Wavefront(Lanes8)"),
-    "21 jobs on 11 machines": (drawn(21, 11, 500), "Wavefront(Lanes16)"),
-    "22 jobs on 20 machines": (drawn(22, 20, 1_000), "Wavefront(Lanes24)"),
+    "40 jobs": (drawn(40, 6, 30), "Wavefront16(Lanes8)"),
+    "21 jobs on 11 machines": (drawn(21, 11, 500), "Wavefront16(Lanes16)"),
+    "22 jobs on 20 machines": (drawn(22, 20, 1_000), "Wavefront16(Lanes24)"),
 }
 
 # Instances that are too large for plain definitions: for each number of machines, the least number of jobs that a
@@ -84,16 +93,16 @@ def longest_path(shop: Instance) -> int:
     return (shop.jobs + shop.machines - 1) * max(max(row) for row in shop.times)
 
 
-def is_served(shop: Instance, width: int) -> bool:
+def is_served(shop: Instance, width: int, greatest: int) -> bool:
     lanes = (shop.jobs + width) * width
     full = width <= 24 or lanes <= 3 * shop.jobs * shop.machines
-    return shop.jobs >= 8 and shop.machines <= width and full and longest_path(shop) < 65_535
+    return shop.jobs >= 8 and shop.machines <= width and full and longest_path(shop) < greatest
 
 
 def test_a_search_uses_the_narrowest_method_that_can_compute_it() -> None:
     """The methods in SHOPS follow this rule."""
     for name, (shop, method) in SHOPS.items():
-        methods = [method for method, width in WIDTHS.items() if is_served(shop, width)]
+        methods = [method for method, wavefront in WAVEFRONTS.items() if is_served(shop, *wavefront)]
         assert method == (methods[0] if methods else "HeadsTails"), name
 
 
@@ -125,10 +134,10 @@ def test_each_method_finds_the_first_best_places(pfs_calls: Program, folder: pat
     Each counts (4k - 2)m cells for k jobs, the inserted one included."""
     shop, method = SHOPS[name]
     lines = [method]
-    for width in WIDTHS.values():
+    for wavefront in WAVEFRONTS.values():
         cells = 0
         for jobs, (place, makespan) in enumerate(insertions(shop), 1):
-            for _ in range(2 if is_served(shop, width) else 0):
+            for _ in range(2 if is_served(shop, *wavefront) else 0):
                 cells += (4 * jobs - 2) * shop.machines
                 lines.append(f"{place} {makespan} {cells}")
     assert lines_of(pfs_calls, folder, shop) == lines
@@ -140,8 +149,8 @@ def test_a_wide_wavefront_finds_what_heads_and_tails_do(pfs_calls: Program, fold
     jobs = FEWEST_JOBS[machines]
     assert lines_of(pfs_calls, folder, drawn(jobs - 1, machines, 99)) == ["HeadsTails"]
     method, *lines = lines_of(pfs_calls, folder, drawn(jobs, machines, 99))
-    assert method == next(method for method, width in WIDTHS.items() if machines <= width)
-    assert len(lines) == 2 * jobs
+    assert method == next(method for method, (width, _) in WAVEFRONTS.items() if machines <= width)
+    assert len(lines) == 2 * 2 * jobs
     for by_rows, by_wavefront in zip(lines[::2], lines[1::2]):
         assert by_rows.split()[:2] == by_wavefront.split()[:2]
 
