@@ -118,7 +118,6 @@ def test_a_sum_by_the_bench_has_no_error(errors: dict[str, list[str]], name: str
     assert errors[name] == []
 
 
-@pytest.mark.parametrize(("name", "error"), [(name, error) for name, (_, error) in (REFUSED | REFUSED_LANES).items()],
-                         ids=REFUSED | REFUSED_LANES)
-def test_a_function_over_any_bench_is_rejected(errors: dict[str, list[str]], name: str, error: str) -> None:
-    assert errors[name] == [error]
+@pytest.mark.parametrize("name", [*REFUSED, *REFUSED_LANES])
+def test_a_function_over_any_bench_is_rejected(errors: dict[str, list[str]], name: str) -> None:
+    assert errors[name] == [{**REFUSED, **REFUSED_LANES}[name][1]]

@@ -146,8 +146,8 @@ def test_an_invalid_number_of_tasks_is_rejected(many: str, experiment: Experimen
     assert (got.status, got.stdout, got.stderr.count("\n")) == (2, "", 1), got.stderr
 
 
-# Sizes in KiB; the experiment needs about 150.
-DISKS = (4, 16, 24, 32, 48, 64, 96, 112, 128, 144, 160)
+# Sizes in KiB, at which there is no more room for the scripts, an instance, the plan, the CSV, or some of the orders.
+DISKS = (4, 16, 24, 32, 48, 96, 160)
 
 
 @pytest.mark.parametrize("kib", DISKS)
@@ -1260,14 +1260,19 @@ def test_the_manual_page_has_the_exit_statuses(page: str, experiment: Experiment
         assert each.stderr.count("\n") == 1, each.stderr
 
 
+def shortened(plan: str) -> str:
+    """The plan of the repository with one instance of each size and fewer rounds."""
+    return plan.replace("[1-3]", "1").replace(", 100, 1000]", ", 20]")
+
+
 @pytest.mark.seconds(20)
 def test_the_examples_of_the_manual_page_lead_to_a_report(page: str, top: pathlib.Path, pfs: Program,
                                                           folder: pathlib.Path, matplotlib: None) -> None:
-    """With the plan of the repository in the place of the installed one, and fewer rounds."""
+    """With the plan of the repository in the place of the installed one, and fewer runs."""
     lines = re.findall(r"^\$ (.*)$", page.partition(".Sh EXAMPLES")[2].partition(".Sh ")[0], re.MULTILINE)
     assert len(lines) == 4 and lines[0].split()[0] == "cp", lines
     name = pathlib.Path(lines[0].split()[1]).name
-    (folder / name).write_text((top / "experiments" / name).read_text().replace(", 100, 1000]", ", 20]"))
+    (folder / name).write_text(shortened((top / "experiments" / name).read_text()))
     (folder / "bin").mkdir()
     shutil.copy(pfs.path, folder / "bin" / "pfs")
     write_script(folder / "bin" / "pfs-experiments", f"#!/bin/sh\nexec {top}/tools/pfs-experiments \"$@\"\n")
@@ -1302,13 +1307,13 @@ def lines_of_way(page: pathlib.Path) -> list[str]:
     return [line.partition("#")[0].strip() for line in "".join(block).splitlines()]
 
 
-@pytest.mark.seconds(30)
+@pytest.mark.seconds(20)
 def test_the_lines_of_the_way_lead_to_the_reports_plots(top: pathlib.Path, pfs: Program, folder: pathlib.Path,
                                                         matplotlib: None) -> None:
-    """In a copy that has the built program, which is taken as it is, and a plan of fewer rounds and seeds."""
+    """In a copy that has the built program, which is taken as it is, and a plan of fewer runs."""
     shutil.copytree(top / "experiments", folder / "experiments", ignore=shutil.ignore_patterns("out", "__pycache__"))
     plan = folder / "experiments" / "example.toml"
-    plan.write_text(plan.read_text().replace(", 100, 1000]", ", 20]").replace("[1, 2, 3]", "[1, 2]"))
+    plan.write_text(shortened(plan.read_text()))
     (folder / "python" / "src" / "pfs").mkdir(parents=True)
     for name in ("Makefile", "crates.txt", "python/src/pfs/_atomic.py"):
         shutil.copy(top / name, folder / name)
@@ -1322,4 +1327,4 @@ def test_the_lines_of_the_way_lead_to_the_reports_plots(top: pathlib.Path, pfs: 
         == ["gap.png", "means.png", "rpd.png", "seconds.png", "sizes.csv", "sizes.md", "sizes.tex", "table.csv",
             "table.md", "time.png"]
     with open(folder / "report" / "table.csv", newline="") as file:
-        assert sum(int(row["runs"]) for row in csv.DictReader(file)) == 9 * (1 + 2 * 2)
+        assert sum(int(row["runs"]) for row in csv.DictReader(file)) == 3 * (1 + 2 * 3)

@@ -667,7 +667,7 @@ def test_sizes_have_distinguishable_colours(report: Reported, folder: pathlib.Pa
 @of_reported
 @pytest.mark.parametrize("name", ["gap", "rpd", "seconds", "time"])
 def test_letters_can_be_read_at_the_width_of_a_column(name: str, plotted: Plotted) -> None:
-    """They have 7 points or more, and with `--no-title` there is no title."""
+    """They have 7 points or more. With `--no-title` nothing has a title."""
     picture = plotted(name, REPORTED, "--width", "3.5", "--no-title", axes="figure_1")
     (points, _), = picture.shapes("patch_1")
     assert max(x for x, _ in points) == pytest.approx(252, abs=0.1)

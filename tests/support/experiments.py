@@ -76,8 +76,9 @@ class Experiment(NamedTuple):
     def wanted(self, rounds: Sequence[int] = (10, 30), seeds: Sequence[int] = (1, 2, 3), takes: Sequence[int] = (4,),
                repetitions: int = 1, shops: Iterable[str] = SHOPS) -> list[Row]:
         """The rows of the plan, each by its own search and audit."""
-        return [self.wanted_row(name, many, take, seed)._replace(repetition=str(again)) for name, many, take, seed, again
-                in itertools.product(shops, rounds, takes, seeds, range(1, repetitions + 1))]
+        each = itertools.product(shops, rounds, takes, seeds, range(1, repetitions + 1))
+        return [self.wanted_row(name, many, take, seed)._replace(repetition=str(again))
+                for name, many, take, seed, again in each]
 
     def wanted_row(self, name: str, rounds: int, take: int, seed: int) -> Row:
         shop, (jobs, machines, _) = f"shops/{name}", SHOPS[name]
@@ -183,9 +184,12 @@ def planned(top: pathlib.Path, pfs: Program, folder: pathlib.Path, text: str = P
     return made
 
 
+Finished = Callable[[str], pathlib.Path]
+
+
 @pytest.fixture(scope="session")
-def finished(top: pathlib.Path, pfs: Program, tmp_path_factory: pytest.TempPathFactory) -> Callable[[str], pathlib.Path]:
-    """The folder of a plan with this text, whose runs are made once."""
+def finished(top: pathlib.Path, pfs: Program, tmp_path_factory: pytest.TempPathFactory) -> Finished:
+    """Makes the runs of a plan with this text once, and returns the folder."""
     folders: dict[str, pathlib.Path] = {}
 
     def finish(text: str) -> pathlib.Path:
@@ -198,13 +202,13 @@ def finished(top: pathlib.Path, pfs: Program, tmp_path_factory: pytest.TempPathF
 
 
 @pytest.fixture
-def made(experiment: Experiment, finished: Callable[[str], pathlib.Path]) -> Experiment:
+def made(experiment: Experiment, finished: Finished) -> Experiment:
     """A copy of the plan whose runs are made."""
     return copied(experiment, finished(PLAN))
 
 
 @pytest.fixture
-def half_made(experiment: Experiment, finished: Callable[[str], pathlib.Path]) -> Experiment:
+def half_made(experiment: Experiment, finished: Finished) -> Experiment:
     """A copy of the shorter plan whose runs are made."""
     return copied(experiment, finished(HALF))
 

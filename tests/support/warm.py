@@ -1,6 +1,6 @@
 """Runs scripts that draw pictures. Importing matplotlib and SciPy takes longer than drawing a small picture, so one
 process imports them once (warm_server.py), and each script runs in a copy of it, with its own folder, arguments and
-streams; the script's own modules are imported anew. Tests of what a script imports, of limits, of whole command lines
+streams; the copy imports the script's own modules. Tests of what a script imports, of limits, of whole command lines
 and of pictures that are the same each time start it as a user does: the copies have one seed of hashes."""
 import json
 import pathlib

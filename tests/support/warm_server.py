@@ -1,6 +1,6 @@
 """Imports matplotlib and SciPy, and then runs scripts, each in a copy of this process (a fork). warm.py starts it and
-writes a line for each script: a list of its words, its folder, and the files that are its standard streams. It prints
-the exit status and the processor seconds of each."""
+writes a line for each script: a list of the script and its arguments, its folder, and the files that are its standard
+streams. It prints the exit status and the processor seconds of each."""
 import contextlib
 import gc
 import importlib
