@@ -1,9 +1,10 @@
 -- From the result of an engine to the result of its job.
 use Rattle.std.proofs.Common.{◌≡◌, ℕ, Bool, false, List, [], ◌∷◌, ◌++◌, Option, None, Some, Result, Ok, Err, IfErr}
-use Rattle.std.proofs.Common.{inl, inr, sym, subst, refl, ◌∙◌, ap, append_assoc, append-nil}
+use Rattle.std.proofs.Common.{length, inl, inr, sym, subst, refl, ◌∙◌, ap, append_assoc, append-nil}
 use Rattle.pfs_layout.specs.declared.layout.Layout.{Layout}
 use Rattle.pfs_layout.specs.declared.fault.LayoutFault.{LayoutFault}
 use Rattle.pfs_words.specs.declared.job.Job.{Job}
+use Rattle.pfs_words.specs.declared.job.Job.TheVariants.{Value}
 use Rattle.pfs_desk.specs.declared.fault.DeskFault.{DeskFault}
 use Rattle.pfs_desk.specs.declared.fault.DeskFault.TheVariants as faults
 use Rattle.pfs_desk.specs.declared.fault.Outcome.{Outcome}
@@ -16,7 +17,7 @@ use Rattle.pfs_desk.specs.Engine.{layout_fault_of, order_fault_of}
 use Rattle.pfs_desk.specs.Private.LetsOut.{ending, OpensBoth, RefusesOne}
 use Rattle.pfs_desk.specs.Program.{JobResult, prints, stops, layout_fault_in, order_fault_in, closing}
 use Rattle.pfs_desk.specs.Program.{StopsAtPath, ReadsFiles, IsResultOf, ReturnsOn, ReturnsOnBoth, ReturnsFor, RunsJob}
-use Rattle.pfs_desk.specs.Program.{Delivers}
+use Rattle.pfs_desk.specs.Program.{Delivers, ReturnsValue}
 use Rattle.pfs_desk.specs.Program.{paths_of, WritesResult, reports_write}
 use Rattle.pfs_desk.specs.ProgramText.{open_stop}
 use Rattle.pfs_desk.specs.Standing.{Standing, FileEvent, opened, refused, Logs, MayOpen, MayRefuse}
@@ -134,7 +135,7 @@ module _ (Output : Outcome → List ℕ → Type 0) (IsFault : DeskFault → Typ
       ≡ layout_fault_of result
       → order_fault_in returned ≡ order_fault_of result → Comes returned
 
-  gives_ending : (result : Result Outcome DeskFault) → WritesOutput Output old new failed result
+  pub gives_ending : (result : Result Outcome DeskFault) → WritesOutput Output old new failed result
       → IfErr result IsFault → Reaches result → Delivers Comes (WritesResult old new failed) failed (ending result)
   gives_ending (Ok outcome) w f comes = record {
     returned = prints outcome w.text;
@@ -181,65 +182,58 @@ module _ (Output : Outcome → List ℕ → Type 0) (IsFault : DeskFault → Typ
         write_failed = w.working;
       }
 
-  pub gives : (result : Result Outcome DeskFault) (ended : Result Outcome Stop) → ended ≡ ending result
-      → WritesOutput Output old new failed result → IfErr result IsFault → Reaches result
-      → Delivers Comes (WritesResult old new failed) failed ended
-  gives result ended e w f comes =
-      subst (Delivers Comes (WritesResult old new failed) failed) (sym e) (gives_ending result w f comes)
+-- a job delivers what its engine delivers on its files, which were opened, read and closed
+pub gives_run : (asked : Job) (standing : List ℕ → Standing) (log log' : Option (List FileEvent)) (input : SourceUse)
+    (paths : List (List ℕ)) (files : List SourceUse) (IsWritten : JobResult → Result Outcome Stop → Type 0)
+    (failed : Bool) (reached ended : Result Outcome Stop) → ended ≡ reached → paths_of asked ≡ paths
+    → ReadsFiles standing log log' paths files → Delivers (ReturnsFor asked input files) IsWritten failed reached
+    → Delivers (RunsJob asked standing log log' input) IsWritten failed ended
+gives_run asked standing log log' input paths files IsWritten failed reached ended e are reads gave =
+    subst (Delivers (RunsJob asked standing log log' input) IsWritten failed) (sym e) (record {
+      returned = gave.returned;
+      is_result = inr (record {
+        files = files;
+        reads = subst (λ some. ReadsFiles standing log log' some files) (sym are) reads;
+        has_result = gave.is_result;
+      });
+      is_written = gave.is_written;
+      write_failed = gave.write_failed;
+    })
 
--- what a job delivers, an equal job delivers
-pub gives_job : (asked other : Job) (standing : List ℕ → Standing) (log log' : Option (List FileEvent))
-    (input : SourceUse) (Goes : JobResult → Result Outcome Stop → Type 0) (failed : Bool) (ended : Result Outcome Stop)
-    → other ≡ asked → Delivers (RunsJob asked standing log log' input) Goes failed ended
-    → Delivers (RunsJob other standing log log' input) Goes failed ended
-gives_job asked other standing log log' input Goes failed ended e =
-    subst (λ j. Delivers (RunsJob j standing log log' input) Goes failed ended) (sym e)
-
--- what a job delivers whose engine reads one input
-module _ (asked : Job) (standing : List ℕ → Standing) (log log' : Option (List FileEvent)) (input : SourceUse)
-    (layout : Layout) (block : ℕ) (Output : Outcome → List ℕ → Type 0) (old new : Option (List ℕ)) (failed : Bool)
-    (result : Result Outcome DeskFault) (ended : Result Outcome Stop) (e : ended ≡ ending result)
+-- what an engine delivers that reads one input
+module _ (Comes : JobResult → Type 0) (layout : Layout) (block : ℕ) (Output : Outcome → List ℕ → Type 0)
+    (old new : Option (List ℕ)) (failed : Bool) (result : Result Outcome DeskFault)
     (w : WritesOutput Output old new failed result) (file : SourceUse)
     (r : ReadsBlock layout block file (layout_fault_of result)) where
-  abbrev ReadsAll : List SourceUse → Type 0
-  ReadsAll files = ReadsFiles standing log log' (paths_of asked) files
-
-  abbrev Given : Type 0
-  Given = Delivers (RunsJob asked standing log log' input) (WritesResult old new failed) failed ended
-
   first_reads : (returned : JobResult) → layout_fault_in returned ≡ layout_fault_of result
       → ReadsBlock layout block file (layout_fault_in returned)
   first_reads returned first = subst (ReadsBlock layout block file) (sym first) r
 
-  pub gives_on : (IsFault : DeskFault → Type 0) (files : List SourceUse) → IfErr result IsFault → ReadsAll files
-      → ((returned : JobResult) → ReturnsOn layout block Output IsFault file returned
-      → ReturnsFor asked input files returned)
-      → Given
-  gives_on IsFault files f runs has_result = gives Output IsFault old new failed _ result ended e w f
-      (λ returned is first second. inr (record {
-        files = files;
-        reads = runs;
-        has_result = has_result returned (record { is = is; reads = first_reads returned first });
+  pub gives_on : (IsFault : DeskFault → Type 0) → IfErr result IsFault
+      → ((returned : JobResult) → ReturnsOn layout block Output IsFault file returned → Comes returned)
+      → Delivers Comes (WritesResult old new failed) failed (ending result)
+  gives_on IsFault f has_result = gives_ending Output IsFault old new failed Comes result w f
+      (λ returned is first second. has_result returned (record { is = is; reads = first_reads returned first }))
+
+  -- what an engine delivers that reads an order file after it
+  pub gives_on_both : (orders : SourceUse) → IfErr result (IsAuditFault layout file.given block orders.given)
+      → ReadsOrder orders (layout_fault_of result) (order_fault_of result)
+      → ((returned : JobResult) → ReturnsOnBoth layout block Output file orders returned → Comes returned)
+      → Delivers Comes (WritesResult old new failed) failed (ending result)
+  gives_on_both orders f reads has_result =
+      gives_ending Output (IsAuditFault layout file.given block orders.given) old new failed Comes result w f
+      (λ returned is first second. has_result returned (record {
+        first = record { is = is; reads = first_reads returned first };
+        reads_order = subst (ReadsOrder orders (layout_fault_in returned)) (sym second)
+            (subst (λ fault. ReadsOrder orders fault (order_fault_of result)) (sym first) reads);
       }))
 
-  -- what a job delivers whose engine reads an order file after it
-  pub gives_on_both : (orders : SourceUse) (files : List SourceUse)
-      → IfErr result (IsAuditFault layout file.given block orders.given) → ReadsAll files
-      → ReadsOrder orders (layout_fault_of result) (order_fault_of result)
-      → ((returned : JobResult) → ReturnsOnBoth layout block Output file orders returned
-      → ReturnsFor asked input files returned)
-      → Given
-  gives_on_both orders files f runs reads has_result =
-      gives Output (IsAuditFault layout file.given block orders.given) old new failed _ result ended e w f
-      (λ returned is first second. inr (record {
-        files = files;
-        reads = runs;
-        has_result = has_result returned (record {
-          first = record { is = is; reads = first_reads returned first };
-          reads_order = subst (ReadsOrder orders (layout_fault_in returned)) (sym second)
-              (subst (λ fault. ReadsOrder orders fault (order_fault_of result)) (sym first) reads);
-        });
-      }))
+-- a job `value` with one path has a file
+pub value_file : (layout : Layout) (block : ℕ) (path : Option (List ℕ)) (input file : SourceUse) (returned : JobResult)
+    → length (paths_of (Value layout block path)) ≡ 1 → IsUnread input → ReturnsValue layout block file returned
+    → ReturnsFor (Value layout block path) input (file ∷ []) returned
+value_file layout block None input file returned one unread has_result = cc
+value_file layout block (Some path) input file returned one unread has_result = (unread, has_result)
 
 -- only one result reports a given fault of the instance file
 pub reported_by : (fault : LayoutFault) (result : Result Outcome DeskFault) → layout_fault_of result ≡ Some fault

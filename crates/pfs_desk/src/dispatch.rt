@@ -1,9 +1,8 @@
 //! Runs a job: opens the files that it names, calls its engine and closes the files.
-ghost use Rattle.std.specs.Prelude.{◌≡◌, false, IfOk, IfErr};
-ghost use Rattle.pfs_base.specs.declared.limits.TheConstants.{MOST_BLOCKS};
-ghost use Rattle.pfs_words.specs.Jobs.{AreOptions, IsFrom1To, IsWithinLimits};
+ghost use Rattle.std.specs.Prelude.{◌≡◌, ◌∷◌, [], length, false, IfOk, IfErr};
+ghost use Rattle.pfs_words.specs.Jobs.{IsWithinLimits};
 ghost use Rattle.pfs_desk.specs.Engine.{IsUnread, SourceUse, source_use};
-ghost use Rattle.pfs_desk.specs.Program.{Delivers, RunsJob, WritesResult};
+ghost use Rattle.pfs_desk.specs.Program.{Delivers, ReturnsFor, RunsJob, WritesResult, paths_of};
 ghost use Rattle.pfs_desk.specs.Private.LetsOut.{OpensBoth, RefusesOne};
 ghost use Rattle.pfs_desk.specs.Private.LetsOut.{ending as ending_of};
 
@@ -17,8 +16,7 @@ use crate::fault::{DeskFault, Outcome};
 use crate::files::{Files, OpenFault};
 use crate::stop::Stop;
 use pfs_base::{Sink, Source};
-use pfs_layout::Layout;
-use pfs_words::{Job, PathText, SolveOptions};
+use pfs_words::{Job, PathText};
 use std::alloc::Global;
 
 /// Opens the files that a job names, runs it and closes them. All are opened before one is read. `input` is standard
@@ -46,31 +44,22 @@ pub fn run_job<F: Files, R: Source, W: Sink>(
             layout,
             block,
             file,
-        } => print_value(alloc, files, input, *layout, *block, file, writer),
-        Job::Solve {
-            layout,
-            block,
-            options,
-            file,
-        } => print_order(alloc, files, *layout, *block, options, file, writer),
+        } => match file {
+            None => ending(run_value(alloc, input, *layout, *block, writer)),
+            Some(path) => run_on_file(alloc, job, path, files, writer),
+        },
+        Job::Solve { file, .. } => run_on_file(alloc, job, file, files, writer),
+        Job::Convert { file, .. } => run_on_file(alloc, job, file, files, writer),
         Job::Check {
-            layout,
-            block,
             file,
             order_file,
-        } => print_verdict(alloc, files, *layout, *block, file, order_file, writer),
+            ..
+        } => run_on_both(alloc, job, file, order_file, files, writer),
         Job::Table {
-            layout,
-            block,
             file,
             order_file,
-        } => print_table(alloc, files, *layout, *block, file, order_file, writer),
-        Job::Convert {
-            source,
-            target,
-            block,
-            file,
-        } => print_converted(alloc, files, *source, *target, *block, file, writer),
+            ..
+        } => run_on_both(alloc, job, file, order_file, files, writer),
         Job::Generate {
             jobs,
             machines,
@@ -86,59 +75,63 @@ fn ending(returned: Result<Outcome, DeskFault>) -> Result<Outcome, Stop>
     returned.map_err(Stop::Fault)
 }
 
-// Prints the makespan of the jobs in the order of their numbers, for a file, or for standard input if there is no path.
-fn print_value<F: Files, R: Source, W: Sink>(
+// Opens the only file of a job, runs the job on it and closes it.
+fn run_on_file<F: Files, W: Sink>(
     alloc: Global,
-    files: &mut F,
-    input: &mut R,
-    layout: Layout,
-    block: usize,
-    path: &Option<PathText>,
-    writer: &mut W,
-) -> Result<Outcome, Stop>
-    requires within { IsFrom1To MOST_BLOCKS block }
-    requires reading { R.has_failed input.old ≡ false }
-    requires writing { W.has_failed writer.old ≡ false }
-    ensures { Delivers (RunsJob (Job.Value layout block path.now)
-        (F.standing files.old) (F.log files.old) (F.log files.new)
-        (source_use (R.left input.old) (R.left input.new) (R.has_failed input.new)
-        (R.has_ended input.old) (R.has_ended input.new)))
-        (WritesResult (W.written writer.old) (W.written writer.new) (W.has_failed writer.new))
-        (W.has_failed writer.new) result }
-{
-    match path {
-        None => ending(run_value(alloc, input, layout, block, writer)),
-        Some(path) => {
-            let mut file = files.open(path)?;
-            let returned = run_value(alloc, &mut file, layout, block, writer);
-            files.close(file);
-            ending(returned)
-        }
-    }
-}
-
-// Prints the order that a search finds.
-fn print_order<F: Files, W: Sink>(
-    alloc: Global,
-    files: &mut F,
-    layout: Layout,
-    block: usize,
-    options: &SolveOptions,
+    job: &Job,
     path: &PathText,
+    files: &mut F,
     writer: &mut W,
 ) -> Result<Outcome, Stop>
-    requires within { IsFrom1To MOST_BLOCKS block }
-    requires options { AreOptions options.now }
+    requires path { paths_of job.now ≡ path.now ∷ [] }
+    requires within { IsWithinLimits job.now }
     requires writing { W.has_failed writer.old ≡ false }
-    ensures { (input : SourceUse) → IsUnread input → Delivers (RunsJob (Job.Solve layout block options.now path.now)
+    ensures { (input : SourceUse) → IsUnread input → Delivers (RunsJob job.now
         (F.standing files.old) (F.log files.old) (F.log files.new) input)
         (WritesResult (W.written writer.old) (W.written writer.new) (W.has_failed writer.new))
         (W.has_failed writer.new) result }
 {
     let mut file = files.open(path)?;
-    let returned = run_solve(alloc, &mut file, layout, block, options, writer);
+    let returned = run_engine(alloc, job, &mut file, writer);
     files.close(file);
     ending(returned)
+}
+
+// Runs the engine of a job that has one file.
+fn run_engine<R: Source, W: Sink>(
+    alloc: Global,
+    job: &Job,
+    file: &mut R,
+    writer: &mut W,
+) -> Result<Outcome, DeskFault>
+    requires one { length (paths_of job.now) ≡ 1 }
+    requires within { IsWithinLimits job.now }
+    requires reading { R.has_failed file.old ≡ false }
+    requires writing { W.has_failed writer.old ≡ false }
+    ensures { (input : SourceUse) → IsUnread input → Delivers (ReturnsFor job.now input
+        (source_use (R.left file.old) (R.left file.new) (R.has_failed file.new)
+        (R.has_ended file.old) (R.has_ended file.new) ∷ []))
+        (WritesResult (W.written writer.old) (W.written writer.new) (W.has_failed writer.new))
+        (W.has_failed writer.new) (ending_of result) }
+{
+    match job {
+        Job::Value { layout, block, .. } => run_value(alloc, file, *layout, *block, writer),
+        Job::Solve {
+            layout,
+            block,
+            options,
+            ..
+        } => run_solve(alloc, file, *layout, *block, options, writer),
+        Job::Convert {
+            source,
+            target,
+            block,
+            ..
+        } => run_convert(alloc, file, *source, *target, *block, writer),
+        Job::Check { .. } => unreachable!(),
+        Job::Table { .. } => unreachable!(),
+        Job::Generate { .. } => unreachable!(),
+    }
 }
 
 // Opens two files, one after the other. If the second can't be opened, the first is closed unread.
@@ -167,73 +160,57 @@ fn open_both<F: Files>(
     }
 }
 
-// Prints the verdict on an order file.
-fn print_verdict<F: Files, W: Sink>(
+// Opens the two files of a job, runs the job on them and closes them.
+fn run_on_both<F: Files, W: Sink>(
     alloc: Global,
-    files: &mut F,
-    layout: Layout,
-    block: usize,
+    job: &Job,
     path: &PathText,
     order_path: &PathText,
+    files: &mut F,
     writer: &mut W,
 ) -> Result<Outcome, Stop>
-    requires within { IsFrom1To MOST_BLOCKS block }
+    requires paths { paths_of job.now ≡ path.now ∷ order_path.now ∷ [] }
+    requires within { IsWithinLimits job.now }
     requires writing { W.has_failed writer.old ≡ false }
-    ensures { (input : SourceUse) → IsUnread input → Delivers (RunsJob (Job.Check layout block path.now order_path.now)
+    ensures { (input : SourceUse) → IsUnread input → Delivers (RunsJob job.now
         (F.standing files.old) (F.log files.old) (F.log files.new) input)
         (WritesResult (W.written writer.old) (W.written writer.new) (W.has_failed writer.new))
         (W.has_failed writer.new) result }
 {
     let (mut file, mut orders) = open_both(files, path, order_path)?;
-    let returned = run_check(alloc, &mut file, layout, block, &mut orders, writer);
+    let returned = run_audit(alloc, job, &mut file, &mut orders, writer);
     files.close(file);
     files.close(orders);
     ending(returned)
 }
 
-// Prints the time table of an order file.
-fn print_table<F: Files, W: Sink>(
+// Runs the engine of a job that has an order file.
+fn run_audit<R: Source, O: Source, W: Sink>(
     alloc: Global,
-    files: &mut F,
-    layout: Layout,
-    block: usize,
-    path: &PathText,
-    order_path: &PathText,
+    job: &Job,
+    file: &mut R,
+    orders: &mut O,
     writer: &mut W,
-) -> Result<Outcome, Stop>
-    requires within { IsFrom1To MOST_BLOCKS block }
+) -> Result<Outcome, DeskFault>
+    requires two { length (paths_of job.now) ≡ 2 }
+    requires within { IsWithinLimits job.now }
+    requires reading { R.has_failed file.old ≡ false }
+    requires reading_order { O.has_failed orders.old ≡ false }
     requires writing { W.has_failed writer.old ≡ false }
-    ensures { (input : SourceUse) → IsUnread input → Delivers (RunsJob (Job.Table layout block path.now order_path.now)
-        (F.standing files.old) (F.log files.old) (F.log files.new) input)
+    ensures { (input : SourceUse) → IsUnread input → Delivers (ReturnsFor job.now input
+        (source_use (R.left file.old) (R.left file.new) (R.has_failed file.new)
+        (R.has_ended file.old) (R.has_ended file.new)
+        ∷ source_use (O.left orders.old) (O.left orders.new) (O.has_failed orders.new)
+        (O.has_ended orders.old) (O.has_ended orders.new) ∷ []))
         (WritesResult (W.written writer.old) (W.written writer.new) (W.has_failed writer.new))
-        (W.has_failed writer.new) result }
+        (W.has_failed writer.new) (ending_of result) }
 {
-    let (mut file, mut orders) = open_both(files, path, order_path)?;
-    let returned = run_table(alloc, &mut file, layout, block, &mut orders, writer);
-    files.close(file);
-    files.close(orders);
-    ending(returned)
-}
-
-// Prints the instance of a file in another layout.
-fn print_converted<F: Files, W: Sink>(
-    alloc: Global,
-    files: &mut F,
-    source: Layout,
-    target: Layout,
-    block: usize,
-    path: &PathText,
-    writer: &mut W,
-) -> Result<Outcome, Stop>
-    requires within { IsFrom1To MOST_BLOCKS block }
-    requires writing { W.has_failed writer.old ≡ false }
-    ensures { (input : SourceUse) → IsUnread input → Delivers (RunsJob (Job.Convert source target block path.now)
-        (F.standing files.old) (F.log files.old) (F.log files.new) input)
-        (WritesResult (W.written writer.old) (W.written writer.new) (W.has_failed writer.new))
-        (W.has_failed writer.new) result }
-{
-    let mut file = files.open(path)?;
-    let returned = run_convert(alloc, &mut file, source, target, block, writer);
-    files.close(file);
-    ending(returned)
+    match job {
+        Job::Check { layout, block, .. } => run_check(alloc, file, *layout, *block, orders, writer),
+        Job::Table { layout, block, .. } => run_table(alloc, file, *layout, *block, orders, writer),
+        Job::Value { .. } => unreachable!(),
+        Job::Solve { .. } => unreachable!(),
+        Job::Convert { .. } => unreachable!(),
+        Job::Generate { .. } => unreachable!(),
+    }
 }

@@ -1,42 +1,59 @@
-use Rattle.std.proofs.Common.{[], inr, refl, sym, ap, ◌∙◌}
-use Rattle.pfs_desk.specs.Engine.{layout_fault_of}
-use Rattle.pfs_desk.proofs.RunLemmas.{gives, gives_job, reads_none, reported_by}
+use Rattle.std.proofs.Common.{[], ◌∙◌, ap, refl, subst, sym}
+use Rattle.pfs_words.specs.declared.job.Job.TheVariants.{Value}
+use Rattle.pfs_desk.specs.Engine.{layout_fault_of, source_use}
+use Rattle.pfs_desk.specs.Program.{ReturnsFor, paths_of}
+use Rattle.pfs_desk.proofs.RunLemmas.{gives_ending, gives_on, gives_run, reads_none, reported_by}
 use Rattle.pfs_desk.proofs.dispatch.run_job.Goals as goal
+
+pub returns-in-None : goal.returns-in-None
+returns-in-None g c =
+    let run = c.run_value in
+    let left = g.R.Source.left in
+    let ended = g.R.Source.has_ended in
+    let input = source_use (left c.args.input.now) (left run.new.reader) (g.R.Source.has_failed run.new.reader)
+    (ended c.args.input.now) (ended run.new.reader) in
+    let is = c.in-Value.is ∙ ap (Value c.in-Value.layout c.in-Value.block) c.in-None.is in
+    gives_run c.args.job.now (g.F.Files.standing c.args.files.now) (g.F.Files.log c.args.files.now) _ input [] [] _ _ _ _
+    c.ending.ensures (ap paths_of is) (reads_none _ _)
+    (gives_on (ReturnsFor c.args.job.now input []) _ _ _ _ _ _ run.result run.ensures.written input run.ensures.reads _
+    run.ensures.fault (λ returned has_result.
+    subst (λ job. ReturnsFor job input [] returned) (sym is) has_result))
+
+pub returns-in-Some : goal.returns-in-Some
+returns-in-Some g c =
+    c.run_on_file.ensures _ (record { kept = refl; working = c.requires.reading; no_end = refl })
 
 pub returns-in-Solve : goal.returns-in-Solve
 returns-in-Solve g c =
-    gives_job _ _ _ _ _ _ _ _ _ c.in-Solve.is
-    (c.print_order.ensures _ (record { kept = refl; working = c.requires.reading; no_end = refl }))
-
-pub returns-in-Check : goal.returns-in-Check
-returns-in-Check g c =
-    gives_job _ _ _ _ _ _ _ _ _ c.in-Check.is
-    (c.print_verdict.ensures _ (record { kept = refl; working = c.requires.reading; no_end = refl }))
-
-pub returns-in-Table : goal.returns-in-Table
-returns-in-Table g c =
-    gives_job _ _ _ _ _ _ _ _ _ c.in-Table.is
-    (c.print_table.ensures _ (record { kept = refl; working = c.requires.reading; no_end = refl }))
+    c.run_on_file-in-Solve.ensures _ (record { kept = refl; working = c.requires.reading; no_end = refl })
 
 pub returns-in-Convert : goal.returns-in-Convert
 returns-in-Convert g c =
-    gives_job _ _ _ _ _ _ _ _ _ c.in-Convert.is
-    (c.print_converted.ensures _ (record { kept = refl; working = c.requires.reading; no_end = refl }))
+    c.run_on_file-in-Convert.ensures _ (record { kept = refl; working = c.requires.reading; no_end = refl })
+
+pub returns-in-Check : goal.returns-in-Check
+returns-in-Check g c =
+    c.run_on_both.ensures _ (record { kept = refl; working = c.requires.reading; no_end = refl })
+
+pub returns-in-Table : goal.returns-in-Table
+returns-in-Table g c =
+    c.run_on_both-in-Table.ensures _ (record { kept = refl; working = c.requires.reading; no_end = refl })
 
 pub returns-in-Generate : goal.returns-in-Generate
 returns-in-Generate g c =
     let run = c.run_generate in
-    gives_job _ _ _ _ _ _ _ _ _ c.in-Generate.is
-    (gives _ _ _ _ _ _ run.result _ c.ending.ensures run.ensures.written run.ensures.faults
-    (λ returned is first second. inr (record {
-      files = [];
-      reads = reads_none _ _;
-      has_result = (
-        (record { kept = refl; working = c.requires.reading; no_end = refl }),
-        is,
-        (
-          (λ e. run.ensures.seed_range.0 (reported_by _ run.result (sym first ∙ e))),
-          (λ below. first ∙ ap layout_fault_of (run.ensures.seed_range.1 below)),
-        ),
-      );
-    })))
+    let left = g.R.Source.left c.args.input.now in
+    let ended = g.R.Source.has_ended c.args.input.now in
+    let input = source_use left left (g.R.Source.has_failed c.args.input.now) ended ended in
+    let is = c.in-Generate.is in
+    gives_run c.args.job.now (g.F.Files.standing c.args.files.now) (g.F.Files.log c.args.files.now) _ input [] [] _ _ _ _
+    c.ending-in-Generate.ensures (ap paths_of is) (reads_none _ _)
+    (gives_ending _ _ _ _ _ (ReturnsFor c.args.job.now input []) run.result run.ensures.written run.ensures.faults
+    (λ returned is_result first second. subst (λ job. ReturnsFor job input [] returned) (sym is) (
+      (record { kept = refl; working = c.requires.reading; no_end = refl }),
+      is_result,
+      (
+        (λ e. run.ensures.seed_range.0 (reported_by _ run.result (sym first ∙ e))),
+        (λ below. first ∙ ap layout_fault_of (run.ensures.seed_range.1 below)),
+      ),
+    )))
