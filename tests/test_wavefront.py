@@ -1,7 +1,7 @@
-"""Instances at the limits of a wavefront. It needs at least 8 jobs, and less than the greatest value of a lane for the
-product of the longest time and the number of operations on a path: 65,535 in lanes of 16 bits, and 2^31 - 1 in lanes of
-32 bits. With more than 24 lanes, a third of the lanes that it computes must have a cell. Insertions and searches are
-compared with those of the second program, or with heads and tails."""
+"""Instances at the limits of a wavefront. It needs at least 8 jobs and, with more than 24 lanes, a cell for a third of
+the lanes that it computes. The product of the longest time and the number of operations on a path is less than 65,535
+with lanes of 16 bits, and less than 2^31 - 1 with lanes of 32 bits. Insertions and searches are compared with those of
+the second program, or with heads and tails."""
 import pathlib
 from random import Random
 
@@ -11,9 +11,8 @@ from support.printed import printed
 from support.program import Program
 from support.second_program import Instance
 
-# The width and the greatest value of each wavefront, in the order in which a search prefers them.
-WAVEFRONTS = {f"Wavefront{bits}(Lanes{width})": (width, greatest)
-              for bits, greatest in ((16, 2 ** 16 - 1), (32, 2 ** 31 - 1))
+# The wavefronts in the order in which a search tries them: the number of lanes and the greatest value of a lane.
+WAVEFRONTS = {f"Wavefront{bits}(Lanes{width})": (width, most) for bits, most in ((16, 65_535), (32, 2**31 - 1))
               for width in (8, 16, 24, 40, 64, 104, 208)}
 
 OPTIONS = {b"--take": 3, b"--rounds": 3, b"--seed": 1, b"--passes": 1, b"--cells": True}
@@ -68,8 +67,6 @@ SHOPS: dict[str, tuple[Instance, str]] = {
     "a longest path of 65,535": (equal(8, 8, 4_369), "Wavefront32(Lanes8)"),
     "a longest path of 65,536 on 8 machines": (equal(9, 8, 4_096), "Wavefront32(Lanes8)"),
     "a longest path of 65,536 on 9 machines": (equal(8, 9, 4_096), "Wavefront32(Lanes16)"),
-    "a longest path of 2^31 - 2": (equal(8, 7, 153_391_689), "Wavefront32(Lanes8)"),
-    "a longest path of 2^31": (equal(8, 9, 134_217_728), "HeadsTails"),
     "31 times of 2,114 are 65,534": (with_long_job(8, 24, 2_114), "Wavefront16(Lanes24)"),
     "32 times of 2,048 are 65,536": (with_long_job(9, 24, 2_048), "Wavefront32(Lanes24)"),
     "a long job": (with_long_job(12, 12, 2_849), "Wavefront16(Lanes16)"),
@@ -77,7 +74,13 @@ SHOPS: dict[str, tuple[Instance, str]] = {
     "a time that is too long for 16 bits": (with_one_long_time(20, 24, 1_525), "Wavefront32(Lanes24)"),
     "43 times of 49,941,480 are 2^31 - 8": (with_one_long_time(20, 24, 49_941_480), "Wavefront32(Lanes24)"),
     "a time that is too long for 32 bits": (with_one_long_time(20, 24, 49_941_481), "HeadsTails"),
-    "46 jobs on 25 machines, times to 10^7": (drawn(46, 25, 10_000_000), "Wavefront32(Lanes40)"),
+    # 2^31 - 1 is prime, so no instance has a longest path of it.
+    "a longest path of 2^31 - 2": (equal(8, 7, 153_391_689), "Wavefront32(Lanes8)"),
+    "a longest path of 2^31": (equal(8, 9, 134_217_728), "HeadsTails"),
+    "31 times of 69,273,666 are 2^31 - 2": (with_long_job(8, 24, 69_273_666), "Wavefront32(Lanes24)"),
+    "32 times of 67,108,864 are 2^31": (with_long_job(9, 24, 67_108_864), "HeadsTails"),
+    "times to 10^6 on 12 machines": (drawn(20, 12, 1_000_000), "Wavefront32(Lanes16)"),
+    "times to 10^6 on 25 machines": (drawn(46, 25, 1_000_000), "Wavefront32(Lanes40)"),
     "one time of 10^9": (with_one_long_time(9, 5, 1_000_000_000), "HeadsTails"),
     "40 jobs": (drawn(40, 6, 30), "Wavefront16(Lanes8)"),
     "21 jobs on 11 machines": (drawn(21, 11, 500), "Wavefront16(Lanes16)"),
@@ -93,16 +96,16 @@ def longest_path(shop: Instance) -> int:
     return (shop.jobs + shop.machines - 1) * max(max(row) for row in shop.times)
 
 
-def is_served(shop: Instance, width: int, greatest: int) -> bool:
+def is_served(shop: Instance, width: int, most: int) -> bool:
     lanes = (shop.jobs + width) * width
     full = width <= 24 or lanes <= 3 * shop.jobs * shop.machines
-    return shop.jobs >= 8 and shop.machines <= width and full and longest_path(shop) < greatest
+    return shop.jobs >= 8 and shop.machines <= width and full and longest_path(shop) < most
 
 
 def test_a_search_uses_the_narrowest_method_that_can_compute_it() -> None:
-    """The methods in SHOPS follow this rule."""
+    """The methods in SHOPS follow this rule, and lanes of 16 bits come before those of 32."""
     for name, (shop, method) in SHOPS.items():
-        methods = [method for method, wavefront in WAVEFRONTS.items() if is_served(shop, *wavefront)]
+        methods = [method for method, lanes in WAVEFRONTS.items() if is_served(shop, *lanes)]
         assert method == (methods[0] if methods else "HeadsTails"), name
 
 
@@ -134,23 +137,28 @@ def test_each_method_finds_the_first_best_places(pfs_calls: Program, folder: pat
     Each counts (4k - 2)m cells for k jobs, the inserted one included."""
     shop, method = SHOPS[name]
     lines = [method]
-    for wavefront in WAVEFRONTS.values():
+    places = insertions(shop)
+    for lanes in WAVEFRONTS.values():
         cells = 0
-        for jobs, (place, makespan) in enumerate(insertions(shop), 1):
-            for _ in range(2 if is_served(shop, *wavefront) else 0):
+        for jobs, (place, makespan) in enumerate(places, 1):
+            for _ in range(2 if is_served(shop, *lanes) else 0):
                 cells += (4 * jobs - 2) * shop.machines
                 lines.append(f"{place} {makespan} {cells}")
     assert lines_of(pfs_calls, folder, shop) == lines
 
 
+@pytest.mark.parametrize("most", [99, 100_000])
 @pytest.mark.parametrize("machines", FEWEST_JOBS)
-def test_a_wide_wavefront_finds_what_heads_and_tails_do(pfs_calls: Program, folder: pathlib.Path,
-                                                        machines: int) -> None:
+def test_a_wide_wavefront_finds_what_heads_and_tails_do(pfs_calls: Program, folder: pathlib.Path, machines: int,
+                                                        most: int) -> None:
+    """With times to 99 in lanes of 16 and of 32 bits, with times to 100,000 in lanes of 32 bits."""
     jobs = FEWEST_JOBS[machines]
-    assert lines_of(pfs_calls, folder, drawn(jobs - 1, machines, 99)) == ["HeadsTails"]
-    method, *lines = lines_of(pfs_calls, folder, drawn(jobs, machines, 99))
-    assert method == next(method for method, (width, _) in WAVEFRONTS.items() if machines <= width)
-    assert len(lines) == 2 * 2 * jobs
+    assert lines_of(pfs_calls, folder, drawn(jobs - 1, machines, most)) == ["HeadsTails"]
+    shop = drawn(jobs, machines, most)
+    method, *lines = lines_of(pfs_calls, folder, shop)
+    methods = [method for method, lanes in WAVEFRONTS.items() if is_served(shop, *lanes)]
+    assert method == methods[0]
+    assert len(lines) == 2 * jobs * len(methods)
     for by_rows, by_wavefront in zip(lines[::2], lines[1::2]):
         assert by_rows.split()[:2] == by_wavefront.split()[:2]
 
