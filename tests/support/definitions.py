@@ -87,7 +87,8 @@ def public_parts(path: pathlib.Path, whole: bool, names: set[str]) -> list[str]:
     for part in parts:
         head = part.split("{", 1)[0]
         if head.startswith("impl"):
-            shown = whole or bool(names & set(WORD.findall(head)))
+            # The bounds of the parameters may name a public trait, where the type is private.
+            shown = whole or bool(names & set(WORD.findall(re.sub(r"^impl<[^<>]*>", "", head))))
         else:
             name = re.match(r"pub (extern \"C\" )?(?:fn|trait|struct|enum) (\w+)", head)
             # C sees a function of any module

@@ -213,21 +213,6 @@ right_of_sequence size jobs h = none_below (place_fault size jobs) (length jobs)
     job_right size (get_or jobs place 0) (take place jobs) (h.in_range place 0 within)
     (absent_before size jobs place h within))
 
--- ---- a sequence that grows job by job
-
-pub none_before : (size : ℕ) (jobs : List ℕ) (place : ℕ) → IsSequence size jobs → place < length jobs
-    → Contains (take place jobs) (get_or jobs place 0) → ⊥
-none_before size jobs place h within among =
-    let found = list_any-from_Contains nat_eq_equiv (get_or jobs place 0) (take place jobs) among in
-    let none = absent_before size jobs place h within in
-    absurd (cc)
-
-pub grown : (jobs : List ℕ) (place : ℕ) → place < length jobs
-    → insert (take place jobs) place (get_or jobs place 0) ≡ take (place + 1) jobs
-grown jobs place within =
-    let long = length-take-le place jobs (omega arith) in
-    sym (take_more jobs place 0 within ∙ sym (rw long at (insert_end (take place jobs) (get_or jobs place 0))))
-
 -- ---- what the result of a check says
 
 valid_by : (result : Result (Unit {0}) CallFault) (found : Option CallFault) (size : ℕ) (jobs : List ℕ)

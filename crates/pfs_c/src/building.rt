@@ -1,5 +1,5 @@
 //! Construction and local search by insertions, for C.
-ghost use Rattle.std.specs.Prelude.{◌≡◌, ◌≢◌, ◌+◌, ◌<◌, ◌≤◌, ◌++◌, length, All, Contains, OnOk, IfOk, IfErr};
+ghost use Rattle.std.specs.Prelude.{◌≡◌, ◌≢◌, ◌+◌, ◌<◌, ◌≤◌, ◌++◌, length, All, Contains, OnOk, IfOk, IfErr, IfSome};
 ghost use Rattle.pfs_base.specs.FlowShop.{IsWithin};
 ghost use Rattle.pfs_base.specs.Limits.{limits};
 ghost use Rattle.pfs_base.specs.Paths.{makespan};
@@ -46,8 +46,8 @@ pub extern "C" fn pfs_construct(
     }
     match visits_of(alloc, times, jobs, machines, sequence, more, 1) {
         Ok(found) => {
-            copy_sequence(&found, order);
-            *span = span_of(times, jobs, machines, order);
+            copy_sequence(&found.seq, order);
+            *span = found_span(times, jobs, machines, order, found.last);
             PFS_OK
         }
         Err(why) => why.number(),
@@ -124,8 +124,8 @@ pub extern "C" fn pfs_local_search(
     }
     match visits_of(alloc, times, jobs, machines, sequence, list, passes) {
         Ok(found) => {
-            copy_sequence(&found, order);
-            *span = span_of(times, jobs, machines, order);
+            copy_sequence(&found.seq, order);
+            *span = found_span(times, jobs, machines, order, found.last);
             PFS_OK
         }
         Err(why) => why.number(),
@@ -160,6 +160,32 @@ fn validate_search(
     validate_passes(passes)
 }
 
+// A sequence, and its makespan if the last step was an insertion.
+#[derive(Drop)]
+struct Built {
+    seq: Seq,
+    last: Option<u64>,
+}
+
+// The makespan of a sequence. That is `last`, unless it is `None`.
+fn found_span(
+    times: &[u32],
+    jobs: usize,
+    machines: usize,
+    sequence: &[u32],
+    last: Option<u64>,
+) -> u64
+    requires within { IsWithin limits (shop_of times.now jobs machines) }
+    requires sequence { IsSequence jobs sequence.now }
+    requires last { IfSome last (λ span. span ≡ makespan (shop_of times.now jobs machines) sequence.now) }
+    ensures { result ≡ makespan (shop_of times.now jobs machines) sequence.now }
+{
+    match last {
+        Some(span) => span,
+        None => span_of(times, jobs, machines, sequence),
+    }
+}
+
 // A sequence after passes over a list of jobs. The only fault is `Memory`.
 fn visits_of(
     alloc: Global,
@@ -169,20 +195,22 @@ fn visits_of(
     sequence: &[u32],
     list: &[u32],
     passes: u32,
-) -> Result<Seq, CallFault>
+) -> Result<Built, CallFault>
     requires within { IsWithin limits (shop_of times.now jobs machines) }
     requires sequence { IsSequence jobs sequence.now }
     requires small { All (λ job. job < jobs) list.now }
     requires few { length list.now ≤ jobs }
     requires passes { passes ≤ MOST_PASSES }
     ensures jobs { IfOk result (λ found.
-        found.jobs ≡ after_visits (shop_of times.now jobs machines) list.now passes sequence.now) }
+        found.seq.jobs ≡ after_visits (shop_of times.now jobs machines) list.now passes sequence.now) }
+    ensures last { IfOk result (λ found. IfSome found.last (λ span.
+        span ≡ makespan (shop_of times.now jobs machines) found.seq.jobs)) }
     ensures memory { IfErr result (λ why. why ≡ CallFault.Memory) }
 {
     let instance = instance_of(alloc, times, jobs, machines, NO_NOTES)?;
     let mut seq = sequence_of(alloc, jobs, sequence)?;
-    make_visits(alloc, &instance, &mut seq, list, passes)?;
-    Ok(seq)
+    let last = make_visits(alloc, &instance, &mut seq, list, passes)?;
+    Ok(Built { seq, last })
 }
 
 // Validates that each job of a list is in a sequence: `Job` if one is not.

@@ -190,11 +190,7 @@ pub(crate) fn sequence_of(alloc: Global, size: usize, jobs: &[u32]) -> Result<Se
     ensures made { IfOk result (λ made. made ≡ record { size = size; jobs = jobs.now }) }
     ensures memory { IfErr result (λ why. why ≡ CallFault.Memory) }
 {
-    let mut sequence = Seq::new(alloc, size).or(Err(CallFault::Memory))?;
-    for (place, job) in jobs.iter().enumerate() {
-        sequence.insert_at(place, *job as usize);
-    }
-    Ok(sequence)
+    Seq::from_jobs(alloc, size, jobs).or(Err(CallFault::Memory))
 }
 
 /// Makes an order of validated jobs, which are all jobs. It allocates once, and returns `Memory` if that fails; it has

@@ -7,7 +7,7 @@ use Rattle.pfs_insert.specs.Insertion.{makespan_with}
 use Rattle.pfs_insert.specs.Inserter.{IsBestPlace}
 use Rattle.pfs_insert.proofs.Published.BestPlaces.{best_place_found}
 use Rattle.pfs_wave.specs.Lanes.{capped, Rows, sums_at}
-use Rattle.pfs_wave.specs.Private.LeastSoFar.{IsLeastSoFar}
+use Rattle.pfs_wave.specs.Least.{IsLeastSoFar}
 use Rattle.pfs_wave.specs.Wavefront.{FitsLanes, AreSkewed, IsJobRow, HoldTails}
 use Rattle.pfs_wave.proofs.CappedLeast.{capped_least_law}
 use Rattle.pfs_wave.proofs.WavefrontLaws.{sums_law}

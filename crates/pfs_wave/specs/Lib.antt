@@ -1,4 +1,5 @@
 pub mod Lanes
+pub mod Least
 pub mod Private
 pub mod Served
 pub mod Tables

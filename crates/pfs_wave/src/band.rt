@@ -3,7 +3,7 @@ ghost use Rattle.std.specs.Prelude.{◌≡◌, ℕ, ◌+◌, ◌≤◌, ◌^◌,
 ghost use Rattle.std.specs.List.{All, slice_index_or};
 ghost use Rattle.std.specs.Simd.Lanes.{chunk, zip2};
 ghost use Rattle.pfs_wave.specs.Lanes.{capped_add, zeros};
-ghost use Rattle.pfs_wave.specs.Private.LeastSoFar.{IsLeastSoFar};
+ghost use Rattle.pfs_wave.specs.Least.{IsLeastSoFar};
 
 use crate::least::Found;
 

@@ -29,6 +29,7 @@ pub use bands::{EightBands, FiveBands, ThirteenBands, ThreeBands, TwentySixBands
 pub use bench::LaneBench;
 pub use joined::Joined;
 pub use lanes::{Lanes, Part};
+pub use least::Found;
 pub use long::Long;
 pub use metered::MeteredLanes;
 pub use one_band::OneBand;

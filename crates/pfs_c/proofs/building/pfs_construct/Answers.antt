@@ -15,20 +15,23 @@ visits_of-requires-clause-few c =
 pub copy_sequence-requires : goal.copy_sequence-requires
 copy_sequence-requires c =
     let shop : FlowShop = shop_of c.args.times.now c.args.jobs c.args.machines in
-    let found = construct_is shop c.args.sequence.now c.args.more.now c.in-Ok.found.jobs
+    let found = construct_is shop c.args.sequence.now c.args.more.now c.in-Ok.found.seq.jobs
     c.in_default.ensures.together c.in-Ok.ensures.jobs in
     found.long ∙ sym c.in_default.ensures.room
 
-pub span_of-requires-clause-sequence : goal.span_of-requires-clause-sequence
-span_of-requires-clause-sequence c =
+pub found_span-requires-clause-sequence : goal.found_span-requires-clause-sequence
+found_span-requires-clause-sequence c =
     let shop : FlowShop = shop_of c.args.times.now c.args.jobs c.args.machines in
-    let found = construct_is shop c.args.sequence.now c.args.more.now c.in-Ok.found.jobs
+    let found = construct_is shop c.args.sequence.now c.args.more.now c.in-Ok.found.seq.jobs
     c.in_default.ensures.together c.in-Ok.ensures.jobs in
     rw c.copy_sequence.ensures found.distinct
+
+pub found_span-requires-clause-last : goal.found_span-requires-clause-last
+found_span-requires-clause-last c = rw c.copy_sequence.ensures c.in-Ok.ensures.last
 
 pub returns-in-Ok-clause-done : goal.returns-in-Ok-clause-done
 returns-in-Ok-clause-done c = λ _.
     let shop : FlowShop = shop_of c.args.times.now c.args.jobs c.args.machines in
-    let found = construct_is shop c.args.sequence.now c.args.more.now c.in-Ok.found.jobs
+    let found = construct_is shop c.args.sequence.now c.args.more.now c.in-Ok.found.seq.jobs
     c.in_default.ensures.together c.in-Ok.ensures.jobs in
-    rw (c.span_of.ensures, c.copy_sequence.ensures) found
+    rw (c.found_span.ensures, c.copy_sequence.ensures) found

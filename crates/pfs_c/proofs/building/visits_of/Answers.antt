@@ -12,4 +12,8 @@ returns-clause-jobs c =
     rw (
       ap (λ (p : Problem). p.shop) c.in_ok-instance.ensures.made,
       ap (λ (s : Sequence). s.jobs) c.in_ok-seq.ensures.made,
-    ) at c.in_ok-make_visits.ensures.jobs
+    ) at c.in_ok-last.ensures.jobs
+
+pub returns-clause-last : goal.returns-clause-last
+returns-clause-last c =
+    rw (ap (λ (p : Problem). p.shop) c.in_ok-instance.ensures.made) at c.in_ok-last.ensures.span

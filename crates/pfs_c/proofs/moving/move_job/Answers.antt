@@ -1,4 +1,5 @@
-use Rattle.std.proofs.Common.{◌+◌, ◌≤◌, length, insert, ap, ◌∙◌, arith}
+use Rattle.std.proofs.Common.{◌+◌, ◌≤◌, length, insert, ap, ◌∙◌, sym, arith}
+use Rattle.pfs_base.specs.Paths.{makespan}
 use Rattle.pfs_order.specs.Sequence.{Sequence}
 use Rattle.pfs_insert.specs.Insertion.{with_job}
 use Rattle.pfs_c.proofs.Visits.{insertion_few}
@@ -19,3 +20,9 @@ returns-in-Ok-clause-jobs g c =
     ap (λ (s : Sequence). s.jobs) c.insert_at.ensures
     ∙ ap (λ place. insert c.take_out.new.seq.jobs place job) c.in-Ok.ensures.best.place_is
     ∙ ap (λ jobs. with_job shop jobs job) c.take_out.ensures.jobs
+
+pub returns-in-Ok-clause-span : goal.returns-in-Ok-clause-span
+returns-in-Ok-clause-span g c =
+    let shop = g.B.Bench.shop c.args.bench.now in
+    c.in-Ok.ensures.best.span_is
+    ∙ ap (λ (s : Sequence). makespan shop s.jobs) (sym c.insert_at.ensures)

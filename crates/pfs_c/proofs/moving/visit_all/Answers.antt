@@ -18,12 +18,13 @@ pub loop-done-preserved : goal.loop-done-preserved
 loop-done-preserved g c =
     let shop = g.B.Bench.shop c.args.bench.now in
     let invariant = c.loop-done.invariant in
-    let gives = c.in_ok-visit_once.ensures in
+    let gives = c.in_ok-last.ensures in
     let counted = rw invariant.same_shop at gives.counted in
     record {
       same_shop = gives.shop ∙ invariant.same_shop;
       fits = gives.still_fits;
       counted = omega (arith, counted, invariant.counted);
+      last = rw invariant.same_shop at gives.span;
       order = rw (gives.jobs, invariant.same_shop, invariant.order)
           (sym (visits_more shop c.args.list.now c.loop-done._done c.args.seq.now.jobs));
     }

@@ -23,6 +23,7 @@ loop-job-preserved g c =
       same_shop = gives.shop ∙ invariant.same_shop;
       fits = gives.still_fits;
       counted = omega (arith, counted, invariant.counted);
+      last = rw invariant.same_shop at gives.span;
       order = rw (gives.jobs, invariant.same_shop, invariant.order)
           (sym (visited_more shop c.args.list.now c.args.seq.now.jobs c.loop-job.job-index c.loop-job-test.true));
     }

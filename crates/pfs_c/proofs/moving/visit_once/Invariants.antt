@@ -1,4 +1,5 @@
-use Rattle.std.proofs.Common.{◌≡◌, ◌+◌, ◌*◌, ◌≤◌, take}
+use Rattle.std.proofs.Common.{◌≡◌, ◌+◌, ◌*◌, ◌≤◌, IfSome, take}
+use Rattle.pfs_base.specs.Paths.{makespan}
 use Rattle.pfs_insert.specs.Inserter.{Fits}
 use Rattle.pfs_c.specs.Building.{visited}
 use Rattle.pfs_c.proofs.moving.visit_once.Given as goal
@@ -11,5 +12,6 @@ invariant-loop-job g l =
       fits : Fits (g.B.Bench.shop l.bench) (g.I.Inserter.sizes l.inserter) l.seq.size;
       counted : g.B.Bench.counted l.bench
           ≤ g.B.Bench.counted l.fn.bench + l.job-index * (4 * shop.jobs * shop.machines);
+      last : IfSome l.last (λ span. g.B.Span.Length.number span ≡ makespan shop l.seq.jobs);
       order : l.seq.jobs ≡ visited shop (take l.job-index l.list) l.fn.seq.jobs;
     }

@@ -1,4 +1,4 @@
--- The first place of the least value so far.
+-- The first place of the least value.
 use Rattle.std.specs.Prelude.{ℕ, ◌≡◌}
 use Rattle.pfs_insert.specs.Insertion.{IsFirstLeast}
 
