@@ -24,8 +24,7 @@ def test_no_function_of_this_module_is_called(pfs: Program, module: str) -> None
     assert {name for name in called - WITHOUT_CELLS if not name.endswith("+Destruct::drop")} == set()
 
 
-@pytest.mark.parametrize("loop", ["times::fill_times", "times::move_steps", "kernels::fill_tails",
-                                  "kernels::fill_sums"])
+@pytest.mark.parametrize("loop", ["times::fill_times", "kernels::fill_tails", "kernels::fill_sums"])
 def test_a_loop_of_a_wavefront_stays_in_registers(pfs: Program, loop: str) -> None:
     """The program has one for each of seven widths, with lanes of 16 bits and of 32. Three of 16 bits have at most 24
     lanes. A program without symbols can't be tested and passes."""

@@ -69,11 +69,14 @@ pub fn is_served(instance: &Instance, width: Width, cap: u32) -> bool
         && operations * u64::from(longest_time(instance)) < u64::from(cap)
 }
 
-/// The narrowest wavefront of 16 bits that serves an instance, or one of 32 bits where none of 16 does, or heads and
-/// tails where none of 32 does.
+/// The narrowest wavefront of 16 bits that serves an instance; or one of 32 bits where none of 16 does, if it has at most
+/// 24 lanes and there are two jobs for each lane; or heads and tails. Other wavefronts of 32 bits are slower than heads
+/// and tails.
 pub fn method_for(instance: &Instance) -> Method
     ensures heads_tails { (result ≡ HeadsTails)
-        ↔ ((width : Width) → ¬ IsServed instance.now.shop (lanes_of width) 2147483647) }
+        ↔ (((width : Width) → ¬ IsServed instance.now.shop (lanes_of width) 65535)
+        × ((width : Width) → lanes_of width ≤ 24 → 2 * lanes_of width ≤ instance.now.shop.jobs
+        → ¬ IsServed instance.now.shop (lanes_of width) 2147483647)) }
     ensures short { (width : Width) → result ≡ Wavefront16 width
         → IsServed instance.now.shop (lanes_of width) 65535 }
     ensures narrowest { (width other : Width) → result ≡ Wavefront16 width
@@ -82,17 +85,26 @@ pub fn method_for(instance: &Instance) -> Method
         → IsServed instance.now.shop (lanes_of width) 2147483647 }
     ensures narrowest_long { (width other : Width) → result ≡ Wavefront32 width
         → IsServed instance.now.shop (lanes_of other) 2147483647 → lanes_of width ≤ lanes_of other }
+    ensures few_lanes { (width : Width) → result ≡ Wavefront32 width → lanes_of width ≤ 24 }
+    ensures many_jobs { (width : Width) → result ≡ Wavefront32 width → 2 * lanes_of width ≤ instance.now.shop.jobs }
     ensures too_long { (width other : Width) → result ≡ Wavefront32 width
         → ¬ IsServed instance.now.shop (lanes_of other) 65535 }
 {
     let width = width_for(instance.machines());
     if is_served(instance, width, Short::CAP) {
         Method::Wavefront16(width)
-    } else if is_served(instance, width, Long::CAP) {
+    } else if is_fast(instance, width) && is_served(instance, width, Long::CAP) {
         Method::Wavefront32(width)
     } else {
         Method::HeadsTails
     }
+}
+
+// Whether a wavefront of 32 bits is faster than heads and tails.
+fn is_fast(instance: &Instance, width: Width) -> bool
+    ensures { IsTrue result ↔ ((lanes_of width ≤ 24) × (2 * lanes_of width ≤ instance.now.shop.jobs)) }
+{
+    width.lanes() <= 24 && 2 * width.lanes() <= instance.jobs()
 }
 
 // The least width with a lane for each machine.
