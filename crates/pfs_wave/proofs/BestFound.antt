@@ -12,7 +12,8 @@ use Rattle.pfs_wave.specs.Wavefront.{FitsLanes, AreSkewed, IsJobRow, HoldTails}
 use Rattle.pfs_wave.proofs.CappedLeast.{capped_least_law}
 use Rattle.pfs_wave.proofs.WavefrontLaws.{sums_law}
 
-module _ (cap : ℕ) (shop : FlowShop) (order : List ℕ) (job width last : ℕ) (times tails : Rows) (job_times sums : List ℕ)
+module _ (cap : ℕ) (shop : FlowShop) (order : List ℕ) (job width last : ℕ) (times tails : Rows)
+    (job_times sums : List ℕ)
     (suc_last : last + 1 ≡ width) (fits : FitsLanes shop width) (skewed : AreSkewed shop order width times)
     (held : HoldTails cap shop order width tails) (is_job : IsJobRow shop job width job_times)
     (sums_are : (step : ℕ) → step < length order + width

@@ -83,17 +83,21 @@ same_sum cap t p q = cc
 pub more_summed : {cap width : ℕ} {times tails : List (List ℕ)}
     {job sums head inserted sum new_head new_inserted new_sum : List ℕ} {last : ℕ}
     (row : ℕ) → IsSummed cap width times tails job sums head inserted sum row → row < length times
-    → new_inserted ≡ heads_step cap 0 inserted head job → new_sum ≡ sums_step cap 0 sum new_inserted (slice_index_or tails row [])
+    → new_inserted ≡ heads_step cap 0 inserted head job → new_sum ≡ sums_step cap 0 sum new_inserted
+    (slice_index_or tails row [])
     → last ≡ slice_index_or new_sum (width - 1) 0 → new_head ≡ heads_step cap 0 head head (slice_index_or times row [])
     → IsSummed cap width times tails job (slice_set sums row last) new_head new_inserted new_sum (row + 1)
-more_summed {cap} {width} {times} {tails} {job} {sums} {head} {inserted} {sum} {new_head} {new_inserted} {new_sum} {last}
+more_summed {cap} {width} {times} {tails} {job} {sums} {head} {inserted} {sum} {new_head} {new_inserted} {new_sum}
+    {last}
     row so_far lt inserted_is
     sum_is last_is head_is =
     let long = so_far.rows in
     let next_inserted : new_inserted ≡ inserted_at cap (rows_of times) job width (suc row) =
-    inserted_is ∙ same_step cap _ so_far.inserted_is so_far.head_is ∙ sym (inserted_next cap (rows_of times) width job row) in
+    inserted_is ∙ same_step cap _ so_far.inserted_is so_far.head_is ∙ sym
+    (inserted_next cap (rows_of times) width job row) in
     let next_sum : new_sum ≡ sums_at cap (rows_of times) (rows_of tails) job width (suc row) =
-    sum_is ∙ same_sum cap _ so_far.sum_is next_inserted ∙ sym (sums_next cap (rows_of times) width (rows_of tails) job row) in
+    sum_is ∙ same_sum cap _ so_far.sum_is next_inserted ∙ sym (sums_next cap (rows_of times) width
+    (rows_of tails) job row) in
     record {
       rows = length-set sums row last ∙ long;
       head_is = rw add-one (head_is ∙ same_step cap _ so_far.head_is so_far.head_is
@@ -145,10 +149,12 @@ module _ {X : Type 0} (lanes : X → List ℕ) where
       → lanes new_head ≡ heads_step cap 0 (lanes head) (lanes head) (lanes time_row)
       → IsSummed cap width (map lanes times) (map lanes tails) job (slice_set sums step last) (lanes new_head)
       (lanes new_inserted) (lanes new_sum) (step + 1)
-  more_summed_rows {cap} {width} times tails {job} {sums} {head} {inserted} {sum} {new_head} {new_inserted} {new_sum} {last}
+  more_summed_rows {cap} {width} times tails {job} {sums} {head} {inserted} {sum} {new_head} {new_inserted} {new_sum}
+      {last}
       step time_row tail_row so_far lt same time_is tail_is inserted_is sum_is last_is head_is =
       let long = length-map times lanes in
       more_summed step so_far (omega arith) inserted_is
-      (sum_is ∙ ap (sums_step cap 0 (lanes sum) (lanes new_inserted)) (row_read tails step tail_row (omega arith) tail_is))
+      (sum_is ∙ ap (sums_step cap 0 (lanes sum) (lanes new_inserted)) (row_read tails step tail_row
+      (omega arith) tail_is))
       last_is
       (head_is ∙ ap (heads_step cap 0 (lanes head) (lanes head)) (row_read times step time_row lt time_is))

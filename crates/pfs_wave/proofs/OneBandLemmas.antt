@@ -9,15 +9,18 @@ use Rattle.pfs_wave.proofs.Steps.{length-zip}
 -- the steps of a band, from the vectors that the code computes in between
 module _ (cap x : ℕ) (a b t up new : List ℕ) (a_long : length a ≡ 8) (b_long : length b ≡ 8)
     (t_long : length t ≡ 8) (up_is : up ≡ x ∷ take 7 a) where
-  pub heads_one : (most : List ℕ) → most ≡ zip2 max up b → new ≡ zip2 (capped_add cap) most t → new ≡ heads_step cap x a b t
+  pub heads_one : (most : List ℕ) → most ≡ zip2 max up b → new ≡ zip2 (capped_add cap) most t
+      → new ≡ heads_step cap x a b t
   heads_one most p q =
       q ∙ ap (λ v. zip2 (capped_add cap) v t)
       (p ∙ ap (λ v. zip2 max v b) up_is ∙ sym (zip_up_last max x 7 a b a_long b_long))
 
-  pub sums_one : (later : List ℕ) → later ≡ zip2 (capped_add cap) b t → new ≡ zip2 max up later → new ≡ sums_step cap x a b t
+  pub sums_one : (later : List ℕ) → later ≡ zip2 (capped_add cap) b t → new ≡ zip2 max up later
+      → new ≡ sums_step cap x a b t
   sums_one later p q =
       q ∙ ap (λ v. zip2 max v later) up_is ∙ ap (λ v. zip2 max (x ∷ take 7 a) v) p
-      ∙ sym (zip_up_last max x 7 a (zip2 (capped_add cap) b t) a_long (length-zip 8 (capped_add cap) b t (omega arith) t_long))
+      ∙ sym (zip_up_last max x 7 a (zip2 (capped_add cap) b t) a_long (length-zip 8 (capped_add cap) b t
+      (omega arith) t_long))
 
 pub tails_one : (cap x : ℕ) (b t down most new : List ℕ) → down ≡ drop 1 b ++ (x ∷ []) → most ≡ zip2 max down b
     → new ≡ zip2 (capped_add cap) most t → new ≡ tails_step cap x b t

@@ -13,7 +13,8 @@ pub capped_none : (cap : ℕ) → 0 ≡ capped cap 0
 capped_none cap = omega arith
 
 -- steps on capped values give capped values
-pub capped_step : (cap a b c d t : ℕ) → a ≡ capped cap c → b ≡ capped cap d → capped_add cap (max a b) t ≡ capped cap (max c d + t)
+pub capped_step : (cap a b c d t : ℕ) → a ≡ capped cap c → b ≡ capped cap d
+    → capped_add cap (max a b) t ≡ capped cap (max c d + t)
 capped_step cap a b c d t p q = omega arith
 
 pub capped_more : (cap s p q a b c : ℕ) → s ≡ capped cap a → p ≡ capped cap b → q ≡ capped cap c

@@ -119,7 +119,8 @@ abbrev bounds : ℕ → List ℕ
 bounds zero = []
 bounds (suc n) = 2147483647 ∷ bounds n
 
-pub long_sum_is : (n : ℕ) (xs ys : List ℕ) → length xs ≡ n → length ys ≡ n → AreSmall 2147483647 xs → AreSmall 2147483647 ys
+pub long_sum_is : (n : ℕ) (xs ys : List ℕ) → length xs ≡ n → length ys ≡ n → AreSmall 2147483647 xs
+    → AreSmall 2147483647 ys
     → sel_l (map (top 31) (zip2 (less w32) (zip2 (wrapped_sum w32) xs ys) (bounds n))) (zip2 (wrapped_sum w32) xs ys)
     (bounds n)
     ≡ zip2 (capped_add 2147483647) xs ys
@@ -128,4 +129,5 @@ long_sum_is n (x ∷ xs) [] p q small too = absurd (omega arith)
 long_sum_is zero (x ∷ xs) (y ∷ ys) p q small too = absurd (omega arith)
 long_sum_is (suc n) (x ∷ xs) (y ∷ ys) p q small too =
     cons_same (long_sum x y (first_small 2147483647 x xs small) (first_small 2147483647 y ys too))
-    (long_sum_is n xs ys (omega arith) (omega arith) (rest_small 2147483647 x xs small) (rest_small 2147483647 y ys too))
+    (long_sum_is n xs ys (omega arith) (omega arith) (rest_small 2147483647 x xs small)
+    (rest_small 2147483647 y ys too))

@@ -8,7 +8,8 @@ use Rattle.pfs_wave.specs.Lanes.{capped, zeros, tails_step, heads_step, sums_ste
 use Rattle.pfs_wave.specs.Lanes.{inserted_at, sums_at}
 use Rattle.pfs_wave.specs.Wavefront.{lane_of, AreSkewed, FitsLanes, HoldTails, IsJobRow, TailsLaw, HeadsLaw}
 use Rattle.pfs_wave.specs.Wavefront.{InsertedRowsLaw, SumsLaw, padded_time, on_machine, machine_at}
-use Rattle.pfs_wave.proofs.Steps.{capped_none, capped_step, zeros-get_or, length-zeros, length-tails_step, tails_lane, capped_more}
+use Rattle.pfs_wave.proofs.Steps.{capped_none, capped_step, zeros-get_or, length-zeros, length-tails_step, tails_lane}
+use Rattle.pfs_wave.proofs.Steps.{capped_more}
 use Rattle.pfs_wave.proofs.Steps.{length-heads_step, heads_lane, length-sums_step, sums_lane}
 use Rattle.pfs_insert.specs.Exchange.{heaviest_back}
 use Rattle.pfs_wave.proofs.PaddedTables.{padded_back, padded_back_step, padded_none, on_behind}
@@ -48,7 +49,8 @@ module _ (cap : ℕ) (times : Rows) (width : ℕ) where
   inserted_first job = refl
 
   pub sums_next : (tails : Rows) (job : List ℕ) (step : ℕ) → sums_at cap times tails job width (suc step)
-      ≡ sums_step cap 0 (sums_at cap times tails job width step) (inserted_at cap times job width (suc step)) (tails step)
+      ≡ sums_step cap 0 (sums_at cap times tails job width step) (inserted_at cap times job width (suc step))
+      (tails step)
   unfolding sums_at
   sums_next tails job step = refl
 
@@ -120,12 +122,14 @@ module _ (cap : ℕ) (shop : FlowShop) (jobs : List ℕ) (width : ℕ) (times : 
   heads_wide (suc step) le =
       let before = heads_wide step (omega arith) in
       ap length (heads_next cap times width step)
-      ∙ length-heads_step cap width (heads_at cap times width step) (heads_at cap times width step) (times step) before before
+      ∙ length-heads_step cap width (heads_at cap times width step) (heads_at cap times width step)
+      (times step) before before
       (skewed.lanes step (omega arith))
 
   -- a lane of heads, from the head before it and the head above it
   head_lane : (step lane a b : ℕ) → step < length jobs + width → lane < width
-      → get_or (0 ∷ (heads_at cap times width step)) lane 0 ≡ capped cap a → get_or (heads_at cap times width step) lane 0
+      → get_or (0 ∷ (heads_at cap times width step)) lane 0 ≡ capped cap a
+      → get_or (heads_at cap times width step) lane 0
       ≡ capped cap b
       → get_or (heads_at cap times width (suc step)) lane 0 ≡ capped cap (max a b + lane_of times step lane)
   head_lane step lane a b le lt before above =
@@ -166,11 +170,13 @@ module _ (cap : ℕ) (shop : FlowShop) (jobs : List ℕ) (width : ℕ) (times : 
       ∙ ap (capped cap) (omega arith)
 
   module _ (job : ℕ) (job_times : List ℕ) (is_job : IsJobRow shop job width job_times) where
-    inserted_wide : (step : ℕ) → step ≤ length jobs + width → length (inserted_at cap times job_times width step) ≡ width
+    inserted_wide : (step : ℕ) → step ≤ length jobs + width → length (inserted_at cap times job_times width step)
+        ≡ width
     inserted_wide zero le = ap length (inserted_first cap times width job_times) ∙ length-zeros width
     inserted_wide (suc step) le =
         ap length (inserted_next cap times width job_times step)
-        ∙ length-heads_step cap width (inserted_at cap times job_times width step) (heads_at cap times width step) job_times
+        ∙ length-heads_step cap width (inserted_at cap times job_times width step)
+        (heads_at cap times width step) job_times
         (inserted_wide step (omega arith)) (heads_wide step (omega arith)) is_job.lanes
 
     inserted_lane : (step lane a b : ℕ) → step < length jobs + width → lane < width
@@ -185,7 +191,8 @@ module _ (cap : ℕ) (shop : FlowShop) (jobs : List ℕ) (width : ℕ) (times : 
         ∙ heads_lane cap width inserted heads job_times lane (inserted_wide step (omega arith))
         (heads_wide step (omega arith))
         is_job.lanes lt
-        ∙ capped_step cap (get_or (0 ∷ inserted) lane 0) (get_or heads lane 0) a b (get_or job_times lane 0) before above
+        ∙ capped_step cap (get_or (0 ∷ inserted) lane 0) (get_or heads lane 0) a b
+        (get_or job_times lane 0) before above
         ∙ ap (λ t. capped cap (max a b + t)) (is_job.times_are lane lt)
 
     inserted_are : (lane step place : ℕ) → step ≡ place + lane → lane < width → (within : place ≤ length jobs)
@@ -206,7 +213,8 @@ module _ (cap : ℕ) (shop : FlowShop) (jobs : List ℕ) (width : ℕ) (times : 
         ∙ ap (capped cap) (omega arith)
 
     module _ (tails : Rows) (backs : HoldTails cap shop jobs width tails) where
-      sums_wide : (step : ℕ) → step ≤ length jobs + width → length (sums_at cap times tails job_times width step) ≡ width
+      sums_wide : (step : ℕ) → step ≤ length jobs + width → length (sums_at cap times tails job_times width step)
+          ≡ width
       sums_wide zero le = ap length (sums_first cap times width tails job_times) ∙ length-zeros width
       sums_wide (suc step) le =
           ap length (sums_next cap times width tails job_times step)

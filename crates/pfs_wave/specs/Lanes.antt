@@ -24,8 +24,8 @@ abbrev pub tails_step : ℕ → ℕ → List ℕ → List ℕ → List ℕ
 tails_step cap carry below times =
     zip2 (capped_add cap) (zip2 max (drop 1 below ++ (carry ∷ [])) below) times
 
--- the heads of a step: the greater of lane l - 1 of `before`, `carry` in the first lane, and lane l of `above`, plus the
--- time of lane l
+-- the heads of a step: the greater of lane l - 1 of `before`, `carry` in the first lane, and lane l of `above`, plus
+-- the time of lane l
 abbrev pub heads_step : ℕ → ℕ → List ℕ → List ℕ → List ℕ → List ℕ
 heads_step cap carry before above times = zip2 (capped_add cap) (zip2 max (carry ∷ before) above) times
 

@@ -53,9 +53,9 @@ pub enum Method {
 }
 
 /// Whether a wavefront of this width, whose lanes have this greatest value, serves an instance: it has at least 8 jobs
-/// and a lane for each machine, and (n + m - 1) times its longest time, which bounds every path of n jobs on m machines,
-/// is below the greatest value. A wavefront of w lanes computes n + w steps for n jobs. With more than 24 lanes, at
-/// least a third of these lanes must have a cell: with fewer, heads and tails by rows are faster.
+/// and a lane for each machine, and (n + m - 1) times its longest time, which bounds every path of n jobs on m
+/// machines, is below the greatest value. A wavefront of w lanes computes n + w steps for n jobs. With more than 24
+/// lanes, at least a third of these lanes must have a cell: with fewer, heads and tails by rows are faster.
 pub fn is_served(instance: &Instance, width: Width, cap: u32) -> bool
     ensures { IsTrue result ↔ IsServed instance.now.shop (lanes_of width) cap }
 {
@@ -69,9 +69,9 @@ pub fn is_served(instance: &Instance, width: Width, cap: u32) -> bool
         && operations * u64::from(longest_time(instance)) < u64::from(cap)
 }
 
-/// The narrowest wavefront of 16 bits that serves an instance; or one of 32 bits where none of 16 does, if it has at most
-/// 24 lanes and there are two jobs for each lane; or heads and tails. Other wavefronts of 32 bits are slower than heads
-/// and tails.
+/// The narrowest wavefront of 16 bits that serves an instance; or one of 32 bits where none of 16 does, if it has at
+/// most 24 lanes and there are two jobs for each lane; or heads and tails. Other wavefronts of 32 bits are slower than
+/// heads and tails.
 pub fn method_for(instance: &Instance) -> Method
     ensures heads_tails { (result ≡ HeadsTails)
         ↔ (((width : Width) → ¬ IsServed instance.now.shop (lanes_of width) 65535)

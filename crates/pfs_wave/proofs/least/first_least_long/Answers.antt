@@ -4,7 +4,8 @@ use Rattle.pfs_wave.proofs.LeastKey.{first_key, next_key, all_keys}
 use Rattle.pfs_wave.proofs.least.first_least_long.Goals as goal
 
 pub loop-place-init : goal.loop-place-init
-loop-place-init c = first_key (λ place. slice_index_or c.args.sums.now place 0) c.long_key-least.result c.long_key-least.ensures
+loop-place-init c = first_key (λ place. slice_index_or c.args.sums.now place 0) c.long_key-least.result
+    c.long_key-least.ensures
 
 pub loop-place-preserved : goal.loop-place-preserved
 loop-place-preserved c =

@@ -18,7 +18,8 @@ returns-clause-best g c shop jobs inserted fits skewed holds is_job steps short 
     let filled = c.fill_sums.new.sums in
     let sums = map number filled in
     let held = same_tails shop jobs width (rows_of (map lanes c.args.tails.now)) tails
-    (λ step lt. taken_rows lanes count c.args.tails.now step (omega (arith, c.requires.tails)) (omega arith)) cap holds in
+    (λ step lt. taken_rows lanes count c.args.tails.now step (omega (arith, c.requires.tails)) (omega arith)) cap
+    holds in
     let last = c.WIDTH.result - 1 in
     let rows = take (length filled - last) (drop last filled) in
     let part = map number rows in

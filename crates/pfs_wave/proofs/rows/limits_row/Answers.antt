@@ -14,7 +14,8 @@ loop-band-preserved g c =
     let whole = g.met.L.Lanes.whole in
     let is = c.WIDTH-band-end.ensures in
     let inside = c.loop-band-test.true in
-    values_more (limit_of g.L.Band.Band.CAP c.args.machines) g.L.Lanes.WIDTH _ _ _ (8 * c.loop-band.band) _ c.loop-band.invariant
+    values_more (limit_of g.L.Band.Band.CAP c.args.machines) g.L.Lanes.WIDTH _ _ _
+    (8 * c.loop-band.band) _ c.loop-band.invariant
     (omega arith) (omega arith) c.eight_limits.ensures c.put_band.ensures
 
 pub returns : goal.returns

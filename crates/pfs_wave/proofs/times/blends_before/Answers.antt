@@ -15,7 +15,8 @@ loop-earlier-preserved g c =
     record {
       begun = omega arith;
       blends =
-          next_is g.L.Band.Band.lanes (later_rows band start) count (earlier + 1 - start) _ (omega arith) (c.band_of_row.ensures
+          next_is g.L.Band.Band.lanes (later_rows band start) count (earlier + 1 - start) _ (omega arith)
+          (c.band_of_row.ensures
           ∙ ap band at)
           (c.push-last.ensures.next (past_at (later_rows band start) count) c.loop-earlier.invariant.blends);
     }

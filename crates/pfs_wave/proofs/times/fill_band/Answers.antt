@@ -19,7 +19,8 @@ loop-turn-preserved g c =
     let end = c.min-end.ensures in
     let fits = c.requires.band in
     let none = c.loop-turn.invariant.blends in
-    let one = next_is g.L.Band.Band.lanes rows row (row + 1) _ refl c.band_of_row.ensures (c.push-a.ensures.next (past_at rows row) none) in
+    let one = next_is g.L.Band.Band.lanes rows row (row + 1) _ refl c.band_of_row.ensures
+    (c.push-a.ensures.next (past_at rows row) none) in
     let two =
     next_is g.L.Band.Band.lanes rows (row + 1) (row + 2) _ (omega arith) c.band_of_row-in-loop-turn.ensures
     (c.push-b.ensures.next (past_at rows (row + 1)) one) in

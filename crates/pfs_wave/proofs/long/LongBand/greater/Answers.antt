@@ -12,7 +12,8 @@ invariant_of-result c =
     let too = c.args.other.eight in
     record {
       eight = ap length (long_greater_is a b) ∙ length-zip 8 max a b (omega arith) too;
-      small = subst (AreSmall 2147483647) (sym (long_greater_is a b)) (greater_small 2147483647 a b c.args.self.small c.args.other.small);
+      small = subst (AreSmall 2147483647) (sym (long_greater_is a b)) (greater_small 2147483647 a b c.args.self.small
+          c.args.other.small);
     }
 
 pub returns : goal.returns

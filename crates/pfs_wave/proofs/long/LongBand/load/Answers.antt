@@ -11,8 +11,10 @@ invariant_of-result c =
     let limits = c.args.limits.values in
     let long = eight_long c.args.times.now c.args.at c.requires.inside in
     record {
-      eight = ap length (long_lesser_is times limits) ∙ length-zip 8 min times limits (omega (arith, long)) c.args.limits.eight;
-      small = subst (AreSmall 2147483647) (sym (long_lesser_is times limits)) (lesser_small 2147483647 times limits c.args.limits.small);
+      eight = ap length (long_lesser_is times limits) ∙ length-zip 8 min times limits
+          (omega (arith, long)) c.args.limits.eight;
+      small = subst (AreSmall 2147483647) (sym (long_lesser_is times limits))
+          (lesser_small 2147483647 times limits c.args.limits.small);
     }
 
 pub returns : goal.returns

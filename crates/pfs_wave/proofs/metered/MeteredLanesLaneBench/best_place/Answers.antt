@@ -12,5 +12,6 @@ returns-clause-best g c =
     rw (c.length.ensures, c.from.ensures)
     (best shop (record { some = served.some; few = served.few }) c.args.self.now.rows c.requires.job
     tails
-    (λ place within. served_path shop g.L.Lanes.WIDTH g.L.Band.Band.CAP served c.args.seq.now.jobs c.args.job place c.requires.few
+    (λ place within. served_path shop g.L.Lanes.WIDTH g.L.Band.Band.CAP served c.args.seq.now.jobs c.args.job place
+    c.requires.few
     within))

@@ -11,5 +11,6 @@ pub invariant_of-result : goal.invariant_of-result
 invariant_of-result c =
     let long = ap length c.narrowed-eight.ensures ∙ eight_long c.args.times.now c.args.at c.requires.inside in
     record {
-      eight = ap length c.lesser.ensures ∙ length-zip 8 min c.narrowed-eight.result c.args.limits.values (omega (arith, long)) c.args.limits.eight;
+      eight = ap length c.lesser.ensures ∙ length-zip 8 min c.narrowed-eight.result c.args.limits.values
+          (omega (arith, long)) c.args.limits.eight;
     }
