@@ -1,7 +1,7 @@
 -- What a parse by a form gives to the functions that read a job's values.
 use Rattle.std.proofs.Common.{◌≡◌, ◌∙◌, ◌⊎◌, ◌≤◌, ◌||◌, ℕ, true, false, ap, inl, inr, List, [], ◌∷◌}
-use Rattle.std.proofs.Common.{Option, Some, None, arith, option_map, refl, subst, sym, unwrap_or}
-use Rattle.std.specs.Prelude.{IfSome, slice_get}
+use Rattle.std.proofs.Common.{Option, Some, None, Ok, Err, arith, option_map, refl, subst, sym, unwrap_or}
+use Rattle.std.specs.Prelude.{IfSome, Result, slice_get}
 use Rattle.std.specs.Borrow.{Bor}
 use Rattle.std.specs.List.{list_any}
 use Rattle.std.specs.Str.{bytes_eq}
@@ -18,10 +18,12 @@ use Rattle.clap.specs.declared.builder.value_parser.ValueParser.TheVariants as p
 use Rattle.clap.specs.declared.parser.matches.ArgMatches.{ArgMatches}
 use Rattle.clap.proofs.WalkLemmas.{both, list_any-map}
 use Rattle.pfs_words.specs.Commands.{AreLayoutNames, Names, form_of, layout_name, layout_rule}
-use Rattle.pfs_words.specs.Jobs.{IsFaultlessLine, AsksFor, AsksForJob, AsksForNothing, SaysMaybeNumber, number_said}
-use Rattle.pfs_words.specs.Jobs.{takes_line}
-use Rattle.pfs_words.specs.Private.Parses.{HasLayout, HasNumber, HasTextAt, IsParseOf, MayHaveNumber}
+use Rattle.pfs_words.specs.Jobs.{IsFaultlessLine, AsksFor, AsksForNothing, IsWithinLimits, SaysJob, SaysMaybeNumber}
+use Rattle.pfs_words.specs.Jobs.{command_of, number_said, takes_line}
+use Rattle.pfs_words.specs.Private.Parses.{HasLayout, HasNumber, HasTextAt, IsParseOf, MayHaveNumber, Plans}
 use Rattle.pfs_words.specs.declared.job.Job.{Job}
+use Rattle.pfs_words.specs.declared.usage.UsageFault.{UsageFault}
+use Rattle.pfs_words.specs.declared.usage.UsageFault.TheVariants.{Usage}
 use Rattle.pfs_layout.specs.declared.layout.Layout.TheVariants.{Taillard, OrLib}
 use Rattle.pfs_words.proofs.FormLemmas.{asks_value, form_has_value, form_passes, has_place}
 
@@ -36,9 +38,10 @@ some_names = record {
 -- ---- the two results
 
 module _ (names : Names) (word : Text) (words : List Text) (are : AreLayoutNames names) where
-  pub job_for : (job : Job) → AsksForJob names word words job → AsksFor word words job
+  pub job_for : (job : Job) → word ≡ command_of job
+      → (line : IsFaultlessLine names word words) → SaysJob (matches_of line.0 words) job → AsksFor word words job
   unfolding AsksFor
-  job_for job asks = (names, are, asks)
+  job_for job same line says = (names, are, same, (line, says))
 
   pub rejected : takes_line names word words ≡ false → (IsFaultlessLine names word words → ⊥)
       → AsksForNothing word words
@@ -58,6 +61,12 @@ module _ (names : Names) (word : Text) (words : List Text) (are : AreLayoutNames
       → AsksForNothing word words
   rejected_by is named simple denied faulty = rejected_by_form named (subst (λ a. takes a words ≡ false) is denied)
       (λ none. faulty (ap is_simple_and_free is ∙ simple) (subst (λ a. fault_of a words ≡ []) (sym is) none))
+
+-- an error that is `Usage` only if the command line asks for no job
+pub fails : {word : Text} {words : List Text} {fault : UsageFault} (result : Result Job UsageFault)
+    → result ≡ Err fault → (fault ≡ Usage → AsksForNothing word words) → Plans word words result
+fails (Ok job) is usage = cc
+fails (Err fault) is usage = record { job = tt; within = tt; usage = λ e. usage (cc) }
 
 -- ---- one argument
 
@@ -122,10 +131,22 @@ module _ {command : Command} {form : App} {words : List Text} {m : ArgMatches} (
     number_in_range says =
         subst (λ o. IfSome o (λ n. (least ≤ n) × (n ≤ most))) says (within_range least most _ number_passes)
 
-  pub faultless : is_simple_and_free form ≡ true → fault_of form words ≡ []
+  faultless : is_simple_and_free form ≡ true → fault_of form words ≡ []
   faultless simple = subst (λ a. fault_of a words ≡ []) is (parse.faultless (ap is_simple_and_free is ∙ simple))
 
-  pub rows_are : is_simple_and_free form ≡ true → rows_of (found_of m) ≡ matches_of form words
+  rows_are : is_simple_and_free form ≡ true → rows_of (found_of m) ≡ matches_of form words
   rows_are simple =
       let simple_form = (both (is_simple form) (is_free_app (built form)) simple).0 in
       (parse.rows (ap is_simple is ∙ simple_form)).0 ∙ ap (λ a. matches_of a words) is
+
+  -- a job whose values the parse has is what the command line asks for
+  pub planned : (names : Names) (word : Text) → AreLayoutNames names → form_of names word ≡ Some form
+      → is_simple_and_free form ≡ true → (job : Job) → word ≡ command_of job → SaysJob (rows_of (found_of m)) job
+      → IsWithinLimits job → Plans word words (Ok job)
+  unfolding AsksFor
+  planned names word are named simple job same says within = record {
+    job =
+        (names, are, same, ((form, named, faultless simple), subst (λ rows. SaysJob rows job) (rows_are simple) says));
+    within = within;
+    usage = λ bad. cc;
+  }

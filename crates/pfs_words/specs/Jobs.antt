@@ -10,14 +10,14 @@ use Rattle.pfs_layout.specs.declared.layout.Layout.{Layout}
 use Rattle.pfs_words.specs.declared.solve_options.SolveOptions.{SolveOptions}
 use Rattle.pfs_words.specs.declared.job.Job.{Job}
 use Rattle.pfs_words.specs.declared.job.Job.TheVariants as job
-use Rattle.pfs_words.specs.Commands.{AreLayoutNames, Names, value_form, solve_form, audit_form, convert_form}
-use Rattle.pfs_words.specs.Commands.{generate_form, form_of, layout_name}
+use Rattle.pfs_words.specs.Commands.{AreLayoutNames, Names, form_of, layout_name}
 
 -- the value of a decimal numeral, which may begin with a plus sign
 abbrev pub number_said : Text → ℕ
 number_said text = digits_value 10 (without_leading_plus text)
 
--- `rows` are the values that clap's definition gives to each argument: the first value of `id` names this layout
+-- `rows` are the values that clap's definition gives to each argument, defaults included: the first value of `id` names
+-- this layout
 abbrev pub SaysLayout : List Row → Text → Layout → Type 0
 SaysLayout rows id layout = first_of id rows ≡ Some (layout_name layout)
 
@@ -37,72 +37,47 @@ SaysFlag rows id flag = IsTrue flag ↔ (first_of id rows ≡ Some (codes "true"
 abbrev pub SaysText : List Row → Text → Text → Type 0
 SaysText rows id text = first_of id rows ≡ Some text
 
--- clap's definition finds no fault in these arguments of a command of this form
-abbrev pub IsFaultless : App → List Text → Type 0
-IsFaultless form words = fault_of form words ≡ []
+-- `rows` state the block of a file that a job reads: its layout is the value of `id`
+pub record SaysBlock (rows : List Row) (id : Text) (layout : Layout) (block : ℕ) (file : Text) : Type 0 where
+  pub layout_said : SaysLayout rows id layout
+  pub block_said : SaysNumber rows (codes "block") block
+  pub file_said : SaysText rows (codes "file") file
 
--- the arguments `words` of `value` are without fault, and these are the values that clap's definition gives to them,
--- defaults included
-pub record AsksForValue (names : Names) (words : List Text) (layout : Layout) (block : ℕ) (file : Text) : Type 0 where
-  pub faultless : IsFaultless (value_form names) words
-  pub layout_said : SaysLayout (matches_of (value_form names) words) (codes "layout") layout
-  pub block_said : SaysNumber (matches_of (value_form names) words) (codes "block") block
-  pub file_said : SaysText (matches_of (value_form names) words) (codes "file") file
+-- `rows` state these options of a search
+pub record SaysOptions (rows : List Row) (options : SolveOptions) : Type 0 where
+  pub rounds_said : SaysNumber rows (codes "rounds") options.rounds
+  pub take_said : SaysMaybeNumber rows (codes "take") options.take
+  pub seed_said : SaysNumber rows (codes "seed") options.seed
+  pub passes_said : SaysNumber rows (codes "passes") options.passes
+  pub cells_said : SaysFlag rows (codes "cells") options.cells
 
--- the same for `solve`
-pub record AsksForSolve (names : Names) (words : List Text) (layout : Layout) (block : ℕ) (options : SolveOptions)
-    (file : Text) : Type 0 where
-  pub faultless : IsFaultless (solve_form names) words
-  pub layout_said : SaysLayout (matches_of (solve_form names) words) (codes "layout") layout
-  pub block_said : SaysNumber (matches_of (solve_form names) words) (codes "block") block
-  pub rounds_said : SaysNumber (matches_of (solve_form names) words) (codes "rounds") options.rounds
-  pub take_said : SaysMaybeNumber (matches_of (solve_form names) words) (codes "take") options.take
-  pub seed_said : SaysNumber (matches_of (solve_form names) words) (codes "seed") options.seed
-  pub passes_said : SaysNumber (matches_of (solve_form names) words) (codes "passes") options.passes
-  pub cells_said : SaysFlag (matches_of (solve_form names) words) (codes "cells") options.cells
-  pub file_said : SaysText (matches_of (solve_form names) words) (codes "file") file
+-- `rows` state the block and the order file of a command with both
+abbrev pub SaysAudit : List Row → Layout → ℕ → Text → Text → Type 0
+SaysAudit rows layout block file order_file =
+    SaysBlock rows (codes "layout") layout block file × SaysText rows (codes "order") order_file
 
--- the same for a command with an order file, which has this name
-pub record AsksForAudit (name : Text) (names : Names) (words : List Text) (layout : Layout) (block : ℕ)
-    (file order_file : Text) : Type 0 where
-  pub faultless : IsFaultless (audit_form name names) words
-  pub layout_said : SaysLayout (matches_of (audit_form name names) words) (codes "layout") layout
-  pub block_said : SaysNumber (matches_of (audit_form name names) words) (codes "block") block
-  pub file_said : SaysText (matches_of (audit_form name names) words) (codes "file") file
-  pub order_said : SaysText (matches_of (audit_form name names) words) (codes "order") order_file
+-- `rows` state the job's values. `value` needs a file here: only the command line without arguments gives `Job.Value`
+-- without one
+abbrev pub SaysJob : List Row → Job → Type 0
+SaysJob rows (job.Value layout block None) = ⊥
+SaysJob rows (job.Value layout block (Some file)) = SaysBlock rows (codes "layout") layout block file
+SaysJob rows (job.Solve layout block options file) =
+    SaysBlock rows (codes "layout") layout block file × SaysOptions rows options
+SaysJob rows (job.Check layout block file order_file) = SaysAudit rows layout block file order_file
+SaysJob rows (job.Table layout block file order_file) = SaysAudit rows layout block file order_file
+SaysJob rows (job.Convert source target block file) =
+    SaysBlock rows (codes "from") source block file × SaysLayout rows (codes "to") target
+SaysJob rows (job.Generate jobs machines seed) = SaysNumber rows (codes "jobs") jobs
+    × SaysNumber rows (codes "machines") machines × SaysNumber rows (codes "seed") seed
 
--- the same for `convert`
-pub record AsksForConvert (names : Names) (words : List Text) (source target : Layout) (block : ℕ) (file : Text)
-    : Type 0 where
-  pub faultless : IsFaultless (convert_form names) words
-  pub source_said : SaysLayout (matches_of (convert_form names) words) (codes "from") source
-  pub target_said : SaysLayout (matches_of (convert_form names) words) (codes "to") target
-  pub block_said : SaysNumber (matches_of (convert_form names) words) (codes "block") block
-  pub file_said : SaysText (matches_of (convert_form names) words) (codes "file") file
-
--- the same for `generate`
-pub record AsksForGenerate (words : List Text) (jobs machines seed : ℕ) : Type 0 where
-  pub faultless : IsFaultless generate_form words
-  pub jobs_said : SaysNumber (matches_of generate_form words) (codes "jobs") jobs
-  pub machines_said : SaysNumber (matches_of generate_form words) (codes "machines") machines
-  pub seed_said : SaysNumber (matches_of generate_form words) (codes "seed") seed
-
--- `word` names the job's command, and the arguments `words` ask for its values. `value` needs a file here: only the
--- command line without arguments gives `Job.Value` without one
-abbrev pub AsksForJob : Names → Text → List Text → Job → Type 0
-AsksForJob names word words (job.Value layout block None) = ⊥
-AsksForJob names word words (job.Value layout block (Some file)) = (word ≡ codes "value")
-    × AsksForValue names words layout block file
-AsksForJob names word words (job.Solve layout block options file) = (word ≡ codes "solve")
-    × AsksForSolve names words layout block options file
-AsksForJob names word words (job.Check layout block file order_file) = (word ≡ codes "check")
-    × AsksForAudit (codes "check") names words layout block file order_file
-AsksForJob names word words (job.Table layout block file order_file) = (word ≡ codes "table")
-    × AsksForAudit (codes "table") names words layout block file order_file
-AsksForJob names word words (job.Convert source target block file) = (word ≡ codes "convert")
-    × AsksForConvert names words source target block file
-AsksForJob names word words (job.Generate jobs machines seed) = (word ≡ codes "generate")
-    × AsksForGenerate words jobs machines seed
+-- the name of the command that does a job
+abbrev pub command_of : Job → Text
+command_of (job.Value layout block file) = codes "value"
+command_of (job.Solve layout block options file) = codes "solve"
+command_of (job.Check layout block file order_file) = codes "check"
+command_of (job.Table layout block file order_file) = codes "table"
+command_of (job.Convert source target block file) = codes "convert"
+command_of (job.Generate jobs machines seed) = codes "generate"
 
 -- a number from 1 to `most`
 abbrev pub IsFrom1To : ℕ → ℕ → Type 0
@@ -126,13 +101,15 @@ IsWithinLimits (job.Generate jobs machines seed) = IsFrom1To MOST_JOBS jobs × I
 abbrev pub takes_line : Names → Text → List Text → Bool
 takes_line names word words = option_map_or (λ form. takes form words) (form_of names word) false
 
--- `word` names a command, and clap's definition finds no fault in the arguments `words`
+-- `word` names a command, and clap's definition finds no fault in the arguments `words` of its form
 abbrev pub IsFaultlessLine : Names → Text → List Text → Type 0
-IsFaultlessLine names word words = (form : App) × (form_of names word ≡ Some form) × IsFaultless form words
+IsFaultlessLine names word words = (form : App) × (form_of names word ≡ Some form) × (fault_of form words ≡ [])
 
--- the command line, `word` followed by `words`, asks for this job
+-- the command line, `word` followed by `words`, asks for this job: `word` names the job's command, and `words` are
+-- without fault and state its values
 unfoldable pub AsksFor : Text → List Text → Job → Type 0
-AsksFor word words job = (names : Names) × AreLayoutNames names × AsksForJob names word words job
+AsksFor word words job = (names : Names) × AreLayoutNames names × (word ≡ command_of job)
+    × ((line : IsFaultlessLine names word words) × SaysJob (matches_of line.0 words) job)
 
 -- the command line asks for no job: either `word` names no command, or the form of its command doesn't take `words` and
 -- clap's definition finds a fault in them

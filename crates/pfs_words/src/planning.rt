@@ -1,17 +1,16 @@
 //! From the arguments of a command line to the job that they ask for.
 ghost use Rattle.std.specs.Prelude.{◌≡◌, [], ◌∷◌, None, List, IfOk, codes, map, string_bytes};
 ghost use Rattle.clap.specs.Words.{Text};
-ghost use Rattle.pfs_words.specs.Jobs.{AsksFor, AsksForNothing, IsFrom1To, IsWithinLimits};
-ghost use Rattle.pfs_words.specs.Private.Parses.{AsksToAudit, IsAudit};
+ghost use Rattle.pfs_words.specs.Jobs.{AsksFor, AsksForNothing, IsWithinLimits};
+ghost use Rattle.pfs_words.specs.Private.Parses.{Plans};
 
 use self::commands::{
     audit_command, convert_command, generate_command, solve_command, value_command,
 };
 use self::values::{flag_in, layout_in, matches_for, number_in, number_in_if, path_in};
-use crate::job::{Job, PathText};
+use crate::job::Job;
 use crate::solve_options::SolveOptions;
 use crate::usage::UsageFault;
-use pfs_base::MOST_BLOCKS;
 use pfs_layout::Layout;
 use std::alloc::Global;
 
@@ -58,10 +57,7 @@ pub fn plan(alloc: Global, words: &[String]) -> Result<Job, UsageFault>
 }
 
 fn plan_value(alloc: Global, words: &[String]) -> Result<Job, UsageFault>
-    ensures ok { IfOk result (AsksFor (codes "value") (map string_bytes words.now)) }
-    ensures within { IfOk result IsWithinLimits }
-    ensures usage { result ≡ Err UsageFault.Usage
-        → AsksForNothing (codes "value") (map string_bytes words.now) }
+    ensures { Plans (codes "value") (map string_bytes words.now) result }
 {
     let matches = matches_for(value_command(alloc, LAYOUT_NAMES.as_slice())?, words)?;
     Ok(Job::Value {
@@ -72,10 +68,7 @@ fn plan_value(alloc: Global, words: &[String]) -> Result<Job, UsageFault>
 }
 
 fn plan_solve(alloc: Global, words: &[String]) -> Result<Job, UsageFault>
-    ensures ok { IfOk result (AsksFor (codes "solve") (map string_bytes words.now)) }
-    ensures within { IfOk result IsWithinLimits }
-    ensures usage { result ≡ Err UsageFault.Usage
-        → AsksForNothing (codes "solve") (map string_bytes words.now) }
+    ensures { Plans (codes "solve") (map string_bytes words.now) result }
 {
     let matches = matches_for(solve_command(alloc, LAYOUT_NAMES.as_slice())?, words)?;
     let options = SolveOptions {
@@ -94,56 +87,24 @@ fn plan_solve(alloc: Global, words: &[String]) -> Result<Job, UsageFault>
 }
 
 fn plan_check(alloc: Global, words: &[String]) -> Result<Job, UsageFault>
-    ensures ok { IfOk result (AsksFor (codes "check") (map string_bytes words.now)) }
-    ensures within { IfOk result IsWithinLimits }
-    ensures usage { result ≡ Err UsageFault.Usage
-        → AsksForNothing (codes "check") (map string_bytes words.now) }
+    ensures { Plans (codes "check") (map string_bytes words.now) result }
 {
-    let audit = plan_audit(alloc, "check", words)?;
+    let command = audit_command(alloc, "check", LAYOUT_NAMES.as_slice())?;
+    let matches = matches_for(command, words)?;
     Ok(Job::Check {
-        layout: audit.layout,
-        block: audit.block,
-        file: audit.file,
-        order_file: audit.order_file,
+        layout: layout_in(&matches, "layout"),
+        block: number_in(&matches, "block") as usize,
+        file: path_in(alloc, &matches, "file")?,
+        order_file: path_in(alloc, &matches, "order")?,
     })
 }
 
 fn plan_table(alloc: Global, words: &[String]) -> Result<Job, UsageFault>
-    ensures ok { IfOk result (AsksFor (codes "table") (map string_bytes words.now)) }
-    ensures within { IfOk result IsWithinLimits }
-    ensures usage { result ≡ Err UsageFault.Usage
-        → AsksForNothing (codes "table") (map string_bytes words.now) }
+    ensures { Plans (codes "table") (map string_bytes words.now) result }
 {
-    let audit = plan_audit(alloc, "table", words)?;
-    Ok(Job::Table {
-        layout: audit.layout,
-        block: audit.block,
-        file: audit.file,
-        order_file: audit.order_file,
-    })
-}
-
-// The values of a command with an order file.
-#[derive(Drop)]
-struct Audit {
-    layout: Layout,
-    block: usize,
-    file: PathText,
-    order_file: PathText,
-}
-
-// Returns the values that `words` state, the arguments after the name of a command with an order file.
-fn plan_audit(alloc: Global, name: &str, words: &[String]) -> Result<Audit, UsageFault>
-    requires { IsAudit name.now }
-    ensures ok { IfOk result (λ audit. AsksToAudit name.now (map string_bytes words.now)
-        audit.layout audit.block audit.file audit.order_file) }
-    ensures within { IfOk result (λ audit. IsFrom1To MOST_BLOCKS audit.block) }
-    ensures usage { result ≡ Err UsageFault.Usage
-        → AsksForNothing name.now (map string_bytes words.now) }
-{
-    let command = audit_command(alloc, name, LAYOUT_NAMES.as_slice())?;
+    let command = audit_command(alloc, "table", LAYOUT_NAMES.as_slice())?;
     let matches = matches_for(command, words)?;
-    Ok(Audit {
+    Ok(Job::Table {
         layout: layout_in(&matches, "layout"),
         block: number_in(&matches, "block") as usize,
         file: path_in(alloc, &matches, "file")?,
@@ -152,10 +113,7 @@ fn plan_audit(alloc: Global, name: &str, words: &[String]) -> Result<Audit, Usag
 }
 
 fn plan_convert(alloc: Global, words: &[String]) -> Result<Job, UsageFault>
-    ensures ok { IfOk result (AsksFor (codes "convert") (map string_bytes words.now)) }
-    ensures within { IfOk result IsWithinLimits }
-    ensures usage { result ≡ Err UsageFault.Usage
-        → AsksForNothing (codes "convert") (map string_bytes words.now) }
+    ensures { Plans (codes "convert") (map string_bytes words.now) result }
 {
     let matches = matches_for(convert_command(alloc, LAYOUT_NAMES.as_slice())?, words)?;
     Ok(Job::Convert {
@@ -167,10 +125,7 @@ fn plan_convert(alloc: Global, words: &[String]) -> Result<Job, UsageFault>
 }
 
 fn plan_generate(alloc: Global, words: &[String]) -> Result<Job, UsageFault>
-    ensures ok { IfOk result (AsksFor (codes "generate") (map string_bytes words.now)) }
-    ensures within { IfOk result IsWithinLimits }
-    ensures usage { result ≡ Err UsageFault.Usage
-        → AsksForNothing (codes "generate") (map string_bytes words.now) }
+    ensures { Plans (codes "generate") (map string_bytes words.now) result }
 {
     let matches = matches_for(generate_command(alloc)?, words)?;
     Ok(Job::Generate {

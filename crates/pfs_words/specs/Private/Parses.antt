@@ -1,5 +1,5 @@
 -- What is known of clap's parse of a command's arguments. Only contracts of private functions cite these definitions.
-use Rattle.std.specs.Prelude.{◌≡◌, ℕ, true, List, [], Some}
+use Rattle.std.specs.Prelude.{◌≡◌, true, List, [], Some, Result, Err, IfOk}
 use Rattle.clap.specs.Words.{Text, app_of, fault_of, first_of, found_of, is_simple_and_free, rows_of}
 use Rattle.clap.specs.Built.{IsParsedFrom}
 use Rattle.clap.specs.Simple.{HasMatchesOf}
@@ -7,8 +7,10 @@ use Rattle.clap.specs.Values.{IsUnsignedIn}
 use Rattle.clap.specs.declared.builder.command.Command.{Command}
 use Rattle.clap.specs.declared.parser.matches.ArgMatches.{ArgMatches}
 use Rattle.pfs_layout.specs.declared.layout.Layout.{Layout}
-use Rattle.pfs_words.specs.Commands.{AreLayoutNames, Names, audit_form, form_of}
-use Rattle.pfs_words.specs.Jobs.{AsksForAudit, SaysLayout, SaysText}
+use Rattle.pfs_words.specs.Jobs.{AsksFor, AsksForNothing, IsWithinLimits, SaysLayout, SaysText}
+use Rattle.pfs_words.specs.declared.job.Job.{Job}
+use Rattle.pfs_words.specs.declared.usage.UsageFault.{UsageFault}
+use Rattle.pfs_words.specs.declared.usage.UsageFault.TheVariants.{Usage}
 
 -- clap parsed the arguments `words` by `command`, with the result `matches`
 pub record IsParseOf (command : Command) (words : List Text) (matches : ArgMatches) : Type 0 where
@@ -34,11 +36,9 @@ abbrev pub MayHaveNumber : ArgMatches → Text → Type 0
 MayHaveNumber matches id = (text : Text) → first_of id (rows_of (found_of matches)) ≡ Some text
     → IsUnsignedIn 0 18446744073709551615 text
 
--- `word` names a command with an order file
-abbrev pub IsAudit : Text → Type 0
-IsAudit word = (names : Names) → form_of names word ≡ Some (audit_form word names)
-
--- the arguments `words` after that name ask for these values
-abbrev pub AsksToAudit : Text → List Text → Layout → ℕ → Text → Text → Type 0
-AsksToAudit word words layout block file order_file =
-    (names : Names) × AreLayoutNames names × AsksForAudit word names words layout block file order_file
+-- what the function that plans a command returns for its name and the arguments after it: a job that they ask for, or
+-- `Usage` only if they ask for none
+pub record Plans (word : Text) (words : List Text) (result : Result Job UsageFault) : Type 0 where
+  pub job : IfOk result (AsksFor word words)
+  pub within : IfOk result IsWithinLimits
+  pub usage : result ≡ Err Usage → AsksForNothing word words

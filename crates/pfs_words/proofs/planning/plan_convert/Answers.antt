@@ -1,7 +1,6 @@
-use Rattle.std.proofs.Common.{rules, ◌≡◌, Err, ap, codes, refl}
-use Rattle.pfs_words.specs.declared.usage.UsageFault.TheVariants.{Usage}
+use Rattle.std.proofs.Common.{rules, Err, ap, codes, refl}
 use Rattle.pfs_words.specs.Commands.{block_rule, path_rule}
-use Rattle.pfs_words.proofs.JobLemmas.{faultless, job_for, layout_given, number_in_range, rejected_by, rows_are}
+use Rattle.pfs_words.proofs.JobLemmas.{fails, layout_given, number_in_range, rejected_by, planned}
 use Rattle.pfs_words.proofs.JobLemmas.{some_number_given, text_given}
 use Rattle.pfs_words.proofs.planning.plan_convert.Goals as goal
 
@@ -23,30 +22,24 @@ pub path_in-requires : goal.path_in-requires
 path_in-requires c =
     text_given c.in_ok-matches.ensures.ok c.in_ok-convert_command.ensures 3 (path_rule (codes "file")) refl refl refl
 
-pub returns-in_err-matches-clause-usage : goal.returns-in_err-matches-clause-usage
-returns-in_err-matches-clause-usage c e =
-    let failed : c.in_err-matches.field-0.0 ≡ Usage = search rules in
-    let told = c.in_err-matches.ensures in
-    rejected_by c.as_slice.result (codes "convert") _ (search rules) c.in_ok-convert_command.ensures refl refl
-    (told.usage (ap Err failed)) (told.fault (ap Err failed))
+pub returns-in_err-matches : goal.returns-in_err-matches
+returns-in_err-matches c =
+    let failed = c.in_err-matches.ensures in
+    fails c.from_residual-in_err-matches.result (search rules) (λ usage. rejected_by c.as_slice.result
+    (codes "convert") _ (search rules) c.in_ok-convert_command.ensures refl refl
+    (failed.usage (ap Err usage)) (failed.fault (ap Err usage)))
 
-pub returns-clause-ok : goal.returns-clause-ok
-returns-clause-ok c =
+pub returns : goal.returns
+returns c =
     let is = c.in_ok-convert_command.ensures in
     let parse = c.in_ok-matches.ensures.ok in
-    let rows = rows_are parse is refl in
-    job_for c.as_slice.result (codes "convert") _ (search rules) _ (
-      refl,
+    planned parse is c.as_slice.result (codes "convert") (search rules) refl refl _ refl (
       record {
-        faultless = faultless parse is refl;
-        source_said = rw rows at c.layout_in.ensures;
-        target_said = rw rows at c.layout_in-2.ensures;
-        block_said = rw rows at c.number_in.ensures;
-        file_said = rw rows at c.in_ok-path_in.ensures;
+        layout_said = c.layout_in.ensures;
+        block_said = c.number_in.ensures;
+        file_said = c.in_ok-path_in.ensures;
       },
+      c.layout_in-2.ensures,
     )
-
-pub returns-clause-within : goal.returns-clause-within
-returns-clause-within c =
-    number_in_range c.in_ok-matches.ensures.ok c.in_ok-convert_command.ensures 2 block_rule refl refl refl
-    c.number_in.ensures
+    (number_in_range c.in_ok-matches.ensures.ok c.in_ok-convert_command.ensures 2 block_rule refl refl refl
+    c.number_in.ensures)

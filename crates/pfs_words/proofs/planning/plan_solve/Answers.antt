@@ -1,8 +1,7 @@
-use Rattle.std.proofs.Common.{arith, rules, ◌≡◌, Err, ap, codes, refl}
-use Rattle.pfs_words.specs.declared.usage.UsageFault.TheVariants.{Usage}
+use Rattle.std.proofs.Common.{arith, rules, Err, ap, codes, refl}
 use Rattle.pfs_words.specs.Commands.{block_rule, passes_rule, path_rule, rounds_rule, search_seed_rule, take_rule}
-use Rattle.pfs_words.proofs.JobLemmas.{faultless, job_for, layout_given, number_if_given, number_in_range, rejected_by}
-use Rattle.pfs_words.proofs.JobLemmas.{rows_are, some_number_given, text_given}
+use Rattle.pfs_words.proofs.JobLemmas.{fails, layout_given, number_if_given, number_in_range, planned, rejected_by}
+use Rattle.pfs_words.proofs.JobLemmas.{some_number_given, text_given}
 use Rattle.pfs_words.proofs.planning.plan_solve.Goals as goal
 
 pub number_in_if-requires : goal.number_in_if-requires
@@ -50,37 +49,31 @@ overflow_cast-options-2 c =
           c.number_in-3.ensures).1,
     )
 
-pub returns-in_err-matches-clause-usage : goal.returns-in_err-matches-clause-usage
-returns-in_err-matches-clause-usage c e =
-    let failed : c.in_err-matches.field-0.0 ≡ Usage = search rules in
-    let told = c.in_err-matches.ensures in
-    rejected_by c.as_slice.result (codes "solve") _ (search rules) c.in_ok-solve_command.ensures refl refl
-    (told.usage (ap Err failed)) (told.fault (ap Err failed))
+pub returns-in_err-matches : goal.returns-in_err-matches
+returns-in_err-matches c =
+    let failed = c.in_err-matches.ensures in
+    fails c.from_residual-in_err-matches.result (search rules) (λ usage. rejected_by c.as_slice.result (codes "solve") _
+    (search rules) c.in_ok-solve_command.ensures refl refl
+    (failed.usage (ap Err usage)) (failed.fault (ap Err usage)))
 
-pub returns-clause-ok : goal.returns-clause-ok
-returns-clause-ok c =
+pub returns : goal.returns
+returns c =
     let is = c.in_ok-solve_command.ensures in
     let parse = c.in_ok-matches.ensures.ok in
-    let rows = rows_are parse is refl in
-    job_for c.as_slice.result (codes "solve") _ (search rules) _ (
-      refl,
+    planned parse is c.as_slice.result (codes "solve") (search rules) refl refl _ refl (
       record {
-        faultless = faultless parse is refl;
-        layout_said = rw rows at c.layout_in.ensures;
-        block_said = rw rows at c.number_in-4.ensures;
-        rounds_said = rw rows at c.number_in.ensures;
-        take_said = rw rows at c.number_in_if.ensures;
-        seed_said = rw rows at c.number_in-2.ensures;
-        passes_said = rw rows at c.number_in-3.ensures;
-        cells_said = rw rows at c.flag_in.ensures;
-        file_said = rw rows at c.in_ok-path_in.ensures;
+        layout_said = c.layout_in.ensures;
+        block_said = c.number_in-4.ensures;
+        file_said = c.in_ok-path_in.ensures;
       },
-    )
-
-pub returns-clause-within : goal.returns-clause-within
-returns-clause-within c =
-    let is = c.in_ok-solve_command.ensures in
-    let parse = c.in_ok-matches.ensures.ok in (
+      record {
+        rounds_said = c.number_in.ensures;
+        take_said = c.number_in_if.ensures;
+        seed_said = c.number_in-2.ensures;
+        passes_said = c.number_in-3.ensures;
+        cells_said = c.flag_in.ensures;
+      },
+    ) (
       number_in_range parse is 1 block_rule refl refl refl c.number_in-4.ensures,
       (
         (number_in_range parse is 2 rounds_rule refl refl refl c.number_in.ensures).1,
