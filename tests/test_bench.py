@@ -52,14 +52,14 @@ pub fn sum<B: LaneBench>(_bench: &B, a: B::Lanes, b: B::Lanes) -> B::Lanes {
     a + b
 }
 """, "error[invalid-operand-type]: `+` cannot be applied to `<B as LaneBench>::Lanes`"),
-    "reads_tails": ("""/// The last tail of the first step.
-pub fn tail<B: LaneBench>(_bench: &B, tables: &Tables<B::Lanes>) -> u16 {
-    tables.tails[0].last()
+    "reads_tails": ("""/// The tails of the first step.
+pub fn tails<B: LaneBench>(_bench: &B, tables: &Tables<B::Lanes>) -> B::Lanes {
+    tables.tails[0].again()
 }
 """, "error[private-field]: field `tails` of struct `Tables` is private"),
-    "reads_sums": ("""/// The sum of the first step.
-pub fn sum<B: LaneBench>(_bench: &B, tables: &Tables<B::Lanes>) -> u16 {
-    tables.sums[0]
+    "reads_sums": ("""/// The number of sums.
+pub fn sums<B: LaneBench>(_bench: &B, tables: &Tables<B::Lanes>) -> usize {
+    tables.sums.len()
 }
 """, "error[private-field]: field `sums` of struct `Tables` is private"),
     "reads_skewed_times": ("""/// The last time of the first step.
