@@ -482,8 +482,8 @@ def test_four_threads_search_side_by_side() -> None:
 
 
 def test_a_call_frees_the_lock() -> None:
-    """While one thread is in a call of some seconds, another one continues."""
-    shop = pfs.generate(1000, 20, 1)
+    """While one thread is in a long call, another one continues."""
+    shop = pfs.generate(5000, 20, 1)
     beats: list[float] = []
     ended = threading.Event()
 
