@@ -27,6 +27,10 @@ pub trait Band: Copy + Drop {
     fn zeros() -> Self
         ensures { lanes result ≡ zeros 8 };
 
+    /// A copy of the band, from one register to another.
+    fn copied(self) -> Self
+        ensures { lanes result ≡ lanes self };
+
     /// A band of eight times.
     fn from_times(times: [u32; 8]) -> Self
         requires { All (λ time. time ≤ CAP) times }

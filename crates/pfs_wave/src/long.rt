@@ -35,6 +35,13 @@ impl Band for Long {
     }
 
     #[inline(always)]
+    fn copied(self) -> Long {
+        Long {
+            values: self.values,
+        }
+    }
+
+    #[inline(always)]
     fn from_times(times: [u32; 8]) -> Long {
         Long {
             values: u32x8::from_array(times),

@@ -35,7 +35,9 @@ impl<B: Band> Lanes for OneBand<B> {
 
     #[inline(always)]
     fn again(&self) -> OneBand<B> {
-        OneBand { one: self.one }
+        OneBand {
+            one: self.one.copied(),
+        }
     }
 
     #[inline(always)]

@@ -60,6 +60,13 @@ impl Band for Short {
     }
 
     #[inline(always)]
+    fn copied(self) -> Short {
+        Short {
+            values: self.values,
+        }
+    }
+
+    #[inline(always)]
     fn from_times(times: [u32; 8]) -> Short {
         Short {
             values: u16x8::from_array([
