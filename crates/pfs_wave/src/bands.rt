@@ -5,6 +5,7 @@ use crate::band::Band;
 use crate::joined::Joined;
 use crate::lanes::Part;
 use crate::one_band::OneBand;
+use crate::wide::Wide;
 
 /// Rows of 16 lanes.
 pub type TwoBands<B> = Joined<OneBand<B>, OneBand<B>>;
@@ -13,37 +14,21 @@ pub type TwoBands<B> = Joined<OneBand<B>, OneBand<B>>;
 pub type ThreeBands<B> = Joined<TwoBands<B>, OneBand<B>>;
 
 /// Rows of 40 lanes.
-pub type FiveBands<B> = Joined<ThreeBands<B>, TwoBands<B>>;
+pub type FiveBands<B> = Wide<B, 5>;
 
 /// Rows of 64 lanes.
-pub type EightBands<B> = Joined<FiveBands<B>, ThreeBands<B>>;
+pub type EightBands<B> = Wide<B, 8>;
 
 /// Rows of 104 lanes.
-pub type ThirteenBands<B> = Joined<EightBands<B>, FiveBands<B>>;
+pub type ThirteenBands<B> = Wide<B, 13>;
 
 /// Rows of 208 lanes, more than a shop has machines.
-pub type TwentySixBands<B> = Joined<ThirteenBands<B>, ThirteenBands<B>>;
+pub type TwentySixBands<B> = Wide<B, 26>;
 
 impl<B: Band> Part for OneBand<B> {
     ghost part = { Prim.omega arith };
 }
 
 impl<B: Band> Part for TwoBands<B> {
-    ghost part = { Prim.omega arith };
-}
-
-impl<B: Band> Part for ThreeBands<B> {
-    ghost part = { Prim.omega arith };
-}
-
-impl<B: Band> Part for FiveBands<B> {
-    ghost part = { Prim.omega arith };
-}
-
-impl<B: Band> Part for EightBands<B> {
-    ghost part = { Prim.omega arith };
-}
-
-impl<B: Band> Part for ThirteenBands<B> {
     ghost part = { Prim.omega arith };
 }

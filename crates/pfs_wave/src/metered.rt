@@ -7,7 +7,7 @@ ghost use Rattle.pfs_wave.specs.Wavefront.{HasRows};
 
 use crate::band::Band;
 use crate::bench::LaneBench;
-use crate::lanes::Lanes;
+use crate::lanes::Passes;
 use crate::skewed::SkewedTimes;
 use crate::tables::Tables;
 use pfs_base::{Bench, Instance, Length, Metered, Shop, Span};
@@ -18,7 +18,7 @@ use std::marker::Model;
 
 /// A metered bench over an instance that a wavefront serves, with the times of each job in lanes.
 #[derive(Drop)]
-pub struct MeteredLanes<'a, L: Lanes> {
+pub struct MeteredLanes<'a, L: Passes> {
     bench: Metered<'a>,
     skewed: SkewedTimes<L>,
     ghost within: { IsWithin limits (⟦<Metered<'static> as Bench>⟧.shop bench) },
@@ -26,7 +26,7 @@ pub struct MeteredLanes<'a, L: Lanes> {
     ghost rows: { HasRows (⟦<Metered<'static> as Bench>⟧.shop bench) L.WIDTH skewed.rows },
 }
 
-impl<'a, L: Lanes> MeteredLanes<'a, L> {
+impl<'a, L: Passes> MeteredLanes<'a, L> {
     /// A bench over an instance, with a count of 0 cells. It reserves memory for the rows of its jobs and for the times
     /// of a sequence, and returns `AllocError` where that fails.
     pub fn new(alloc: Global, instance: &'a Instance) -> Result<MeteredLanes<'a, L>, AllocError>
@@ -49,7 +49,7 @@ impl<'a, L: Lanes> MeteredLanes<'a, L> {
     }
 }
 
-impl<'a, L: Lanes> Bench for MeteredLanes<'a, L> {
+impl<'a, L: Passes> Bench for MeteredLanes<'a, L> {
     type Span = Span;
 
     ghost shop = { λ b. ⟦<Metered<'static> as Bench>⟧.shop b.bench };
@@ -97,13 +97,13 @@ impl<'a, L: Lanes> Bench for MeteredLanes<'a, L> {
     }
 }
 
-impl<L: Lanes> Shop for MeteredLanes<'_, L> {
+impl<L: Passes> Shop for MeteredLanes<'_, L> {
     fn total(&self, job: usize) -> u64 {
         self.bench.total(job)
     }
 }
 
-impl<'a, L: Lanes> LaneBench for MeteredLanes<'a, L> {
+impl<'a, L: Passes> LaneBench for MeteredLanes<'a, L> {
     type Lanes = L;
 
     ghost held = { λ b. b.skewed.jobs };

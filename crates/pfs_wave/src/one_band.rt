@@ -3,7 +3,8 @@ ghost use Rattle.std.specs.Prelude.{◌≡◌, ℕ, ◌+◌, ◌-◌, ◌*◌, �
 ghost use Rattle.std.proofs.Common.{arith, refl};
 
 use crate::band::Band;
-use crate::lanes::Lanes;
+use crate::kernels::{fill_sums, fill_tails};
+use crate::lanes::{FewLanes, Lanes, Passes};
 
 /// Eight lanes, in one band.
 #[derive(Drop)]
@@ -49,7 +50,9 @@ impl<B: Band> Lanes for OneBand<B> {
     fn put_band(&mut self, _band: usize, values: B) {
         self.one = values;
     }
+}
 
+impl<B: Band> FewLanes for OneBand<B> {
     #[inline(always)]
     fn last(&self) -> B::Number {
         self.one.last()
@@ -79,5 +82,22 @@ impl<B: Band> Lanes for OneBand<B> {
         OneBand {
             one: before.one.up(carry).greater(inserted.one.sum(tails.one)),
         }
+    }
+}
+
+impl<B: Band> Passes for OneBand<B> {
+    #[inline(always)]
+    fn fill_tails(times: &[OneBand<B>], tails: &mut [OneBand<B>]) {
+        fill_tails(times, tails);
+    }
+
+    #[inline(always)]
+    fn fill_sums(
+        times: &[OneBand<B>],
+        tails: &[OneBand<B>],
+        job: &OneBand<B>,
+        sums: &mut [B::Number],
+    ) {
+        fill_sums(times, tails, job, sums);
     }
 }

@@ -7,13 +7,12 @@ ghost use Rattle.pfs_wave.specs.Lanes.{rows_of};
 ghost use Rattle.pfs_wave.specs.Wavefront.{AreSkewed, FitsLanes, HoldTails, IsJobRow};
 
 use crate::band::Band;
-use crate::kernels::{fill_sums, fill_tails};
-use crate::lanes::Lanes;
+use crate::lanes::Passes;
 use crate::least::Found;
 
 /// Fills the tails of a sequence from its skewed times.
 #[inline(always)]
-pub(crate) fn fill_front<L: Lanes>(times: &[L], tails: &mut [L])
+pub(crate) fn fill_front<L: Passes>(times: &[L], tails: &mut [L])
     requires small { length times.now < 2 ^ 32 }
     requires tails { length times.now ≤ length tails.old }
     ensures tails { length tails.new ≡ length tails.old }
@@ -21,13 +20,13 @@ pub(crate) fn fill_front<L: Lanes>(times: &[L], tails: &mut [L])
         → AreSkewed shop jobs L.WIDTH (rows_of (map L.lanes times.now)) → length times.now ≡ length jobs + L.WIDTH
         → HoldTails L.Band.CAP shop jobs L.WIDTH (rows_of (map L.lanes tails.new)) }
 {
-    fill_tails(times, &mut tails[..times.len()]);
+    L::fill_tails(times, &mut tails[..times.len()]);
 }
 
 /// The best place of a job in a sequence, and the makespan with the job there, from the skewed times and the tails of
 /// the sequence.
 #[inline(always)]
-pub(crate) fn best_place<L: Lanes>(
+pub(crate) fn best_place<L: Passes>(
     times: &[L],
     tails: &[L],
     job: &L,
@@ -47,6 +46,6 @@ pub(crate) fn best_place<L: Lanes>(
 {
     let steps = times.len();
     let filled = &mut sums[..steps];
-    fill_sums(times, &tails[..steps], job, filled);
+    L::fill_sums(times, &tails[..steps], job, filled);
     L::Band::first_least(&filled[L::WIDTH - 1..])
 }

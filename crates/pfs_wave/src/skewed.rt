@@ -10,7 +10,7 @@ ghost use Rattle.pfs_wave.specs.Private.HeldRows.{HeldTimes, IsHolding};
 
 use crate::band::Band;
 use crate::changes::{kept_rows, write_rows};
-use crate::lanes::Lanes;
+use crate::lanes::{Lanes, Passes};
 use crate::least::Found;
 use crate::passes::{best_place, fill_front};
 use crate::rows::shop_rows;
@@ -94,7 +94,9 @@ impl<L: Lanes> SkewedTimes<L> {
     {
         &self.times[..self.len + L::WIDTH]
     }
+}
 
+impl<L: Passes> SkewedTimes<L> {
     /// Fills the tails of the sequence.
     #[inline(always)]
     pub fn fill_tails(&self, tails: &mut [L])
