@@ -1,0 +1,271 @@
+-- A block of heads, inserted rows and sums, one band after the other.
+use Rattle.std.proofs.Common.{inl, inr, ◌≡◌, ℕ, zero, suc, ◌+◌, ◌-◌, ◌*◌, ◌<◌, ◌≤◌, List, [], ◌∷◌, ◌++◌, max, length}
+use Rattle.std.proofs.Common.{take, drop, map, get_or, refl, ap, ◌∙◌, sym, arith, add-one, slice_set, subst}
+use Rattle.std.specs.Simd.Lanes.{zip2}
+use Rattle.std.proofs.lemmas.Bool.{cases_lt, cases_eq}
+use Rattle.std.proofs.lemmas.List.{get_or-set_same, get_or-set_other, length-set, length-map, map-set, get_or-take, get_or-drop}
+use Rattle.pfs_wave.specs.Lanes.{Rows, capped_add, heads_step, sums_step, zeros}
+use Rattle.pfs_wave.specs.Private.SkewedBand.{eight_from}
+use Rattle.pfs_wave.specs.Private.Blocks.{WavePass, AreWide, IsFront, IsCarry, AreCarries, heads_after, inserted_after}
+use Rattle.pfs_wave.specs.Private.Blocks.{sums_after}
+use Rattle.pfs_wave.specs.declared.blocks.Front.{Front}
+use Rattle.pfs_wave.proofs.WavefrontLaws.{heads_next, heads_first, inserted_next, inserted_first, sums_next, sums_first}
+use Rattle.pfs_wave.proofs.Steps.{length-zeros, length-heads_step, length-sums_step}
+
+module _ (f : ℕ → ℕ → ℕ) where
+  drop-zip : (n : ℕ) (a b : List ℕ) → drop n (zip2 f a b) ≡ zip2 f (drop n a) (drop n b)
+  drop-zip zero a b = refl
+  drop-zip (suc n) [] b = refl
+  drop-zip (suc n) (x ∷ a) [] = zip-none (drop n a)
+    where
+      zip-none : (c : List ℕ) → [] ≡ zip2 f c []
+      zip-none [] = refl
+      zip-none (y ∷ c) = refl
+  drop-zip (suc n) (x ∷ a) (y ∷ b) = drop-zip n a b
+
+  -- the first lanes of the second list take no more lanes of the first
+  take-zip : (n m : ℕ) (a b : List ℕ) → n ≤ m → take n (zip2 f a b) ≡ zip2 f (take m a) (take n b)
+  take-zip zero m a b le = none (take m a)
+    where
+      none : (c : List ℕ) → [] ≡ zip2 f c []
+      none [] = refl
+      none (y ∷ c) = refl
+  take-zip (suc n) zero a b le = absurd (omega arith)
+  take-zip (suc n) (suc m) [] b le = refl
+  take-zip (suc n) (suc m) (x ∷ a) [] le = refl
+  take-zip (suc n) (suc m) (x ∷ a) (y ∷ b) le = ap (λ l. f x y ∷ l) (take-zip n m a b (omega arith))
+
+-- the lanes from a lane on, after the lane before it
+drop_before : (first : ℕ) (row : List ℕ) → first ≤ length row
+    → drop first (0 ∷ row) ≡ get_or (0 ∷ row) first 0 ∷ drop first row
+drop_before zero row le = refl
+drop_before (suc first) [] le = absurd (omega arith)
+drop_before (suc first) (x ∷ row) le = rest first x row (omega arith)
+  where
+    rest : (n : ℕ) (y : ℕ) (l : List ℕ) → n ≤ length l → drop n (y ∷ l) ≡ get_or (y ∷ l) n 0 ∷ drop n l
+    rest zero y l le = refl
+    rest (suc n) y [] le = absurd (omega arith)
+    rest (suc n) y (z ∷ l) le = rest n z l (omega arith)
+
+-- one band of a step: the same step on the band's lanes
+module _ (cap first : ℕ) (before : List ℕ) (le : first ≤ length before) where
+  max_band : (above : List ℕ) → eight_from first (zip2 max (0 ∷ before) above)
+      ≡ zip2 max (get_or (0 ∷ before) first 0 ∷ eight_from first before) (eight_from first above)
+  max_band above =
+      ap (take 8) (drop-zip max first (0 ∷ before) above ∙ ap (λ l. zip2 max l (drop first above)) (drop_before first before le))
+      ∙ take-zip max 8 9 (get_or (0 ∷ before) first 0 ∷ drop first before) (drop first above) (omega arith)
+
+  pub heads_band : (above times : List ℕ) → eight_from first (heads_step cap 0 before above times)
+      ≡ heads_step cap (get_or (0 ∷ before) first 0) (eight_from first before) (eight_from first above)
+      (eight_from first times)
+  heads_band above times =
+      let most = zip2 max (0 ∷ before) above in
+      ap (take 8) (drop-zip (capped_add cap) first most times)
+      ∙ take-zip (capped_add cap) 8 8 (drop first most) (drop first times) (omega arith)
+      ∙ ap (λ l. zip2 (capped_add cap) l (eight_from first times)) (max_band above)
+
+  pub sums_band : (inserted tail : List ℕ) → eight_from first (sums_step cap 0 before inserted tail)
+      ≡ sums_step cap (get_or (0 ∷ before) first 0) (eight_from first before) (eight_from first inserted)
+      (eight_from first tail)
+  sums_band inserted tail =
+      max_band (zip2 (capped_add cap) inserted tail)
+      ∙ ap (λ l. zip2 max (get_or (0 ∷ before) first 0 ∷ eight_from first before) l)
+      (ap (take 8) (drop-zip (capped_add cap) first inserted tail)
+      ∙ take-zip (capped_add cap) 8 8 (drop first inserted) (drop first tail) (omega arith))
+
+-- a list of numbers that gets one more value
+pub set_more : {N : Type 0} (number : N → ℕ) (sums : List N) (at : ℕ) (new : N) (value : ℕ → ℕ) → at < length sums
+    → ((step : ℕ) → step < at → get_or (map number sums) step 0 ≡ value step) → number new ≡ value at
+    → (step : ℕ) → step < at + 1 → get_or (map number (slice_set sums at new)) step 0 ≡ value step
+set_more number sums at new value inside so_far is step lt =
+    rw (map-set number sums at new) (elim (cases_lt step at) [
+      | inl earlier ↦ get_or-set_other (map number sums) at step (number new) 0 (omega arith) ∙ so_far step earlier
+      | inr later ↦
+          let e : step ≡ at = omega arith in
+          rw e (get_or-set_same (map number sums) at (number new) 0 (omega (arith, length-map sums number)) ∙ is)
+    ])
+
+-- a lane of a band, and the lane before the next band
+last_lane : (first : ℕ) (row : List ℕ) → get_or (eight_from first row) 7 0 ≡ get_or (0 ∷ row) (first + 8) 0
+last_lane first row =
+    get_or-take 8 (drop first row) 7 0 (omega arith) ∙ get_or-drop first row 7 0
+    ∙ ap (λ n. get_or (0 ∷ row) n 0) next
+    where
+      next : suc (first + 7) ≡ first + 8
+      next = omega arith
+
+-- the rows of a pass have all lanes
+module _ (cap width : ℕ) (pass : WavePass) (wide : AreWide width pass) where
+  heads_wide : (step : ℕ) → step ≤ pass.steps → length (heads_after cap width pass step) ≡ width
+  heads_wide zero le = ap length (heads_first cap pass.times width) ∙ length-zeros width
+  heads_wide (suc step) le =
+      let before = heads_wide step (omega arith) in
+      ap length (heads_next cap pass.times width step)
+      ∙ length-heads_step cap width (heads_after cap width pass step) (heads_after cap width pass step)
+      (pass.times step) before before (wide.times step (omega arith))
+
+  inserted_wide : (step : ℕ) → step ≤ pass.steps → length (inserted_after cap width pass step) ≡ width
+  inserted_wide zero le = ap length (inserted_first cap pass.times width pass.job) ∙ length-zeros width
+  inserted_wide (suc step) le =
+      ap length (inserted_next cap pass.times width pass.job step)
+      ∙ length-heads_step cap width (inserted_after cap width pass step) (heads_after cap width pass step)
+      pass.job (inserted_wide step (omega arith)) (heads_wide step (omega arith)) wide.job
+
+  sums_wide : (step : ℕ) → step ≤ pass.steps → length (sums_after cap width pass step) ≡ width
+  sums_wide zero le = ap length (sums_first cap pass.times width pass.tails pass.job) ∙ length-zeros width
+  sums_wide (suc step) le =
+      ap length (sums_next cap pass.times width pass.tails pass.job step)
+      ∙ length-sums_step cap width (sums_after cap width pass step) (inserted_after cap width pass (suc step))
+      (pass.tails step) (sums_wide step (omega arith)) (inserted_wide (suc step) le) (wide.tails step (omega arith))
+
+  module _ {B N : Type 0} (lanes : B → List ℕ) (first : ℕ) (fits : first + 8 ≤ width) where
+    -- the front of one band is what the next band takes from it
+    pub carry_of : (step : ℕ) (front : Front B N) → IsFront lanes cap width pass first step front
+        → IsCarry lanes cap width pass (first + 8) step front
+    carry_of step front is = record {
+      head = ap (λ l. get_or l 7 0) is.head ∙ last_lane first (heads_after cap width pass step);
+      inserted = ap (λ l. get_or l 7 0) is.inserted ∙ last_lane first (inserted_after cap width pass step);
+      sum = ap (λ l. get_or l 7 0) is.sum ∙ last_lane first (sums_after cap width pass step);
+    }
+
+    -- one more step of a band
+    pub front_more : (step : ℕ) (front carry new : Front B N) (times tails job : B) → step < pass.steps
+        → IsFront lanes cap width pass first step front → IsCarry lanes cap width pass first step carry
+        → lanes times ≡ eight_from first (pass.times step) → lanes tails ≡ eight_from first (pass.tails step)
+        → lanes job ≡ eight_from first pass.job
+        → lanes new.head ≡ heads_step cap (get_or (lanes carry.head) 7 0) (lanes front.head) (lanes front.head)
+        (lanes times)
+        → lanes new.inserted ≡ heads_step cap (get_or (lanes carry.inserted) 7 0) (lanes front.inserted)
+        (lanes front.head) (lanes job)
+        → lanes new.sum ≡ sums_step cap (get_or (lanes carry.sum) 7 0) (lanes front.sum) (lanes new.inserted)
+        (lanes tails)
+        → IsFront lanes cap width pass first (step + 1) new
+    front_more step front carry new times tails job lt is carried times_are tails_are job_is head_is inserted_is sum_is =
+        let heads = heads_after cap width pass step in
+        let inserted = inserted_after cap width pass step in
+        let sums = sums_after cap width pass step in
+        let next : lanes new.inserted ≡ eight_from first (inserted_after cap width pass (suc step)) =
+        rw (carried.inserted, is.inserted, is.head, job_is) at inserted_is
+        ∙ sym (heads_band cap first inserted (omega (arith, inserted_wide step (omega arith))) heads pass.job)
+        ∙ ap (eight_from first) (sym (inserted_next cap pass.times width pass.job step)) in
+        record {
+          head = rw add-one (rw (carried.head, is.head, times_are) at head_is
+              ∙ sym (heads_band cap first heads (omega (arith, heads_wide step (omega arith))) heads (pass.times step))
+              ∙ ap (eight_from first) (sym (heads_next cap pass.times width step)));
+          inserted = rw add-one next;
+          sum = rw add-one (rw (carried.sum, is.sum, next, tails_are) at sum_is
+              ∙ sym (sums_band cap first sums (omega (arith, sums_wide step (omega arith)))
+              (inserted_after cap width pass (suc step)) (pass.tails step))
+              ∙ ap (eight_from first) (sym (sums_next cap pass.times width pass.tails pass.job step)));
+        }
+
+-- a band of a block after some of its steps: `carries` has the front of this band before each of these steps, and that
+-- of the band before for the other steps
+pub record IsBandSoFar {B N : Type 0} (lanes : B → List ℕ) (cap width : ℕ) (pass : WavePass) (first at count done : ℕ)
+    (now : Front B N) (carries : List (Front B N)) : Type 0 where
+  pub front : IsFront lanes cap width pass first (at + done) now
+  pub carried : AreCarries lanes cap width pass (first + 8) at done carries
+  pub rest : (step : ℕ) (other : Front B N) → done ≤ step → step < count
+      → IsCarry lanes cap width pass first (at + step) (get_or carries step other)
+
+module _ {B N : Type 0} (lanes : B → List ℕ) (cap width : ℕ) (pass : WavePass) (wide : AreWide width pass)
+    (first at count : ℕ) (fits : first + 8 ≤ width) where
+  pub band_none : (front : Front B N) (carries : List (Front B N)) → IsFront lanes cap width pass first at front
+      → AreCarries lanes cap width pass first at count carries
+      → IsBandSoFar lanes cap width pass first at count 0 front carries
+  band_none front carries is are = record {
+    front = subst (λ n. IsFront lanes cap width pass first n front) here is;
+    carried = λ step other lt. absurd (omega arith);
+    rest = λ step other le lt. are step other lt;
+  }
+    where
+      here : at ≡ at + 0
+      here = omega arith
+
+  pub band_more : (done : ℕ) (now new : Front B N) (carries : List (Front B N))
+      → IsBandSoFar lanes cap width pass first at count done now carries → done < count → count ≤ length carries
+      → IsFront lanes cap width pass first (at + (done + 1)) new
+      → IsBandSoFar lanes cap width pass first at count (done + 1) new (slice_set carries done now)
+  band_more done now new carries so_far lt room is = record {
+    front = is;
+    carried = λ step other less.
+        elim (cases_lt step done) [
+          | inl earlier ↦
+              rw (get_or-set_other carries done step now other (omega arith)) (so_far.carried step other earlier)
+          | inr later ↦
+              let e : step ≡ done = omega arith in
+              rw (e, get_or-set_same carries done now other (omega arith))
+              (carry_of cap width pass wide lanes first fits (at + done) now so_far.front)
+        ];
+    rest = λ step other le less.
+        rw (get_or-set_other carries done step now other (omega arith)) (so_far.rest step other (omega arith) less);
+  }
+
+-- fronts of zeros
+abbrev pub AreZeros : {B N : Type 0} → (B → List ℕ) → ℕ → List (Front B N) → Type 0
+AreZeros {B} {N} lanes count carries =
+    (step : ℕ) (other : Front B N) → step < count
+    → (lanes (get_or carries step other).head ≡ zeros 8) × (lanes (get_or carries step other).inserted ≡ zeros 8)
+    × (lanes (get_or carries step other).sum ≡ zeros 8)
+
+-- a block after some of its bands
+pub record AreSoFar {B N : Type 0} (lanes : B → List ℕ) (cap width : ℕ) (pass : WavePass) (at count bands : ℕ)
+    (fronts carries : List (Front B N)) : Type 0 where
+  pub done : (band : ℕ) (other : Front B N) → band < bands
+      → IsFront lanes cap width pass (8 * band) (at + count) (get_or fronts band other)
+  pub rest : (band : ℕ) (other : Front B N) → bands ≤ band → band < length fronts
+      → IsFront lanes cap width pass (8 * band) at (get_or fronts band other)
+  pub carried : AreCarries lanes cap width pass (8 * bands) at count carries
+
+module _ {B N : Type 0} (lanes : B → List ℕ) where
+  pub zeros_more : (count : ℕ) (new : Front B N) (carries : List (Front B N)) → AreZeros lanes count carries
+      → count < length carries → lanes new.head ≡ zeros 8 → lanes new.inserted ≡ zeros 8 → lanes new.sum ≡ zeros 8
+      → AreZeros lanes (count + 1) (slice_set carries count new)
+  zeros_more count new carries so_far room head inserted sum step other lt =
+      elim (cases_lt step count) [
+        | inl earlier ↦
+            rw (get_or-set_other carries count step new other (omega arith)) (so_far step other earlier)
+        | inr later ↦
+            let e : step ≡ count = omega arith in
+            rw (e, get_or-set_same carries count new other room) (head, inserted, sum)
+      ]
+
+  module _ (cap width : ℕ) (pass : WavePass) (at count : ℕ) where
+    pub bands_none : (fronts carries : List (Front B N))
+        → ((band : ℕ) (other : Front B N) → band < length fronts
+        → IsFront lanes cap width pass (8 * band) at (get_or fronts band other))
+        → AreZeros lanes count carries → AreSoFar lanes cap width pass at count 0 fronts carries
+    bands_none fronts carries are none = record {
+      done = λ band other lt. absurd (omega arith);
+      rest = λ band other le lt. are band other lt;
+      carried = λ step other lt.
+          let is = none step other lt in
+          record {
+            head = ap (λ l. get_or l 7 0) is.0;
+            inserted = ap (λ l. get_or l 7 0) is.1;
+            sum = ap (λ l. get_or l 7 0) is.2;
+          };
+    }
+
+    pub bands_more : (band : ℕ) (new : Front B N) (fronts carries others : List (Front B N))
+        → AreSoFar lanes cap width pass at count band fronts carries → band < length fronts
+        → IsFront lanes cap width pass (8 * band) (at + count) new
+        → AreCarries lanes cap width pass (8 * band + 8) at count others
+        → AreSoFar lanes cap width pass at count (band + 1) (slice_set fronts band new) others
+    bands_more band new fronts carries others so_far lt is are =
+        let long = length-set fronts band new in
+        let next : 8 * band + 8 ≡ 8 * (band + 1) = omega arith in
+        record {
+          done = λ part other less.
+              elim (cases_lt part band) [
+                | inl earlier ↦
+                    rw (get_or-set_other fronts band part new other (omega arith)) (so_far.done part other earlier)
+                | inr later ↦
+                    let e : part ≡ band = omega arith in
+                    rw (e, get_or-set_same fronts band new other lt) is
+              ];
+          rest = λ part other le less.
+              rw (get_or-set_other fronts band part new other (omega arith))
+              (so_far.rest part other (omega arith) (omega arith));
+          carried = subst (λ n. AreCarries lanes cap width pass n at count others) next are;
+        }
