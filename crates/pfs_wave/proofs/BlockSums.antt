@@ -4,7 +4,7 @@ use Rattle.std.proofs.Common.{take, drop, map, get_or, refl, ap, ◌∙◌, sym,
 use Rattle.std.specs.Simd.Lanes.{zip2}
 use Rattle.std.proofs.lemmas.Bool.{cases_lt, cases_eq}
 use Rattle.std.proofs.lemmas.List.{get_or-set_same, get_or-set_other, length-set, length-map, map-set, get_or-take, get_or-drop}
-use Rattle.pfs_wave.specs.Lanes.{Rows, capped_add, heads_step, sums_step, zeros}
+use Rattle.pfs_wave.specs.Lanes.{Rows, rows_of, capped_add, heads_step, sums_step, zeros}
 use Rattle.pfs_wave.specs.Private.SkewedBand.{eight_from}
 use Rattle.pfs_wave.specs.Private.Blocks.{WavePass, AreWide, IsFront, IsCarry, AreCarries, heads_after, inserted_after}
 use Rattle.pfs_wave.specs.Private.Blocks.{sums_after}
@@ -90,9 +90,9 @@ last_lane : (first : ℕ) (row : List ℕ) → get_or (eight_from first row) 7 0
 last_lane first row =
     get_or-take 8 (drop first row) 7 0 (omega arith) ∙ get_or-drop first row 7 0
     ∙ ap (λ n. get_or (0 ∷ row) n 0) next
-    where
-      next : suc (first + 7) ≡ first + 8
-      next = omega arith
+  where
+    next : suc (first + 7) ≡ first + 8
+    next = omega arith
 
 -- the rows of a pass have all lanes
 module _ (cap width : ℕ) (pass : WavePass) (wide : AreWide width pass) where
@@ -269,3 +269,12 @@ module _ {B N : Type 0} (lanes : B → List ℕ) where
               (so_far.rest part other (omega arith) (omega arith));
           carried = subst (λ n. AreCarries lanes cap width pass n at count others) next are;
         }
+
+-- the pass over tables of these times and tails
+abbrev pub whole_pass : List (List ℕ) → List (List ℕ) → List ℕ → WavePass
+whole_pass times tails job = record {
+  steps = length times;
+  times = rows_of times;
+  tails = rows_of tails;
+  job = job;
+}

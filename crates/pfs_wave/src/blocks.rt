@@ -66,12 +66,12 @@ fn sum_band<L: Lanes>(
     job: L::Band,
     band: usize,
     front: Front<L::Band>,
-    carries: &mut [Front<L::Band>],
+    carries: &mut [Front<L::Band>; BLOCK],
 ) -> Front<L::Band>
     requires band { 8 * band + 8 ≤ L.WIDTH }
     requires tails { length tails.now ≡ length times.now }
-    requires room { length times.now ≤ length carries.old }
-    ensures carries { length carries.new ≡ length carries.old }
+    requires room { length times.now ≤ 32 }
+    ensures carries { length carries.new ≡ 32 }
     ensures front { (pass : WavePass) (at : ℕ)
         → IsBlock L.WIDTH pass at (map L.lanes times.now) (map L.lanes tails.now)
         → L.Band.lanes job ≡ eight_from (8 * band) pass.job
@@ -92,18 +92,18 @@ fn sum_band<L: Lanes>(
 // Computes a block of steps, from the fronts before it. For each step, `carries` then contains the front of the last
 // band before the step.
 #[inline(always)]
-fn sum_block<L: Lanes>(
+fn sum_block<L: Lanes, const N: usize>(
     times: &[L],
     tails: &[L],
     job: &L,
-    fronts: &mut [Front<L::Band>],
-    carries: &mut [Front<L::Band>],
+    fronts: &mut [Front<L::Band>; N],
+    carries: &mut [Front<L::Band>; BLOCK],
 )
-    requires bands { 8 * length fronts.old ≡ L.WIDTH }
+    requires bands { 8 * N ≡ L.WIDTH }
     requires tails { length tails.now ≡ length times.now }
-    requires room { length times.now ≤ length carries.old }
-    ensures bands { length fronts.new ≡ length fronts.old }
-    ensures carries { length carries.new ≡ length carries.old }
+    requires room { length times.now ≤ 32 }
+    ensures bands { length fronts.new ≡ N }
+    ensures carries { length carries.new ≡ 32 }
     ensures fronts { (pass : WavePass) (at : ℕ)
         → IsBlock L.WIDTH pass at (map L.lanes times.now) (map L.lanes tails.now) → L.lanes job.now ≡ pass.job
         → AreFronts L.Band.lanes L.Band.CAP L.WIDTH pass at fronts.old
@@ -113,16 +113,16 @@ fn sum_block<L: Lanes>(
     for step in 0..times.len() {
         carries[step] = Front::none();
     }
-    for band in 0..fronts.len() {
+    for band in 0..N {
         fronts[band] = sum_band(times, tails, job.band(band), band, fronts[band], carries);
     }
 }
 
 // Keeps the last sum of each step of a block: that before the next step, and for the last step that of `after`.
 #[inline(always)]
-fn keep_sums<B: Band>(carries: &[Front<B>], after: B, sums: &mut [B::Number])
+fn keep_sums<B: Band>(carries: &[Front<B>; BLOCK], after: B, sums: &mut [B::Number])
     requires some { 1 ≤ length sums.old }
-    requires room { length sums.old ≤ length carries.now }
+    requires room { length sums.old ≤ 32 }
     ensures steps { length sums.new ≡ length sums.old }
     ensures sums { (sum : ℕ → ℕ)
         → ((step : ℕ) (other : _) → step < length sums.old
@@ -181,13 +181,13 @@ fn tail_band<L: Lanes>(
     tails: &mut [L],
     band: usize,
     after: L::Band,
-    carries: &mut [L::Band],
+    carries: &mut [L::Band; BLOCK],
 ) -> L::Band
     requires band { 8 * band + 8 ≤ L.WIDTH }
     requires tails { length tails.old ≡ length times.now }
-    requires room { length times.now ≤ length carries.old }
+    requires room { length times.now ≤ 32 }
     ensures tails { length tails.new ≡ length tails.old }
-    ensures carries { length carries.new ≡ length carries.old }
+    ensures carries { length carries.new ≡ 32 }
     ensures filled { (pass : WavePass) (at : ℕ) → AreWide L.WIDTH pass → at + length times.now ≤ pass.steps
         → AreRowsFrom pass.times at (map L.lanes times.now)
         → AreTailsFrom L.Band.CAP L.WIDTH pass (8 * band + 8) at (map L.lanes tails.old)
@@ -212,18 +212,18 @@ fn tail_band<L: Lanes>(
 // Fills the tails of a block of steps. `afters` contains the tails of the step after the block, and then those of its
 // first step.
 #[inline(always)]
-fn tail_block<L: Lanes>(
+fn tail_block<L: Lanes, const N: usize>(
     times: &[L],
     tails: &mut [L],
-    afters: &mut [L::Band],
-    carries: &mut [L::Band],
+    afters: &mut [L::Band; N],
+    carries: &mut [L::Band; BLOCK],
 )
-    requires bands { 8 * length afters.old ≡ L.WIDTH }
+    requires bands { 8 * N ≡ L.WIDTH }
     requires tails { length tails.old ≡ length times.now }
-    requires room { length times.now ≤ length carries.old }
-    ensures bands { length afters.new ≡ length afters.old }
+    requires room { length times.now ≤ 32 }
+    ensures bands { length afters.new ≡ N }
     ensures tails { length tails.new ≡ length tails.old }
-    ensures carries { length carries.new ≡ length carries.old }
+    ensures carries { length carries.new ≡ 32 }
     ensures filled { (pass : WavePass) (at : ℕ) → AreWide L.WIDTH pass → at + length times.now ≤ pass.steps
         → AreRowsFrom pass.times at (map L.lanes times.now)
         → AreAfters L.Band.lanes L.Band.CAP L.WIDTH pass (at + length times.now) afters.old
@@ -234,9 +234,8 @@ fn tail_block<L: Lanes>(
     for step in 0..times.len() {
         carries[step] = zero;
     }
-    let bands = afters.len();
-    for left in 0..bands {
-        let band = bands - 1 - left;
+    for left in 0..N {
+        let band = N - 1 - left;
         afters[band] = tail_band(times, tails, band, afters[band], carries);
     }
 }
