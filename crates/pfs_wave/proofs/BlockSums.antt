@@ -4,9 +4,13 @@ use Rattle.std.proofs.Common.{take, drop, map, get_or, refl, ap, ◌∙◌, sym,
 use Rattle.std.specs.Simd.Lanes.{zip2}
 use Rattle.std.proofs.lemmas.Bool.{cases_lt, cases_eq}
 use Rattle.std.proofs.lemmas.List.{get_or-set_same, get_or-set_other, length-set, length-map, map-set, get_or-take, get_or-drop}
+use Rattle.std.proofs.lemmas.List.{take-map, drop-map, map-append, length-take-le, length-drop, get_or_append_left}
+use Rattle.std.proofs.lemmas.List.{get_or-append_right, take-replicate, drop-replicate}
+use Rattle.std.proofs.lemmas.Slice.{take-put_mid}
+use borrow.Rule.Slice.PartMut.{put_mid}
 use Rattle.pfs_wave.specs.Lanes.{Rows, rows_of, capped_add, heads_step, sums_step, zeros}
 use Rattle.pfs_wave.specs.Private.SkewedBand.{eight_from}
-use Rattle.pfs_wave.specs.Private.Blocks.{WavePass, AreWide, IsFront, IsCarry, AreCarries, heads_after, inserted_after}
+use Rattle.pfs_wave.specs.Private.Blocks.{WavePass, AreWide, IsBlock, IsFront, IsCarry, AreCarries, heads_after, inserted_after}
 use Rattle.pfs_wave.specs.Private.Blocks.{sums_after}
 use Rattle.pfs_wave.specs.declared.blocks.Front.{Front}
 use Rattle.pfs_wave.proofs.WavefrontLaws.{heads_next, heads_first, inserted_next, inserted_first, sums_next, sums_first}
@@ -278,3 +282,84 @@ whole_pass times tails job = record {
   tails = rows_of tails;
   job = job;
 }
+
+-- numbers written over a part of a list
+pub put_part : {N : Type 0} (number : N → ℕ) (a k n : ℕ) (xs ys : List N) (value : ℕ → ℕ) → a ≤ length xs
+    → n ≡ a + length ys → ((step : ℕ) → step < a → get_or (map number xs) step 0 ≡ value step)
+    → ((step : ℕ) → step < length ys → get_or (map number ys) step 0 ≡ value (a + step))
+    → (step : ℕ) → step < n → get_or (map number (put_mid a k xs ys)) step 0 ≡ value step
+put_part number a k n xs ys value inside is before after step lt =
+    let front = map number (take a xs) in
+    let front_long : length front ≡ a = length-map (take a xs) number ∙ length-take-le a xs inside in
+    let ys_long = length-map ys number in
+    sym (get_or-take n (map number (put_mid a k xs ys)) step 0 lt)
+    ∙ ap (λ l. get_or l step 0) (take-map number n (put_mid a k xs ys)
+    ∙ ap (map number) (take-put_mid a k xs ys n is inside) ∙ map-append number (take a xs) ys)
+    ∙ elim (cases_lt step a) [
+      | inl low ↦
+          get_or_append_left front (map number ys) 0 step (omega arith)
+          ∙ ap (λ l. get_or l step 0) (sym (take-map number a xs)) ∙ get_or-take a (map number xs) step 0 low
+          ∙ before step low
+      | inr high ↦
+          let here : step ≡ length front + (step - a) = omega (arith, front_long) in
+          let there : a + (step - a) ≡ step = omega arith in
+          get_or-append_right front (map number ys) step (step - a) 0 (omega arith) here
+          ∙ after (step - a) (omega arith) ∙ ap value there
+    ]
+
+-- the rows of a block
+pub part_rows : {X : Type 0} (lanes : X → List ℕ) (a k : ℕ) (rows : List X) (step : ℕ) → step < k
+    → get_or (map lanes (take k (drop a rows))) step [] ≡ rows_of (map lanes rows) (a + step)
+part_rows lanes a k rows step lt =
+    ap (λ l. get_or l step []) (sym (take-map lanes k (drop a rows)) ∙ ap (take k) (sym (drop-map lanes a rows)))
+    ∙ get_or-take k (drop a (map lanes rows)) step [] lt ∙ get_or-drop a (map lanes rows) step []
+
+module _ {X : Type 0} (lanes : X → List ℕ) (width : ℕ) (wide : (row : X) → length (lanes row) ≡ width) where
+  rows_wide : (rows : List X) (step : ℕ) → step < length (map lanes rows)
+      → length (get_or (map lanes rows) step []) ≡ width
+  rows_wide [] step lt = absurd (omega arith)
+  rows_wide (row ∷ rows) zero lt = wide row
+  rows_wide (row ∷ rows) (suc step) lt = rows_wide rows step (omega arith)
+
+  module _ (times tails : List X) (job : X) (same : length tails ≡ length times) where
+    pub pass_wide : AreWide width (whole_pass (map lanes times) (map lanes tails) (lanes job))
+    pass_wide = record {
+      times = rows_wide times;
+      tails = λ step lt. rows_wide tails step (omega (arith, same, length-map times lanes, length-map tails lanes));
+      job = wide job;
+    }
+
+    pub part_block : (a k : ℕ) → a + k ≤ length times
+        → IsBlock width (whole_pass (map lanes times) (map lanes tails) (lanes job)) a
+        (map lanes (take k (drop a times))) (map lanes (take k (drop a tails)))
+    part_block a k inside =
+        let times_long = length-map (take k (drop a times)) lanes in
+        let tails_long = length-map (take k (drop a tails)) lanes in
+        let times_part = length-take-le k (drop a times) (omega (arith, length-drop a times)) in
+        let tails_part = length-take-le k (drop a tails) (omega (arith, length-drop a tails)) in
+        record {
+          wide = pass_wide;
+          inside = omega (arith, times_long, times_part, length-map times lanes);
+          times_are = λ step lt. part_rows lanes a k times step (omega arith);
+          tails_are = λ step lt. part_rows lanes a k tails step (omega arith);
+        }
+
+eight_zeros : (width first : ℕ) → first + 8 ≤ width → eight_from first (zeros width) ≡ zeros 8
+eight_zeros width first fits =
+    ap (take 8) (drop-replicate first width 0) ∙ take-replicate 8 (width - first) 0 (omega arith)
+
+-- before the first step all lanes are 0
+pub front_zero : {B N : Type 0} (lanes : B → List ℕ) (cap width : ℕ) (pass : WavePass) (first : ℕ) (front : Front B N)
+    → first + 8 ≤ width → lanes front.head ≡ zeros 8 → lanes front.inserted ≡ zeros 8 → lanes front.sum ≡ zeros 8
+    → IsFront lanes cap width pass first 0 front
+front_zero lanes cap width pass first front fits head inserted sum =
+    let none = sym (eight_zeros width first fits) in
+    record {
+      head = head ∙ none ∙ ap (eight_from first) (sym (heads_first cap pass.times width));
+      inserted = inserted ∙ none ∙ ap (eight_from first) (sym (inserted_first cap pass.times width pass.job));
+      sum = sum ∙ none ∙ ap (eight_from first) (sym (sums_first cap pass.times width pass.tails pass.job));
+    }
+
+pub lane_last : (row : List ℕ) (width : ℕ) → 1 ≤ width → get_or (0 ∷ row) width 0 ≡ get_or row (width - 1) 0
+lane_last row zero some = absurd (omega arith)
+lane_last row (suc width) some = ap (λ n. get_or row n 0) {x = width} (omega arith)

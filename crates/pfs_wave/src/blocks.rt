@@ -10,8 +10,8 @@ ghost use Rattle.pfs_wave.specs.Private.Blocks.{AreAfters, AreTailCarries, AreTa
 use crate::band::Band;
 use crate::lanes::Lanes;
 
-// The number of steps of a block.
-const BLOCK: usize = 32;
+/// The number of steps of a block.
+pub const BLOCK: usize = 32;
 
 /// One band of the heads, the inserted rows and the sums after a number of steps.
 #[derive(Clone, Copy)]
@@ -22,9 +22,9 @@ pub struct Front<B: Band> {
 }
 
 impl<B: Band> Front<B> {
-    // Before the first step: zeros.
+    /// Before the first step: zeros.
     #[inline(always)]
-    fn none() -> Front<B>
+    pub fn none() -> Front<B>
         ensures head { B.lanes result.head ≡ zeros 8 }
         ensures inserted { B.lanes result.inserted ≡ zeros 8 }
         ensures sum { B.lanes result.sum ≡ zeros 8 }
@@ -66,12 +66,12 @@ fn sum_band<L: Lanes>(
     job: L::Band,
     band: usize,
     front: Front<L::Band>,
-    carries: &mut [Front<L::Band>; BLOCK],
+    carries: &mut [Front<L::Band>],
 ) -> Front<L::Band>
     requires band { 8 * band + 8 ≤ L.WIDTH }
     requires tails { length tails.now ≡ length times.now }
-    requires room { length times.now ≤ 32 }
-    ensures carries { length carries.new ≡ 32 }
+    requires room { length times.now ≤ length carries.old }
+    ensures carries { length carries.new ≡ length carries.old }
     ensures front { (pass : WavePass) (at : ℕ)
         → IsBlock L.WIDTH pass at (map L.lanes times.now) (map L.lanes tails.now)
         → L.Band.lanes job ≡ eight_from (8 * band) pass.job
@@ -92,18 +92,18 @@ fn sum_band<L: Lanes>(
 // Computes a block of steps, from the fronts before it. For each step, `carries` then contains the front of the last
 // band before the step.
 #[inline(always)]
-fn sum_block<L: Lanes, const N: usize>(
+fn sum_block<L: Lanes>(
     times: &[L],
     tails: &[L],
     job: &L,
-    fronts: &mut [Front<L::Band>; N],
-    carries: &mut [Front<L::Band>; BLOCK],
+    fronts: &mut [Front<L::Band>],
+    carries: &mut [Front<L::Band>],
 )
-    requires bands { 8 * N ≡ L.WIDTH }
+    requires bands { 8 * length fronts.old ≡ L.WIDTH }
     requires tails { length tails.now ≡ length times.now }
-    requires room { length times.now ≤ 32 }
-    ensures bands { length fronts.new ≡ N }
-    ensures carries { length carries.new ≡ 32 }
+    requires room { length times.now ≤ length carries.old }
+    ensures bands { length fronts.new ≡ length fronts.old }
+    ensures carries { length carries.new ≡ length carries.old }
     ensures fronts { (pass : WavePass) (at : ℕ)
         → IsBlock L.WIDTH pass at (map L.lanes times.now) (map L.lanes tails.now) → L.lanes job.now ≡ pass.job
         → AreFronts L.Band.lanes L.Band.CAP L.WIDTH pass at fronts.old
@@ -113,16 +113,16 @@ fn sum_block<L: Lanes, const N: usize>(
     for step in 0..times.len() {
         carries[step] = Front::none();
     }
-    for band in 0..N {
+    for band in 0..fronts.len() {
         fronts[band] = sum_band(times, tails, job.band(band), band, fronts[band], carries);
     }
 }
 
 // Keeps the last sum of each step of a block: that before the next step, and for the last step that of `after`.
 #[inline(always)]
-fn keep_sums<B: Band>(carries: &[Front<B>; BLOCK], after: B, sums: &mut [B::Number])
+fn keep_sums<B: Band>(carries: &[Front<B>], after: B, sums: &mut [B::Number])
     requires some { 1 ≤ length sums.old }
-    requires room { length sums.old ≤ 32 }
+    requires room { length sums.old ≤ length carries.now }
     ensures steps { length sums.new ≡ length sums.old }
     ensures sums { (sum : ℕ → ℕ)
         → ((step : ℕ) (other : _) → step < length sums.old
@@ -138,38 +138,36 @@ fn keep_sums<B: Band>(carries: &[Front<B>; BLOCK], after: B, sums: &mut [B::Numb
     sums[last] = after.last();
 }
 
-/// Computes the heads, the inserted rows and the sums of all steps, in rows of `N` bands, and keeps the last sum of each
-/// step.
+/// Computes the heads, the inserted rows and the sums of all steps, and keeps the last sum of each step. `work` is
+/// overwritten: it has room for the fronts before each step of a block, and for those of each band.
 #[inline(never)]
-pub fn fill_sums<L: Lanes, const N: usize>(
+pub fn fill_sums<L: Lanes>(
     times: &[L],
     tails: &[L],
     job: &L,
     sums: &mut [<L::Band as Band>::Number],
+    work: &mut [Front<L::Band>],
 )
-    requires bands { 8 * N ≡ L.WIDTH }
     requires small { length times.now < 2 ^ 32 }
     requires tails { length tails.now ≡ length times.now }
     requires sums { length sums.old ≡ length times.now }
+    requires work { 8 * length work.old ≡ 256 + L.WIDTH }
     ensures steps { length sums.new ≡ length times.now }
+    ensures work { length work.new ≡ length work.old }
     ensures sums { (step : ℕ) → step < length times.now → slice_index_or (map L.Band.number sums.new) step 0
         ≡ slice_index_or (sums_at L.Band.CAP (rows_of (map L.lanes times.now)) (rows_of (map L.lanes tails.now))
         (L.lanes job.now) L.WIDTH (step + 1)) (L.WIDTH - 1) 0 }
 {
     let steps = times.len();
-    let mut fronts = [Front::none(); N];
-    let mut carries = [Front::none(); BLOCK];
+    let (carries, fronts) = work.split_at_mut(BLOCK);
+    for band in 0..fronts.len() {
+        fronts[band] = Front::none();
+    }
     for block in 0..steps.div_ceil(BLOCK) {
         let from = block * BLOCK;
         let to = steps.min(from + BLOCK);
-        sum_block(
-            &times[from..to],
-            &tails[from..to],
-            job,
-            &mut fronts,
-            &mut carries,
-        );
-        keep_sums(&carries, fronts[N - 1].sum, &mut sums[from..to]);
+        sum_block(&times[from..to], &tails[from..to], job, fronts, carries);
+        keep_sums(carries, fronts[fronts.len() - 1].sum, &mut sums[from..to]);
     }
 }
 
@@ -181,13 +179,13 @@ fn tail_band<L: Lanes>(
     tails: &mut [L],
     band: usize,
     after: L::Band,
-    carries: &mut [L::Band; BLOCK],
+    carries: &mut [L::Band],
 ) -> L::Band
     requires band { 8 * band + 8 ≤ L.WIDTH }
     requires tails { length tails.old ≡ length times.now }
-    requires room { length times.now ≤ 32 }
+    requires room { length times.now ≤ length carries.old }
     ensures tails { length tails.new ≡ length tails.old }
-    ensures carries { length carries.new ≡ 32 }
+    ensures carries { length carries.new ≡ length carries.old }
     ensures filled { (pass : WavePass) (at : ℕ) → AreWide L.WIDTH pass → at + length times.now ≤ pass.steps
         → AreRowsFrom pass.times at (map L.lanes times.now)
         → AreTailsFrom L.Band.CAP L.WIDTH pass (8 * band + 8) at (map L.lanes tails.old)
@@ -212,18 +210,18 @@ fn tail_band<L: Lanes>(
 // Fills the tails of a block of steps. `afters` contains the tails of the step after the block, and then those of its
 // first step.
 #[inline(always)]
-fn tail_block<L: Lanes, const N: usize>(
+fn tail_block<L: Lanes>(
     times: &[L],
     tails: &mut [L],
-    afters: &mut [L::Band; N],
-    carries: &mut [L::Band; BLOCK],
+    afters: &mut [L::Band],
+    carries: &mut [L::Band],
 )
-    requires bands { 8 * N ≡ L.WIDTH }
+    requires bands { 8 * length afters.old ≡ L.WIDTH }
     requires tails { length tails.old ≡ length times.now }
-    requires room { length times.now ≤ 32 }
-    ensures bands { length afters.new ≡ N }
+    requires room { length times.now ≤ length carries.old }
+    ensures bands { length afters.new ≡ length afters.old }
     ensures tails { length tails.new ≡ length tails.old }
-    ensures carries { length carries.new ≡ 32 }
+    ensures carries { length carries.new ≡ length carries.old }
     ensures filled { (pass : WavePass) (at : ℕ) → AreWide L.WIDTH pass → at + length times.now ≤ pass.steps
         → AreRowsFrom pass.times at (map L.lanes times.now)
         → AreAfters L.Band.lanes L.Band.CAP L.WIDTH pass (at + length times.now) afters.old
@@ -234,33 +232,34 @@ fn tail_block<L: Lanes, const N: usize>(
     for step in 0..times.len() {
         carries[step] = zero;
     }
-    for left in 0..N {
-        let band = N - 1 - left;
+    let bands = afters.len();
+    for left in 0..bands {
+        let band = bands - 1 - left;
         afters[band] = tail_band(times, tails, band, afters[band], carries);
     }
 }
 
-/// Fills the tails of all steps, in rows of `N` bands, from the last step to the first.
+/// Fills the tails of all steps, from the last step to the first. `work` is overwritten: it has room for a band of each
+/// step of a block, and for all bands of a step.
 #[inline(never)]
-pub fn fill_tails<L: Lanes, const N: usize>(times: &[L], tails: &mut [L])
-    requires bands { 8 * N ≡ L.WIDTH }
+pub fn fill_tails<L: Lanes>(times: &[L], tails: &mut [L], work: &mut [L::Band])
     requires small { length times.now < 2 ^ 32 }
     requires steps { length tails.old ≡ length times.now }
+    requires work { 8 * length work.old ≡ 256 + L.WIDTH }
     ensures steps { length tails.new ≡ length times.now }
+    ensures work { length work.new ≡ length work.old }
     ensures tails { (step : ℕ) → step < length times.now → rows_of (map L.lanes tails.new) step
         ≡ tails_at L.Band.CAP (rows_of (map L.lanes times.now)) L.WIDTH (length times.now) (length times.now - step) }
 {
     let steps = times.len();
-    let mut afters = [L::Band::zeros(); N];
-    let mut carries = [L::Band::zeros(); BLOCK];
+    let zero = L::Band::zeros();
+    let (carries, afters) = work.split_at_mut(BLOCK);
+    for band in 0..afters.len() {
+        afters[band] = zero;
+    }
     for block in 0..steps.div_ceil(BLOCK) {
         let to = steps - block * BLOCK;
         let from = to.saturating_sub(BLOCK);
-        tail_block(
-            &times[from..to],
-            &mut tails[from..to],
-            &mut afters,
-            &mut carries,
-        );
+        tail_block(&times[from..to], &mut tails[from..to], afters, carries);
     }
 }

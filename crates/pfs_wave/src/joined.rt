@@ -4,6 +4,7 @@ ghost use Rattle.std.proofs.Common.{arith, ◌∙◌};
 ghost use Rattle.std.proofs.lemmas.List.{length-append};
 
 use crate::band::Band;
+use crate::blocks::Front;
 use crate::kernels::{fill_sums, fill_tails};
 use crate::lanes::{FewLanes, Lanes, Part, Passes};
 
@@ -114,7 +115,7 @@ impl<A: Part, B: Part<Band = A::Band>> FewLanes for Joined<A, B> {
 
 impl<A: Part, B: Part<Band = A::Band>> Passes for Joined<A, B> {
     #[inline(always)]
-    fn fill_tails(times: &[Joined<A, B>], tails: &mut [Joined<A, B>]) {
+    fn fill_tails(times: &[Joined<A, B>], tails: &mut [Joined<A, B>], _work: &mut [A::Band]) {
         fill_tails(times, tails);
     }
 
@@ -124,6 +125,7 @@ impl<A: Part, B: Part<Band = A::Band>> Passes for Joined<A, B> {
         tails: &[Joined<A, B>],
         job: &Joined<A, B>,
         sums: &mut [<A::Band as Band>::Number],
+        _work: &mut [Front<A::Band>],
     ) {
         fill_sums(times, tails, job, sums);
     }

@@ -4,6 +4,7 @@ ghost use Rattle.std.specs.List.{slice_index_or};
 ghost use Rattle.pfs_wave.specs.Lanes.{zeros, rows_of, tails_step, heads_step, sums_step, tails_at, sums_at};
 
 use crate::band::Band;
+use crate::blocks::Front;
 
 /// A row of lanes, in bands of eight. Sums stop at the greatest value of a lane.
 pub trait Lanes: Drop {
@@ -46,13 +47,15 @@ pub trait Lanes: Drop {
     ghost whole: { WIDTH % 8 ≡ 0 };
 }
 
-/// The two passes of an insertion, over one row of lanes for each step.
+/// The two passes of an insertion, over one row of lanes for each step. Wide rows overwrite `work`.
 pub trait Passes: Lanes {
     /// Fills the tails of all steps, from the last step to the first.
-    fn fill_tails(times: &[Self], tails: &mut [Self])
+    fn fill_tails(times: &[Self], tails: &mut [Self], work: &mut [Self::Band])
         requires small { length times.now < 2 ^ 32 }
         requires steps { length tails.old ≡ length times.now }
+        requires work { 8 * length work.old ≡ 256 + Self.WIDTH }
         ensures steps { length tails.new ≡ length times.now }
+        ensures work { length work.new ≡ length work.old }
         ensures tails { (step : ℕ) → step < length times.now → rows_of (map Self.lanes tails.new) step
             ≡ tails_at Self.Band.CAP (rows_of (map Self.lanes times.now)) Self.WIDTH (length times.now)
             (length times.now - step) };
@@ -63,11 +66,14 @@ pub trait Passes: Lanes {
         tails: &[Self],
         job: &Self,
         sums: &mut [<Self::Band as Band>::Number],
+        work: &mut [Front<Self::Band>],
     )
         requires small { length times.now < 2 ^ 32 }
         requires tails { length tails.now ≡ length times.now }
         requires sums { length sums.old ≡ length times.now }
+        requires work { 8 * length work.old ≡ 256 + Self.WIDTH }
         ensures steps { length sums.new ≡ length times.now }
+        ensures work { length work.new ≡ length work.old }
         ensures sums { (step : ℕ) → step < length times.now → slice_index_or (map Self.Band.number sums.new) step 0
             ≡ slice_index_or (sums_at Self.Band.CAP (rows_of (map Self.lanes times.now)) (rows_of (map Self.lanes tails.now))
             (Self.lanes job.now) Self.WIDTH (step + 1)) (Self.WIDTH - 1) 0 };

@@ -29,6 +29,7 @@ mod wide;
 pub use band::Band;
 pub use bands::{EightBands, FiveBands, ThirteenBands, ThreeBands, TwentySixBands, TwoBands};
 pub use bench::LaneBench;
+pub use blocks::Front;
 pub use joined::Joined;
 pub use lanes::{FewLanes, Lanes, Part, Passes};
 pub use least::Found;

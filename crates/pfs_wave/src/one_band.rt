@@ -3,6 +3,7 @@ ghost use Rattle.std.specs.Prelude.{◌≡◌, ℕ, ◌+◌, ◌-◌, ◌*◌, �
 ghost use Rattle.std.proofs.Common.{arith, refl};
 
 use crate::band::Band;
+use crate::blocks::Front;
 use crate::kernels::{fill_sums, fill_tails};
 use crate::lanes::{FewLanes, Lanes, Passes};
 
@@ -87,7 +88,7 @@ impl<B: Band> FewLanes for OneBand<B> {
 
 impl<B: Band> Passes for OneBand<B> {
     #[inline(always)]
-    fn fill_tails(times: &[OneBand<B>], tails: &mut [OneBand<B>]) {
+    fn fill_tails(times: &[OneBand<B>], tails: &mut [OneBand<B>], _work: &mut [B]) {
         fill_tails(times, tails);
     }
 
@@ -97,6 +98,7 @@ impl<B: Band> Passes for OneBand<B> {
         tails: &[OneBand<B>],
         job: &OneBand<B>,
         sums: &mut [B::Number],
+        _work: &mut [Front<B>],
     ) {
         fill_sums(times, tails, job, sums);
     }

@@ -4,7 +4,7 @@ ghost use Rattle.std.proofs.Common.{arith};
 ghost use Rattle.pfs_wave.specs.Private.WideRows.{all_lanes, row_wide};
 
 use crate::band::Band;
-use crate::blocks::{fill_sums, fill_tails};
+use crate::blocks::{Front, fill_sums, fill_tails};
 use crate::lanes::{Lanes, Passes};
 
 /// A number of bands that a wide row may have.
@@ -96,8 +96,8 @@ where
     Counts: BandCount<N>,
 {
     #[inline(always)]
-    fn fill_tails(times: &[Wide<B, N>], tails: &mut [Wide<B, N>]) {
-        fill_tails::<Wide<B, N>, N>(times, tails);
+    fn fill_tails(times: &[Wide<B, N>], tails: &mut [Wide<B, N>], work: &mut [B]) {
+        fill_tails(times, tails, work);
     }
 
     #[inline(always)]
@@ -106,7 +106,8 @@ where
         tails: &[Wide<B, N>],
         job: &Wide<B, N>,
         sums: &mut [B::Number],
+        work: &mut [Front<B>],
     ) {
-        fill_sums::<Wide<B, N>, N>(times, tails, job, sums);
+        fill_sums(times, tails, job, sums, work);
     }
 }

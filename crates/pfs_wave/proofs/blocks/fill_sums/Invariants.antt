@@ -14,7 +14,6 @@ invariant-loop-block g l =
     let tails = map lanes l.tails in
     let done = min (length l.times) (32 * l.block) in
     record {
-      sums : length l.sums ≡ length l.times;
       bands : length l.fronts ≡ g.row.N;
       carries : length l.carries ≡ 32;
       fronts : AreFronts g.L.Band.Band.lanes cap width (whole_pass times tails (lanes l.job)) done l.fronts;

@@ -9,7 +9,7 @@ use Rattle.pfs_wave.proofs.blocks.sum_band.Goals as goal
 pub loop-step-init : goal.loop-step-init
 loop-step-init g c =
     record {
-      carries = c.told-carries;
+      carries = refl;
       so_far = λ pass at block job is are.
           band_none g.L.Band.Band.lanes g.L.Band.Band.CAP g.L.Lanes.WIDTH pass block.wide (8 * c.args.band) at
           (length c.args.times.now) c.requires.band c.args.front c.args.carries.now is are;
@@ -39,9 +39,9 @@ loop-step-preserved g c =
           c.next-now.result c.loop-step.carries so_far inside (omega (arith, c.loop-step.invariant.carries))
           (subst (λ n. IsFront band cap width pass first n c.next-now.result) next
           (front_more cap width pass block.wide band first c.requires.band (at + step) c.loop-step.now
-          _ c.next-now.result c.band.result c.band-in-loop-step.result c.args.job
+          c.index-carries-step.result c.next-now.result c.band.result c.band-in-loop-step.result c.args.job
           (omega arith) so_far.front
-          (so_far.rest step c.index-carries-step.result (omega arith) inside)
+          (rw (sym c.index-carries-step.is) at (so_far.rest step c.index-carries-step.result (omega arith) inside))
           (c.band.ensures
           ∙ ap (eight_from first) (row_read lanes c.args.times.now step c.index-times-step.result inside
           c.index-times-step.is ∙ block.times_are step (omega arith)))

@@ -12,7 +12,7 @@ invariant-loop-step g l =
     let width = g.L.Lanes.WIDTH in
     let first = 8 * l.band in
     record {
-      carries : length l.carries ≡ 32;
+      carries : length l.carries ≡ length l.fn.carries;
       so_far : (pass : WavePass) (at : ℕ) → IsBlock width pass at (map lanes l.times) (map lanes l.tails)
           → g.L.Band.Band.lanes l.job ≡ eight_from first pass.job
           → IsFront g.L.Band.Band.lanes cap width pass first at l.fn.front

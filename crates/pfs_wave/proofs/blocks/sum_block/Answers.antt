@@ -6,7 +6,7 @@ use Rattle.pfs_wave.proofs.BlockSums.{zeros_more, bands_none, bands_more}
 use Rattle.pfs_wave.proofs.blocks.sum_block.Goals as goal
 
 pub loop-step-init : goal.loop-step-init
-loop-step-init g c = record { carries = c.told-carries; zeros = λ step other lt. absurd (omega arith) }
+loop-step-init g c = record { carries = refl; zeros = λ step other lt. absurd (omega arith) }
 
 pub loop-step-preserved : goal.loop-step-preserved
 loop-step-preserved g c =
@@ -25,7 +25,7 @@ loop-band-init g c =
     let zeros = c.loop-step.invariant in
     let outside = c.loop-step-test.false in
     record {
-      bands = c.told-fronts;
+      bands = refl;
       carries = zeros.carries;
       so_far = λ pass at block job are.
           bands_none g.L.Band.Band.lanes g.L.Band.Band.CAP g.L.Lanes.WIDTH pass at (length c.args.times.now)
@@ -44,12 +44,12 @@ loop-band-preserved g c =
     let front = c.index-fronts-band.result in
     record {
       bands = length-set c.loop-band.fronts band c.sum_band.result ∙ so_far.bands;
-      carries = c.sum_band.ensures.carries;
+      carries = c.sum_band.ensures.carries ∙ so_far.carries;
       so_far = λ pass at block job are.
           let until = so_far.so_far pass at block job are in
           let next =
           c.sum_band.ensures.front pass at block (c.band.ensures ∙ ap (eight_from (8 * band)) job)
-          (until.rest band front (omega arith) (omega (arith, so_far.bands)))
+          (rw (sym c.index-fronts-band.is) at (until.rest band front (omega arith) (omega (arith, so_far.bands))))
           until.carried in
           bands_more lanes cap width pass at (length c.args.times.now) band c.sum_band.result c.loop-band.fronts
           c.loop-band.carries c.sum_band.new.carries until (omega (arith, so_far.bands)) next.0 next.1;

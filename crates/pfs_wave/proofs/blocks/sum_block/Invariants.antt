@@ -8,7 +8,7 @@ use Rattle.pfs_wave.proofs.blocks.sum_block.Given as goal
 abbrev pub invariant-loop-step : goal.invariant-loop-step
 invariant-loop-step g l =
     record {
-      carries : length l.carries ≡ 32;
+      carries : length l.carries ≡ length l.fn.carries;
       zeros : AreZeros g.L.Band.Band.lanes l.step l.carries;
     }
 
@@ -20,8 +20,8 @@ invariant-loop-band g l =
     let cap = g.L.Band.Band.CAP in
     let width = g.L.Lanes.WIDTH in
     record {
-      bands : length l.fronts ≡ g.row.N;
-      carries : length l.carries ≡ 32;
+      bands : length l.fronts ≡ length l.fn.fronts;
+      carries : length l.carries ≡ length l.fn.carries;
       so_far : (pass : WavePass) (at : ℕ) → IsBlock width pass at (map lanes l.times) (map lanes l.tails)
           → lanes l.job ≡ pass.job → AreFronts band cap width pass at l.fn.fronts
           → AreSoFar band cap width pass at (length l.times) l.band l.fronts l.carries;
