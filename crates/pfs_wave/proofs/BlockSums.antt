@@ -301,9 +301,8 @@ put_part number a k n xs ys value inside is before after step lt =
           ∙ ap (λ l. get_or l step 0) (sym (take-map number a xs)) ∙ get_or-take a (map number xs) step 0 low
           ∙ before step low
       | inr high ↦
-          let here : step ≡ length front + (step - a) = omega (arith, front_long) in
           let there : a + (step - a) ≡ step = omega arith in
-          get_or-append_right front (map number ys) step (step - a) 0 (omega arith) here
+          get_or-append_right front (map number ys) a step 0 front_long (omega arith)
           ∙ after (step - a) (omega arith) ∙ ap value there
     ]
 
@@ -363,3 +362,12 @@ front_zero lanes cap width pass first front fits head inserted sum =
 pub lane_last : (row : List ℕ) (width : ℕ) → 1 ≤ width → get_or (0 ∷ row) width 0 ≡ get_or row (width - 1) 0
 lane_last row zero some = absurd (omega arith)
 lane_last row (suc width) some = ap (λ n. get_or row n 0) {x = width} (omega arith)
+
+-- the last sums of a block, from the fronts before each of its steps and the last front after it
+pub block_sums : {B N : Type 0} (lanes : B → List ℕ) (cap width : ℕ) (pass : WavePass) → AreWide width pass
+    → (at count last : ℕ) (front : Front B N) → 8 * last + 8 ≡ width
+    → IsFront lanes cap width pass (8 * last) (at + count) front → at + count ≤ pass.steps
+    → get_or (lanes front.sum) 7 0 ≡ get_or (0 ∷ sums_after cap width pass (at + count)) width 0
+block_sums lanes cap width pass wide at count last front all is inside =
+    (carry_of cap width pass wide lanes (8 * last) (omega arith) (at + count) front is).sum
+    ∙ ap (λ n. get_or (0 ∷ sums_after cap width pass (at + count)) n 0) all
