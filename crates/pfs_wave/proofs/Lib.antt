@@ -19,3 +19,4 @@ pub mod PastRows
 pub mod TakenSteps
 pub mod VectorLemmas
 pub mod WavefrontLaws
+pub mod WideRows
