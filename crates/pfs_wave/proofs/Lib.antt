@@ -20,3 +20,4 @@ pub mod PastRows
 pub mod TakenSteps
 pub mod VectorLemmas
 pub mod WavefrontLaws
+pub mod WideRows

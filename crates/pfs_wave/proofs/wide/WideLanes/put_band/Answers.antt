@@ -1,0 +1,10 @@
+use Rattle.std.proofs.Common.{◌<◌, length, arith}
+use Rattle.pfs_wave.proofs.WideRows.{put_at}
+use Rattle.pfs_wave.proofs.wide.WideLanes.put_band.Goals as goal
+
+pub returns : goal.returns
+returns g c =
+    let count = c.args.self.now.count in
+    let fits = c.requires in
+    let inside : c.args.band < length c.args.self.now.bands = omega arith in
+    put_at g.B.Band.lanes g.met.B.Band.eight c.args.self.now.bands c.args.band c.args.values inside
