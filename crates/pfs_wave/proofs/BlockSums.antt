@@ -314,7 +314,7 @@ part_rows lanes a k rows step lt =
     ∙ get_or-take k (drop a (map lanes rows)) step [] lt ∙ get_or-drop a (map lanes rows) step []
 
 module _ {X : Type 0} (lanes : X → List ℕ) (width : ℕ) (wide : (row : X) → length (lanes row) ≡ width) where
-  rows_wide : (rows : List X) (step : ℕ) → step < length (map lanes rows)
+  pub rows_wide : (rows : List X) (step : ℕ) → step < length (map lanes rows)
       → length (get_or (map lanes rows) step []) ≡ width
   rows_wide [] step lt = absurd (omega arith)
   rows_wide (row ∷ rows) zero lt = wide row
@@ -343,7 +343,7 @@ module _ {X : Type 0} (lanes : X → List ℕ) (width : ℕ) (wide : (row : X) �
           tails_are = λ step lt. part_rows lanes a k tails step (omega arith);
         }
 
-eight_zeros : (width first : ℕ) → first + 8 ≤ width → eight_from first (zeros width) ≡ zeros 8
+pub eight_zeros : (width first : ℕ) → first + 8 ≤ width → eight_from first (zeros width) ≡ zeros 8
 eight_zeros width first fits =
     ap (take 8) (drop-replicate first width 0) ∙ take-replicate 8 (width - first) 0 (omega arith)
 

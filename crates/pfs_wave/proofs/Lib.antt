@@ -17,6 +17,7 @@ pub mod SmallLanes
 pub mod Steps
 pub mod PaddedTables
 pub mod PastRows
+pub mod TailBlocks
 pub mod TakenSteps
 pub mod VectorLemmas
 pub mod WavefrontLaws
