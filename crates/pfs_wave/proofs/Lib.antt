@@ -1,5 +1,6 @@
 pub mod BandSteps
 pub mod BestFound
+pub mod BlockTails
 pub mod CappedLeast
 pub mod EightLanes
 pub mod FilledSteps
