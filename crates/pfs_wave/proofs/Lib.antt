@@ -1,6 +1,7 @@
 pub mod BandSteps
 pub mod BestFound
 pub mod BlockSums
+pub mod BlockTails
 pub mod CappedLeast
 pub mod EightLanes
 pub mod FilledSteps

@@ -1,0 +1,433 @@
+-- The tails of a block of steps, computed one band after the other.
+use Rattle.std.proofs.Common.{inl, inr, ℕ, zero, suc, ◌≡◌, ◌+◌, ◌-◌, ◌*◌, ◌<◌, ◌≤◌, List, [], ◌∷◌, ◌++◌, max, length, map}
+use Rattle.std.proofs.Common.{take, drop, get_or, slice_set, refl, ap, ◌∙◌, sym, arith, subst}
+use borrow.Rule.Slice.PartMut.{put_mid}
+use Rattle.std.specs.Simd.Lanes.{zip2}
+use Rattle.std.proofs.lemmas.Bool.{cases_eq, cases_lt}
+use Rattle.std.proofs.lemmas.List.{take_more, drop_all, drop-drop, take_at, drop_at, take-append-drop, take-append-le}
+use Rattle.std.proofs.lemmas.List.{drop-append-le, length-append, length-drop, length-take-le, get_or-drop, get_or-take}
+use Rattle.std.proofs.lemmas.List.{get_or-set_same, get_or-set_other, get_or_past, get_or-map, get_or-append-add}
+use Rattle.std.proofs.lemmas.List.{get_or_append_left, length-map, drop-replicate, replicate-append-replicate}
+use Rattle.std.proofs.lemmas.Slice.{drop-put_mid}
+use Rattle.pfs_wave.specs.Lanes.{capped_add, zeros, rows_of, tails_step, tails_at}
+use Rattle.pfs_wave.specs.Private.SkewedBand.{eight_from}
+use Rattle.pfs_wave.specs.Private.Blocks.{WavePass, AreWide, AreTailCarries, AreTailsFrom, AreRowsFrom, AreAfters}
+use Rattle.pfs_wave.specs.Private.Blocks.{tails_of}
+use Rattle.pfs_wave.proofs.Steps.{length-zeros, length-tails_step, zeros-get_or}
+use Rattle.pfs_wave.proofs.WavefrontLaws.{tails_next, tails_last}
+
+-- ---- eight lanes of a step
+
+module _ (f : ℕ → ℕ → ℕ) where
+  zip2-nil : (a : List ℕ) → zip2 f a [] ≡ []
+  zip2-nil [] = refl
+  zip2-nil (x ∷ a) = refl
+
+  take-zip2 : (n : ℕ) (a b : List ℕ) → take n (zip2 f a b) ≡ zip2 f (take n a) (take n b)
+  take-zip2 zero a b = refl
+  take-zip2 (suc n) [] b = refl
+  take-zip2 (suc n) (x ∷ a) [] = refl
+  take-zip2 (suc n) (x ∷ a) (y ∷ b) = ap (λ l. f x y ∷ l) (take-zip2 n a b)
+
+  drop-zip2 : (n : ℕ) (a b : List ℕ) → drop n (zip2 f a b) ≡ zip2 f (drop n a) (drop n b)
+  drop-zip2 zero a b = refl
+  drop-zip2 (suc n) [] b = refl
+  drop-zip2 (suc n) (x ∷ a) [] = sym (zip2-nil (drop n a))
+  drop-zip2 (suc n) (x ∷ a) (y ∷ b) = drop-zip2 n a b
+
+  eight-zip2 : (first : ℕ) (a b : List ℕ)
+      → eight_from first (zip2 f a b) ≡ zip2 f (eight_from first a) (eight_from first b)
+  eight-zip2 first a b = ap (take 8) (drop-zip2 first a b) ∙ take-zip2 8 (drop first a) (drop first b)
+
+take_moved : (s : List ℕ) → 9 ≤ length s → take 8 (drop 1 s) ≡ drop 1 (take 8 s) ++ (get_or s 8 0 ∷ [])
+take_moved [] long = absurd (omega arith)
+take_moved (x ∷ s) long = take_more s 7 0 (omega arith)
+
+get_or-zero : (a : List ℕ) (lane : ℕ) → get_or (a ++ (0 ∷ [])) lane 0 ≡ get_or a lane 0
+get_or-zero [] zero = refl
+get_or-zero [] (suc lane) = refl
+get_or-zero (x ∷ a) zero = refl
+get_or-zero (x ∷ a) (suc lane) = get_or-zero a lane
+
+module _ (cap first : ℕ) (below : List ℕ) (inside : first + 8 ≤ length below) where
+  abbrev more : List ℕ
+  more = below ++ (0 ∷ [])
+
+  more_long : 9 ≤ length (drop first more)
+  more_long = omega (arith, length-drop first more, length-append below (0 ∷ []))
+
+  first_eight : eight_from first more ≡ eight_from first below
+  first_eight =
+      let long = length-drop first below in
+      ap (take 8) (drop-append-le first below (0 ∷ []) (omega arith))
+      ∙ take-append-le 8 (drop first below) (0 ∷ []) (omega arith)
+
+  eight_moved : eight_from first (drop 1 below ++ (0 ∷ []))
+      ≡ drop 1 (eight_from first below) ++ (get_or below (first + 8) 0 ∷ [])
+  eight_moved =
+      let order : 1 + first ≡ first + 1 = omega arith in
+      ap (eight_from first) (sym (drop-append-le 1 below (0 ∷ []) (omega arith)))
+      ∙ ap (take 8) (drop-drop first 1 more ∙ ap (λ n. drop n more) order ∙ sym (drop-drop 1 first more))
+      ∙ take_moved (drop first more) more_long
+      ∙ ap (λ l. drop 1 l ++ (get_or (drop first more) 8 0 ∷ [])) first_eight
+      ∙ ap (λ n. drop 1 (eight_from first below) ++ (n ∷ [])) (get_or-drop first more 8 0
+      ∙ get_or-zero below (first + 8))
+
+  pub eight_tails : (times : List ℕ) → eight_from first (tails_step cap 0 below times)
+      ≡ tails_step cap (get_or below (first + 8) 0) (eight_from first below) (eight_from first times)
+  eight_tails times =
+      eight-zip2 (capped_add cap) first (zip2 max (drop 1 below ++ (0 ∷ [])) below) times
+      ∙ ap (λ v. zip2 (capped_add cap) v (eight_from first times)) (eight-zip2 max first (drop 1 below ++ (0 ∷ [])) below
+      ∙ ap (λ v. zip2 max v (eight_from first below)) eight_moved)
+
+-- lanes of which the first eight are written
+put_from : (first width : ℕ) (old new eight all : List ℕ) → first + 8 ≤ width → length old ≡ width
+    → new ≡ take first old ++ (eight ++ drop (first + 8) old) → eight ≡ eight_from first all
+    → drop (first + 8) old ≡ drop (first + 8) all → drop first new ≡ drop first all
+put_from first width old new eight all fits wide is eight_is above =
+    ap (drop first) is
+    ∙ drop_at (take first old) (eight ++ drop (first + 8) old) first (length-take-le first old (omega arith))
+    ∙ ap (λ l. l ++ drop (first + 8) old) eight_is ∙ ap (λ l. eight_from first all ++ l) above
+    ∙ ap (λ l. eight_from first all ++ l) (sym (drop-drop 8 first all)) ∙ take-append-drop 8 (drop first all)
+
+-- ---- the tails of a pass
+
+module _ (cap width : ℕ) (pass : WavePass) (wide : AreWide width pass) (some : 1 ≤ width) where
+  left_wide : (left : ℕ) → left ≤ pass.steps → length (tails_at cap pass.times width pass.steps left) ≡ width
+  left_wide zero le = ap length (tails_last cap pass.times width pass.steps) ∙ length-zeros width
+  left_wide (suc left) le =
+      let step = pass.steps - suc left in
+      ap length (tails_next cap pass.times width pass.steps left)
+      ∙ length-tails_step cap width (tails_at cap pass.times width pass.steps left) (pass.times step) some
+      (left_wide left (omega arith)) (wide.times step (omega arith))
+
+  pub tails_wide : (step : ℕ) → length (tails_of cap width pass step) ≡ width
+  tails_wide step = left_wide (pass.steps - step) (omega arith)
+
+  pub tails_before : (step : ℕ) → step < pass.steps
+      → tails_of cap width pass step ≡ tails_step cap 0 (tails_of cap width pass (step + 1)) (pass.times step)
+  tails_before step lt =
+      let left = pass.steps - (step + 1) in
+      let one : pass.steps - step ≡ suc left = omega arith in
+      let here : pass.steps - suc left ≡ step = omega arith in
+      ap (tails_at cap pass.times width pass.steps) one ∙ tails_next cap pass.times width pass.steps left
+      ∙ ap (λ s. tails_step cap 0 (tails_at cap pass.times width pass.steps left) (pass.times s)) here
+
+-- ---- one band
+
+-- one band, of which `left` steps of a block of `count` steps are done
+pub record IsTailBand {B : Type 0} (lanes : B → List ℕ) (cap width : ℕ) (pass : WavePass) (first at count left : ℕ)
+    (now : B) (tails : List (List ℕ)) (carries : List B) : Type 0 where
+  pub now_is : lanes now ≡ eight_from first (tails_of cap width pass (at + (count - left)))
+  pub done : (step : ℕ) → count ≤ step + left → step < count
+      → drop first (get_or tails step []) ≡ drop first (tails_of cap width pass (at + step))
+  pub open_rows : (step : ℕ) → step + left < count
+      → drop (first + 8) (get_or tails step []) ≡ drop (first + 8) (tails_of cap width pass (at + step))
+  pub carried : (step : ℕ) (other : B) → count ≤ step + left → step < count
+      → get_or (lanes (get_or carries step other)) 0 0 ≡ get_or (tails_of cap width pass (at + step + 1)) first 0
+  pub coming : (step : ℕ) (other : B) → step + left < count
+      → get_or (lanes (get_or carries step other)) 0 0 ≡ get_or (tails_of cap width pass (at + step + 1)) (first + 8) 0
+
+-- what `tail_band` is called with
+pub record IsTailCall {B : Type 0} (lanes : B → List ℕ) (cap width : ℕ) (pass : WavePass) (first at count : ℕ)
+    (times tails : List (List ℕ)) (after : B) (carries : List B) : Type 0 where
+  pub wide : AreWide width pass
+  pub inside : at + count ≤ pass.steps
+  pub times_are : AreRowsFrom pass.times at times
+  pub tails_are : AreTailsFrom cap width pass (first + 8) at tails
+  pub after_is : lanes after ≡ eight_from first (tails_of cap width pass (at + count))
+  pub carries_are : AreTailCarries lanes cap width pass (first + 8) at count carries
+
+module _ {B : Type 0} (lanes : B → List ℕ) (cap width : ℕ) (pass : WavePass) (first at count : ℕ) where
+  pub band_begun : (times tails : List (List ℕ)) (after : B) (carries : List B) → length tails ≡ count
+      → IsTailCall lanes cap width pass first at count times tails after carries
+      → IsTailBand lanes cap width pass first at count 0 after tails carries
+  band_begun times tails after carries same given =
+      let from : count ≡ count - 0 = omega arith in
+      record {
+        now_is = given.after_is ∙ ap (λ n. eight_from first (tails_of cap width pass (at + n))) from;
+        done = λ step le lt. absurd (omega arith);
+        open_rows = λ step lt. given.tails_are step (omega arith);
+        carried = λ step other le lt. absurd (omega arith);
+        coming = λ step other lt. given.carries_are step other (omega arith);
+      }
+
+  pub band_ended : (left : ℕ) (now : B) (tails : List (List ℕ)) (carries : List B) → count ≤ left
+      → length tails ≡ count → IsTailBand lanes cap width pass first at count left now tails carries
+      → AreTailsFrom cap width pass first at tails × (lanes now ≡ eight_from first (tails_of cap width pass at))
+      × AreTailCarries lanes cap width pass first at count carries
+  band_ended left now tails carries all same is =
+      let here : at + (count - left) ≡ at = omega arith in
+      (
+        λ step lt. is.done step (omega arith) (omega arith),
+        is.now_is ∙ ap (λ n. eight_from first (tails_of cap width pass n)) here,
+        λ step other lt. is.carried step other (omega arith) lt,
+      )
+
+  module _ (wide : AreWide width pass) (some : 1 ≤ width) (fits : first + 8 ≤ width)
+      (inside : at + count ≤ pass.steps) where
+    abbrev all : ℕ → List ℕ
+    all step = tails_of cap width pass (at + step)
+
+    -- one more step
+    pub band_more : (left step to : ℕ) (tails : List (List ℕ)) (carries : List B) (now carry next : B)
+        (row new times : List ℕ)
+        → IsTailBand lanes cap width pass first at count left now tails carries → left < count
+        → step ≡ count - 1 - left → to ≡ left + 1 → length tails ≡ count → count ≤ length carries
+        → carry ≡ get_or carries step carry → times ≡ eight_from first (pass.times (at + step))
+        → row ≡ get_or tails step [] → length row ≡ width
+        → lanes next ≡ tails_step cap (get_or (lanes carry) 0 0) (lanes now) times
+        → new ≡ take first row ++ (lanes next ++ drop (first + 8) row)
+        → IsTailBand lanes cap width pass first at count to next (slice_set tails step new)
+        (slice_set carries step now)
+    band_more left step to tails carries now carry next row new times so_far lt step_is to_is rows room carry_is times_is
+        row_is row_wide next_is new_is =
+        let below = tails_of cap width pass (at + step + 1) in
+        let here : at + (count - left) ≡ at + step + 1 = omega arith in
+        let below_wide = tails_wide cap width pass wide some (at + step + 1) in
+        let now_is : lanes now ≡ eight_from first below =
+        so_far.now_is ∙ ap (λ n. eight_from first (tails_of cap width pass n)) here in
+        let lane_is : get_or (lanes carry) 0 0 ≡ get_or below (first + 8) 0 =
+        ap (λ b. get_or (lanes b) 0 0) carry_is ∙ so_far.coming step carry (omega arith) in
+        let eight : lanes next ≡ eight_from first (all step) =
+        next_is ∙ ap (λ c. tails_step cap c (lanes now) times) lane_is
+        ∙ ap (λ b. tails_step cap (get_or below (first + 8) 0) b times) now_is
+        ∙ ap (tails_step cap (get_or below (first + 8) 0) (eight_from first below)) times_is
+        ∙ sym (eight_tails cap first below (omega arith) (pass.times (at + step)))
+        ∙ ap (eight_from first) (sym (tails_before cap width pass wide some (at + step) (omega arith))) in
+        let now_at : step ≡ count - to = omega arith in
+        let in_tails : step < length tails = omega arith in
+        let in_carries : step < length carries = omega arith in
+        let put = put_from first width row new (lanes next) (all step) fits row_wide new_is eight
+        (ap (drop (first + 8)) row_is ∙ so_far.open_rows step (omega arith)) in
+        let lane : get_or (lanes now) 0 0 ≡ get_or below first 0 =
+        ap (λ l. get_or l 0 0) now_is ∙ get_or-take 8 (drop first below) 0 0 (omega arith)
+        ∙ get_or-drop first below 0 0 ∙ ap (λ n. get_or below n 0) (omega arith) in
+        record {
+          now_is = eight ∙ ap (λ n. eight_from first (all n)) now_at;
+          done = λ other_step le less.
+              elim (cases_eq other_step step) [
+                | inl e ↦ rw e (ap (drop first) (get_or-set_same tails step new [] in_tails) ∙ put)
+                | inr ne ↦
+                    ap (drop first) (get_or-set_other tails step other_step new [] ne)
+                    ∙ so_far.done other_step (omega (arith, ne)) less
+              ];
+          open_rows = λ other_step less.
+              ap (drop (first + 8)) (get_or-set_other tails step other_step new [] (λ e. omega arith))
+              ∙ so_far.open_rows other_step (omega arith);
+          carried = λ other_step other le less.
+              elim (cases_eq other_step step) [
+                | inl e ↦
+                    rw e (ap (λ b. get_or (lanes b) 0 0) (get_or-set_same carries step now other in_carries) ∙ lane)
+                | inr ne ↦
+                    ap (λ b. get_or (lanes b) 0 0) (get_or-set_other carries step other_step now other ne)
+                    ∙ so_far.carried other_step other (omega (arith, ne)) less
+              ];
+          coming = λ other_step other less.
+              ap (λ b. get_or (lanes b) 0 0) (get_or-set_other carries step other_step now other (λ e. omega arith))
+              ∙ so_far.coming other_step other (omega arith);
+        }
+
+-- ---- all bands of a block
+
+-- what `tail_block` is called with
+pub record IsBlockCall {B : Type 0} (lanes : B → List ℕ) (cap width : ℕ) (pass : WavePass) (at count : ℕ)
+    (times : List (List ℕ)) (afters : List B) : Type 0 where
+  pub wide : AreWide width pass
+  pub inside : at + count ≤ pass.steps
+  pub times_are : AreRowsFrom pass.times at times
+  pub afters_are : AreAfters lanes cap width pass (at + count) afters
+
+-- a block, of which the last `left` of `bands` bands are done
+pub record IsTailBlock {B : Type 0} (lanes : B → List ℕ) (cap width : ℕ) (pass : WavePass) (at count bands left : ℕ)
+    (tails : List (List ℕ)) (afters carries : List B) : Type 0 where
+  pub done : (band : ℕ) (other : B) → bands ≤ band + left → band < bands
+      → lanes (get_or afters band other) ≡ eight_from (8 * band) (tails_of cap width pass at)
+  pub open_bands : (band : ℕ) (other : B) → band + left < bands
+      → lanes (get_or afters band other) ≡ eight_from (8 * band) (tails_of cap width pass (at + count))
+  pub tails_are : AreTailsFrom cap width pass (8 * (bands - left)) at tails
+  pub carries_are : AreTailCarries lanes cap width pass (8 * (bands - left)) at count carries
+
+pub rows_wide : {X : Type 0} (lanes : X → List ℕ) (width : ℕ) → ((row : X) → length (lanes row) ≡ width)
+    → (rows : List X) (step : ℕ) → step < length (map lanes rows) → length (get_or (map lanes rows) step []) ≡ width
+rows_wide lanes width wide [] step lt = absurd (omega arith)
+rows_wide lanes width wide (row ∷ rows) zero lt = wide row
+rows_wide lanes width wide (row ∷ rows) (suc step) lt = rows_wide lanes width wide rows step (omega arith)
+
+pub zeros_more : {B : Type 0} (lanes : B → List ℕ) (carries : List B) (at : ℕ) (none : B) → at < length carries
+    → lanes none ≡ zeros 8 → ((step : ℕ) (other : B) → step < at → lanes (get_or carries step other) ≡ zeros 8)
+    → (step : ℕ) (other : B) → step < at + 1 → lanes (get_or (slice_set carries at none) step other) ≡ zeros 8
+zeros_more lanes carries at none inside is so_far step other lt =
+    elim (cases_eq step at) [
+      | inl e ↦ rw e (ap lanes (get_or-set_same carries at none other inside) ∙ is)
+      | inr ne ↦ ap lanes (get_or-set_other carries at step none other ne) ∙ so_far step other (omega (arith, ne))
+    ]
+
+module _ {B : Type 0} (lanes : B → List ℕ) (cap width : ℕ) (pass : WavePass) (at count bands : ℕ) where
+  pub block_begun : (times tails : List (List ℕ)) (afters carries : List B) → 1 ≤ width → 8 * bands ≡ width
+      → length afters ≡ bands → ((step : ℕ) → step < length tails → length (get_or tails step []) ≡ width)
+      → ((step : ℕ) (other : B) → step < count → lanes (get_or carries step other) ≡ zeros 8)
+      → IsBlockCall lanes cap width pass at count times afters
+      → IsTailBlock lanes cap width pass at count bands 0 tails afters carries
+  block_begun times tails afters carries some all same wide none given =
+      let first = 8 * (bands - 0) in
+      record {
+        done = λ band other le lt. absurd (omega arith);
+        open_bands = λ band other lt. given.afters_are band other (omega arith);
+        tails_are = λ step lt.
+            drop_all first (get_or tails step []) (omega (arith, wide step lt))
+            ∙ sym (drop_all first (tails_of cap width pass (at + step))
+            (omega (arith, tails_wide cap width pass given.wide some (at + step))));
+        carries_are = λ step other lt.
+            ap (λ l. get_or l 0 0) (none step other lt) ∙ zeros-get_or 8 0 (omega arith)
+            ∙ sym (get_or_past (tails_of cap width pass (at + step + 1)) first 0
+            (omega (arith, tails_wide cap width pass given.wide some (at + step + 1))));
+      }
+
+  -- one more band
+  pub block_more : (left band to : ℕ) (tails new_tails : List (List ℕ)) (afters carries new_carries : List B) (new : B)
+      → IsTailBlock lanes cap width pass at count bands left tails afters carries → left < bands
+      → band ≡ bands - 1 - left → to ≡ left + 1 → length afters ≡ bands
+      → AreTailsFrom cap width pass (8 * band) at new_tails
+      → lanes new ≡ eight_from (8 * band) (tails_of cap width pass at)
+      → AreTailCarries lanes cap width pass (8 * band) at count new_carries
+      → IsTailBlock lanes cap width pass at count bands to new_tails (slice_set afters band new) new_carries
+  block_more left band to tails new_tails afters carries new_carries new so_far lt band_is to_is same filled new_is
+      carried =
+      let here : band ≡ bands - to = omega arith in
+      let in_afters : band < length afters = omega arith in
+      record {
+        done = λ other_band other le less.
+            elim (cases_eq other_band band) [
+              | inl e ↦ rw e (ap lanes (get_or-set_same afters band new other in_afters) ∙ new_is)
+              | inr ne ↦
+                  ap lanes (get_or-set_other afters band other_band new other ne)
+                  ∙ so_far.done other_band other (omega (arith, ne)) less
+            ];
+        open_bands = λ other_band other less.
+            ap lanes (get_or-set_other afters band other_band new other (λ e. omega arith))
+            ∙ so_far.open_bands other_band other (omega arith);
+        tails_are = subst (λ n. AreTailsFrom cap width pass (8 * n) at new_tails) here filled;
+        carries_are = subst (λ n. AreTailCarries lanes cap width pass (8 * n) at count new_carries) here carried;
+      }
+
+-- ---- all blocks
+
+-- the rows of a pass over `count` steps, of which the tails are not read
+abbrev pub tails_pass : ℕ → ℕ → List (List ℕ) → WavePass
+tails_pass width count times = record { steps = count; times = rows_of times; tails = rows_of times; job = zeros width; }
+
+-- the tails of all steps from `from` on
+pub record AreBlocksFilled {X B : Type 0} (rows : X → List ℕ) (lanes : B → List ℕ) (cap width count : ℕ)
+    (times : List (List ℕ)) (from : ℕ) (tails : List X) (afters : List B) : Type 0 where
+  pub afters_are : AreAfters lanes cap width (tails_pass width count times) from afters
+  pub tails_are : (step : ℕ) (other : X) → from ≤ step → step < count
+      → rows (get_or tails step other) ≡ tails_of cap width (tails_pass width count times) step
+
+-- a part of a list, and the list after a write to the part
+module _ {X : Type 0} (a k : ℕ) (xs ys : List X) (inside : a ≤ length xs) where
+  part_inside : (other : X) (step : ℕ) → a ≤ step → step < a + length ys
+      → get_or (put_mid a k xs ys) step other ≡ get_or ys (step - a) other
+  part_inside other step le lt =
+      let front = length-take-le a xs inside in
+      let here : step ≡ length (take a xs) + (step - a) = omega arith in
+      let rest = drop k (drop a xs) in
+      ap (λ n. get_or (put_mid a k xs ys) n other) here
+      ∙ get_or-append-add (take a xs) (ys ++ rest) (step - a) other
+      ∙ get_or_append_left ys rest other (step - a) (omega arith)
+
+  part_after : (other : X) (step : ℕ) → a + k ≤ step → length ys ≡ k
+      → get_or (put_mid a k xs ys) step other ≡ get_or xs step other
+  part_after other step le long =
+      let new = put_mid a k xs ys in
+      let here : step ≡ step + 0 = omega arith in
+      ap (λ n. get_or new n other) here ∙ sym (get_or-drop step new 0 other)
+      ∙ ap (λ l. get_or l 0 other) (drop-put_mid a k xs ys step le inside long) ∙ get_or-drop step xs 0 other
+      ∙ ap (λ n. get_or xs n other) (sym here)
+
+  pub part_long : length ys ≡ k → a + k ≤ length xs → length (put_mid a k xs ys) ≡ length xs
+  part_long long fits =
+      let rest = drop k (drop a xs) in
+      omega (
+        arith,
+        length-append (take a xs) (ys ++ rest),
+        length-append ys rest,
+        length-drop k (drop a xs),
+        length-drop a xs,
+        length-take-le a xs inside,
+      )
+
+module _ {X : Type 0} (rows : X → List ℕ) where
+  pub map_read : (all : List X) (step : ℕ) (value : List ℕ) → step < length all
+      → ((other : X) → rows (get_or all step other) ≡ value) → get_or (map rows all) step [] ≡ value
+  map_read [] step value lt is = absurd (omega arith)
+  map_read (row ∷ all) zero value lt is = is row
+  map_read (row ∷ all) (suc step) value lt is = map_read all step value (omega arith) is
+
+  pub part_rows : (times : List X) (from count : ℕ) → from + count ≤ length times
+      → AreRowsFrom (rows_of (map rows times)) from (map rows (take count (drop from times)))
+  part_rows times from count le step lt =
+      let part = take count (drop from times) in
+      let long : length part ≡ count = length-take-le count (drop from times) (omega (arith, length-drop from times)) in
+      let few : step < count = omega (arith, length-map part rows) in
+      map_read part step (get_or (map rows times) (from + step) []) (omega arith)
+      (λ other.
+      ap rows (get_or-take count (drop from times) step other few ∙ get_or-drop from times step other)
+      ∙ sym (get_or-map rows times (from + step) other [] (omega arith)))
+
+  pub pass_wide : (width : ℕ) → ((row : X) → length (rows row) ≡ width) → (times : List X)
+      → AreWide width (tails_pass width (length times) (map rows times))
+  pass_wide width wide times =
+      let each : (step : ℕ) → step < length times → length (get_or (map rows times) step []) ≡ width =
+      λ step lt. rows_wide rows width wide times step (omega (arith, length-map times rows)) in
+      record {
+        times = each;
+        tails = each;
+        job = length-zeros width;
+      }
+
+  module _ {B : Type 0} (lanes : B → List ℕ) (cap width count : ℕ) (times : List (List ℕ)) where
+    pub blocks_begun : (tails : List X) (afters : List B) (from : ℕ) → 8 * length afters ≡ width → from ≡ count
+        → ((band : ℕ) (other : B) → band < length afters → lanes (get_or afters band other) ≡ zeros 8)
+        → AreBlocksFilled rows lanes cap width count times from tails afters
+    blocks_begun tails afters from all from_is none =
+        let end : count - from ≡ zero = omega arith in
+        record {
+          afters_are = λ band other lt.
+              let left = width - (8 * band + 8) in
+              let more : width - 8 * band ≡ 8 + left = omega arith in
+              none band other lt
+              ∙ sym (ap (λ n. eight_from (8 * band) (tails_at cap (rows_of times) width count n)) end
+              ∙ ap (eight_from (8 * band)) (tails_last cap (rows_of times) width count)
+              ∙ ap (take 8) (drop-replicate (8 * band) width 0 ∙ ap zeros more
+              ∙ sym (replicate-append-replicate 8 left 0))
+              ∙ take_at (zeros 8) (zeros left) 8 (length-zeros 8));
+          tails_are = λ step other le lt. absurd (omega arith);
+        }
+
+    -- one more block
+    pub blocks_more : (from to next : ℕ) (tails part : List X) (afters new_afters : List B)
+        → AreBlocksFilled rows lanes cap width count times to tails afters → from ≤ to → to ≤ count
+        → next ≡ from → length tails ≡ count → length part ≡ to - from
+        → AreTailsFrom cap width (tails_pass width count times) 0 from (map rows part)
+        → AreAfters lanes cap width (tails_pass width count times) from new_afters
+        → AreBlocksFilled rows lanes cap width count times next (put_mid from (to - from) tails part) new_afters
+    blocks_more from to next tails part afters new_afters so_far le inside next_is same long filled after_is =
+        let pass = tails_pass width count times in
+        let begun : from ≤ length tails = omega arith in
+        record {
+          afters_are = subst (λ n. AreAfters lanes cap width pass n new_afters) (sym next_is) after_is;
+          tails_are = λ step other later lt.
+              elim (cases_lt step to) [
+                | inl now ↦
+                    let here : from + (step - from) ≡ step = omega arith in
+                    let few : step - from < length part = omega arith in
+                    ap rows (part_inside from (to - from) tails part begun other step (omega arith) (omega arith))
+                    ∙ sym (get_or-map rows part (step - from) other [] few)
+                    ∙ filled (step - from) (omega (arith, length-map part rows))
+                    ∙ ap (tails_of cap width pass) here
+                | inr past ↦
+                    ap rows (part_after from (to - from) tails part begun other step (omega arith) long)
+                    ∙ so_far.tails_are step other past lt
+              ];
+        }
