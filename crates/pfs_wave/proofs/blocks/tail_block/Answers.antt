@@ -68,7 +68,7 @@ loop-left-preserved g c =
           (subst (λ n. AreTailCarries lanes cap width pass n at count c.loop-left.carries) above is.carries_are) in
           block_more lanes cap width pass at count bands left band (left + 1) old (map rows c.tail_band.new.tails)
           c.loop-left.afters c.loop-left.carries c.tail_band.new.carries c.tail_band.result is inside refl refl
-          so_far.all made.0 made.1.0 made.1.1;
+          so_far.all made.0 made.1 made.2;
     }
 
 pub returns-clause-filled : goal.returns-clause-filled
