@@ -157,8 +157,7 @@ module _ {B : Type 0} (lanes : B → List ℕ) (cap width : ℕ) (pass : WavePas
       → AreTailsFrom cap width pass first at tails × (lanes now ≡ eight_from first (tails_of cap width pass at))
       × AreTailCarries lanes cap width pass first at count carries
   band_ended left now tails carries all same is =
-      let here : at + (count - left) ≡ at = omega arith in
-      (
+      let here : at + (count - left) ≡ at = omega arith in (
         λ step lt. is.done step (omega arith) (omega arith),
         is.now_is ∙ ap (λ n. eight_from first (tails_of cap width pass n)) here,
         λ step other lt. is.carried step other (omega arith) lt,
@@ -315,7 +314,7 @@ module _ {B : Type 0} (lanes : B → List ℕ) (cap width : ℕ) (pass : WavePas
 
 -- the rows of a pass over `count` steps, of which the tails are not read
 abbrev pub tails_pass : ℕ → ℕ → List (List ℕ) → WavePass
-tails_pass width count times = record { steps = count; times = rows_of times; tails = rows_of times; job = zeros width; }
+tails_pass width count times = record { steps = count; times = rows_of times; tails = rows_of times; job = zeros width }
 
 -- the tails of all steps from `from` on
 pub record AreBlocksFilled {X B : Type 0} (rows : X → List ℕ) (lanes : B → List ℕ) (cap width count : ℕ)

@@ -18,6 +18,12 @@ pub record IsServed (shop : FlowShop) (width cap : ℕ) : Type 0 where
   pub full : 24 < width → (shop.jobs + width) * width ≤ 3 * shop.jobs * shop.machines
   pub short : longest_path shop < cap
 
+-- in lanes of 32 bits an insertion is faster than by rows: there are two jobs for each lane; and of more than 24 lanes,
+-- at least half of those that an insertion computes have a cell
+pub record IsFastLong (shop : FlowShop) (width : ℕ) : Type 0 where
+  pub many : 2 * width ≤ shop.jobs
+  pub full : 24 < width → (shop.jobs + width) * width ≤ 2 * shop.jobs * shop.machines
+
 -- the number of lanes of a width
 abbrev pub lanes_of : Width → ℕ
 lanes_of width.Lanes8 = 8

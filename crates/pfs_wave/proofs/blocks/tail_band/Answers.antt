@@ -63,7 +63,7 @@ returns-clause-filled g c pass at wide inside times_are tails_are after_is carri
     let count = length c.args.times.now in
     let so_far = c.loop-left.invariant in
     let given : IsTailCall lanes g.L.Band.Band.CAP g.L.Lanes.WIDTH pass first at count (map rows c.args.times.now)
-        (map rows c.args.tails.now) c.args.after c.args.carries.now =
+    (map rows c.args.tails.now) c.args.after c.args.carries.now =
     record {
       wide = wide;
       inside = inside;

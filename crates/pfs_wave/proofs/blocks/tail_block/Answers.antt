@@ -81,11 +81,10 @@ returns-clause-filled g c pass at wide inside times_are afters_are =
     let bands = length c.args.afters.now in
     let so_far = c.loop-left.invariant in
     let given : IsBlockCall lanes cap width pass at count (map rows c.args.times.now) c.args.afters.now =
-    record { wide = wide; inside = inside; times_are = times_are; afters_are = afters_are; } in
+    record { wide = wide; inside = inside; times_are = times_are; afters_are = afters_are } in
     let is = so_far.filled pass at given in
     let ends : bands ≤ c.loop-left.left = omega (arith, c.loop-left-test.false) in
-    let none : 8 * (bands - c.loop-left.left) ≡ 0 = omega arith in
-    (
+    let none : 8 * (bands - c.loop-left.left) ≡ 0 = omega arith in (
       subst (λ n. AreTailsFrom cap width pass n at (map rows c.loop-left.tails)) none is.tails_are,
       λ band other lt. is.done band other (omega arith) (omega (arith, so_far.all)),
     )
