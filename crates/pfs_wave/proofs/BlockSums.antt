@@ -1,14 +1,14 @@
 -- A block of heads, inserted rows and sums, one band after the other.
-use Rattle.std.proofs.Common.{inl, inr, ◌≡◌, ℕ, zero, suc, ◌+◌, ◌-◌, ◌*◌, ◌<◌, ◌≤◌, List, [], ◌∷◌, ◌++◌, max, length}
+use Rattle.std.proofs.Common.{inl, inr, ◌≡◌, ℕ, zero, suc, ◌+◌, ◌-◌, ◌*◌, ◌<◌, ◌≤◌, List, [], ◌∷◌, max, length}
 use Rattle.std.proofs.Common.{take, drop, map, get_or, refl, ap, ◌∙◌, sym, arith, add-one, slice_set, subst}
 use Rattle.std.specs.Simd.Lanes.{zip2}
-use Rattle.std.proofs.lemmas.Bool.{cases_lt, cases_eq}
+use Rattle.std.proofs.lemmas.Bool.{cases_lt}
 use Rattle.std.proofs.lemmas.List.{get_or-set_same, get_or-set_other, length-set, length-map, map-set, get_or-take, get_or-drop}
 use Rattle.std.proofs.lemmas.List.{take-map, drop-map, map-append, length-take-le, length-drop, get_or_append_left}
 use Rattle.std.proofs.lemmas.List.{get_or-append_right, take-replicate, drop-replicate}
 use Rattle.std.proofs.lemmas.Slice.{take-put_mid}
 use borrow.Rule.Slice.PartMut.{put_mid}
-use Rattle.pfs_wave.specs.Lanes.{Rows, rows_of, capped_add, heads_step, sums_step, zeros}
+use Rattle.pfs_wave.specs.Lanes.{rows_of, capped_add, heads_step, sums_step, zeros}
 use Rattle.pfs_wave.specs.Private.SkewedBand.{eight_from}
 use Rattle.pfs_wave.specs.Private.Blocks.{WavePass, AreWide, IsBlock, IsFront, IsCarry, AreCarries, heads_after, inserted_after}
 use Rattle.pfs_wave.specs.Private.Blocks.{sums_after}

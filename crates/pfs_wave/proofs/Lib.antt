@@ -1,3 +1,4 @@
+pub mod AllTails
 pub mod BandSteps
 pub mod BestFound
 pub mod BlockSums
@@ -18,7 +19,6 @@ pub mod SmallLanes
 pub mod Steps
 pub mod PaddedTables
 pub mod PastRows
-pub mod TailBlocks
 pub mod TakenSteps
 pub mod VectorLemmas
 pub mod WavefrontLaws

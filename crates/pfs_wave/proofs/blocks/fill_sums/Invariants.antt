@@ -1,4 +1,4 @@
-use Rattle.std.proofs.Common.{ℕ, ◌≡◌, ◌+◌, ◌-◌, ◌*◌, ◌<◌, ◌≤◌, map, length, min, get_or}
+use Rattle.std.proofs.Common.{ℕ, ◌≡◌, ◌+◌, ◌-◌, ◌*◌, ◌<◌, map, length, min, get_or}
 use Rattle.pfs_wave.specs.Lanes.{rows_of, sums_at}
 use Rattle.pfs_wave.specs.Private.Blocks.{AreFronts}
 use Rattle.pfs_wave.proofs.BlockSums.{AreZeros, whole_pass}

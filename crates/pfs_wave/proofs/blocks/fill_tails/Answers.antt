@@ -1,10 +1,10 @@
-use Rattle.std.proofs.Common.{inl, inr, ◌≡◌, ℕ, ◌+◌, ◌-◌, ◌*◌, ◌<◌, ◌≤◌, [], ◌∙◌, map, take, drop, length, ap, sym, refl}
+use Rattle.std.proofs.Common.{inl, inr, ◌≡◌, ◌+◌, ◌-◌, ◌*◌, [], ◌∙◌, map, take, drop, length, ap}
 use Rattle.std.proofs.Common.{subst, arith}
 use Rattle.std.proofs.lemmas.Bool.{cases_lt}
 use Rattle.std.proofs.lemmas.List.{length-map, length-take-le, length-drop}
 use Rattle.pfs_wave.specs.Private.Blocks.{AreAfters, tails_of}
 use Rattle.pfs_wave.proofs.BlockSums.{part_rows}
-use Rattle.pfs_wave.proofs.TailBlocks.{tails_pass, put_inside, put_after, afters_zero, tails_wide}
+use Rattle.pfs_wave.proofs.AllTails.{tails_pass, put_inside, put_after, afters_zero, tails_wide}
 use Rattle.pfs_wave.proofs.blocks.fill_tails.Goals as goal
 
 pub loop-block-init : goal.loop-block-init

@@ -1,7 +1,7 @@
 use Rattle.std.proofs.Common.{ℕ, ◌≡◌, ◌-◌, ◌*◌, ◌<◌, ◌≤◌, map, length}
 use Rattle.pfs_wave.specs.Lanes.{rows_of}
 use Rattle.pfs_wave.specs.Private.Blocks.{AreAfters, tails_of}
-use Rattle.pfs_wave.proofs.TailBlocks.{AreZeroBands, tails_pass}
+use Rattle.pfs_wave.proofs.AllTails.{AreZeroBands, tails_pass}
 use Rattle.pfs_wave.proofs.blocks.fill_tails.Given as goal
 
 abbrev pub invariant-loop-band : goal.invariant-loop-band

@@ -1,5 +1,4 @@
 use Rattle.std.proofs.Common.{ℕ, ◌≡◌, ◌+◌, ◌<◌, map, length, get_or}
-use Rattle.pfs_wave.specs.declared.blocks.Front.{Front}
 use Rattle.pfs_wave.proofs.blocks.keep_sums.Given as goal
 
 -- the sums of the steps so far

@@ -1,4 +1,4 @@
-use Rattle.std.proofs.Common.{◌≡◌, ◌+◌, ◌*◌, ◌<◌, ◌∙◌, map, length, ap, sym, subst, refl, arith}
+use Rattle.std.proofs.Common.{◌≡◌, ◌+◌, ◌*◌, ◌<◌, ◌∙◌, length, ap, sym, subst, refl, arith}
 use Rattle.std.proofs.lemmas.List.{length-map, length-set}
 use Rattle.pfs_wave.specs.Private.Blocks.{IsFront}
 use Rattle.pfs_wave.specs.Private.SkewedBand.{eight_from}

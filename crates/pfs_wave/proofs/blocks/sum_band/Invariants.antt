@@ -1,7 +1,6 @@
-use Rattle.std.proofs.Common.{ℕ, ◌≡◌, ◌+◌, ◌*◌, ◌<◌, ◌≤◌, map, length, get_or}
+use Rattle.std.proofs.Common.{ℕ, ◌≡◌, ◌*◌, map, length}
 use Rattle.pfs_wave.specs.Private.SkewedBand.{eight_from}
-use Rattle.pfs_wave.specs.Private.Blocks.{WavePass, IsBlock, IsFront, IsCarry, AreCarries}
-use Rattle.pfs_wave.specs.declared.blocks.Front.{Front}
+use Rattle.pfs_wave.specs.Private.Blocks.{WavePass, IsBlock, IsFront, AreCarries}
 use Rattle.pfs_wave.proofs.BlockSums.{IsBandSoFar}
 use Rattle.pfs_wave.proofs.blocks.sum_band.Given as goal
 

@@ -1,7 +1,7 @@
-use Rattle.std.proofs.Common.{◌≡◌, ◌+◌, ◌*◌, ◌<◌, ◌≤◌, ◌∙◌, length, ap, sym, subst, refl, arith}
+use Rattle.std.proofs.Common.{◌≡◌, ◌*◌, ◌∙◌, length, ap, sym, subst, refl, arith}
 use Rattle.std.proofs.lemmas.List.{length-set}
 use Rattle.pfs_wave.specs.Private.SkewedBand.{eight_from}
-use Rattle.pfs_wave.specs.Private.Blocks.{IsFront, AreCarries}
+use Rattle.pfs_wave.specs.Private.Blocks.{AreCarries}
 use Rattle.pfs_wave.proofs.BlockSums.{zeros_more, bands_none, bands_more}
 use Rattle.pfs_wave.proofs.blocks.sum_block.Goals as goal
 

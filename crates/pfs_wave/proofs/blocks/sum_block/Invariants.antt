@@ -1,7 +1,5 @@
-use Rattle.std.proofs.Common.{ℕ, ◌≡◌, ◌+◌, ◌*◌, ◌<◌, ◌≤◌, map, length, get_or}
-use Rattle.pfs_wave.specs.Lanes.{zeros}
-use Rattle.pfs_wave.specs.Private.Blocks.{WavePass, IsBlock, IsFront, AreFronts, AreCarries}
-use Rattle.pfs_wave.specs.declared.blocks.Front.{Front}
+use Rattle.std.proofs.Common.{ℕ, ◌≡◌, map, length}
+use Rattle.pfs_wave.specs.Private.Blocks.{WavePass, IsBlock, AreFronts}
 use Rattle.pfs_wave.proofs.BlockSums.{AreZeros, AreSoFar}
 use Rattle.pfs_wave.proofs.blocks.sum_block.Given as goal
 

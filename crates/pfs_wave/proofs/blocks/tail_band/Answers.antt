@@ -1,4 +1,4 @@
-use Rattle.std.proofs.Common.{ℕ, ◌≡◌, ◌<◌, ◌≤◌, ◌+◌, ◌-◌, ◌*◌, [], map, length, refl, ap, ◌∙◌, sym, arith, get_or}
+use Rattle.std.proofs.Common.{◌<◌, ◌+◌, ◌-◌, ◌*◌, [], map, length, refl, ap, ◌∙◌, sym, arith, get_or}
 use Rattle.std.proofs.lemmas.List.{length-map, length-set, get_or-map, map-set}
 use Rattle.pfs_wave.specs.Private.SkewedBand.{eight_from}
 use Rattle.pfs_wave.proofs.BlockTails.{IsTailCall, band_begun, band_more, band_ended}

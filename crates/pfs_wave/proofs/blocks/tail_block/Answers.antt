@@ -1,5 +1,5 @@
-use Rattle.std.proofs.Common.{ℕ, ◌≡◌, ◌<◌, ◌≤◌, ◌+◌, ◌-◌, ◌*◌, map, length, refl, ap, ◌∙◌, sym, arith, subst}
-use Rattle.std.proofs.lemmas.List.{length-map, length-set}
+use Rattle.std.proofs.Common.{◌≡◌, ◌≤◌, ◌+◌, ◌-◌, ◌*◌, map, length, refl, ap, ◌∙◌, arith, subst}
+use Rattle.std.proofs.lemmas.List.{length-set}
 use Rattle.pfs_wave.specs.Private.Blocks.{AreTailsFrom, AreTailCarries}
 use Rattle.pfs_wave.proofs.BlockTails.{IsBlockCall, block_begun, block_more, zeros_more, rows_wide}
 use Rattle.pfs_wave.proofs.blocks.tail_block.Goals as goal

@@ -1,14 +1,14 @@
 -- Tails that are filled a block of steps at a time, from the last block to the first.
-use Rattle.std.proofs.Common.{inl, inr, ◌≡◌, ℕ, zero, suc, ◌+◌, ◌-◌, ◌*◌, ◌<◌, ◌≤◌, List, [], ◌∷◌, ◌++◌, length, take}
-use Rattle.std.proofs.Common.{drop, map, get_or, refl, ap, ◌∙◌, sym, arith, slice_set}
+use Rattle.std.proofs.Common.{inl, inr, ◌≡◌, ℕ, ◌+◌, ◌-◌, ◌*◌, ◌<◌, ◌≤◌, List, length, take}
+use Rattle.std.proofs.Common.{map, get_or, ap, ◌∙◌, sym, arith, slice_set}
 use Rattle.std.proofs.lemmas.Bool.{cases_lt}
 use Rattle.std.proofs.lemmas.List.{get_or-set_same, get_or-set_other, length-map, get_or-take, get_or-drop}
-use Rattle.std.proofs.lemmas.List.{take-map, drop-map, map-append, length-take-le, length-drop, get_or-append_right}
+use Rattle.std.proofs.lemmas.List.{take-map, drop-map, map-append, length-take-le, get_or-append_right}
 use Rattle.std.proofs.lemmas.Slice.{take-put_mid, drop-put_mid}
 use borrow.Rule.Slice.PartMut.{put_mid}
 use Rattle.pfs_wave.specs.Lanes.{rows_of, zeros}
 use Rattle.pfs_wave.specs.Private.SkewedBand.{eight_from}
-use Rattle.pfs_wave.specs.Private.Blocks.{WavePass, AreWide, AreAfters, tails_of}
+use Rattle.pfs_wave.specs.Private.Blocks.{WavePass, AreWide, AreAfters}
 use Rattle.pfs_wave.proofs.WavefrontLaws.{tails_last}
 use Rattle.pfs_wave.proofs.Steps.{length-zeros}
 use Rattle.pfs_wave.proofs.BlockSums.{rows_wide, eight_zeros}
