@@ -9,7 +9,7 @@ use pfs_insert::{HeadsTails, Inserter};
 use pfs_order::Seq;
 use pfs_tests::shops::shop;
 use pfs_wave::{
-    Band, EightBands, FiveBands, Lanes, Long, MeteredLanes, OneBand, Short, ThirteenBands,
+    Band, EightBands, FiveBands, Long, MeteredLanes, OneBand, Passes, Short, ThirteenBands,
     ThreeBands, TwentySixBands, TwoBands, Wavefront, Width, is_served, method_for,
 };
 
@@ -51,7 +51,7 @@ fn insert_in_widths<B: Band>(rt: &HostRuntime, instance: &Instance) -> Result<()
     Ok(())
 }
 
-fn insert_all<L: Lanes>(rt: &HostRuntime, instance: &Instance) -> Result<(), Stop>
+fn insert_all<L: Passes>(rt: &HostRuntime, instance: &Instance) -> Result<(), Stop>
     requires { IsServed instance.now.shop L.WIDTH L.Band.CAP }
 {
     let mut seq = Seq::new(rt.alloc(), instance.jobs())?;
@@ -74,7 +74,7 @@ fn insert_all<L: Lanes>(rt: &HostRuntime, instance: &Instance) -> Result<(), Sto
 }
 
 // Prints a place, the makespan with the job there, and the number of cells that were counted by then.
-fn print_best<L: Lanes>(
+fn print_best<L: Passes>(
     rt: &HostRuntime,
     bench: &MeteredLanes<'_, L>,
     place: usize,

@@ -13,7 +13,7 @@ use pfs_base::{Bench, Instance, Length, MOST_PASSES, MOST_ROUNDS, Shop, Span};
 use pfs_insert::{HeadsTails, Inserter};
 use pfs_order::Order;
 use pfs_wave::{
-    Band, EightBands, FiveBands, Lanes, Long, MeteredLanes, Method, OneBand, Short, ThirteenBands,
+    Band, EightBands, FiveBands, Long, MeteredLanes, Method, OneBand, Passes, Short, ThirteenBands,
     ThreeBands, TwentySixBands, TwoBands, Wavefront, Width, method_for,
 };
 use rand_core::SeedableRng;
@@ -176,7 +176,7 @@ fn solve_in_width<B: Band>(
 }
 
 // `solve` by a wavefront.
-fn solve_in_lanes<L: Lanes>(
+fn solve_in_lanes<L: Passes>(
     alloc: Global,
     instance: &Instance,
     rounds: u32,
@@ -294,7 +294,7 @@ fn improve_in_width<B: Band>(
 }
 
 // `improve` by a wavefront, from an order and its makespan.
-fn improve_in_lanes<L: Lanes>(
+fn improve_in_lanes<L: Passes>(
     alloc: Global,
     instance: &Instance,
     start: Kept<Span>,
