@@ -1,19 +1,16 @@
 """tools/build in a small repository, with a program that replaces `rt` and notes each call: crates are built after
 their dependencies, in parallel if possible, and the result is reported."""
-import importlib.machinery
-import importlib.util
 import os
 import pathlib
 import re
 import shutil
 import subprocess
-import sys
 from collections.abc import Callable
 from concurrent.futures import Future
 from typing import Any
 
 import pytest
-from support.tools import write_script
+from support.tools import imported, write_script
 
 CRATES = """low: thiserror
 left: low
@@ -156,20 +153,6 @@ def test_of_crates_that_may_begin_the_one_with_the_longest_chain_goes_first(
         below[part[0]] = part[1].split()
     assert module.build_all("app", below) == 0
     assert " ".join(begun) == due
-
-
-def imported(path: pathlib.Path) -> Any:
-    """A script as a module."""
-    loader = importlib.machinery.SourceFileLoader("build_script", str(path))
-    spec = importlib.util.spec_from_loader("build_script", loader)
-    assert spec is not None
-    module = importlib.util.module_from_spec(spec)
-    before, sys.dont_write_bytecode = sys.dont_write_bytecode, True
-    try:
-        loader.exec_module(module)
-    finally:
-        sys.dont_write_bytecode = before
-    return module
 
 
 def test_each_crate_is_reported_with_its_time_and_the_number_left(repository: pathlib.Path) -> None:
