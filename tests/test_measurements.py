@@ -75,8 +75,13 @@ def test_files_that_exist_are_kept(script: Any, folder: pathlib.Path, monkeypatc
 def test_each_file_has_the_blocks_of_its_description(script: Any, monkeypatch: pytest.MonkeyPatch) -> None:
     """The block that is read is the last one."""
     made: list[tuple[int, int]] = []
+
+    def block(jobs: int, machines: int, *_: object) -> str:
+        made.append((jobs, machines))
+        return ""
+
     for layout in ("taillard", "orlib"):
-        monkeypatch.setattr(script, layout, lambda jobs, machines, *_: made.append((jobs, machines)) or "")
+        monkeypatch.setattr(script, layout, block)
     monkeypatch.setattr(script, "TITLE", "")
     for name, file in script.FILES.items():
         made.clear()
@@ -122,9 +127,9 @@ def test_a_row_has_milliseconds_nanoseconds_and_ratios(script: Any, capsys: pyte
 @run
 def test_programs_that_differ_or_fail_end_the_run(script: Any, folder: pathlib.Path) -> None:
     """But for the machines on the first line, which an older pfs doesn't print. All programs run in each turn."""
-    for name, text in {"new": "echo order2 3 2; echo 1", "old": "echo order 3; echo 1", "other": "echo order 3; echo 2",
+    for name, body in {"new": "echo order2 3 2; echo 1", "old": "echo order 3; echo 1", "other": "echo order 3; echo 2",
                        "fails": "exit 3"}.items():
-        write_script(folder / name, f"#!/bin/sh\necho {name} >> {folder}/turns\n{text}\n")
+        write_script(folder / name, f"#!/bin/sh\necho {name} >> {folder}/turns\n{body}\n")
     lines = {name: [folder / name] for name in ("new", "old")}
     times, text = script.measure("a case", lines, 2, 3)
     assert text == b"order2 3 2\n1\n" and {name: len(taken) for name, taken in times.items()} == {"new": 3, "old": 3}
