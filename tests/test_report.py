@@ -288,28 +288,6 @@ def compared(folder: pathlib.Path) -> list[dict[str, str]]:
         return list(csv.DictReader(file))
 
 
-# Makespans of two methods on instances of 1,000, and what comes of them by hand: the sum of the ranks of one sign is as
-# small or smaller in 2 of 64, in 20 of 32, and in all of 8 choices of signs, and without any difference in all.
-PAIRED = {
-    "six won": ([1000] * 6, [1001, 1002, 1003, 1004, 1005, 1006], ("6", "6", "0", "0", 2 / 64)),
-    "one lost": ([1000] * 4 + [1005], [1001, 1002, 1003, 1004, 1000], ("5", "4", "0", "1", 20 / 32)),
-    "two lost": ([1001, 1002, 1000], [1000, 1000, 1003], ("3", "1", "0", "2", 1.0)),
-    "all tied": ([1000] * 3, [1000] * 3, ("3", "0", "3", "0", 1.0)),
-}
-
-
-@pytest.mark.parametrize(("first", "second", "wanted"), PAIRED.values(), ids=PAIRED)
-def test_two_methods_are_compared(first: list[int], second: list[int], wanted: tuple[str, str, str, str, float],
-                                  methods: Reported, scipy: None, folder: pathlib.Path) -> None:
-    texts = [FEW + "".join(f"i{at},{makespan},1,0.5\n" for at, makespan in enumerate(each))
-             for each in (first, second)]
-    assert methods(*texts).status == 0
-    row, = compared(folder)
-    assert (row["method"], row["other_method"]) == ("first", "second")
-    assert tuple(row[name] for name in ("instances", "won", "tied", "lost")) == wanted[:4]
-    assert float(row["p"]) == pytest.approx(wanted[4], rel=0.02)
-
-
 def test_each_setting_of_a_method_is_compared_by_means_of_the_instances_that_both_have(
         methods: Reported, folder: pathlib.Path) -> None:
     """The means of the first one at 0 and at 100 rounds are 110 and 103 of a, and 120 and 105 of b."""
@@ -437,6 +415,8 @@ def test_ties_have_no_part_in_the_test(methods: Reported, folder: pathlib.Path) 
     assert float(row["median_difference_percent"]) == -1.0, "the median difference of all pairs"
     # the first one's are all 0; the second one's are more for 7 of 11, and tied for 4
     assert float(row["vargha_delaney_a"]) == pytest.approx((7 + 4 / 2) / 11, abs=0.001), "A, of which ties are a half"
+    assert methods(*[FEW + "i0,1000,1,0.5\n"] * 2).status == 0
+    assert [compared(folder)[0][name] for name in ("tied", "pairs", "p")] == ["1", "0", "1"], "all are tied"
 
 
 def test_the_probability_is_that_of_all_choices_of_signs(methods: Reported, folder: pathlib.Path) -> None:
