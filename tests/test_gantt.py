@@ -359,13 +359,15 @@ def test_the_edges_of_bars_leave_an_operation_of_one_unit_to_be_seen(case: Case,
 @pytest.mark.parametrize("width", ["12", "50"])
 def test_the_outline_of_the_path_leaves_an_operation_of_one_unit_to_be_seen(width: str, gantt: Gantt,
                                                                             folder: pathlib.Path) -> None:
-    """Half of its line lies on the first operation that it surrounds."""
+    """Half of its line lies on the first and on the last operation that it surrounds, each a unit long here."""
     case = Case("one unit", [1, 2], schedule_of([[1, 300], [2, 1]]), ("--critical", "--width", width))
     assert gantt(folder, *case.options, "picture.svg", text=case.text()) == Ran(b"", b"", 0)
     picture = Picture(folder / "picture.svg")
-    (_, style), = picture.shapes("critical-1")
-    line, unit = float(value_of(style, "stroke-width")), picture.across().on_picture(1)
-    assert 0.7 < line < max(0.9, 0.55 * unit), (line, unit)
+    unit = picture.across().on_picture(1)
+    for machine in case.machines():
+        (_, style), = picture.shapes(f"critical-{machine + 1}")
+        line = float(value_of(style, "stroke-width"))
+        assert 0.7 < line < max(0.9, 0.55 * unit), (machine, line, unit)
 
 
 # Numbers on bars
