@@ -1,5 +1,6 @@
 """`python3 -m pfs search` and `python3 -m pfs plan`."""
 import contextlib
+import fcntl
 import hashlib
 import io
 import json
@@ -21,7 +22,7 @@ from typing import Any
 import pfs
 import plainly
 import pytest
-from pfs import _commands, _library
+from pfs import _commands, _library, _state
 
 # A search that would take minutes.
 LONG = ["search", "shop", "--layout", "taillard"]
@@ -328,6 +329,22 @@ def test_two_searches_with_one_state(folder: pathlib.Path) -> None:
     # A lock that a search left which was killed is none.
     (folder / "state.lock").write_text("")
     run([*LONG, "--state", "state", "--rounds", str(done + 1)], folder)
+
+
+def test_a_lock_whose_file_another_search_removes_is_taken_again(folder: pathlib.Path,
+                                                                 monkeypatch: pytest.MonkeyPatch) -> None:
+    """It has the old file, and would be alone with it."""
+    path, lock, removed = folder / "state.lock", fcntl.flock, list[None]()
+
+    def flock(descriptor: int, how: int) -> None:
+        lock(descriptor, how)
+        if not removed:
+            removed.append(path.unlink())
+
+    monkeypatch.setattr("fcntl.flock", flock)
+    got = _state.lock_of(str(folder / "state"))
+    assert os.path.samestat(os.fstat(got), os.stat(path))
+    os.close(got)
 
 
 @pytest.mark.parametrize("name", ["state.new", "state.lock"])

@@ -137,6 +137,7 @@ WRONG_TABLES = {
 }
 # Tables that look a little like the ones above and are right: what makes them so, and their times.
 RIGHT_TABLES = {
+    "a semicolon in half of the lines": ('job,saw\n"a;b",3\n', [[3]]),
     "three decimals": ("job;saw;drill\na;0,125;2\nb;1,5;1,125\n", [[125, 2000], [1500, 1125]]),
     "a fraction of one": ("job;saw\na;0.125\n", [[125]]),
     "points between commas": ("job,saw\na,1.000\nb,2.500\n", [[10], [25]]),
