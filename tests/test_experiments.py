@@ -491,7 +491,8 @@ def test_runs_of_0_rounds_that_an_earlier_version_listed_stay(experiment: Experi
     assert [(row.rounds, row.seed) for row in experiment.rows()] == [("0", "1"), ("0", "2"), ("2", "1"), ("2", "2")]
 
 
-HOSTILE = ["=1+1", "+1", "-1", "@SUM(1)", "=cmd|' /C calc'!A0", "a=b", "<b>&", "a|b", "\x1b[31m", "a,b", 'a"b', "$x$"]
+HOSTILE = ["=1+1", "+1", "-1", "@SUM(1)", "=cmd|' /C calc'!A0", "a=b", "<b>&", "a|b", "\x1b[31m", "a,b", 'a"b', "$x$",
+           "\u00e4" * 120]
 
 
 def test_names_of_instances_are_not_formulas_in_a_spreadsheet(experiment: Experiment) -> None:
@@ -804,6 +805,17 @@ def test_a_killed_run_is_reported_and_made_by_the_next_start(experiment: Experim
     (experiment.folder / "fixed").touch()
     assert experiment.run().status == 0
     assert experiment.rows() == experiment.wanted(rounds=[10])
+
+
+def test_ten_kinds_of_errors_are_reported(experiment: Experiment) -> None:
+    """Of twelve, which differ in a word, that stands for the seed."""
+    program = write_script(experiment.folder / "program", f"""#!/bin/sh
+case $1 in solve) echo "fault $(echo "$*" | sed 's/.*--seed \\([0-9]*\\).*/\\1/' | tr 0-9 a-j)" >&2; exit 2;; esac
+exec {experiment.pfs.path} "$@"
+""")
+    (experiment.folder / "plan.toml").write_text(f"instances = [\"shops/b\"]\nrounds = [1]\nseeds = {[*range(12)]}\n")
+    *lines, more, _ = experiment.run(program=program).stderr.splitlines()
+    assert (len(lines), more) == (10, "2 more kinds of errors") and lines[9].endswith("exit 2, fault j")
 
 
 MEMORY = """#!/bin/sh
@@ -1157,6 +1169,16 @@ def test_a_task_that_ran_out_of_time_is_reported_by_its_last_run(experiment: Exp
     assert (first.instance, first.status) == ("shops/a", "ok")
     assert (second.instance, second.rounds, second.seed) == ("shops/b", "10", "1")
     assert second.status == "lost: *** JOB 7 ON host CANCELLED AT 2026-11-23T19:00:00 DUE TO TIME LIMIT ***"
+
+
+def test_the_last_array_says_how_a_run_ended(top: pathlib.Path, folder: pathlib.Path) -> None:
+    """By the times of the logs; numbers of arrays have more and more digits."""
+    (folder / "slurm").mkdir()
+    for age, name in enumerate(("9-1.log", "10-1.log")):
+        (folder / "slurm" / name).write_text(f"run 1\nslurmstepd: error: {name}\n")
+        os.utime(folder / "slurm" / name, (age, age))
+    code = "import pathlib, sys, results; print(results.endings(pathlib.Path(sys.argv[1])))"
+    assert output_of(["/usr/bin/python3", "-B", "-c", code, folder], top / "experiments") == "{'1': 'lost: 10-1.log'}\n"
 
 
 @on_slurm
