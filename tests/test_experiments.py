@@ -478,6 +478,14 @@ def test_a_search_of_0_rounds_is_made_once(experiment: Experiment) -> None:
     assert len(experiment.rows()) == len(experiment.started()) == 2 + 16
 
 
+def test_a_search_of_0_rounds_is_made_once_if_the_plan_grows(experiment: Experiment) -> None:
+    """By a take that comes before those that are there."""
+    for takes in ("[3]", "[2, 3]"):
+        (experiment.folder / "plan.toml").write_text(f"instances = [\"shops/b\"]\ntakes = {takes}\n")
+        assert experiment.run().status == 0
+        assert [row.take for row in experiment.rows()] == ["3"], takes
+
+
 def test_runs_of_0_rounds_that_an_earlier_version_listed_stay(experiment: Experiment) -> None:
     (experiment.folder / "plan.toml").write_text("instances = [\"shops/b\"]\nrounds = [1]\nseeds = [1, 2]\n")
     assert experiment.run().status == 0
@@ -730,14 +738,15 @@ def test_a_program_that_waits_is_ended(top: pathlib.Path, folder: pathlib.Path) 
 
 
 def test_a_program_that_closes_its_streams_is_ended(top: pathlib.Path, folder: pathlib.Path) -> None:
-    """And so is one that has ended, but has left a process with open streams."""
+    """And so is one that has ended, but has left a process with open streams. One that waits for a second isn't."""
     (folder / "try.py").write_text(f"import sys\nsys.path.insert(0, {str(top / 'experiments')!r})\nimport others\n"
                                    "others.PATIENCE = 0.5\n"
-                                   "for words in ('exec >&- 2>&-; sleep 1000', 'sleep 1000 & echo 1'):\n    try:\n"
+                                   "for words in ('exec >&- 2>&-; sleep 1000', 'sleep 1000 & echo 1', "
+                                   "'sleep 1; echo 2'):\n    try:\n"
                                    "        print(others.run_command(['sh', '-c', words], '.', 0.1)[0].strip())\n"
                                    "    except others.Failed as failure:\n        print(failure)\n")
     got = output_of(["/usr/bin/python3", "-B", "try.py"], folder)
-    assert re.fullmatch(r"still running after \d s, instead of 0.1 s of processor time\n1\n", got), got
+    assert re.fullmatch(r"still running after \d s, instead of 0.1 s of processor time\n1\n2\n", got), got
 
 
 def test_time_is_measured_at_the_end_too(top: pathlib.Path, folder: pathlib.Path) -> None:
@@ -1211,13 +1220,16 @@ def asked(experiment: Experiment) -> Callable[..., list[str]]:
 LONG = "instances = [\"shops/a\"]\nrounds = [1000000]\npasses = [100]\nseeds = {}\n"
 SHORT = f"instances = [\"shops/b\"]\nrounds = [1]\nseeds = {list(range(1100))}\n"
 
+COMMAND = "instances = [\"shops/*\"]\nseeds = [1, 2]\nmethod = \"m\"\ncommand = \"m {instance} {seed}\"\n"
+
 
 @pytest.mark.parametrize(("plan", "words", "array"), [
     (LONG.format([1, 2, 3]), [], "1-3"), (LONG.format(list(range(1100))), [], "1-1000"), (SHORT, [], "1-1"),
     (SHORT.replace("[1]", "[1000000]").replace("shops/b", "shops/a"), ["--retry"], "1-27"),
     (PLAN, ["--tasks", "5"], "1-5"), (PLAN, ["--tasks", "50"], "1-12"), (SHORT, ["--tasks", "2000"], "1-1100"),
+    (COMMAND, [], "1-4"),
 ], ids=["long runs", "many long runs", "short runs share a task", "runs of more than a second", "fewer tasks",
-        "more tasks", "as many tasks as runs"])
+        "more tasks", "as many tasks as runs", "a command without a time"])
 def test_slurm_is_asked_for_an_array_of(plan: str, words: list[str], array: str,
                                         asked: Callable[..., list[str]]) -> None:
     """A run of 1,000,000 rounds on the first shop has 1.44 thousand million cells."""

@@ -588,9 +588,18 @@ def test_a_png_has_the_requested_size(words: tuple[str, ...], size: tuple[int, i
                                       folder: pathlib.Path) -> None:
     """Inches times dots per inch; two rows of 0.42 inches and 1.3 inches for the rest."""
     assert gantt(folder, *words, "picture.png") == Ran(b"", b"", 0)
-    png = (folder / "picture.png").read_bytes()
-    found = int.from_bytes(png[16:20], "big"), int.from_bytes(png[20:24], "big")
-    assert found == pytest.approx(size, abs=1)
+    assert size_of_png(folder / "picture.png") == pytest.approx(size, abs=1)
+
+
+def size_of_png(path: pathlib.Path) -> tuple[int, int]:
+    png = path.read_bytes()
+    return int.from_bytes(png[16:20], "big"), int.from_bytes(png[20:24], "big")
+
+
+def test_the_most_rows_are_12_inches_high(gantt: Gantt, folder: pathlib.Path) -> None:
+    case = Case("200 rows", [1], schedule_of([[1] * 200]), ())
+    assert gantt(folder, "--dpi", "20", "picture.png", text=case.text()) == Ran(b"", b"", 0)
+    assert size_of_png(folder / "picture.png") == pytest.approx((240, 266), abs=1)
 
 
 MANUAL = (pathlib.Path(__file__).resolve().parent.parent / "share" / "pfs-gantt.1").read_text()
