@@ -645,7 +645,7 @@ elif seed == "9":
     while True:
         print(line)
 elif seed == "10":
-    print(line.replace(" ", ", "))
+    print(line.replace(" ", ", ") + ",")
 """
 OTHER = """instances = ["shops/a"]
 time_factors = [10]
@@ -738,15 +738,23 @@ def test_a_program_that_waits_is_ended(top: pathlib.Path, folder: pathlib.Path) 
 
 
 def test_a_program_that_closes_its_streams_is_ended(top: pathlib.Path, folder: pathlib.Path) -> None:
-    """And so is one that has ended, but has left a process with open streams. One that waits for a second isn't."""
-    (folder / "try.py").write_text(f"import sys\nsys.path.insert(0, {str(top / 'experiments')!r})\nimport others\n"
-                                   "others.PATIENCE = 0.5\n"
-                                   "for words in ('exec >&- 2>&-; sleep 1000', 'sleep 1000 & echo 1', "
-                                   "'sleep 1; echo 2'):\n    try:\n"
-                                   "        print(others.run_command(['sh', '-c', words], '.', 0.1)[0].strip())\n"
-                                   "    except others.Failed as failure:\n        print(failure)\n")
+    """And so are one that has ended, but has left a process with open streams, and one whose short processes have taken
+    too long together. One that waits for a second isn't."""
+    (folder / "try.py").write_text(f"""
+import sys
+sys.path.insert(0, {str(top / "experiments")!r})
+import others
+others.PATIENCE = 0.5
+for words in ("exec >&- 2>&-; sleep 1000", "sleep 1000 & echo 1", "sleep 1; echo 2",
+              "for each in $(seq 60); do (for at in $(seq 10000); do :; done); done; sleep 1000"):
+    try:
+        print(others.run_command(["sh", "-c", words], ".", 0.1)[0].strip())
+    except others.Failed as failure:
+        print(failure)
+""")
     got = output_of(["/usr/bin/python3", "-B", "try.py"], folder)
-    assert re.fullmatch(r"still running after \d s, instead of 0.1 s of processor time\n1\n2\n", got), got
+    assert re.fullmatch(r"still running after \d s, instead of 0.1 s of processor time\n1\n2\n"
+                        r"took too long: \d+\.\d\d s of processor time instead of 0.1 s\n", got), got
 
 
 def test_time_is_measured_at_the_end_too(top: pathlib.Path, folder: pathlib.Path) -> None:
