@@ -95,6 +95,8 @@ INVALID = {
     "files without a command": ("instances = [\"shops/*\"]\nmethod = \"m\"\nfiles = [\"shops/*\"]\n", "files"),
     "files of another folder": (
         "instances = [\"shops/*\"]\nmethod = \"m\"\ncommand = \"a {instance}\"\nfiles = [\"/etc/passwd\"]\n", "/etc"),
+    "files beside the plan's folder": (
+        "instances = [\"shops/*\"]\nmethod = \"m\"\ncommand = \"a {instance}\"\nfiles = [\"../*/shops/a\"]\n", "../"),
     "a method with a line end": ("instances = [\"shops/*\"]\nmethod = \"a\\nb\"\n", "method"),
     "a reference without makespans": ("instances = [\"shops/*\"]\nreference = \"plan.toml\"\n", "instance, makespan"),
 }
@@ -364,6 +366,7 @@ def test_where_the_bound_is_0_there_is_no_gap(experiment: Experiment) -> None:
     assert experiment.run().status == 0
     row, = experiment.rows()
     assert (row.makespan, row.bound, row.gap_percent, row.status) == ("0", "0", "0.0000", "ok")
+    assert experiment.script("check", "out.csv").status == 0, "an optimal order is wrong"
 
 
 def test_layouts_blocks_takes_passes_and_repetitions(experiment: Experiment) -> None:
@@ -588,6 +591,11 @@ for other in (seed + 11400714819323198485, seed + 1, seed):
     print(last(999_996, seed, 6) == last(0, other % 2 ** 64, 2, before))
 """)
     assert output_of(["/usr/bin/python3", "try.py"], folder) == "True\nFalse\nFalse\n", "the seed of the second part"
+
+
+def test_no_round_begins_after_the_time(top: pathlib.Path) -> None:
+    code = "import time, timed; print([*timed.counts(time.process_time() - 1, 0.5)])"
+    assert output_of(["/usr/bin/python3", "-B", "-c", code], top / "experiments") == "[]\n"
 
 
 def test_an_instance_that_pfs_rejects_fails_by_time_too(experiment: Experiment, with_library: dict[str, str]) -> None:
@@ -1040,6 +1048,15 @@ def test_over_ssh_all_runs_are_made_on_the_other_machine(made_over_ssh: tuple[Ex
 @over_ssh
 def test_over_ssh_nothing_is_left_there(made_over_ssh: tuple[Experiment, Done], ssh_server: Server) -> None:
     assert [path.name for path in ssh_server.home.iterdir() if path.name != ".parallel"] == []
+
+
+def test_the_copies_on_other_machines_stay_while_runs_are_left(experiment: Experiment) -> None:
+    """With a replacement of GNU parallel that makes no run."""
+    (experiment.folder / "bin").mkdir()
+    write_script(experiment.folder / "bin" / "parallel", f"#!/bin/sh\necho \"$*\" >> {experiment.folder}/calls\n")
+    got = experiment.run("out.csv", "--sshloginfile", "machines", env=with_path(experiment.folder / "bin"))
+    assert got == Done(1, "", "out.csv: 0 runs, 0 of them failed, 12 still to run\n")
+    assert "--nonall" not in (experiment.folder / "calls").read_text()
 
 
 # Slurm

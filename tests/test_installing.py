@@ -381,7 +381,12 @@ def test_a_release_by_its_changelog_has_its_number_alone(copy: Copy, folder: pat
     changes.write_text(changes.read_text().replace("## [Unreleased]\n", ""))
     try:
         assert release(copy)[0].version == version(copy)
+        text = changes.read_text()
+        changes.write_text(text.replace(f"## [{VERSION}]", f"## [{VERSION}1]"))
         copy.git("commit", "-q", "-a", "-m", "The release")
+        assert release(copy)[0].version == version(copy), "the changelog begins with another version"
+        changes.write_text(text)
+        copy.git("commit", "-q", "-a", "--amend", "-m", "The release")
         found, messages = release(copy)
         assert (found.version, messages) == (VERSION, "")
         copy.git("tag", f"v{VERSION}", "HEAD~1")
@@ -415,7 +420,7 @@ def test_a_maintainer_whose_address_nobody_reads(copy: Copy) -> None:
 
 
 @pytest.mark.parametrize("name", ["README.md", "docs/PROOFS.md", "crates/pfs_base/src/another.rt", "lib/another.c",
-                                  "debian/another.install"])
+                                  "debian/another.install", ".gitattributes"])
 def test_changes_that_are_not_committed(name: str, copy: Copy) -> None:
     path = copy.top / name
     before = path.read_text() if path.exists() else None

@@ -444,6 +444,13 @@ def test_holms_correction_is_for_all_pairs(report: Reported, folder: pathlib.Pat
     assert corrected == pytest.approx([6 / 64, 12 / 64, 34 / 64], rel=1e-3), "p with Holm's correction"
 
 
+def test_no_corrected_probability_is_less_than_one_before(top: pathlib.Path) -> None:
+    """Nor is one greater than 1."""
+    code = "import comparison; print([comparison.holm([0.04, None, 0.03, 0.05]), comparison.holm([0.9, 0.5])])"
+    got = run_tool(["/usr/bin/python3", "-B", "-c", code], top / "experiments")
+    assert got == Done(0, "[[0.09, None, 0.09, 0.09], [1.0, 1.0]]\n", "")
+
+
 def test_settings_of_one_method_are_compared(report: Reported, folder: pathlib.Path) -> None:
     """Take 2 and take 4 of the same rounds. Settings with other rounds aren't compared."""
     text = OLD_HEAD + "\n" + "".join(f"i{at},20,5,{rounds},{take},0,1,1,{1000 + take * at - rounds},900,1.0,1,0.1,ok\n"
