@@ -199,6 +199,14 @@ def test_a_program_that_is_not_pfs_is_rejected(text: str, made: Experiment) -> N
     assert sorted(os.listdir(made.folder)) == before
 
 
+def test_a_program_that_hangs_is_not_pfs(top: pathlib.Path, folder: pathlib.Path) -> None:
+    """It is ended, here after a tenth of a second."""
+    program = write_script(folder / "hangs", "#!/bin/sh\nexec sleep 60\n")
+    code = ("import commands, sys, time; commands.PATIENCE = 0.1; begun = time.monotonic(); "
+            "print(commands.prints(sys.argv[1], b'1'), time.monotonic() - begun < 30)")
+    assert output_of(["/usr/bin/python3", "-B", "-c", code, program], top / "experiments") == "False True\n"
+
+
 DAMAGED = {
     "a plan that isn't JSON": ("plan.json", b"{"),
     "a plan that is a list": ("plan.json", b"[]"),

@@ -140,6 +140,12 @@ def test_a_report_has_its_table_and_its_plots(ending: str, report: Reported, fol
         assert picture.startswith(BEGINNINGS[ending]) and len(picture) > 5000, name
 
 
+def test_of_runs_that_all_failed_there_is_only_the_table(report: Reported, folder: pathlib.Path) -> None:
+    got = report(OLD_HEAD + "\na,20,5,0,4,0,1,1,,,,,,solve: signal 9\n")
+    assert got == Done(1, "", "experiments/report: no run succeeded: nothing to plot\n")
+    assert sorted(os.listdir(folder / "report")) == ["table.csv", "table.md"]
+
+
 def test_pictures_are_png_by_default(report: Reported, folder: pathlib.Path) -> None:
     assert report(REPORTED).status == 0
     made = sorted(path.name for path in (folder / "report").iterdir())
@@ -254,6 +260,9 @@ def test_the_rpd_is_relative_to_the_reference(report: Reported, folder: pathlib.
     assert percents(folder, "greatest_rpd_percent") == ["", "140.000", "114.000", "", ""]
     assert got.stdout.endswith("\n\nRPD: relative to the makespan in best.csv.\n"
                                 "1 runs of 1 instances have no reference, and no RPD: c.\n")
+    (folder / "best.csv").write_text("instance,makespan\na,7\nsome/folder/a,100\nb,50\n")
+    assert report(REPORTED.replace("\na,", "\nsome/folder/a,"), "--reference", "best.csv").status == 0
+    assert percents(folder) == ["", "75.000", "56.500", "", ""], "its whole path goes before the last part"
 
 
 def test_the_rpd_is_relative_to_the_column_of_the_csv(report: Reported, folder: pathlib.Path) -> None:

@@ -16,13 +16,14 @@ import signal
 import subprocess
 import sys
 import time
+import types
 from collections.abc import Callable, Iterator
 from typing import Any
 
 import pfs
 import plainly
 import pytest
-from pfs import _commands, _library, _state
+from pfs import _commands, _library, _search, _state
 
 # A search that would take minutes.
 LONG = ["search", "shop", "--layout", "taillard"]
@@ -422,6 +423,19 @@ def test_progress_is_reported_on_a_terminal_only(folder: pathlib.Path) -> None:
     assert lines[0] == f"round 0 of 400, makespan {shop.neh().makespan}, bound {shop.bound()}"
     assert lines[-1].startswith(f"round 400 of 400, makespan {shop.solve(400).makespan}, bound {shop.bound()}, 0:00:0")
     assert lines[-1].endswith(" left") and got.endswith("\r\x1b[K") and "\n" not in got
+
+
+def test_the_time_that_is_left_depends_on_the_rounds_of_this_search(monkeypatch: pytest.MonkeyPatch) -> None:
+    """And not on those of the state that it continues."""
+    now, lines = [0.0], list[str]()
+    monkeypatch.setattr(_commands, "time", types.SimpleNamespace(monotonic=lambda: now[0]))
+    progress = _commands.ProgressLine(pfs.taillard(1), 400, _search.Pace(None))
+    monkeypatch.setattr(progress, "shown", True)
+    monkeypatch.setattr(progress, "show", lines.append)
+    progress.update(100, 1278)
+    now[0] = 10.0
+    progress.update(200, 1278)
+    assert not lines[0].endswith("left") and lines[1].endswith(", 0:00:20 left")
 
 
 @pytest.mark.parametrize(("words", "status", "error"), [
