@@ -209,6 +209,18 @@ def test_a_crate_that_fails_is_reported_and_none_above_it_begins(repository: pat
     assert not any("app" in line for line in notes(repository))
 
 
+def test_ctrl_c_has_its_status(top: pathlib.Path, monkeypatch: pytest.MonkeyPatch) -> None:
+    module = imported(top / "tools" / "build")
+
+    def interrupt(*_: object) -> int:
+        raise KeyboardInterrupt
+
+    monkeypatch.setattr(module, "build_all", interrupt)
+    monkeypatch.setattr(module, "sys", type("none", (), {"argv": ["build"]}))
+    monkeypatch.setattr(module.shutil, "which", str)
+    assert module.main() == 130
+
+
 def test_an_unknown_crate_is_rejected(repository: pathlib.Path) -> None:
     done = build(repository, "none")
     assert (done.returncode, done.stdout, done.stderr) == (1, "", "build: no crate none in crates.txt\n")

@@ -1214,10 +1214,10 @@ def test_a_task_that_ran_out_of_time_is_reported_by_its_last_run(experiment: Exp
 
 
 def test_the_last_array_says_how_a_run_ended(top: pathlib.Path, folder: pathlib.Path) -> None:
-    """By the times of the logs; numbers of arrays have more and more digits."""
+    """By the times of the logs, which may have any bytes; numbers of arrays have more and more digits."""
     (folder / "slurm").mkdir()
     for age, name in enumerate(("9-1.log", "10-1.log")):
-        (folder / "slurm" / name).write_text(f"run 1\nslurmstepd: error: {name}\n")
+        (folder / "slurm" / name).write_bytes(b"\xff\nrun 1\nslurmstepd: error: %s\n" % name.encode())
         os.utime(folder / "slurm" / name, (age, age))
     code = "import pathlib, sys, results; print(results.endings(pathlib.Path(sys.argv[1])))"
     assert output_of(["/usr/bin/python3", "-B", "-c", code, folder], top / "experiments") == "{'1': 'lost: 10-1.log'}\n"

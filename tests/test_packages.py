@@ -194,6 +194,8 @@ def test_the_sums_are_signed_by_gnupg(copy: Copy, folder: pathlib.Path) -> None:
         assert run_tool(words, folder, env=copy.env | home).status == 0
         line = line_of_install("^gpg --verify .*$", copy)
         assert signed(copy, folder / "SHA256SUMS", "A Tester", line, **home) == "SHA256SUMS.asc"
+        assert output_of([copy.top / "tools" / "sign", "SHA256SUMS"], folder, env=copy.env) == ""
+        assert not (folder / "SHA256SUMS.asc").exists(), "a signature of other sums is left"
     finally:
         run_tool(["gpgconf", "--kill", "all"], folder, env=copy.env | home)
 

@@ -362,6 +362,8 @@ def test_instances_without_a_reference_have_no_rpd(methods: Reported, folder: pa
     assert percents(folder) == ["10.150", ""]
     assert "\n6 runs of 3 instances have no reference, and no RPD: I0, I1, I2.\n" in got.stdout
     assert compared(folder) == []
+    assert ": I0, I1, I2, I3, I4, I5, I6, I7, I8, I9, ...\n" in methods(
+        texts[0], head + "".join(f"I{at},1,1,\n" for at in range(12))).stdout
 
 
 def test_a_reference_has_one_makespan_of_an_instance(report: Reported, folder: pathlib.Path) -> None:
