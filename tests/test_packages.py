@@ -150,6 +150,7 @@ def test_the_spdx_file_states_what_is_built_in(made: Made, copy: Copy, pfs: Prog
     packages = {each["name"]: each for each in bill["packages"]}
     assert packages.keys() == {"pfs", "rattle-kit"} | KITS_CRATES
     assert packages["pfs"]["versionInfo"] == version(copy) and packages["rattle-kit"]["versionInfo"] == copy.kit()
+    assert {packages[name]["versionInfo"] for name in KITS_CRATES} == {f"port in {copy.kit()}"}
     assert head(copy) in packages["pfs"]["sourceInfo"]
     program, library = bill["files"]
     sums = {each["algorithm"]: each["checksumValue"] for each in program["checksums"]}

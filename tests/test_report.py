@@ -628,6 +628,7 @@ def test_rounds_have_a_logarithmic_scale(report: Reported, folder: pathlib.Path)
         assert steps == pytest.approx([steps[0]] * 3, rel=0.01), f"distances in {name}.svg"
 
 
+@pytest.mark.seconds(6)
 @pytest.mark.parametrize("ending", ["svg", "pdf"])
 def test_a_report_made_again_has_the_same_bytes(ending: str, top: pathlib.Path, matplotlib: None,
                                                 folder: pathlib.Path) -> None:

@@ -287,6 +287,7 @@ def test_times_of_tables_above_the_longest_one(tmp_path: pathlib.Path, cell: str
         pfs.read_csv(written(tmp_path, f"job,saw\na,{cell}\n"))
 
 
+@pytest.mark.seconds(4)
 def test_the_largest_tables(tmp_path: pathlib.Path) -> None:
     rows = ["job," + ",".join(f"m{at}" for at in range(200)), *(f"j{at}" + ",1" * 200 for at in range(5_000))]
     shop = pfs.read_csv(written(tmp_path, "\n".join(rows)))
