@@ -104,8 +104,9 @@ def test_what_others_have_installed_stays(copy: Copy, folder: pathlib.Path) -> N
     other.write_text("another page\n")
     assert copy.make("install", f"PREFIX={folder}").status == 0
     assert set(files_below(folder)) == {*PLACES, NOTES, "share/man/man1/other.1"}
-    assert copy.make("uninstall", f"PREFIX={folder}").status == 0
-    assert set(files_below(folder)) == {"share/man/man1/other.1"}
+    (folder / "share" / "doc" / "pfs" / "mine").touch()
+    assert copy.make("uninstall", f"PREFIX={folder}") == Done(0, "", "")
+    assert set(files_below(folder)) == {"share/man/man1/other.1", "share/doc/pfs/mine"}
 
 
 # Some of the folders that Debian makes before anything is installed in them.
@@ -159,6 +160,12 @@ def test_the_installed_experiments_name_their_scripts(installed: Installed, fold
     assert sorted(got.stderr.removeprefix("usage: pfs-experiments ").split(" ")[0].split("|")) == wanted
 
 
+def test_the_installed_experiments_find_pfs_beside_them(installed: Installed, folder: pathlib.Path) -> None:
+    """If it isn't on the path."""
+    output_of([installed.prefix / "bin" / "pfs-experiments", "taillard", "all"], folder, env={"PATH": "/usr/bin:/bin"})
+    assert len(list((folder / "all").iterdir())) == 120
+
+
 @pytest.mark.parametrize("words", ["one", "plan.py", "../tools/gantt", "taillard.csv", "no"])
 def test_what_is_no_script_of_experiments_is_refused(words: str, installed: Installed, folder: pathlib.Path) -> None:
     got = run_tool(["pfs-experiments", words], folder, env=tools_of(installed.prefix))
@@ -176,7 +183,6 @@ def test_the_installed_experiments_run_and_report(installed: Installed, folder: 
         assert run_tool(["pfs-experiments", *words.split()], folder, env=env).status == 0, words
     with open(folder / "runs.csv", newline="") as file:
         statuses = [row["status"] for row in csv.DictReader(file)]
-    assert len(list((folder / "all").iterdir())) == 120
     assert statuses == ["ok"] * 4
     assert (folder / "report" / "table.md").exists()
 
