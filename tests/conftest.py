@@ -48,6 +48,12 @@ def pytest_configure(config: pytest.Config) -> None:
         raise pytest.UsageError(f"no program {path}: `make run` proves and builds it, or --pfs=PATH names another one")
 
 
+@pytest.hookimpl(optionalhook=True)  # type: ignore[misc]  # pluggy has no types
+def pytest_xdist_auto_num_workers() -> int | None:
+    """For `-n auto` one more than there are processors: some tests wait for servers, for terminals or for a time."""
+    return None if os.environ.get("PYTEST_XDIST_AUTO_NUM_WORKERS") else len(os.sched_getaffinity(0)) + 1
+
+
 @pytest.hookimpl(tryfirst=True)  # type: ignore[misc]  # pluggy has no types
 def pytest_collection_modifyitems(items: list[pytest.Item]) -> None:
     """Marks the tests that `make check` runs, and puts the longest tests first."""

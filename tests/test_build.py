@@ -1,19 +1,16 @@
 """tools/build in a small repository, with a program that replaces `rt` and notes each call: crates are built after
 their dependencies, in parallel if possible, and the result is reported."""
-import importlib.machinery
-import importlib.util
 import os
 import pathlib
 import re
 import shutil
 import subprocess
-import sys
 from collections.abc import Callable
 from concurrent.futures import Future
 from typing import Any
 
 import pytest
-from support.tools import write_script
+from support.tools import imported, write_script
 
 CRATES = """low: thiserror
 left: low
@@ -158,20 +155,6 @@ def test_of_crates_that_may_begin_the_one_with_the_longest_chain_goes_first(
     assert " ".join(begun) == due
 
 
-def imported(path: pathlib.Path) -> Any:
-    """A script as a module."""
-    loader = importlib.machinery.SourceFileLoader("build_script", str(path))
-    spec = importlib.util.spec_from_loader("build_script", loader)
-    assert spec is not None
-    module = importlib.util.module_from_spec(spec)
-    before, sys.dont_write_bytecode = sys.dont_write_bytecode, True
-    try:
-        loader.exec_module(module)
-    finally:
-        sys.dont_write_bytecode = before
-    return module
-
-
 def test_each_crate_is_reported_with_its_time_and_the_number_left(repository: pathlib.Path) -> None:
     got = re.sub(r" in \d+:\d\d minutes", "", build(repository, "app").stderr)
     crates, ended = zip(*(line.split(": ") for line in got.splitlines()))
@@ -224,6 +207,18 @@ def test_a_crate_that_fails_is_reported_and_none_above_it_begins(repository: pat
     log = repository / "crates" / "left" / "out" / "build.log"
     assert f"build: left failed with status 1; see the output above or {log}" in done.stderr.splitlines()
     assert not any("app" in line for line in notes(repository))
+
+
+def test_ctrl_c_has_its_status(top: pathlib.Path, monkeypatch: pytest.MonkeyPatch) -> None:
+    module = imported(top / "tools" / "build")
+
+    def interrupt(*_: object) -> int:
+        raise KeyboardInterrupt
+
+    monkeypatch.setattr(module, "build_all", interrupt)
+    monkeypatch.setattr(module, "sys", type("none", (), {"argv": ["build"]}))
+    monkeypatch.setattr(module.shutil, "which", str)
+    assert module.main() == 130
 
 
 def test_an_unknown_crate_is_rejected(repository: pathlib.Path) -> None:

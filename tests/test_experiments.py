@@ -95,6 +95,8 @@ INVALID = {
     "files without a command": ("instances = [\"shops/*\"]\nmethod = \"m\"\nfiles = [\"shops/*\"]\n", "files"),
     "files of another folder": (
         "instances = [\"shops/*\"]\nmethod = \"m\"\ncommand = \"a {instance}\"\nfiles = [\"/etc/passwd\"]\n", "/etc"),
+    "files beside the plan's folder": (
+        "instances = [\"shops/*\"]\nmethod = \"m\"\ncommand = \"a {instance}\"\nfiles = [\"../*/shops/a\"]\n", "../"),
     "a method with a line end": ("instances = [\"shops/*\"]\nmethod = \"a\\nb\"\n", "method"),
     "a reference without makespans": ("instances = [\"shops/*\"]\nreference = \"plan.toml\"\n", "instance, makespan"),
 }
@@ -195,6 +197,14 @@ def test_a_program_that_is_not_pfs_is_rejected(text: str, made: Experiment) -> N
         assert (got.status, got.stdout) == (2, "")
         assert re.fullmatch("experiments/(run|check): .*/program is not pfs: .*\n", got.stderr), got.stderr[-500:]
     assert sorted(os.listdir(made.folder)) == before
+
+
+def test_a_program_that_hangs_is_not_pfs(top: pathlib.Path, folder: pathlib.Path) -> None:
+    """It is ended, here after a tenth of a second."""
+    program = write_script(folder / "hangs", "#!/bin/sh\nexec sleep 60\n")
+    code = ("import commands, sys, time; commands.PATIENCE = 0.1; begun = time.monotonic(); "
+            "print(commands.prints(sys.argv[1], b'1'), time.monotonic() - begun < 30)")
+    assert output_of(["/usr/bin/python3", "-B", "-c", code, program], top / "experiments") == "False True\n"
 
 
 DAMAGED = {
@@ -364,6 +374,7 @@ def test_where_the_bound_is_0_there_is_no_gap(experiment: Experiment) -> None:
     assert experiment.run().status == 0
     row, = experiment.rows()
     assert (row.makespan, row.bound, row.gap_percent, row.status) == ("0", "0", "0.0000", "ok")
+    assert experiment.script("check", "out.csv").status == 0, "an optimal order is wrong"
 
 
 def test_layouts_blocks_takes_passes_and_repetitions(experiment: Experiment) -> None:
@@ -478,6 +489,14 @@ def test_a_search_of_0_rounds_is_made_once(experiment: Experiment) -> None:
     assert len(experiment.rows()) == len(experiment.started()) == 2 + 16
 
 
+def test_a_search_of_0_rounds_is_made_once_if_the_plan_grows(experiment: Experiment) -> None:
+    """By a take that comes before those that are there."""
+    for takes in ("[3]", "[2, 3]"):
+        (experiment.folder / "plan.toml").write_text(f"instances = [\"shops/b\"]\ntakes = {takes}\n")
+        assert experiment.run().status == 0
+        assert [row.take for row in experiment.rows()] == ["3"], takes
+
+
 def test_runs_of_0_rounds_that_an_earlier_version_listed_stay(experiment: Experiment) -> None:
     (experiment.folder / "plan.toml").write_text("instances = [\"shops/b\"]\nrounds = [1]\nseeds = [1, 2]\n")
     assert experiment.run().status == 0
@@ -491,7 +510,8 @@ def test_runs_of_0_rounds_that_an_earlier_version_listed_stay(experiment: Experi
     assert [(row.rounds, row.seed) for row in experiment.rows()] == [("0", "1"), ("0", "2"), ("2", "1"), ("2", "2")]
 
 
-HOSTILE = ["=1+1", "+1", "-1", "@SUM(1)", "=cmd|' /C calc'!A0", "a=b", "<b>&", "a|b", "\x1b[31m", "a,b", 'a"b', "$x$"]
+HOSTILE = ["=1+1", "+1", "-1", "@SUM(1)", "=cmd|' /C calc'!A0", "a=b", "<b>&", "a|b", "\x1b[31m", "a,b", 'a"b', "$x$",
+           "\u00e4" * 120]
 
 
 def test_names_of_instances_are_not_formulas_in_a_spreadsheet(experiment: Experiment) -> None:
@@ -581,6 +601,11 @@ for other in (seed + 11400714819323198485, seed + 1, seed):
     assert output_of(["/usr/bin/python3", "try.py"], folder) == "True\nFalse\nFalse\n", "the seed of the second part"
 
 
+def test_no_round_begins_after_the_time(top: pathlib.Path) -> None:
+    code = "import time, timed; print([*timed.counts(time.process_time() - 1, 0.5)])"
+    assert output_of(["/usr/bin/python3", "-B", "-c", code], top / "experiments") == "[]\n"
+
+
 def test_an_instance_that_pfs_rejects_fails_by_time_too(experiment: Experiment, with_library: dict[str, str]) -> None:
     (experiment.folder / "shops" / "c").write_text("no instance\n")
     (experiment.folder / "plan.toml").write_text("instances = [\"shops/c\"]\ntime_factors = [0.001]\n")
@@ -636,7 +661,7 @@ elif seed == "9":
     while True:
         print(line)
 elif seed == "10":
-    print(line.replace(" ", ", "))
+    print(line.replace(" ", ", ") + ",")
 """
 OTHER = """instances = ["shops/a"]
 time_factors = [10]
@@ -729,14 +754,23 @@ def test_a_program_that_waits_is_ended(top: pathlib.Path, folder: pathlib.Path) 
 
 
 def test_a_program_that_closes_its_streams_is_ended(top: pathlib.Path, folder: pathlib.Path) -> None:
-    """And so is one that has ended, but has left a process with open streams."""
-    (folder / "try.py").write_text(f"import sys\nsys.path.insert(0, {str(top / 'experiments')!r})\nimport others\n"
-                                   "others.PATIENCE = 0.5\n"
-                                   "for words in ('exec >&- 2>&-; sleep 1000', 'sleep 1000 & echo 1'):\n    try:\n"
-                                   "        print(others.run_command(['sh', '-c', words], '.', 0.1)[0].strip())\n"
-                                   "    except others.Failed as failure:\n        print(failure)\n")
+    """And so are one that has ended, but has left a process with open streams, and one whose short processes have taken
+    too long together. One that waits for a second isn't."""
+    (folder / "try.py").write_text(f"""
+import sys
+sys.path.insert(0, {str(top / "experiments")!r})
+import others
+others.PATIENCE = 0.5
+for words in ("exec >&- 2>&-; sleep 1000", "sleep 1000 & echo 1", "sleep 1; echo 2",
+              "for each in $(seq 60); do (for at in $(seq 10000); do :; done); done; sleep 1000"):
+    try:
+        print(others.run_command(["sh", "-c", words], ".", 0.1)[0].strip())
+    except others.Failed as failure:
+        print(failure)
+""")
     got = output_of(["/usr/bin/python3", "-B", "try.py"], folder)
-    assert re.fullmatch(r"still running after \d s, instead of 0.1 s of processor time\n1\n", got), got
+    assert re.fullmatch(r"still running after \d s, instead of 0.1 s of processor time\n1\n2\n"
+                        r"took too long: \d+\.\d\d s of processor time instead of 0.1 s\n", got), got
 
 
 def test_time_is_measured_at_the_end_too(top: pathlib.Path, folder: pathlib.Path) -> None:
@@ -804,6 +838,17 @@ def test_a_killed_run_is_reported_and_made_by_the_next_start(experiment: Experim
     (experiment.folder / "fixed").touch()
     assert experiment.run().status == 0
     assert experiment.rows() == experiment.wanted(rounds=[10])
+
+
+def test_ten_kinds_of_errors_are_reported(experiment: Experiment) -> None:
+    """Of twelve, which differ in a word, that stands for the seed."""
+    program = write_script(experiment.folder / "program", f"""#!/bin/sh
+case $1 in solve) echo "fault $(echo "$*" | sed 's/.*--seed \\([0-9]*\\).*/\\1/' | tr 0-9 a-j)" >&2; exit 2;; esac
+exec {experiment.pfs.path} "$@"
+""")
+    (experiment.folder / "plan.toml").write_text(f"instances = [\"shops/b\"]\nrounds = [1]\nseeds = {[*range(12)]}\n")
+    *lines, more, _ = experiment.run(program=program).stderr.splitlines()
+    assert (len(lines), more) == (10, "2 more kinds of errors") and lines[9].endswith("exit 2, fault j")
 
 
 MEMORY = """#!/bin/sh
@@ -1013,6 +1058,15 @@ def test_over_ssh_nothing_is_left_there(made_over_ssh: tuple[Experiment, Done], 
     assert [path.name for path in ssh_server.home.iterdir() if path.name != ".parallel"] == []
 
 
+def test_the_copies_on_other_machines_stay_while_runs_are_left(experiment: Experiment) -> None:
+    """With a replacement of GNU parallel that makes no run."""
+    (experiment.folder / "bin").mkdir()
+    write_script(experiment.folder / "bin" / "parallel", f"#!/bin/sh\necho \"$*\" >> {experiment.folder}/calls\n")
+    got = experiment.run("out.csv", "--sshloginfile", "machines", env=with_path(experiment.folder / "bin"))
+    assert got == Done(1, "", "out.csv: 0 runs, 0 of them failed, 12 still to run\n")
+    assert "--nonall" not in (experiment.folder / "calls").read_text()
+
+
 # Slurm
 
 def number_of(got: str) -> str:
@@ -1159,6 +1213,16 @@ def test_a_task_that_ran_out_of_time_is_reported_by_its_last_run(experiment: Exp
     assert second.status == "lost: *** JOB 7 ON host CANCELLED AT 2026-11-23T19:00:00 DUE TO TIME LIMIT ***"
 
 
+def test_the_last_array_says_how_a_run_ended(top: pathlib.Path, folder: pathlib.Path) -> None:
+    """By the times of the logs, which may have any bytes; numbers of arrays have more and more digits."""
+    (folder / "slurm").mkdir()
+    for age, name in enumerate(("9-1.log", "10-1.log")):
+        (folder / "slurm" / name).write_bytes(b"\xff\nrun 1\nslurmstepd: error: %s\n" % name.encode())
+        os.utime(folder / "slurm" / name, (age, age))
+    code = "import pathlib, sys, results; print(results.endings(pathlib.Path(sys.argv[1])))"
+    assert output_of(["/usr/bin/python3", "-B", "-c", code, folder], top / "experiments") == "{'1': 'lost: 10-1.log'}\n"
+
+
 @on_slurm
 def test_on_slurm_the_line_of_a_dry_run_makes_the_runs(experiment: Experiment, slurm: Cluster) -> None:
     """In one task, as they are short. The same command then writes the CSV, and submits nothing."""
@@ -1189,13 +1253,16 @@ def asked(experiment: Experiment) -> Callable[..., list[str]]:
 LONG = "instances = [\"shops/a\"]\nrounds = [1000000]\npasses = [100]\nseeds = {}\n"
 SHORT = f"instances = [\"shops/b\"]\nrounds = [1]\nseeds = {list(range(1100))}\n"
 
+COMMAND = "instances = [\"shops/*\"]\nseeds = [1, 2]\nmethod = \"m\"\ncommand = \"m {instance} {seed}\"\n"
+
 
 @pytest.mark.parametrize(("plan", "words", "array"), [
     (LONG.format([1, 2, 3]), [], "1-3"), (LONG.format(list(range(1100))), [], "1-1000"), (SHORT, [], "1-1"),
     (SHORT.replace("[1]", "[1000000]").replace("shops/b", "shops/a"), ["--retry"], "1-27"),
     (PLAN, ["--tasks", "5"], "1-5"), (PLAN, ["--tasks", "50"], "1-12"), (SHORT, ["--tasks", "2000"], "1-1100"),
+    (COMMAND, [], "1-4"),
 ], ids=["long runs", "many long runs", "short runs share a task", "runs of more than a second", "fewer tasks",
-        "more tasks", "as many tasks as runs"])
+        "more tasks", "as many tasks as runs", "a command without a time"])
 def test_slurm_is_asked_for_an_array_of(plan: str, words: list[str], array: str,
                                         asked: Callable[..., list[str]]) -> None:
     """A run of 1,000,000 rounds on the first shop has 1.44 thousand million cells."""

@@ -359,13 +359,15 @@ def test_the_edges_of_bars_leave_an_operation_of_one_unit_to_be_seen(case: Case,
 @pytest.mark.parametrize("width", ["12", "50"])
 def test_the_outline_of_the_path_leaves_an_operation_of_one_unit_to_be_seen(width: str, gantt: Gantt,
                                                                             folder: pathlib.Path) -> None:
-    """Half of its line lies on the first operation that it surrounds."""
+    """Half of its line lies on the first and on the last operation that it surrounds, each a unit long here."""
     case = Case("one unit", [1, 2], schedule_of([[1, 300], [2, 1]]), ("--critical", "--width", width))
     assert gantt(folder, *case.options, "picture.svg", text=case.text()) == Ran(b"", b"", 0)
     picture = Picture(folder / "picture.svg")
-    (_, style), = picture.shapes("critical-1")
-    line, unit = float(value_of(style, "stroke-width")), picture.across().on_picture(1)
-    assert 0.7 < line < max(0.9, 0.55 * unit), (line, unit)
+    unit = picture.across().on_picture(1)
+    for machine in case.machines():
+        (_, style), = picture.shapes(f"critical-{machine + 1}")
+        line = float(value_of(style, "stroke-width"))
+        assert 0.7 < line < max(0.9, 0.55 * unit), (machine, line, unit)
 
 
 # Numbers on bars
@@ -586,9 +588,18 @@ def test_a_png_has_the_requested_size(words: tuple[str, ...], size: tuple[int, i
                                       folder: pathlib.Path) -> None:
     """Inches times dots per inch; two rows of 0.42 inches and 1.3 inches for the rest."""
     assert gantt(folder, *words, "picture.png") == Ran(b"", b"", 0)
-    png = (folder / "picture.png").read_bytes()
-    found = int.from_bytes(png[16:20], "big"), int.from_bytes(png[20:24], "big")
-    assert found == pytest.approx(size, abs=1)
+    assert size_of_png(folder / "picture.png") == pytest.approx(size, abs=1)
+
+
+def size_of_png(path: pathlib.Path) -> tuple[int, int]:
+    png = path.read_bytes()
+    return int.from_bytes(png[16:20], "big"), int.from_bytes(png[20:24], "big")
+
+
+def test_the_most_rows_are_12_inches_high(gantt: Gantt, folder: pathlib.Path) -> None:
+    case = Case("200 rows", [1], schedule_of([[1] * 200]), ())
+    assert gantt(folder, "--dpi", "20", "picture.png", text=case.text()) == Ran(b"", b"", 0)
+    assert size_of_png(folder / "picture.png") == pytest.approx((240, 266), abs=1)
 
 
 MANUAL = (pathlib.Path(__file__).resolve().parent.parent / "share" / "pfs-gantt.1").read_text()

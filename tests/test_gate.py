@@ -35,9 +35,9 @@ def repository(top: pathlib.Path, folder: pathlib.Path) -> pathlib.Path:
     return folder
 
 
-def run(repository: pathlib.Path, is_built: bool, failing: str = "") -> tuple[Done, list[str]]:
+def run(repository: pathlib.Path, is_built: bool, failing: str = "", **more: str) -> tuple[Done, list[str]]:
     """What tools/test prints, and the calls that it makes."""
-    env = with_path(repository / "bin") | {"OUTDATED": str(int(not is_built)), "FAILING": failing}
+    env = with_path(repository / "bin") | {"OUTDATED": str(int(not is_built)), "FAILING": failing, **more}
     got = run_tool([repository / "tools" / "test"], repository, env=env)
     return got, (repository / "calls").read_text().splitlines()
 
@@ -54,6 +54,11 @@ def test_the_layers(repository: pathlib.Path, is_built: bool) -> None:
     assert (got.status, calls) == (0, LAYERS[is_built]), got
     assert times(got) == [(name, "") for name in [*(NAMES[call] for call in calls), "total"]]
     assert ("quick waits" in got.stdout) != is_built
+
+
+def test_the_total_is_in_minutes_and_seconds(repository: pathlib.Path) -> None:
+    """If bash begins to count at 3,725 seconds."""
+    assert re.search(r"^total +62:\d\d$", run(repository, True, SECONDS="3725")[0].stdout, re.MULTILINE)
 
 
 @pytest.mark.parametrize("is_built", [True, False], ids=["built", "not built"])

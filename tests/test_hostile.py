@@ -4,6 +4,7 @@ lines. Then the greatest instance, with the longest times: the exact output, wit
 or of a time table. The program gets no more address space than that, and its resident memory is checked too."""
 import pathlib
 from collections.abc import Callable, Iterable, Iterator
+from typing import Any
 
 import pytest
 from support.files import FILES
@@ -29,6 +30,8 @@ ORDER_TOO_LONG = b"pfs: order file too long\n"
 FILLS = {b"7": COUNT, b" ": NONE, b"\n": NONE, b"x": NONE, b"\0": NONE, b"\xff": NONE, b"7 ": COUNT}
 # Each command over the three jobs.
 COMMANDS = {line.split(" ")[0]: line for line in (VALUE, SOLVE, CHECK, TABLE, CONVERT)}
+# Those of which no time is compared.
+OTHERS = [command for command in COMMANDS if command != "value"]
 
 
 def words_of(command: str, file: pathlib.Path, order: pathlib.Path | None = None) -> list[str]:
@@ -79,9 +82,13 @@ class Fill:
         write_repeated(self.path, part, SIZE)
 
 
-@pytest.fixture(scope="module", params=[
-    pytest.param(part, id=f"64 MiB of {part!r}", marks=pytest.mark.xdist_group(f"64 MiB of {part!r}")) for part in FILLS
-])
+def filled(part: bytes, *more: str) -> Any:
+    """A parameter of the tests of this fill, which one process makes."""
+    return pytest.param(part, *more, id=" ".join([f"64 MiB of {part!r}", *more]),
+                        marks=pytest.mark.xdist_group(f"64 MiB of {part!r}"))
+
+
+@pytest.fixture(scope="module", params=map(filled, FILLS))
 def fill(request: pytest.FixtureRequest, tmp_path_factory: pytest.TempPathFactory) -> Iterator[Fill]:
     made = Fill(tmp_path_factory.mktemp("fill"), request.param)
     yield made
@@ -97,7 +104,8 @@ def test_a_fill_in_linear_time(pfs: Program, folder: pathlib.Path, fill: Fill) -
 
 
 @pytest.mark.seconds(3)
-@pytest.mark.parametrize("command", COMMANDS)
+@pytest.mark.parametrize(("fill", "command"), [filled(part, command) for part in (b"x", b"7 ") for command in OTHERS],
+                         indirect=["fill"])
 def test_a_fill(pfs: Program, small: pathlib.Path, fill: Fill, command: str) -> None:
     run_large(pfs, words_of(command, fill.path, small / "best"), small, [], fill.told, 2)
 
@@ -157,7 +165,7 @@ def test_a_line_in_linear_time(pfs: Program, folder: pathlib.Path, one_line: pat
 
 @ONE_LINE
 @pytest.mark.seconds(3)
-@pytest.mark.parametrize("command", COMMANDS)
+@pytest.mark.parametrize("command", OTHERS)
 def test_a_line(pfs: Program, small: pathlib.Path, one_line: pathlib.Path, command: str) -> None:
     answer = ANSWERS[COMMANDS[command]]
     run_large(pfs, words_of(command, one_line, small / "best"), small, [answer.stdout], b"", 0)
@@ -262,7 +270,7 @@ def test_many_lines_in_linear_time(pfs: Program, folder: pathlib.Path, many_line
 
 @MANY_LINES
 @pytest.mark.seconds(3)
-@pytest.mark.parametrize("command", COMMANDS)
+@pytest.mark.parametrize("command", OTHERS)
 def test_many_lines(pfs: Program, folder: pathlib.Path, many_lines: pathlib.Path, command: str) -> None:
     run_large(pfs, words_of(command, many_lines / "great", many_lines / "order"), folder,
               EQUAL[command](MANY_JOBS, MANY_MACHINES, 1), b"", 0, 4 * MANY_JOBS * MANY_MACHINES)

@@ -194,11 +194,6 @@ def test_the_manual_page_has_each_number_and_function() -> None:
     assert set(re.findall(r"^\.Fn (\w+)", text, re.MULTILINE)) == NAMES
 
 
-def test_mandoc_finds_nothing_wrong_in_the_manual_page() -> None:
-    done = subprocess.run([tool("mandoc"), "-T", "lint", "-W", "warning", str(MANUAL)], capture_output=True, text=True)
-    assert (done.stdout + done.stderr, done.returncode) == ("", 0)
-
-
 def test_the_example_of_the_manual_page_prints_its_makespan(libpfs: Library, folder: pathlib.Path) -> None:
     lines = MANUAL.read_text().partition(".Bd -literal -offset indent\n")[2].partition(".Ed\n")[0]
     (folder / "example.c").write_text(lines.replace("\\e", "\\"))

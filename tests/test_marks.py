@@ -25,6 +25,7 @@ def test_check_needs_no_program(top: pathlib.Path) -> None:
     assert status == 0 and re.search(r"^1 passed, \d+ deselected", got, re.MULTILINE), got
 
 
+@pytest.mark.seconds(4)
 def test_check_has_the_tests_of_the_sources(top: pathlib.Path) -> None:
     status, got = run_pytest(top, "-m", "check", "--collect-only", "tests")
     files = set(re.findall(r"^(tests/\w+\.py)::", got, re.MULTILINE))
@@ -32,6 +33,7 @@ def test_check_has_the_tests_of_the_sources(top: pathlib.Path) -> None:
                                                                          "make", "paths", "setup", "skips")}, got
 
 
+@pytest.mark.seconds(4)
 def test_quick_has_tests_of_each_part(top: pathlib.Path) -> None:
     status, got = run_pytest(top, "-m", "quick", "--collect-only", "tests")
     assert status == 0, got
@@ -101,6 +103,7 @@ def test_waits() -> None:
 """
 
 
+@pytest.mark.seconds(4)
 @pytest.mark.parametrize("words", [(), ("-n", "2")], ids=["one process", "two processes"])
 def test_the_slowest_tests_are_those_of_most_processor_time(top: pathlib.Path, folder: pathlib.Path,
                                                             words: tuple[str, ...]) -> None:

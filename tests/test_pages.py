@@ -19,7 +19,7 @@ from support.faults import FAULTS, met, with_numbers
 from support.files import USAGE, generated
 from support.needs import tool
 from support.program import Program, Ran
-from support.tools import wait_until, with_path
+from support.tools import Done, run_tool, wait_until, with_path
 from support.usage import LAYOUTS, LINES, commands, ends_of, ends_taken, ranges
 
 TOP = pathlib.Path(__file__).resolve().parent.parent
@@ -535,12 +535,6 @@ def shown_section(text: str, title: str) -> str:
     return re.sub("^     ", "", found[1], flags=re.MULTILINE)
 
 
-def test_mandoc_finds_nothing_wrong() -> None:
-    done = subprocess.run([tool("mandoc"), "-T", "lint", "-W", "warning", str(TOP / "share" / "pfs.1")],
-                          capture_output=True, text=True)
-    assert (done.stdout, done.stderr, done.returncode) == ("", "", 0)
-
-
 def test_the_synopsis_is_the_usage_text(manual: str) -> None:
     assert shown_section(manual, "SYNOPSIS").split("\n")[:-2] == LINES
 
@@ -550,11 +544,10 @@ TOOL_PATHS = {name: TOP / folder / f"{name}.1" for name, folder in (
 TOOL_PAGES = {name: path.read_text() for name, path in TOOL_PATHS.items()}
 
 
-@pytest.mark.parametrize("name", TOOL_PAGES)
-def test_mandoc_finds_nothing_wrong_in_the_pages_of_the_tools(name: str) -> None:
-    done = subprocess.run([tool("mandoc"), "-T", "lint", "-W", "warning", str(TOOL_PATHS[name])],
-                          capture_output=True, text=True)
-    assert (done.stdout, done.stderr, done.returncode) == ("", "", 0)
+@pytest.mark.parametrize("page", [TOP / "share" / "pfs.1", TOP / "share" / "pfs.3", *TOOL_PATHS.values()],
+                         ids=lambda page: str(page.name))
+def test_mandoc_finds_nothing_wrong(page: pathlib.Path) -> None:
+    assert run_tool([tool("mandoc"), "-T", "lint", "-W", "warning", page], TOP) == Done(0, "", "")
 
 
 def test_pages_name_the_library_as_it_is_called() -> None:

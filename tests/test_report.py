@@ -140,6 +140,12 @@ def test_a_report_has_its_table_and_its_plots(ending: str, report: Reported, fol
         assert picture.startswith(BEGINNINGS[ending]) and len(picture) > 5000, name
 
 
+def test_of_runs_that_all_failed_there_is_only_the_table(report: Reported, folder: pathlib.Path) -> None:
+    got = report(OLD_HEAD + "\na,20,5,0,4,0,1,1,,,,,,solve: signal 9\n")
+    assert got == Done(1, "", "experiments/report: no run succeeded: nothing to plot\n")
+    assert sorted(os.listdir(folder / "report")) == ["table.csv", "table.md"]
+
+
 def test_pictures_are_png_by_default(report: Reported, folder: pathlib.Path) -> None:
     assert report(REPORTED).status == 0
     made = sorted(path.name for path in (folder / "report").iterdir())
@@ -254,6 +260,9 @@ def test_the_rpd_is_relative_to_the_reference(report: Reported, folder: pathlib.
     assert percents(folder, "greatest_rpd_percent") == ["", "140.000", "114.000", "", ""]
     assert got.stdout.endswith("\n\nRPD: relative to the makespan in best.csv.\n"
                                 "1 runs of 1 instances have no reference, and no RPD: c.\n")
+    (folder / "best.csv").write_text("instance,makespan\na,7\nsome/folder/a,100\nb,50\n")
+    assert report(REPORTED.replace("\na,", "\nsome/folder/a,"), "--reference", "best.csv").status == 0
+    assert percents(folder) == ["", "75.000", "56.500", "", ""], "its whole path goes before the last part"
 
 
 def test_the_rpd_is_relative_to_the_column_of_the_csv(report: Reported, folder: pathlib.Path) -> None:
@@ -286,28 +295,6 @@ def methods(script: Reported, folder: pathlib.Path) -> Reported:
 def compared(folder: pathlib.Path) -> list[dict[str, str]]:
     with open(folder / "report" / "comparison.csv", newline="") as file:
         return list(csv.DictReader(file))
-
-
-# Makespans of two methods on instances of 1,000, and what comes of them by hand: the sum of the ranks of one sign is as
-# small or smaller in 2 of 64, in 20 of 32, and in all of 8 choices of signs, and without any difference in all.
-PAIRED = {
-    "six won": ([1000] * 6, [1001, 1002, 1003, 1004, 1005, 1006], ("6", "6", "0", "0", 2 / 64)),
-    "one lost": ([1000] * 4 + [1005], [1001, 1002, 1003, 1004, 1000], ("5", "4", "0", "1", 20 / 32)),
-    "two lost": ([1001, 1002, 1000], [1000, 1000, 1003], ("3", "1", "0", "2", 1.0)),
-    "all tied": ([1000] * 3, [1000] * 3, ("3", "0", "3", "0", 1.0)),
-}
-
-
-@pytest.mark.parametrize(("first", "second", "wanted"), PAIRED.values(), ids=PAIRED)
-def test_two_methods_are_compared(first: list[int], second: list[int], wanted: tuple[str, str, str, str, float],
-                                  methods: Reported, scipy: None, folder: pathlib.Path) -> None:
-    texts = [FEW + "".join(f"i{at},{makespan},1,0.5\n" for at, makespan in enumerate(each))
-             for each in (first, second)]
-    assert methods(*texts).status == 0
-    row, = compared(folder)
-    assert (row["method"], row["other_method"]) == ("first", "second")
-    assert tuple(row[name] for name in ("instances", "won", "tied", "lost")) == wanted[:4]
-    assert float(row["p"]) == pytest.approx(wanted[4], rel=0.02)
 
 
 def test_each_setting_of_a_method_is_compared_by_means_of_the_instances_that_both_have(
@@ -375,6 +362,8 @@ def test_instances_without_a_reference_have_no_rpd(methods: Reported, folder: pa
     assert percents(folder) == ["10.150", ""]
     assert "\n6 runs of 3 instances have no reference, and no RPD: I0, I1, I2.\n" in got.stdout
     assert compared(folder) == []
+    assert ": I0, I1, I2, I3, I4, I5, I6, I7, I8, I9, ...\n" in methods(
+        texts[0], head + "".join(f"I{at},1,1,\n" for at in range(12))).stdout
 
 
 def test_a_reference_has_one_makespan_of_an_instance(report: Reported, folder: pathlib.Path) -> None:
@@ -437,6 +426,8 @@ def test_ties_have_no_part_in_the_test(methods: Reported, folder: pathlib.Path) 
     assert float(row["median_difference_percent"]) == -1.0, "the median difference of all pairs"
     # the first one's are all 0; the second one's are more for 7 of 11, and tied for 4
     assert float(row["vargha_delaney_a"]) == pytest.approx((7 + 4 / 2) / 11, abs=0.001), "A, of which ties are a half"
+    assert methods(*[FEW + "i0,1000,1,0.5\n"] * 2).status == 0
+    assert [compared(folder)[0][name] for name in ("tied", "pairs", "p")] == ["1", "0", "1"], "all are tied"
 
 
 def test_the_probability_is_that_of_all_choices_of_signs(methods: Reported, folder: pathlib.Path) -> None:
@@ -462,6 +453,13 @@ def test_holms_correction_is_for_all_pairs(report: Reported, folder: pathlib.Pat
     given, corrected = ([float(row[name]) for row in rows] for name in ("p", "p_holm"))
     assert given == pytest.approx([2 / 64, 6 / 64, 34 / 64], rel=1e-3)
     assert corrected == pytest.approx([6 / 64, 12 / 64, 34 / 64], rel=1e-3), "p with Holm's correction"
+
+
+def test_no_corrected_probability_is_less_than_one_before(top: pathlib.Path) -> None:
+    """Nor is one greater than 1."""
+    code = "import comparison; print([comparison.holm([0.04, None, 0.03, 0.05]), comparison.holm([0.9, 0.5])])"
+    got = run_tool(["/usr/bin/python3", "-B", "-c", code], top / "experiments")
+    assert got == Done(0, "[[0.09, None, 0.09, 0.09], [1.0, 1.0]]\n", "")
 
 
 def test_settings_of_one_method_are_compared(report: Reported, folder: pathlib.Path) -> None:
@@ -630,6 +628,7 @@ def test_rounds_have_a_logarithmic_scale(report: Reported, folder: pathlib.Path)
         assert steps == pytest.approx([steps[0]] * 3, rel=0.01), f"distances in {name}.svg"
 
 
+@pytest.mark.seconds(6)
 @pytest.mark.parametrize("ending", ["svg", "pdf"])
 def test_a_report_made_again_has_the_same_bytes(ending: str, top: pathlib.Path, matplotlib: None,
                                                 folder: pathlib.Path) -> None:

@@ -92,6 +92,12 @@ def test_nothing_is_installed_if_nothing_is_missing(machine: pathlib.Path) -> No
     assert calls(machine) == []
 
 
+def test_a_server_need_not_be_on_the_path(machine: pathlib.Path) -> None:
+    """Debian has `chroot` in /usr/sbin, where it has servers too."""
+    (machine / "tools" / "packages").write_text("coreutils command chroot\nlow command no-such-server\n")
+    assert run_setup(machine, "--missing") == Done(0, "low\n", "")
+
+
 def test_an_incomplete_package_is_an_error(machine: pathlib.Path) -> None:
     (machine / "installs").write_text("bin/plain bin/x")
     got = run_setup(machine)

@@ -140,7 +140,13 @@ def lines_of(pfs_calls: Program, folder: pathlib.Path, shop: Instance) -> list[s
     return lines
 
 
-@pytest.mark.parametrize("name", SHOPS)
+# The second program takes about a microsecond for each cube of the jobs on each machine.
+each_shop = pytest.mark.parametrize("name", [
+    pytest.param(name, marks=pytest.mark.seconds(shop.jobs**3 * shop.machines // 10**6))
+    for name, (shop, _) in SHOPS.items()])
+
+
+@each_shop
 def test_each_method_finds_the_first_best_places(pfs_calls: Program, folder: pathlib.Path, name: str) -> None:
     """Heads and tails and each wavefront that can compute the instance find the first best places and their makespans.
     Each counts (4k - 2)m cells for k jobs, the inserted one included."""
@@ -172,7 +178,7 @@ def test_a_wide_wavefront_finds_what_heads_and_tails_do(pfs_calls: Program, fold
         assert by_rows.split()[:2] == by_wavefront.split()[:2]
 
 
-@pytest.mark.parametrize("name", SHOPS)
+@each_shop
 def test_solve_prints_what_the_second_program_does(pfs: Program, folder: pathlib.Path, name: str) -> None:
     shop, _ = SHOPS[name]
     (folder / "shop").write_bytes(second_program.canonical(shop, b"taillard"))

@@ -7,6 +7,7 @@ from collections.abc import Iterator
 from typing import Any
 from xml.etree import ElementTree
 
+import numpy as np
 import pfs
 import pytest
 from browser import PEN, looked_at
@@ -85,6 +86,14 @@ def test_units_and_decimals(unit: str, decimals: int, time: int, end: str) -> No
     """To the nearest microsecond."""
     moment = clock_of("2026-11-30T06:00", ALWAYS, unit, decimals).span(0, time)[1]
     assert str(moment) == f"2026-11-30 {end}"
+
+
+@pytest.mark.parametrize("decimals", range(8))
+def test_seconds_have_as_many_decimals_as_they_need(decimals: int) -> None:
+    """At most six; whole minutes have no seconds."""
+    clock = clock_of("2026-11-30T06:00", ALWAYS, "s", decimals)
+    times = (np.array([0, time * 10**decimals // 10**shift]) for time, shift in ((1, decimals), (1, 0), (60, 0)))
+    assert [clock.digits(each) for each in times] == [min(decimals, 6), 0, -1]
 
 
 def work_minutes(begin: datetime.datetime, shifts: list[tuple[int, int]], days: list[int],

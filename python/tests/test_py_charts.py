@@ -311,7 +311,8 @@ def test_jupyter_shows_the_chart(monkeypatch: pytest.MonkeyPatch) -> None:
     pytest.importorskip("matplotlib")
     text = a_schedule()._repr_svg_()
     assert text is not None and "<svg" in text and "critical" in text and "bound" in text
-    assert pfs.generate(101, 20, 1).schedule(range(101))._repr_svg_() is None, "a very large picture"
+    assert pfs.generate(100, 20, 1).schedule(range(100))._repr_svg_(), "the largest picture"
+    assert pfs.generate(2001, 1, 1).schedule(range(2001))._repr_svg_() is None, "a very large picture"
     modules: dict[str, Any] = sys.modules
     monkeypatch.setitem(modules, "matplotlib", None)
     assert a_schedule()._repr_svg_() is None

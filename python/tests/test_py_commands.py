@@ -1,6 +1,8 @@
 """`python3 -m pfs search` and `python3 -m pfs plan`."""
 import contextlib
+import fcntl
 import hashlib
+import io
 import json
 import os
 import pathlib
@@ -14,13 +16,14 @@ import signal
 import subprocess
 import sys
 import time
+import types
 from collections.abc import Callable, Iterator
 from typing import Any
 
 import pfs
 import plainly
 import pytest
-from pfs import _commands, _library
+from pfs import _commands, _library, _search, _state
 
 # A search that would take minutes.
 LONG = ["search", "shop", "--layout", "taillard"]
@@ -48,11 +51,21 @@ def start(words: list[str], folder: pathlib.Path, env: dict[str, str] | None = N
                             stdin=subprocess.DEVNULL, stdout=subprocess.PIPE, stderr=subprocess.PIPE)
 
 
+def ended(words: list[str], folder: pathlib.Path) -> tuple[int | str | None, str, str]:
+    """The status, the output and the errors of a command in this process, which is faster than a new one."""
+    out, got = io.StringIO(), io.StringIO()
+    with contextlib.chdir(folder), contextlib.redirect_stdout(out), contextlib.redirect_stderr(got):
+        try:
+            status: int | str | None = _commands.main(words)
+        except SystemExit as end:
+            status = end.code
+    return status, out.getvalue(), without_summary(got.getvalue())
+
+
 def run(words: list[str], folder: pathlib.Path, status: int = 0, error: str = "") -> str:
-    child = start(words, folder)
-    printed, got = child.communicate(timeout=60)
-    assert (child.returncode, without_summary(got.decode())) == (status, error)
-    return printed.decode()
+    found, printed, got = ended(words, folder)
+    assert (found, got) == (status, error)
+    return printed
 
 
 def without_summary(got: str) -> str:
@@ -89,7 +102,10 @@ def rounds_in(folder: pathlib.Path) -> int:
 @pytest.mark.parametrize("words", [
     "--rounds 0", "--rounds 300", "--rounds 100 --take 7 --passes 1 --seed 18446744073709551615"])
 def test_search_prints_what_the_program_does(folder: pathlib.Path, program: str, words: str) -> None:
+    """As a process, and as a call of `main`."""
+    child = start([*LONG, *words.split()], folder)
     printed = run([*LONG, *words.split()], folder)
+    assert child.communicate(timeout=60) == (printed.encode(), b"") and child.returncode == 0
     assert printed == plainly.run([program, "solve", "--layout", "taillard", *words.split(), str(folder / "shop")])
 
 
@@ -316,6 +332,22 @@ def test_two_searches_with_one_state(folder: pathlib.Path) -> None:
     run([*LONG, "--state", "state", "--rounds", str(done + 1)], folder)
 
 
+def test_a_lock_whose_file_another_search_removes_is_taken_again(folder: pathlib.Path,
+                                                                 monkeypatch: pytest.MonkeyPatch) -> None:
+    """It has the old file, and would be alone with it."""
+    path, lock, removed = folder / "state.lock", fcntl.flock, list[None]()
+
+    def flock(descriptor: int, how: int) -> None:
+        lock(descriptor, how)
+        if not removed:
+            removed.append(path.unlink())
+
+    monkeypatch.setattr("fcntl.flock", flock)
+    got = _state.lock_of(str(folder / "state"))
+    assert os.path.samestat(os.fstat(got), os.stat(path))
+    os.close(got)
+
+
 @pytest.mark.parametrize("name", ["state.new", "state.lock"])
 def test_links_in_the_place_of_other_files_are_not_followed(folder: pathlib.Path, name: str) -> None:
     (folder / "precious").write_text("kept")
@@ -391,6 +423,19 @@ def test_progress_is_reported_on_a_terminal_only(folder: pathlib.Path) -> None:
     assert lines[0] == f"round 0 of 400, makespan {shop.neh().makespan}, bound {shop.bound()}"
     assert lines[-1].startswith(f"round 400 of 400, makespan {shop.solve(400).makespan}, bound {shop.bound()}, 0:00:0")
     assert lines[-1].endswith(" left") and got.endswith("\r\x1b[K") and "\n" not in got
+
+
+def test_the_time_that_is_left_depends_on_the_rounds_of_this_search(monkeypatch: pytest.MonkeyPatch) -> None:
+    """And not on those of the state that it continues."""
+    now, lines = [0.0], list[str]()
+    monkeypatch.setattr(_commands, "time", types.SimpleNamespace(monotonic=lambda: now[0]))
+    progress = _commands.ProgressLine(pfs.taillard(1), 400, _search.Pace(None))
+    monkeypatch.setattr(progress, "shown", True)
+    monkeypatch.setattr(progress, "show", lines.append)
+    progress.update(100, 1278)
+    now[0] = 10.0
+    progress.update(200, 1278)
+    assert not lines[0].endswith("left") and lines[1].endswith(", 0:00:20 left")
 
 
 @pytest.mark.parametrize(("words", "status", "error"), [
@@ -515,9 +560,8 @@ def test_memory_that_runs_out_is_reported_on_one_line(folder: pathlib.Path, monk
     [*LONG, "--take", "0"], [*LONG, "--passes", "101"], [*LONG, "--seed", "18446744073709551616"],
     [*LONG, "--block", "0"], ["search", "shop", "--layout", "csv"], ["plan"]])
 def test_words_that_no_command_takes(folder: pathlib.Path, words: list[str]) -> None:
-    child = start(words, folder)
-    printed, got = child.communicate(timeout=60)
-    assert (child.returncode, printed) == (3, b"") and got.startswith(b"usage: ")
+    status, printed, got = ended(words, folder)
+    assert (status, printed) == (3, "") and got.startswith("usage: ")
 
 
 def test_a_full_disk(folder: pathlib.Path) -> None:
@@ -728,11 +772,10 @@ def test_names_that_a_terminal_would_take_for_commands(folder: pathlib.Path) -> 
     lines = run(["plan", "times.csv", "--rounds", "0", "--unit", "\x1b[1mh"], folder).splitlines()
     assert lines[:3] == ["makespan 7 \\x1b[1mh", "bound 7 \\x1b[1mh", "optimal"]
     assert {line[2:] for line in lines[3:]} == {"chair\\x1b[2J", "two\\nlines", "\\x9b5m", "\\u202eab", "M\xfcller"}
-    child = start(["plan", "\x1b[2J.csv", "--rounds", "0"], folder)
-    assert child.communicate(timeout=60)[1] == b"pfs: [Errno 2] No such file or directory: '\\x1b[2J.csv'\n"
+    words = ["plan", "\x1b[2J.csv", "--rounds", "0"]
+    run(words, folder, 4, "pfs: [Errno 2] No such file or directory: '\\x1b[2J.csv'\n")
     (folder / "\x1b[2J.csv").write_text("job,saw\na,x\n")
-    child = start(["plan", "\x1b[2J.csv", "--rounds", "0"], folder)
-    assert child.communicate(timeout=60)[1] == b"pfs: \\x1b[2J.csv: line 2, column 2: 'x' isn't a time\n"
+    run(words, folder, 2, "pfs: \\x1b[2J.csv: line 2, column 2: 'x' isn't a time\n")
 
 
 @pytest.mark.parametrize("words", [["plan", "x.csv", "--\x1b[2J"], ["plan", "x.csv", "\x1b[2J"], ["\x1b[2J"],
@@ -741,9 +784,8 @@ def test_names_that_a_terminal_would_take_for_commands(folder: pathlib.Path) -> 
                                    ["search", "shop", "--layout", "\x1b[2J"], [*LONG, "--start", "\x1b[2J"]])
 def test_words_that_a_terminal_would_take_for_commands(folder: pathlib.Path, words: list[str]) -> None:
     (folder / "x.csv").write_text("job,saw\na,1\n")
-    child = start(words, folder)
-    got = child.communicate(timeout=60)[1].decode()
-    assert child.returncode in (3, 4) and all(line.isprintable() for line in got.splitlines()), repr(got)
+    status, _, got = ended(words, folder)
+    assert status in (3, 4) and all(line.isprintable() for line in got.splitlines()), repr(got)
 
 
 def test_names_that_standard_output_has_no_letters_for(folder: pathlib.Path) -> None:

@@ -256,6 +256,7 @@ def test_all_blocks_of_60_megabytes_take_at_most_5_seconds(layout: str) -> None:
     assert seconds < 5, f"{len(text) / 1e6:.0f} MB took {seconds:.1f} s"
 
 
+@pytest.mark.seconds(4)
 def test_all_blocks_up_to_the_limit() -> None:
     """One byte more than the limit is a fault, before the end of a block or after it; not so after 1,000 blocks."""
     block = b"1 1\n0 7\n"

@@ -39,7 +39,7 @@ def test_the_name_is_that_of_the_file(tmp_path: pathlib.Path) -> None:
     ("3 x\n", 1, 2, "'x' is not a whole number from 1 to 200"),
     ("3 2\n3 2\n2 5\n", 3, 0, "2 lines of times for 3 jobs"),
     ("3 2\n", 1, 0, "0 lines of times for 3 jobs"),
-    ("3 2\n3 2\n2 5\n4 1\n7 7\n", 5, 0, "4 lines of times for 3 jobs"),
+    ("3 2\n3 2\n2 5\n4 1\n7 7\n7 7\n", 5, 0, "5 lines of times for 3 jobs"),
     ("3 2\n3 2\n2\n4 1\n", 3, 0, "1 times for 2 machines"),
     ("3 2\n3 2\n2 5 1\n4 1\n", 3, 0, "3 times for 2 machines"),
     ("3 2\n3 2 4\n2 5 1\n", 2, 0, "a line for each machine: this layout has one for each job"),

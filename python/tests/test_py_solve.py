@@ -581,6 +581,15 @@ def test_the_history_counts_rounds_from_the_first_and_is_kept(cut: Callable[[lis
     assert [line[::2] for line in stop.value.solution.history] == [line[::2] for line in whole if line.round <= 49]
 
 
+def test_an_improvement_has_the_time_of_its_round(monkeypatch: pytest.MonkeyPatch) -> None:
+    """Also one in the middle of a part."""
+    clock = Clock(0.001)
+    clock.patch(monkeypatch)
+    history = pfs.taillard(11).solve(100, start=range(20), history=True).history
+    assert [line.seconds for line in history] == pytest.approx([line.round / 1000 for line in history])
+    assert {line.round for line in history} - {0, *itertools.accumulate(clock.parts)}
+
+
 def test_a_search_by_time_ends_at_the_bound() -> None:
     """And one by rounds doesn't: its order is the one after that number of rounds."""
     shop = pfs.generate(40, 2, 3)

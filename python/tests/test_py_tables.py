@@ -137,6 +137,7 @@ WRONG_TABLES = {
 }
 # Tables that look a little like the ones above and are right: what makes them so, and their times.
 RIGHT_TABLES = {
+    "a semicolon in half of the lines": ('job,saw\n"a;b",3\n', [[3]]),
     "three decimals": ("job;saw;drill\na;0,125;2\nb;1,5;1,125\n", [[125, 2000], [1500, 1125]]),
     "a fraction of one": ("job;saw\na;0.125\n", [[125]]),
     "points between commas": ("job,saw\na,1.000\nb,2.500\n", [[10], [25]]),
@@ -286,6 +287,7 @@ def test_times_of_tables_above_the_longest_one(tmp_path: pathlib.Path, cell: str
         pfs.read_csv(written(tmp_path, f"job,saw\na,{cell}\n"))
 
 
+@pytest.mark.seconds(4)
 def test_the_largest_tables(tmp_path: pathlib.Path) -> None:
     rows = ["job," + ",".join(f"m{at}" for at in range(200)), *(f"j{at}" + ",1" * 200 for at in range(5_000))]
     shop = pfs.read_csv(written(tmp_path, "\n".join(rows)))

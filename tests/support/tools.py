@@ -1,7 +1,10 @@
 """Runs of the scripts in tools/ and experiments/, and what they need."""
+import importlib.machinery
+import importlib.util
 import os
 import pathlib
 import subprocess
+import sys
 import time
 from collections.abc import Callable
 from typing import Any, NamedTuple
@@ -40,6 +43,20 @@ def write_script(path: pathlib.Path, text: str) -> pathlib.Path:
     path.write_text(text)
     path.chmod(0o755)
     return path
+
+
+def imported(path: pathlib.Path) -> Any:
+    """A script as a module, also one whose name has no ending."""
+    loader = importlib.machinery.SourceFileLoader(f"script_{path.stem}", str(path))
+    spec = importlib.util.spec_from_loader(loader.name, loader)
+    assert spec is not None
+    module = importlib.util.module_from_spec(spec)
+    before, sys.dont_write_bytecode = sys.dont_write_bytecode, True
+    try:
+        loader.exec_module(module)
+    finally:
+        sys.dont_write_bytecode = before
+    return module
 
 
 def wait_until(has_come: Callable[[], bool], what: str, seconds: float = 60.0) -> None:
