@@ -14,6 +14,7 @@ pub mod Longest
 pub mod OneBandLemmas
 pub mod ServedPaths
 pub mod ShopRows
+pub mod Published
 pub mod SkewedTimes
 pub mod SmallLanes
 pub mod Steps
