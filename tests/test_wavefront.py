@@ -140,9 +140,9 @@ def lines_of(pfs_calls: Program, folder: pathlib.Path, shop: Instance) -> list[s
     return lines
 
 
-# The second program takes about a microsecond for each cube of the jobs on each machine.
+# The second program takes about half a microsecond for each cube of the jobs on each machine.
 each_shop = pytest.mark.parametrize("name", [
-    pytest.param(name, marks=pytest.mark.seconds(shop.jobs**3 * shop.machines // 10**6))
+    pytest.param(name, marks=pytest.mark.seconds(shop.jobs**3 * shop.machines // 2_000_000))
     for name, (shop, _) in SHOPS.items()])
 
 

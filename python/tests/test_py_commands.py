@@ -335,12 +335,13 @@ def test_two_searches_with_one_state(folder: pathlib.Path) -> None:
 def test_a_lock_whose_file_another_search_removes_is_taken_again(folder: pathlib.Path,
                                                                  monkeypatch: pytest.MonkeyPatch) -> None:
     """It has the old file, and would be alone with it."""
-    path, lock, removed = folder / "state.lock", fcntl.flock, list[None]()
+    path, lock, calls = folder / "state.lock", fcntl.flock, list[int]()
 
     def flock(descriptor: int, how: int) -> None:
         lock(descriptor, how)
-        if not removed:
-            removed.append(path.unlink())
+        calls.append(how)
+        if len(calls) == 1:
+            path.unlink()
 
     monkeypatch.setattr("fcntl.flock", flock)
     got = _state.lock_of(str(folder / "state"))

@@ -346,13 +346,16 @@ def is_size(digits: bytes, most: int) -> bool:
 def ends_of(shop: Instance, order: Sequence[int]) -> list[list[int]]:
     """For each place the ends on all machines, each as early as can be."""
     rows = []
-    free = [0] * shop.machines
+    before = [0] * shop.machines
     for job in order:
-        ready = 0
-        for machine in range(shop.machines):
-            ready = max(ready, free[machine]) + shop.times[machine][job]
-            free[machine] = ready
-        rows.append(list(free))
+        ready, ends = 0, []
+        for free, times in zip(before, shop.times):
+            if ready < free:
+                ready = free
+            ready += times[job]
+            ends.append(ready)
+        rows.append(ends)
+        before = ends
     return rows
 
 
