@@ -24,7 +24,7 @@ BUGS = [
           "    if place == 0 || span <= best.span {")),
     ("a round keeps only shorter orders",
      Edit("pfs_search/src/greedy.rt", "    if span <= kept.span {", "    if span < kept.span {")),
-    ("the bound leaves out the times behind a machine",
+    ("the bound leaves out the times after a machine",
      Edit("pfs_audit/src/bounds.rt", "        sums.after[machine] = sums.after[machine].min(total - through);",
           "        sums.after[machine] = sums.after[machine].min(0);")),
     ("an order file may state more machines than there are",

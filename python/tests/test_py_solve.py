@@ -312,7 +312,7 @@ def test_a_signal_loses_nothing(seconds: float) -> None:
 
 
 @pytest.mark.parametrize("call", ["pfs_neh", "pfs_rounds"])
-@pytest.mark.parametrize("when", ["before", "behind"])
+@pytest.mark.parametrize("when", ["before", "after"])
 def test_a_signal_right_around_a_call(monkeypatch: pytest.MonkeyPatch, call: str, when: str) -> None:
     """The result of a call counts, also if the signal comes before the result is used."""
     shop = pfs.taillard(12)
@@ -337,7 +337,7 @@ def test_a_signal_right_around_a_call(monkeypatch: pytest.MonkeyPatch, call: str
     monkeypatch.setattr(_library, "library", Library())
     with pytest.raises(pfs.Interrupted) as stop:
         shop.solve(50)
-    assert stop.value.solution.rounds == (1 if (call, when) == ("pfs_rounds", "behind") else 0)
+    assert stop.value.solution.rounds == (1 if (call, when) == ("pfs_rounds", "after") else 0)
     best = stop.value.solution
     assert best == shop.solve(best.rounds)
     assert shop.solve(50 - best.rounds, start=best, first=best.rounds).to_text() == shop.solve(50).to_text()

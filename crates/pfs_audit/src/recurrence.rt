@@ -19,7 +19,7 @@ pub fn makespan<B: Bench>(alloc: Global, bench: &mut B, seq: &Seq) -> Result<B::
     ensures value { IfOk result (λ span. B.Span.number span ≡ makespan (B.shop bench.old) seq.now.jobs) }
     ensures counted { OnOk result (B.counted bench.new
         ≡ B.counted bench.old + length seq.now.jobs * (B.shop bench.old).machines) }
-    ensures refused { OnErr result (B.counted bench.new ≡ B.counted bench.old) }
+    ensures uncounted { OnErr result (B.counted bench.new ≡ B.counted bench.old) }
     ensures shop { B.shop bench.new ≡ B.shop bench.old }
 {
     let machines = bench.machines();

@@ -83,17 +83,17 @@ chunk_is row at le =
     ∷ get_or row (at + 3) 0 ∷ []) none
 
 -- the greatest of the first sums of two rows, after a first duration in each
-most_behind : (x y : ℕ) (a b : List ℕ) (place : ℕ)
+most_after : (x y : ℕ) (a b : List ℕ) (place : ℕ)
     → most_to (x ∷ a) (y ∷ b) (suc place) ≡ max (x + y) (most_to a b place)
-most_behind x y a b zero = omega arith
-most_behind x y a b (suc place) = let rest = most_behind x y a b place in omega arith
+most_after x y a b zero = omega arith
+most_after x y a b (suc place) = let rest = most_after x y a b place in omega arith
 
 -- the greatest of all sums is `greatest_join`
 pub most_is : (a b : List ℕ) → length a ≡ length b → most_to a b (length a) ≡ greatest_join (λ n. n) a b
 most_is [] b same = refl
 most_is (x ∷ a) [] same = absurd (omega arith)
 most_is (x ∷ a) (y ∷ b) same =
-    most_behind x y a b (length a) ∙ ap (max (x + y)) (most_is a b (omega arith))
+    most_after x y a b (length a) ∙ ap (max (x + y)) (most_is a b (omega arith))
     ∙ sym (greatest-cons (x + y) (zip2 (λ m n. m + n) a b))
 
 -- the sum of what is read at a place within both rows

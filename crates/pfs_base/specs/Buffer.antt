@@ -31,6 +31,6 @@ pub record IsNew {W : Type 0} (written : W → Option (List ℕ)) (buffer : Buff
 
 -- the buffer is empty and its writer has not failed, or the writer has failed and the fault has the number of
 -- bytes that were sent in all
-abbrev pub LetsOut : {W : Type 0} → (W → Bool) → Buffering W → Result (Unit {0}) WriteFault → Type 0
-LetsOut has_failed buffer (Ok answer) = (has_failed buffer.writer ≡ false) × (buffer.held ≡ [])
-LetsOut has_failed buffer (Err fault) = (has_failed buffer.writer ≡ true) × (fault.written ≡ buffer.sent)
+abbrev pub Flushes : {W : Type 0} → (W → Bool) → Buffering W → Result (Unit {0}) WriteFault → Type 0
+Flushes has_failed buffer (Ok value) = (has_failed buffer.writer ≡ false) × (buffer.held ≡ [])
+Flushes has_failed buffer (Err fault) = (has_failed buffer.writer ≡ true) × (fault.written ≡ buffer.sent)

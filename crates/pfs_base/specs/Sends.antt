@@ -24,5 +24,5 @@ Sends old new failed sent text (Err fault) = SendsFront old new failed sent text
 
 -- a whole text was sent, or the writer has failed and a prefix of the text was sent, as long as the fault says
 abbrev pub Prints : {A : Type 0} → Option (List ℕ) → Option (List ℕ) → Bool → List ℕ → Result A WriteFault → Type 0
-Prints old new failed text (Ok answer) = (failed ≡ false) × Appends old new text
+Prints old new failed text (Ok value) = (failed ≡ false) × Appends old new text
 Prints old new failed text (Err fault) = SendsFront old new failed 0 text fault.written

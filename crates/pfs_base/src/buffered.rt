@@ -1,7 +1,7 @@
 //! A buffer in front of a sink.
 ghost use Rattle.std.specs.Prelude.{◌≡◌, [], false};
 ghost use Rattle.std.specs.Io.KnownBytes.{Keeps};
-ghost use Rattle.pfs_base.specs.Buffer.{LetsOut, bytes_given};
+ghost use Rattle.pfs_base.specs.Buffer.{Flushes, bytes_given};
 ghost use Rattle.pfs_base.specs.Device.{Writes, fails_after};
 
 use crate::device::{Sink, WriteFault, put};
@@ -65,7 +65,7 @@ impl<W: Sink> Buffered<W> {
     pub fn flush(&mut self) -> Result<(), WriteFault>
         requires { W.has_failed self.old.writer ≡ false }
         ensures kept { Keeps (bytes_given W.written self.old) (bytes_given W.written self.new) }
-        ensures out { LetsOut W.has_failed self.new result }
+        ensures out { Flushes W.has_failed self.new result }
     {
         match put(&mut self.writer, &self.bytes[..self.count], 0) {
             Ok(_) => {

@@ -47,7 +47,7 @@ front_of_parts out held sent k reported text parts same =
     record {
       count = length bytes;
       within = omega arith;
-      stands = parts.told ∙ ap Some (sym (take-append_seam bytes held) ∙ ap (take (length bytes)) parts.whole
+      stands = parts.known ∙ ap Some (sym (take-append_seam bytes held) ∙ ap (take (length bytes)) parts.whole
           ∙ take-take (length bytes) k text few);
       reported_is = same ∙ parts.count;
     }
@@ -79,7 +79,7 @@ module _ {W : Type 0} (written : W → Option (List ℕ)) (old mid new : Bufferi
       let none : Appends (bytes_given written old) (bytes_given written mid) [] =
       rw (p, new_given written old fresh) refl in
       let parts = given_parts written new [] (given-text [] none fresh) in
-      parts.told ∙ ap Some (none_of_none parts.bytes new.held parts.whole)
+      parts.known ∙ ap Some (none_of_none parts.bytes new.held parts.whole)
 
   front_reported : (text : List ℕ) (k : ℕ) (ended : Result Outcome Stop)
       → Appends (bytes_given written old) (bytes_given written mid) (take k text) → ReportsSent new.sent ended

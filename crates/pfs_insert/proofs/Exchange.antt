@@ -33,8 +33,8 @@ module _ (shop : FlowShop) (jobs : List ℕ) (job place : ℕ) (within : place �
   last = shop.machines - 1
 
   -- the operations of the rows after the inserted one are those of the sequence without the job
-  operation_behind : (row machine : ℕ) → place ≤ row → weigh (row + 1) machine ≡ operation shop jobs row machine
-  operation_behind row machine le =
+  operation_after : (row machine : ℕ) → place ≤ row → weigh (row + 1) machine ≡ operation shop jobs row machine
+  operation_after row machine le =
       ap (λ j. time_of shop j machine) (get_or-insert_above jobs place job 0 row le within)
 
   -- the operations of the rows before the inserted one are those of the sequence without the job
@@ -63,7 +63,7 @@ module _ (shop : FlowShop) (jobs : List ℕ) (job place : ℕ) (within : place �
       (sym (most_moved weigh (operation shop jobs) (length jobs - 1 - place) (last - machine) (suc place) place machine
       (λ k m le.
       let e : suc place + k ≡ place + k + 1 = omega arith in
-      ap (λ r. weigh r m) e ∙ operation_behind (place + k) m (omega arith))))
+      ap (λ r. weigh r m) e ∙ operation_after (place + k) m (omega arith))))
 
   -- a path leaves the row of the inserted job at one machine
   exchange_to : most weigh (length jobs) last 0 0 ≡ greatest_to sum_through last
@@ -77,12 +77,12 @@ module _ (shop : FlowShop) (jobs : List ℕ) (job place : ℕ) (within : place �
             ∙ most_by_exit weigh rest (suc place) last place last 0 0 total (omega arith) (omega arith) (omega arith)
             ∙ greatest_to_same (by_exit weigh rest (suc place) last place 0 0) sum_through last
             (λ x le. rw zero-add (omega (arith, heaviest_is weigh place x, back_onward inside x)))
-        | inr behind ↦
+        | inr after ↦
             let all : length jobs ≡ place = omega arith in
             ap (λ n. most weigh n last 0 0) all
             ∙ sym (greatest_to_last (λ x. most weigh place x 0 0) last (rises weigh place))
             ∙ greatest_to_same (λ x. most weigh place x 0 0) sum_through last
-            (λ x le. omega (arith, heaviest_is weigh place x, back_none shop jobs place x behind))
+            (λ x le. omega (arith, heaviest_is weigh place x, back_none shop jobs place x after))
       ]
 
 pub exchange_law : ExchangeLaw

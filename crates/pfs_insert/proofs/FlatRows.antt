@@ -30,45 +30,45 @@ row_between place {next} {width} wide later front_is row_is =
 
 module _ {X : Type 0} where
   -- an index after a front reads from the rest of the list
-  get_behind : (front back : List X) (at i : ℕ) (d : X) → i ≡ length front + at →
+  get_after : (front back : List X) (at i : ℕ) (d : X) → i ≡ length front + at →
       get_or (front ++ back) i d ≡ get_or back at d
-  get_behind front back at i d is =
+  get_after front back at i d is =
       let e : i - length front ≡ at = omega arith in
       get_or-append_right front back (length front) i d refl (omega arith) ∙ ap (λ k. get_or back k d) e
 
 module _ {X : Type 0} (number : X → ℕ) (machines : ℕ) (values : ℕ → ℕ) where
   -- a row that lies after a front, read from the rest of the list and from the whole list
-  pub row_behind : (front back : List X) (start at : ℕ) → start ≡ length front + at
+  pub row_after : (front back : List X) (start at : ℕ) → start ≡ length front + at
       → AreNumbersFrom number (front ++ back) start machines values → AreNumbersFrom number back at machines values
-  row_behind front back start at is told machine d lt =
-      ap number (sym (get_behind front back (at + machine) (start + machine) d (omega arith))) ∙ told machine d lt
+  row_after front back start at is known machine d lt =
+      ap number (sym (get_after front back (at + machine) (start + machine) d (omega arith))) ∙ known machine d lt
 
-  pub put_behind : (front back : List X) (start at : ℕ) → start ≡ length front + at
+  pub put_after : (front back : List X) (start at : ℕ) → start ≡ length front + at
       → AreNumbersFrom number back at machines values → AreNumbersFrom number (front ++ back) start machines values
-  put_behind front back start at is told machine d lt =
-      ap number (get_behind front back (at + machine) (start + machine) d (omega arith)) ∙ told machine d lt
+  put_after front back start at is known machine d lt =
+      ap number (get_after front back (at + machine) (start + machine) d (omega arith)) ∙ known machine d lt
 
   -- a row at the front of a list
   pub put_first : (row rest : List X) (start : ℕ) → start ≡ 0 → length row ≡ machines
       → AreNumbers number row machines values → AreNumbersFrom number (row ++ rest) start machines values
-  put_first row rest start none long told machine d lt =
-      rw (none, zero-add) (ap number (get_or_append_left row rest d machine (omega arith)) ∙ told machine d lt)
+  put_first row rest start none long known machine d lt =
+      rw (none, zero-add) (ap number (get_or_append_left row rest d machine (omega arith)) ∙ known machine d lt)
 
   -- a row that lies in a front is the same for any rest of the list
   pub row_in_front : (front back other : List X) (start : ℕ) → start + machines ≤ length front
       → AreNumbersFrom number (front ++ back) start machines values
       → AreNumbersFrom number (front ++ other) start machines values
-  row_in_front front back other start fits told machine d lt =
+  row_in_front front back other start fits known machine d lt =
       ap number (get_or_append_left front other d (start + machine) (omega arith)
-      ∙ sym (get_or_append_left front back d (start + machine) (omega arith))) ∙ told machine d lt
+      ∙ sym (get_or_append_left front back d (start + machine) (omega arith))) ∙ known machine d lt
 
   -- a row that is sliced out of a list
   pub row_taken : (rows : List X) (place width k : ℕ) → width ≡ machines → width ≤ k
       → AreNumbersFrom number rows (place * machines) machines values
       → AreNumbers number (take k (drop (place * width) rows)) machines values
-  row_taken rows place width k wide few told machine d lt =
+  row_taken rows place width k wide few known machine d lt =
       rw wide (ap number (get_or-take k (drop (place * machines) rows) machine d (omega arith)
-      ∙ get_or-drop (place * machines) rows machine d) ∙ told machine d lt)
+      ∙ get_or-drop (place * machines) rows machine d) ∙ known machine d lt)
 
 -- the length of a row that is sliced out of a list
 pub row_long : {X : Type 0} {machines : ℕ} (rows : List X) (place width total : ℕ) → width ≡ machines → place < total

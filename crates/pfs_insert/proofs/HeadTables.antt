@@ -5,7 +5,7 @@ use Rattle.std.proofs.lemmas.List.{append-nil}
 use Rattle.pfs_base.specs.FlowShop.{FlowShop, IsWithin}
 use Rattle.pfs_base.specs.Limits.{limits}
 use Rattle.pfs_insert.specs.Private.Rows.{head_of, AreNumbers, AreShort, HasHead, KeepsHeads}
-use Rattle.pfs_insert.proofs.FlatRows.{row_le, put_behind, put_first, row_in_front, row_taken}
+use Rattle.pfs_insert.proofs.FlatRows.{row_le, put_after, put_first, row_in_front, row_taken}
 use Rattle.pfs_insert.proofs.TailRows.{heads_short}
 
 -- a row contains the heads of the jobs before a place of the sequence
@@ -34,16 +34,16 @@ module _ {X : Type 0} (number : X → ℕ) (shop : FlowShop) (jobs : List ℕ) w
       (omega arith) kept.row_is
 
   -- a row of heads directly after a front is the row of the next place in the joined table
-  pub head_behind : (front row rest : List X) (place : ℕ) → length front ≡ place * shop.machines
+  pub head_after : (front row rest : List X) (place : ℕ) → length front ≡ place * shop.machines
       → length row ≡ shop.machines → HoldsHeads number shop jobs row place
       → HasHead number shop jobs (front ++ (row ++ rest)) place
-  head_behind front row rest place long wide told = record {
-    row_is = put_behind number shop.machines (head_of shop jobs place) front (row ++ rest) (place * shop.machines) 0
-        (omega arith) (put_first number shop.machines (head_of shop jobs place) row rest 0 refl wide told);
+  head_after front row rest place long wide known = record {
+    row_is = put_after number shop.machines (head_of shop jobs place) front (row ++ rest) (place * shop.machines) 0
+        (omega arith) (put_first number shop.machines (head_of shop jobs place) row rest 0 refl wide known);
   }
 
   -- heads are within the bound on the weight of a path
   pub short_heads : IsWithin limits shop → length jobs ≤ shop.jobs → (place : ℕ) → place ≤ length jobs → (row : List X)
       → HoldsHeads number shop jobs row place → AreShort number row shop.machines
-  short_heads within few place inside row told machine d lt =
-      omega (arith, told machine d lt, heads_short shop within jobs few place machine inside lt)
+  short_heads within few place inside row known machine d lt =
+      omega (arith, known machine d lt, heads_short shop within jobs few place machine inside lt)

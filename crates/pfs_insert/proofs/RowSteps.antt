@@ -86,7 +86,7 @@ module _ {X : Type 0} (number : X → ℕ) (shop : FlowShop) (above : List X) wh
   pub head_above : (machine : ℕ) (x : X) → machine < shop.machines → AreShort number above shop.machines
       → x ≡ get_or above machine x → Head [] (machine + 1) x
   head_above machine x inside short is = record {
-    is = λ heads told. rw add-one (ap number is ∙ told machine x inside);
+    is = λ heads known. rw add-one (ap number is ∙ known machine x inside);
     short = let small = short machine x inside in omega (arith, ap number is);
   }
 
@@ -118,8 +118,8 @@ module _ {X : Type 0} (number : X → ℕ) (shop : FlowShop) (below : List X) wh
   tail_below left x some most short is =
       let place : left - 1 ≡ shop.machines - 1 - (shop.machines - left) = omega arith in
       record {
-        is = λ tails told.
-            let same = told (shop.machines - left) x (omega arith) in
+        is = λ tails known.
+            let same = known (shop.machines - left) x (omega arith) in
             rw add-one (ap number (is ∙ ap (λ i. get_or below i x) place) ∙ same);
         short = let small = short (left - 1) x (omega arith) in omega (arith, ap number is);
       }

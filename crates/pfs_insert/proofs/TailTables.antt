@@ -7,7 +7,7 @@ use Rattle.pfs_base.specs.FlowShop.{FlowShop, IsWithin}
 use Rattle.pfs_base.specs.Limits.{limits}
 use Rattle.pfs_insert.specs.Exchange.{heaviest_back}
 use Rattle.pfs_insert.specs.Private.Rows.{AreBack, AreNumbers, AreNumbersFrom, AreShort, HasBacks, HasTails}
-use Rattle.pfs_insert.proofs.FlatRows.{row_split, row_behind, put_behind, put_first}
+use Rattle.pfs_insert.proofs.FlatRows.{row_split, row_after, put_after, put_first}
 use Rattle.pfs_insert.proofs.TailRows.{IsTail, tails_short}
 
 -- a row contains the tails of a place of the sequence
@@ -26,12 +26,12 @@ module _ {X : Type 0} (number : X → ℕ) (shop : FlowShop) (jobs : List ℕ) w
   tails_begin place = (shop.jobs - 1 - length jobs + place) * shop.machines
 
   -- the rows of tails after a front, and the table that a front and these rows make
-  pub tails_behind : (rows front back : List X) (from : ℕ) → rows ≡ front ++ back → length front ≡ tails_begin from
+  pub tails_after : (rows front back : List X) (from : ℕ) → rows ≡ front ++ back → length front ≡ tails_begin from
       → HasTails number shop jobs rows from → TailsOn number shop jobs back from
-  tails_behind rows front back from parts long has = record {
+  tails_after rows front back from parts long has = record {
     rows_are = λ more inside.
         let place = from + more in
-        row_behind number shop.machines (heaviest_back shop jobs place) front back (tails_begin place)
+        row_after number shop.machines (heaviest_back shop jobs place) front back (tails_begin place)
         (more * shop.machines) (omega arith) (rw parts at (has.rows_are place (omega arith) inside));
   }
 
@@ -42,7 +42,7 @@ module _ {X : Type 0} (number : X → ℕ) (shop : FlowShop) (jobs : List ℕ) w
         let more = place - from in
         let same : from + more ≡ place = omega arith in
         let split = row_split place from more shop.machines (omega arith) in
-        put_behind number shop.machines (heaviest_back shop jobs place) front back (tails_begin place)
+        put_after number shop.machines (heaviest_back shop jobs place) front back (tails_begin place)
         (more * shop.machines) (omega arith) (rw same at (on.rows_are more (omega arith)));
   }
 
@@ -54,7 +54,7 @@ module _ {X : Type 0} (number : X → ℕ) (shop : FlowShop) (jobs : List ℕ) w
       let long : length (take start rows) ≡ tails_begin 0 =
       length-take-le start rows fits ∙ begin ∙ rw add-zero refl in
       let parts = sym (take-append-drop start rows) in
-      let on = tails_behind rows (take start rows) (drop start rows) 0 parts long has in
+      let on = tails_after rows (take start rows) (drop start rows) 0 parts long has in
       rw (take_all k (drop start rows) (omega (arith, length-drop start rows)))
       (record { rows_are = λ place inside. rw zero-add at (on.rows_are place (omega arith)) })
 
@@ -62,16 +62,16 @@ module _ {X : Type 0} (number : X → ℕ) (shop : FlowShop) (jobs : List ℕ) w
   pub tails_more : (row back : List X) (place from : ℕ) → from ≡ place + 1 → length row ≡ shop.machines
       → HoldsTails number shop jobs row place → TailsOn number shop jobs back from
       → TailsOn number shop jobs (row ++ back) place
-  tails_more row back place from later wide told on = record { rows_are = by_row }
+  tails_more row back place from later wide known on = record { rows_are = by_row }
     where
       by_row : (more : ℕ) → place + more ≤ length jobs → AreNumbersFrom number (row ++ back) (more * shop.machines)
           shop.machines (heaviest_back shop jobs (place + more))
       by_row zero inside =
           let first = put_first number shop.machines (heaviest_back shop jobs place) row back in
-          rw add-zero (first (0 * shop.machines) (omega arith) wide told)
+          rw add-zero (first (0 * shop.machines) (omega arith) wide known)
       by_row (suc more) inside =
           let same : from + more ≡ place + suc more = omega arith in
-          put_behind number shop.machines (heaviest_back shop jobs (place + suc more)) row back
+          put_after number shop.machines (heaviest_back shop jobs (place + suc more)) row back
           (suc more * shop.machines) (more * shop.machines) (omega arith)
           (rw same at (on.rows_are more (omega arith)))
 
@@ -86,17 +86,17 @@ module _ {X : Type 0} (number : X → ℕ) (shop : FlowShop) (jobs : List ℕ) w
   -- tails are within the bound on the weight of a path
   pub short_tails : IsWithin limits shop → length jobs ≤ shop.jobs → (place : ℕ) (row : List X)
       → HoldsTails number shop jobs row place → AreShort number row shop.machines
-  short_tails within few place row told machine d lt =
-      omega (arith, told machine d lt, tails_short shop within jobs few place machine lt)
+  short_tails within few place row known machine d lt =
+      omega (arith, known machine d lt, tails_short shop within jobs few place machine lt)
 
   -- a row of tails in reverse, from the last machine to the first, and back
   pub row_back : (row : List X) (place : ℕ) → 1 ≤ shop.machines → HoldsTails number shop jobs row place
       → AreBack number row (shop.machines - 1) (λ back. heaviest_back shop jobs place (shop.machines - 1 - back))
-  row_back row place some told back d le = told (shop.machines - 1 - back) d (omega arith)
+  row_back row place some known back d le = known (shop.machines - 1 - back) d (omega arith)
 
-  pub row_told : (row : List X) (place : ℕ) (values : ℕ → ℕ) → IsTail shop jobs values place
+  pub row_known : (row : List X) (place : ℕ) (values : ℕ → ℕ) → IsTail shop jobs values place
       → AreBack number row (shop.machines - 1) values → HoldsTails number shop jobs row place
-  row_told row place values is told machine d lt =
+  row_known row place values is known machine d lt =
       let back = shop.machines - 1 - machine in
       let here : shop.machines - 1 - back ≡ machine = omega arith in
-      rw here at (told back d (omega arith) ∙ is.same back (omega arith))
+      rw here at (known back d (omega arith) ∙ is.same back (omega arith))

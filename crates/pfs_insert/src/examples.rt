@@ -10,7 +10,7 @@ ghost use Rattle.pfs_insert.specs.Insertion.{afresh_cost, best_place, heads_tail
 pub fn insertion()
     ensures before_both { makespan_with three_jobs (1 ∷ 0 ∷ []) 2 0 ≡ 13 }
     ensures between { makespan_with three_jobs (1 ∷ 0 ∷ []) 2 1 ≡ 11 }
-    ensures behind_both { makespan_with three_jobs (1 ∷ 0 ∷ []) 2 2 ≡ 10 }
+    ensures after_both { makespan_with three_jobs (1 ∷ 0 ∷ []) 2 2 ≡ 10 }
     ensures best { best_place three_jobs (1 ∷ 0 ∷ []) 2 ≡ 2 }
     ensures with_it { with_job three_jobs (1 ∷ 0 ∷ []) 2 ≡ 1 ∷ 0 ∷ 2 ∷ [] }
     ensures tie { best_place unit_times (1 ∷ 0 ∷ []) 2 ≡ 0 }

@@ -80,7 +80,7 @@ fn try_two_places<B: Bench>(
 {
     let machines = bench.machines();
     let (front, back) = heads.split_at_mut((place + 1) * machines);
-    let (next, behind) = back.split_at_mut(machines);
+    let (next, rest) = back.split_at_mut(machines);
     fill_two_places(
         bench,
         seq.at(place),
@@ -89,7 +89,7 @@ fn try_two_places<B: Bench>(
         &front[place * machines..],
         put,
         next,
-        &mut behind[..machines],
+        &mut rest[..machines],
     );
     let span = makespan_by_rows(bench, seq, job, place, put, backs);
     let best = better(best, place, span);

@@ -50,7 +50,7 @@ pub use Rattle.pfs_layout.specs.Private.Step.{last_number_ended, no_numbers, ope
 unfoldable pub use Rattle.pfs_layout.specs.Private.Step.{line_ended, number_ended}
 pub use Rattle.pfs_layout.specs.Reader.{EndsWantedSize, FeedMeets, Fields, FinishMeets, Follows, FollowsBlocks}
 pub use Rattle.pfs_layout.specs.Reader.{FollowsBody, FollowsLine, FollowsNow, HoldsFew, HoldsNumbers, IsReader}
-pub use Rattle.pfs_layout.specs.Reader.{StandsAfter, StandsIn, block_begun_by, block_of, fields, is_live, time_count}
+pub use Rattle.pfs_layout.specs.Reader.{HasRead, HasReadIn, block_begun_by, block_of, fields, is_live, time_count}
 unfoldable pub use Rattle.pfs_layout.specs.Reader.{block_read}
 pub use Rattle.pfs_layout.specs.Rejection.{LayoutFault, RejectsInstance, misfit, size_fault}
 unfoldable pub use Rattle.pfs_layout.specs.Rejection.{accepted, byte_fault, ends_early, fault_of_place, mixed_line}

@@ -29,8 +29,8 @@ pub record Completes (layout : Layout) (input : List ℕ) (k : ℕ) (problem : P
   pub is : problem ≡ instance_of layout own
 
 -- an input has a problem's file exactly if a prefix of it leads there
-abbrev pub FileStands : Type 0
-FileStands = (layout : Layout) (input : List ℕ) (k : ℕ) (problem : Problem)
+abbrev pub InstanceFile : Type 0
+InstanceFile = (layout : Layout) (input : List ℕ) (k : ℕ) (problem : Problem)
     → IsInstanceFile limits layout input k problem ↔ Completes layout input k problem
 
 -- an input has a file of some problem exactly if a prefix of it leads to k complete blocks

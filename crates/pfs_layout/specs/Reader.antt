@@ -140,17 +140,17 @@ pub record IsRejected (r : Fields) (text : List ℕ) (fault : LayoutFault) : Typ
   pub held : r.held ≡ time_count r.layout (block_read r.layout r.wanted front)
 
 -- the same, by the reader's phase
-abbrev pub StandsIn : Phase → Fields → List ℕ → Type 0
-StandsIn (Phase.Rejected fault) r text = IsRejected r text fault
-StandsIn other r text = Follows r text
+abbrev pub HasReadIn : Phase → Fields → List ℕ → Type 0
+HasReadIn (Phase.Rejected fault) r text = IsRejected r text fault
+HasReadIn other r text = Follows r text
 
 -- the reader has read this text, with or without a fault
-abbrev pub StandsAfter : Fields → List ℕ → Type 0
-StandsAfter r text = StandsIn r.phase r text
+abbrev pub HasRead : Fields → List ℕ → Type 0
+HasRead r text = HasReadIn r.phase r text
 
 -- every reader has read some text, or its allocation failed and it has stored no time
 pub record IsReader (r : Fields) : Type 0 where
-  pub stands : r.phase ≢ Phase.Rejected LayoutFault.Memory → (text : List ℕ) × StandsAfter r text
+  pub has_read : r.phase ≢ Phase.Rejected LayoutFault.Memory → (text : List ℕ) × HasRead r text
   pub none : r.phase ≡ Phase.Rejected LayoutFault.Memory → r.held ≡ 0
 
 -- ---- how many times are stored
@@ -188,7 +188,7 @@ progress_of other used = Ok (record { used = used; done = false })
 pub record FeedMeets (old : Fields) (text piece : List ℕ) (outcome : Result Progress LayoutFault) (new : Fields)
     : Type 0 where
   pub ok : IfOk outcome
-      (λ progress. (progress.used ≤ length piece) × StandsAfter new (text ++ take progress.used piece))
+      (λ progress. (progress.used ≤ length piece) × HasRead new (text ++ take progress.used piece))
   pub layout : new.layout ≡ old.layout
   pub wanted : new.wanted ≡ old.wanted
   -- the whole piece was used, or the wanted block has ended with the last byte that was used
@@ -196,7 +196,7 @@ pub record FeedMeets (old : Fields) (text piece : List ℕ) (outcome : Result Pr
   pub done : IfOk outcome (λ progress. IsTrue progress.done ↔ (new.phase ≡ Phase.Done))
   pub no_more : IfOk outcome (λ progress. (n : ℕ) → n < progress.used
       → length (stand old.layout (ended_lines (text ++ take n piece))).complete < old.wanted)
-  pub rejected : IfErr outcome (λ fault. fault ≢ LayoutFault.Memory → StandsAfter new (text ++ piece))
+  pub rejected : IfErr outcome (λ fault. fault ≢ LayoutFault.Memory → HasRead new (text ++ piece))
   pub exact : outcome ≢ Err LayoutFault.Memory → (fault : LayoutFault)
       → (outcome ≡ Err fault) ↔ (byte_fault old.layout old.wanted (text ++ piece) ≡ Some fault)
   pub memory : outcome ≡ Err LayoutFault.Memory

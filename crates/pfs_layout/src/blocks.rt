@@ -8,7 +8,7 @@ ghost use Rattle.pfs_layout.specs.Private.Step.{rejected, CanCount, with_problem
 ghost use Rattle.pfs_layout.specs.Private.Step.{body_validated, number_ended, last_number_ended, no_numbers, stated_by};
 ghost use Rattle.pfs_layout.specs.Private.Step.{size_validated, line_ended, mixed_met, after_byte, TakeMeets};
 ghost use Rattle.pfs_layout.specs.Private.Step.{has_numbers_alone, end_fault, at_end, IsReady, LacksMemory};
-ghost use Rattle.pfs_layout.specs.Reader.{is_live as live_test, fields, StandsAfter, IsReader, FeedMeets, progress_of};
+ghost use Rattle.pfs_layout.specs.Reader.{is_live as live_test, fields, HasRead, IsReader, FeedMeets, progress_of};
 
 use crate::body::{Body, Due};
 use crate::scan::{Kinds, LINE_END, Line, Number, is_blank, is_digit};
@@ -296,13 +296,13 @@ impl Blocks {
     // or to a fault.
     fn take(&mut self, alloc: Global, last: &mut Line, piece: &[u8])
         requires live { live_test self.old.phase ≡ true }
-        requires stands { (text : List ℕ) × StandsAfter (fields last.old self.old) text }
+        requires has_read { (text : List ℕ) × HasRead (fields last.old self.old) text }
         requires room { last.old.digits.offset + length piece.now ≤ LONGEST_INPUT }
         ensures within { last.new.digits.offset ≤ last.old.digits.offset + length piece.now }
         ensures whole { live_test self.new.phase ≡ true
             → last.new.digits.offset ≡ last.old.digits.offset + length piece.now }
         ensures onward { last.old.digits.offset ≤ last.new.digits.offset }
-        ensures meets { (text : List ℕ) → StandsAfter (fields last.old self.old) text
+        ensures meets { (text : List ℕ) → HasRead (fields last.old self.old) text
             → TakeMeets (fields last.old self.old) text piece.now
             (last.new.digits.offset - last.old.digits.offset) (fields last.new self.new) }
     {
@@ -362,7 +362,7 @@ impl Blocks {
         ensures whole { IfOk result (λ progress. progress.done ≡ false → progress.used ≡ length piece.now) }
         ensures stays { IfErr result (λ fault. self.new.phase ≡ Phase.Rejected fault) }
         ensures moved { IfOk result (λ progress. last.new.digits.offset ≡ last.old.digits.offset + progress.used) }
-        ensures meets { (text : List ℕ) → StandsAfter (fields last.old self.old) text
+        ensures meets { (text : List ℕ) → HasRead (fields last.old self.old) text
             → FeedMeets (fields last.old self.old) text piece.now result (fields last.new self.new) }
     {
         if !self.is_live() {

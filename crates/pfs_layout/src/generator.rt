@@ -87,12 +87,12 @@ fn next_seed(seed: u64) -> u64
     ensures product { result ≡ 16807 * seed % prime }
     ensures below { result < prime }
 {
-    let ahead = MULTIPLIER * (seed % QUOTIENT);
-    let behind = REMAINDER * (seed / QUOTIENT);
-    if ahead < behind {
-        ahead + MODULUS - behind
+    let product = MULTIPLIER * (seed % QUOTIENT);
+    let quotient_part = REMAINDER * (seed / QUOTIENT);
+    if product < quotient_part {
+        product + MODULUS - quotient_part
     } else {
-        ahead - behind
+        product - quotient_part
     }
 }
 

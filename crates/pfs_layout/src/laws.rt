@@ -1,7 +1,7 @@
 //! Laws about the definitions, and one law about readers.
 ghost use Rattle.std.specs.Prelude.{◌≡◌, ℕ, List};
-ghost use Rattle.pfs_layout.specs.Reader.{StandsAfter, FinishMeets};
-ghost use Rattle.pfs_layout.specs.Laws.{FileStands, SomeFile, OneVerdict, RejectionLaw, AcceptedLaw};
+ghost use Rattle.pfs_layout.specs.Reader.{HasRead, FinishMeets};
+ghost use Rattle.pfs_layout.specs.Laws.{InstanceFile, SomeFile, OneVerdict, RejectionLaw, AcceptedLaw};
 ghost use Rattle.pfs_layout.specs.Laws.{FaultStays, ByteFaultLaw, FreeAfter, WiderLimits, EarlierFiles};
 ghost use Rattle.pfs_layout.specs.Laws.{DueAndBack, DueFronts, CanonicalLaw, CanonicalTextsFit, SeedsStay};
 ghost use Rattle.pfs_layout.specs.Laws.{GeneratedWithin};
@@ -13,8 +13,8 @@ use pfs_base::Instance;
 
 /// An input has a problem's file exactly if the lines of some prefix of it, a `Front`, lead to the wanted number
 /// of complete blocks, the last of which is the problem's.
-pub fn file_stands()
-    ensures { FileStands }
+pub fn instance_file()
+    ensures { InstanceFile }
 {}
 
 /// An input has a file of some problem exactly if the lines of some prefix of it, a `Front`, lead to the wanted
@@ -113,10 +113,10 @@ pub fn cutting(
     one: BlockReader,
     other: BlockReader,
 ) -> (Result<Instance, LayoutFault>, Result<Instance, LayoutFault>)
-    ensures one { (text : List ℕ) → StandsAfter one text → FinishMeets one text result.0 }
-    ensures other { (text : List ℕ) → StandsAfter other text → FinishMeets other text result.1 }
+    ensures one { (text : List ℕ) → HasRead one text → FinishMeets one text result.0 }
+    ensures other { (text : List ℕ) → HasRead other text → FinishMeets other text result.1 }
     ensures equal { (text : List ℕ) → one.layout ≡ other.layout → one.wanted ≡ other.wanted
-        → StandsAfter one text → StandsAfter other text → result.0 ≡ result.1 }
+        → HasRead one text → HasRead other text → result.0 ≡ result.1 }
 {
     (one.finish(), other.finish())
 }

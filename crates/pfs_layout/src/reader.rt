@@ -5,7 +5,7 @@ ghost use Rattle.std.specs.Result.{result_err};
 ghost use Rattle.pfs_base.specs.Limits.{limits};
 ghost use Rattle.pfs_layout.specs.File.{IsInstanceFile};
 ghost use Rattle.pfs_layout.specs.Rejection.{RejectsInstance};
-ghost use Rattle.pfs_layout.specs.Reader.{is_live as live_test, StandsAfter, HoldsFew, FeedMeets, FinishMeets};
+ghost use Rattle.pfs_layout.specs.Reader.{is_live as live_test, HasRead, HoldsFew, FeedMeets, FinishMeets};
 ghost use Rattle.pfs_layout.specs.Reader.{ReadsAsFar, progress_of};
 
 use crate::blocks::{Blocks, Phase, Progress};
@@ -41,7 +41,7 @@ impl BlockReader {
     pub fn new(alloc: Global, layout: Layout, block: usize) -> BlockReader
         requires some { 1 ≤ block }
         requires few { block ≤ MOST_BLOCKS }
-        ensures stands { StandsAfter result [] }
+        ensures has_read { HasRead result [] }
         ensures layout { result.layout ≡ layout }
         ensures wanted { result.wanted ≡ block }
         ensures live { live_test result.phase ≡ true }
@@ -58,7 +58,7 @@ impl BlockReader {
     /// allocation the count is 0.
     pub fn held(&self) -> usize
         ensures held { result ≡ self.now.held }
-        ensures few { (text : List ℕ) → StandsAfter self.now text
+        ensures few { (text : List ℕ) → HasRead self.now text
             → HoldsFew self.now.layout self.now.wanted text result }
         ensures memory { self.now.phase ≡ Phase.Rejected LayoutFault.Memory → result ≡ 0 }
     {
@@ -69,18 +69,18 @@ impl BlockReader {
     /// more bytes. After a fault every call returns the same fault.
     ///
     /// The error is the first fault at a byte of the input, [`TooLong`](LayoutFault::TooLong) included, or
-    /// [`Memory`](LayoutFault::Memory) if the allocation failed. After a failed allocation `StandsAfter` holds
+    /// [`Memory`](LayoutFault::Memory) if the allocation failed. After a failed allocation `HasRead` holds
     /// for no text at all.
     pub fn feed(&mut self, piece: &[u8]) -> Result<Progress, LayoutFault>
         ensures idle { live_test self.old.phase ≡ false
             → (result ≡ progress_of self.old.phase 0) × (self.new ≡ self.old) }
         ensures whole { IfOk result (λ progress. progress.done ≡ false → progress.used ≡ length piece.now) }
         ensures stays { IfErr result (λ fault. self.new.phase ≡ Phase.Rejected fault) }
-        ensures nowhere { result ≡ Err LayoutFault.Memory → (text : List ℕ) → ¬ StandsAfter self.new text }
-        ensures few { (text : List ℕ) → StandsAfter self.old text
+        ensures nowhere { result ≡ Err LayoutFault.Memory → (text : List ℕ) → ¬ HasRead self.new text }
+        ensures few { (text : List ℕ) → HasRead self.old text
             → HoldsFew self.old.layout self.old.wanted (text ++ piece.now) self.new.held }
         ensures moved { IfOk result (λ progress. self.new.digits.offset ≡ self.old.digits.offset + progress.used) }
-        ensures meets { (text : List ℕ) → StandsAfter self.old text
+        ensures meets { (text : List ℕ) → HasRead self.old text
             → FeedMeets self.old text piece.now result self.new }
     {
         self.blocks.feed(self.alloc, &mut self.last, piece)
@@ -91,7 +91,7 @@ impl BlockReader {
     #[tactic(auto, unfolding(crate::specs::Private::Step::line_ended))]
     pub fn finish(self) -> Result<Instance, LayoutFault>
         ensures rejected { (fault : LayoutFault) → self.phase ≡ Phase.Rejected fault → result ≡ Err fault }
-        ensures meets { (text : List ℕ) → StandsAfter self text → FinishMeets self text result }
+        ensures meets { (text : List ℕ) → HasRead self text → FinishMeets self text result }
     {
         let mut blocks = self.blocks;
         match blocks.validate_end(self.last) {

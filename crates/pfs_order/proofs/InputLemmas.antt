@@ -67,10 +67,10 @@ validated_says bytes (Ok file) few e = subst (OrderVerdict bytes) e (text_verdic
 validated_says bytes (Err fault) few (inl (memory, h)) = rw memory tt
 validated_says bytes (Err fault) few (inr e) = of fault (subst (OrderVerdict bytes) e (text_verdict bytes few))
   where
-    of : (told : OrderFault) → RejectsOrder bytes told → RejectsUnlessFailed bytes told
+    of : (known : OrderFault) → RejectsOrder bytes known → RejectsUnlessFailed bytes known
     of Read h = tt
     of Memory h = tt
-    of told h = h
+    of fault h = h
 
 module _ {old new : Option (List ℕ)} {returned : Result StatedOrder OrderFault} where
   says : Reported old new returned → IfSome old (Says returned)
@@ -82,13 +82,13 @@ module _ {old new : Option (List ℕ)} {returned : Result StatedOrder OrderFault
 
 accepted : {old new : Option (List ℕ)} (returned : Result StatedOrder OrderFault) → Reported old new returned
     → IfOk returned (λ file. IfSome old (λ input. IsOrderFile input file))
-accepted (Ok file) told = says told
-accepted (Err fault) told = tt
+accepted (Ok file) known = says known
+accepted (Err fault) known = tt
 
 rejected : {old new : Option (List ℕ)} (returned : Result StatedOrder OrderFault) → Reported old new returned
     → IfErr returned (λ fault. IfSome old (λ input. RejectsUnlessFailed input fault))
-rejected (Ok file) told = tt
-rejected (Err fault) told = says told
+rejected (Ok file) known = tt
+rejected (Err fault) known = says known
 
 -- only one result is right for an input
 one_returned : (input : List ℕ) (returned right : Result StatedOrder OrderFault) → Says returned input
@@ -106,7 +106,7 @@ ended : {old new : Option (List ℕ)} (returned : Result StatedOrder OrderFault)
 ended (Ok file) (whole bytes c end few j) = end
 ended (Ok file) (long bytes c size is) = absurd (cc)
 ended (Ok file) (stopped f is) = absurd (cc)
-ended (Err fault) told = tt
+ended (Err fault) known = tt
 
 -- how far a known input was read, if this prefix of it was read
 reads_front : (old new : Option (List ℕ)) (fault : Option OrderFault) (front : List ℕ) → Consumes old new front
@@ -130,13 +130,13 @@ reads_front old new fault front c few failed too_long end memory =
 reads : {old new : Option (List ℕ)} (returned : Result StatedOrder OrderFault) → Reported old new returned
     → IfSome old (λ input. ReadsOrderAsFar input new (result_err returned))
 reads returned (stopped (front, (few, c)) is) =
-    reads_front _ _ (result_err returned) front c (omega arith) (λ _. omega arith) (λ told. absurd (cc))
+    reads_front _ _ (result_err returned) front c (omega arith) (λ _. omega arith) (λ known. absurd (cc))
     (λ other. absurd (other (ap result_err is))) (λ none. absurd (cc))
 reads returned (long bytes c size is) =
     reads_front _ _ (result_err returned) bytes c (omega arith) (λ failed. absurd (cc)) (λ _. size)
     (λ _ other. absurd (other (ap result_err is))) (λ none. absurd (cc))
 reads returned (whole bytes c end few j) =
-    reads_front _ _ (result_err returned) bytes c (omega arith) (λ _. few) (λ told. absurd (never_long returned j told))
+    reads_front _ _ (result_err returned) bytes c (omega arith) (λ _. few) (λ known. absurd (never_long returned j known))
     (λ _ _. end) (λ memory. (end, of_memory returned j memory))
   where
     never_long : (read : Result StatedOrder OrderFault) → ValidatesText bytes read → result_err read ≢ Some TooLong
@@ -175,13 +175,13 @@ pub owed : {old new : Option (List ℕ)} {broken late late' : Bool} (returned : 
       working : broken ≡ true → returned ≡ Err Read;
       before_end : returned ≡ Err Read → late' ≡ late;
     }
-owed {old} returned told failed working before_end = record {
-  accepted = accepted returned told;
-  rejected = rejected returned told;
-  accepts = IfSome_then old (says told) (λ input h file. one_returned input returned (Ok file) h);
-  rejects = IfSome_then old (says told) (λ input h fault. one_returned input returned (Err fault) h);
-  ended = ended returned told;
-  reads = reads returned told;
+owed {old} returned known failed working before_end = record {
+  accepted = accepted returned known;
+  rejected = rejected returned known;
+  accepts = IfSome_then old (says known) (λ input h file. one_returned input returned (Ok file) h);
+  rejects = IfSome_then old (says known) (λ input h fault. one_returned input returned (Err fault) h);
+  ended = ended returned known;
+  reads = reads returned known;
   failed = failed;
   working = working;
   before_end = before_end;

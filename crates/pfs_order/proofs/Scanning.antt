@@ -54,7 +54,7 @@ module _ {A B : Type 0} {L : Spelling A} {M : A → Spelling B} {N : Spelling B}
         stuck b front (more ++ t) after whole (rw append_assoc at (then_finds a b (front ++ more) t l m))
         (λ other. rw (stops other) refl)
     | found a s rest whole l ↦ elim ((k a).verdict rest) [
-      | found b t behind e m ↦ found b (s ++ t) behind (rw (whole, e, append_assoc) refl) (then_finds a b s t l m)
+      | found b t rest e m ↦ found b (s ++ t) rest (rw (whole, e, append_assoc) refl) (then_finds a b s t l m)
       | stuck b t more after e m stops ↦
           stuck b (s ++ t) more after (rw (whole, e, append_assoc) refl)
           (rw append_assoc (then_finds a b s (t ++ more) l m))

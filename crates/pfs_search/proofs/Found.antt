@@ -19,7 +19,7 @@ use Rattle.pfs_search.specs.MostCells.{most_neh_cells, most_rounds_cells, FewNeh
 use Rattle.pfs_search.specs.Neh.{neh_order}
 use Rattle.pfs_search.specs.Solution.{rounds_cells, searched, improved, IsFound, IsImproved}
 use Rattle.pfs_search.specs.Solution.{JoinedPartsLaw, LongerSearchLaw}
-use Rattle.pfs_search.proofs.Parts.{words_are, words_behind_are, parts_law, searched_law}
+use Rattle.pfs_search.proofs.Parts.{words_are, words_after_are, parts_law, searched_law}
 use Rattle.pfs_search.proofs.Published.CostSums.{costs_law}
 
 -- ---- cells
@@ -161,7 +161,7 @@ pub improved_is : (shop : FlowShop) (first count take passes seed : ℕ) (genera
     → IsImproved shop start first count take passes seed order span cells
 improved_is shop first count take passes seed generator start start_span old_cells order span cells few advanced spanned
     fresh done all distinct = record {
-      found = done.is_order ∙ rw (words_behind_are seed generator first count take advanced);
+      found = done.is_order ∙ rw (words_after_are seed generator first count take advanced);
       all = all;
       distinct = distinct;
       spanned = done.is_span;

@@ -1,5 +1,5 @@
 -- Rounds don't increase the makespan of an order.
-use Rattle.std.proofs.Common.{ℕ, zero, suc, ◌≤◌, List, take as front, drop as behind, arith}
+use Rattle.std.proofs.Common.{ℕ, zero, suc, ◌≤◌, List, take as front, drop, arith}
 use Rattle.std.proofs.Math.Dec.{leb}
 use Rattle.std.proofs.lemmas.Bool.{cond_both, leb-true}
 use Rattle.pfs_base.specs.FlowShop.{FlowShop}
@@ -16,5 +16,5 @@ no_longer_law shop passes zero take jobs words = omega arith
 no_longer_law shop passes (suc rounds) take jobs words =
     let once = kept_no_longer shop jobs (after_passes shop passes (rebuilt shop jobs (front take words))) in
     let once_more = after_round shop passes jobs (front take words) in
-    let rest = no_longer_law shop passes rounds take once_more (behind take words) in
+    let rest = no_longer_law shop passes rounds take once_more (drop take words) in
     omega arith

@@ -21,8 +21,8 @@ use Rattle.pfs_search.specs.Ranking.{RanksBefore, IsRanking, ranks_before, ranke
 
 -- ---- lists in which each element is related to all elements after it
 
-Contains-behind : {X : Type 0} (x : X) (xs : List X) (y : X) → Contains xs y → Contains (x ∷ xs) y
-Contains-behind x xs = Contains-append_right (x ∷ []) xs
+Contains-after : {X : Type 0} (x : X) (xs : List X) (y : X) → Contains xs y → Contains (x ∷ xs) y
+Contains-after x xs = Contains-append_right (x ∷ []) xs
 
 module _ {X : Type 0} (R : X → X → Type 0) where
   AllPairs-head : (x : X) (xs : List X) → AllPairs R (x ∷ xs) → All (R x) xs
@@ -41,10 +41,10 @@ module _ {X : Type 0} (R : X → X → Type 0) (one_way : (x y : X) → R x y �
       absurd (one_way x y (All-contains (R x) xs y left (i, omega arith, there))
       (All-contains (R y) ys x right (k, omega arith, at)))
 
-  behind_first : (x q : X) (xs ys : List X) → All (R x) xs → Contains xs q → Contains (x ∷ ys) q → Contains ys q
-  behind_first x q xs ys before among (zero, within, is) =
+  after_first : (x q : X) (xs ys : List X) → All (R x) xs → Contains xs q → Contains (x ∷ ys) q → Contains ys q
+  after_first x q xs ys before among (zero, within, is) =
       let itself = rw is at (All-contains (R x) xs q before among) in absurd (one_way q q itself itself)
-  behind_first x q xs ys before among (suc k, within, at) = (k, omega arith, at)
+  after_first x q xs ys before among (suc k, within, at) = (k, omega arith, at)
 
   only_order : (xs ys : List X) → AllPairs R xs → AllPairs R ys → ((q : X) → Contains xs q ↔ Contains ys q) → xs ≡ ys
   only_order [] [] left right same = refl
@@ -57,11 +57,11 @@ module _ {X : Type 0} (R : X → X → Type 0) (one_way : (x y : X) → R x y �
       let other = AllPairs-head R y ys right in
       let is : x ≡ y = only_first x y xs ys first other ((same x).0 (0, omega arith, refl))
       ((same y).1 (0, omega arith, refl)) in
-      let behind : (q : X) → Contains xs q ↔ Contains ys q = λ q. (
-        (λ among. behind_first x q xs ys first among (rw is ((same q).0 (Contains-behind x xs q among)))),
-        (λ among. behind_first y q ys xs other among (rw (← is) ((same q).1 (Contains-behind y ys q among)))),
+      let same_rest : (q : X) → Contains xs q ↔ Contains ys q = λ q. (
+        (λ among. after_first x q xs ys first among (rw is ((same q).0 (Contains-after x xs q among)))),
+        (λ among. after_first y q ys xs other among (rw (← is) ((same q).1 (Contains-after y ys q among)))),
       ) in
-      rw is (ap (λ l. y ∷ l) (only_order xs ys (AllPairs-tail R x xs left) (AllPairs-tail R y ys right) behind))
+      rw is (ap (λ l. y ∷ l) (only_order xs ys (AllPairs-tail R x xs left) (AllPairs-tail R y ys right) same_rest))
 
 -- ---- two rankings are equal
 
@@ -102,18 +102,18 @@ ranked_with_keeps : (shop : FlowShop) (jobs : List ℕ) (job : ℕ) → (Contain
 ranked_with_keeps shop [] job absent h = AllPairs-cons (RanksBefore shop) job [] (All-nil (RanksBefore shop job)) h
 ranked_with_keeps shop (other ∷ others) job absent h =
     let R = RanksBefore shop in
-    let behind = AllPairs-head R other others h in
+    let others_after = AllPairs-head R other others h in
     elim (cases_Bool (ranks_before shop job other)) [
       | inl test ↦
           let first = ranks_then shop job other test in
-          let far = All-weaker (R other) (R job) (λ q. ranks_chain shop job other q first) others behind in
+          let far = All-weaker (R other) (R job) (λ q. ranks_chain shop job other q first) others others_after in
           rw test (AllPairs-cons R job (other ∷ others) (All-cons (R job) other others first far) h)
       | inr test ↦
           let first = ranks_or shop job other (λ same. absent (0, omega arith, sym same)) test in
-          let rest = ranked_with_keeps shop others job (λ among. absent (Contains-behind other others job among))
+          let rest = ranked_with_keeps shop others job (λ among. absent (Contains-after other others job among))
           (AllPairs-tail R other others h) in
           rw test (AllPairs-cons R other (ranked_with shop others job) (All-permutation (R other) (job ∷ others) _
-          (ranked_with_moves shop others job) (All-cons (R other) job others first behind)) rest)
+          (ranked_with_moves shop others job) (All-cons (R other) job others first others_after)) rest)
     ]
 
 abbrev AreRanked : FlowShop → List ℕ → Type 0

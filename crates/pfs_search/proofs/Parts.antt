@@ -1,5 +1,5 @@
 -- Rounds in parts, and the random words of each.
-use Rattle.std.proofs.Common.{◌≡◌, ℕ, zero, suc, ◌+◌, ◌*◌, ◌≤◌, List, ◌∷◌, ◌++◌, length, take as front, drop as behind}
+use Rattle.std.proofs.Common.{◌≡◌, ℕ, zero, suc, ◌+◌, ◌*◌, ◌≤◌, List, ◌∷◌, ◌++◌, length, take as front, drop}
 use Rattle.std.proofs.Common.{refl, ap, ap₂, ◌∙◌, arith}
 use Rattle.std.proofs.Math.Nat.{zero-add, suc-add}
 use Rattle.std.proofs.Math.Seq.{drop-append_seam}
@@ -12,7 +12,7 @@ use Rattle.rand_pcg.specs.Lcg.{Lcg, advance, state_after}
 use Rattle.rand_pcg.specs.Pcg.{multiplier_64, pcg32, pcg32_of_seed}
 use Rattle.pfs_base.specs.FlowShop.{FlowShop}
 use Rattle.pfs_search.specs.Greedy.{after_round, after_rounds, words_of}
-use Rattle.pfs_search.specs.Solution.{words_for, words_behind, PartsLaw, SearchedLaw}
+use Rattle.pfs_search.specs.Solution.{words_for, words_after, PartsLaw, SearchedLaw}
 
 -- ---- the random words of a generator
 
@@ -46,7 +46,7 @@ later-add zero b g = rw zero-add
 later-add (suc a) b g = rw suc-add (later-add a b (pcg32 g).1)
 
 -- the random words after the first `a` words
-words_later : (a b : ℕ) (g : Lcg) → behind a (first_words pcg32 (a + b) g) ≡ first_words pcg32 b (later a g)
+words_later : (a b : ℕ) (g : Lcg) → drop a (first_words pcg32 (a + b) g) ≡ first_words pcg32 b (later a g)
 words_later a b g =
     let firsts : List ℕ = first_words pcg32 a g in
     let rest : List ℕ = first_words pcg32 b (later a g) in
@@ -62,41 +62,41 @@ pub words_are : (seed : ℕ) (generator : Lcg) (count : ℕ) → generator ≡ o
     → words_of count (stream_of (steps_u32 pcg32) generator) ≡ words_for seed count
 words_are seed generator count e = rw e (words_of_steps pcg32 count (of_seed seed))
 
-behind_are : (seed first count take : ℕ)
-    → words_behind seed first count take ≡ first_words pcg32 (count * take) (later (first * take) (of_seed seed))
-behind_are seed first count take =
+after_are : (seed first count take : ℕ)
+    → words_after seed first count take ≡ first_words pcg32 (count * take) (later (first * take) (of_seed seed))
+after_are seed first count take =
     let all : (first + count) * take ≡ first * take + count * take = omega arith in
     rw all (words_later (first * take) (count * take) (of_seed seed))
 
 -- the random words of a generator of a seed that has advanced past the first rounds
-pub words_behind_are : (seed : ℕ) (generator : Lcg) (first count take : ℕ)
+pub words_after_are : (seed : ℕ) (generator : Lcg) (first count take : ℕ)
     → generator ≡ later (first * take) (of_seed seed)
-    → words_of (count * take) (stream_of (steps_u32 pcg32) generator) ≡ words_behind seed first count take
-words_behind_are seed generator first count take e =
-    rw (e, behind_are seed first count take) (words_of_steps pcg32 (count * take) _)
+    → words_of (count * take) (stream_of (steps_u32 pcg32) generator) ≡ words_after seed first count take
+words_after_are seed generator first count take e =
+    rw (e, after_are seed first count take) (words_of_steps pcg32 (count * take) _)
 
 -- ---- parts
 
 -- the random words of all rounds are those of some rounds and those of the rounds after them
-behind-add : (seed first one other take : ℕ) → words_behind seed first (one + other) take
-    ≡ words_behind seed first one take ++ words_behind seed (first + one) other take
-behind-add seed first one other take =
+after-add : (seed first one other take : ℕ) → words_after seed first (one + other) take
+    ≡ words_after seed first one take ++ words_after seed (first + one) other take
+after-add seed first one other take =
     let both : (one + other) * take ≡ one * take + other * take = omega arith in
     let so_far : (first + one) * take ≡ first * take + one * take = omega arith in
     let g : Lcg = of_seed seed in
     rw (
-      behind_are seed first (one + other) take,
-      behind_are seed first one take,
-      behind_are seed (first + one) other take,
+      after_are seed first (one + other) take,
+      after_are seed first one take,
+      after_are seed (first + one) other take,
       both,
       so_far,
       later-add (first * take) (one * take) g,
     )
     (words-add (one * take) (other * take) (later (first * take) g))
 
-length-words_behind : (seed first count take : ℕ) → length (words_behind seed first count take) ≡ count * take
-length-words_behind seed first count take =
-    rw (behind_are seed first count take) (length-first_words pcg32 (count * take) _)
+length-words_after : (seed first count take : ℕ) → length (words_after seed first count take) ≡ count * take
+length-words_after seed first count take =
+    rw (after_are seed first count take) (length-first_words pcg32 (count * take) _)
 
 -- rounds on all words are rounds on some words and then on the random words after them
 rounds-add : (shop : FlowShop) (passes take one other : ℕ) (jobs ws us : List ℕ) → length ws ≡ one * take
@@ -109,12 +109,12 @@ rounds-add shop passes take (suc one) other jobs ws us long =
     let go_on = after_rounds shop passes (one + other) take in
     rw suc-add (ap₂ (λ words rest. go_on (after_round shop passes jobs words) rest)
     (take-append-le take ws us fits) (drop-append-le take ws us fits)
-    ∙ rounds-add shop passes take one other once (behind take ws) us (omega (arith, length-drop take ws)))
+    ∙ rounds-add shop passes take one other once (drop take ws) us (omega (arith, length-drop take ws)))
 
 pub parts_law : PartsLaw
 parts_law shop start first one other take passes seed =
-    rw (behind-add seed first one other take) (rounds-add shop passes take one other start _ _
-    (length-words_behind seed first one take))
+    rw (after-add seed first one other take) (rounds-add shop passes take one other start _ _
+    (length-words_after seed first one take))
 
 -- ---- from the first round on
 

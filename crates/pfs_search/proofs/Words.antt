@@ -1,5 +1,5 @@
 -- The random words of a stream, and rounds on them.
-use Rattle.std.proofs.Common.{◌≡◌, ℕ, zero, suc, ◌+◌, ◌*◌, ◌≤◌, List, ◌∷◌, ◌++◌, length, take as front, drop as behind}
+use Rattle.std.proofs.Common.{◌≡◌, ℕ, zero, suc, ◌+◌, ◌*◌, ◌≤◌, List, ◌∷◌, ◌++◌, length, take as front, drop}
 use Rattle.std.proofs.Common.{refl, ap, arith, add-one}
 use Rattle.std.proofs.Math.Nat.{zero-add, suc-add}
 use Rattle.std.proofs.lemmas.List.{take_all, take-append-le, drop-append-le, length-drop, nil_from_length}
@@ -29,7 +29,7 @@ module _ (shop : FlowShop) (passes take : ℕ) where
   rounds_suc (suc n) jobs ws us long one =
       let fits : take ≤ length ws = omega arith in
       rw (take-append-le take ws us fits, drop-append-le take ws us fits)
-      (rounds_suc n (after_round shop passes jobs (front take ws)) (behind take ws) us
+      (rounds_suc n (after_round shop passes jobs (front take ws)) (drop take ws) us
       (omega (arith, length-drop take ws)) one)
 
   pub rounds_more : (n : ℕ) (jobs : List ℕ) (s : Stream) → let later = stream_after (n * take) s in

@@ -2,7 +2,7 @@
 -- words are random words, which choose the jobs to remove.
 use Rattle.std.specs.Prelude.{◌≡◌, ℕ, zero, suc, ◌%◌, ◌≤◌, not, List, [], ◌∷◌, length, fold, filter}
 use Rattle.std.specs.Prelude.{nat_le, nat_eq, slice_index, remove, if◌then◌else◌}
-use Rattle.std.specs.Prelude.{take as front, drop as behind}
+use Rattle.std.specs.Prelude.{take as front, drop}
 use Rattle.rand_core.specs.Stream.{Stream, next_u32}
 use Rattle.pfs_base.specs.FlowShop.{FlowShop}
 use Rattle.pfs_base.specs.Paths.{makespan}
@@ -54,7 +54,7 @@ after_round shop passes jobs words = kept_of shop jobs (after_passes shop passes
 abbrev pub after_rounds : FlowShop → ℕ → ℕ → ℕ → List ℕ → List ℕ → List ℕ
 after_rounds shop passes zero take jobs words = jobs
 after_rounds shop passes (suc rounds) take jobs words =
-    after_rounds shop passes rounds take (after_round shop passes jobs (front take words)) (behind take words)
+    after_rounds shop passes rounds take (after_round shop passes jobs (front take words)) (drop take words)
 
 -- the next words of a stream, of the given number
 abbrev pub words_of : ℕ → Stream → List ℕ

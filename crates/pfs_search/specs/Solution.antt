@@ -1,5 +1,5 @@
 -- The result of a search by heads and tails, and the result of some of its rounds from a given order.
-use Rattle.std.specs.Prelude.{◌≡◌, ℕ, ◌+◌, ◌-◌, ◌*◌, ◌≤◌, List, length, drop as behind}
+use Rattle.std.specs.Prelude.{◌≡◌, ℕ, ◌+◌, ◌-◌, ◌*◌, ◌≤◌, List, length, drop}
 use Rattle.rand_core.specs.Pcg32Seed.{pcg32_seed}
 use Rattle.rand_core.specs.Steps.{first_words}
 use Rattle.rand_pcg.specs.Pcg.{pcg32, pcg32_of_seed}
@@ -21,13 +21,13 @@ searched shop rounds take passes seed = after_rounds shop passes rounds take (ne
 
 -- the random words of the `count` rounds after the first `first` rounds of a seed: the random words of all these rounds
 -- without those of the first
-abbrev pub words_behind : ℕ → ℕ → ℕ → ℕ → List ℕ
-words_behind seed first count take = behind (first * take) (words_for seed ((first + count) * take))
+abbrev pub words_after : ℕ → ℕ → ℕ → ℕ → List ℕ
+words_after seed first count take = drop (first * take) (words_for seed ((first + count) * take))
 
 -- the order after rounds `first` to `first` + `count` - 1 of a seed, counted from 0, from the order `start`
 abbrev pub improved : FlowShop → List ℕ → ℕ → ℕ → ℕ → ℕ → ℕ → List ℕ
 improved shop start first count take passes seed = after_rounds shop passes count take start
-    (words_behind seed first count take)
+    (words_after seed first count take)
 
 -- the cells of NEH: 2mn² for n jobs on m machines
 abbrev pub neh_cells : FlowShop → ℕ

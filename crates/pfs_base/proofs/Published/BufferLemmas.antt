@@ -14,7 +14,7 @@ new_given written buffer new = rw (new.empty, new.none_sent, new.holds_none) ref
 -- a text is the bytes that were sent, which are counted, followed by those in the buffer
 pub record Parts (out : Option (List ℕ)) (held : List ℕ) (sent : ℕ) (text : List ℕ) : Type 0 where
   pub bytes : List ℕ
-  pub told : out ≡ Some bytes
+  pub known : out ≡ Some bytes
   pub whole : bytes ++ held ≡ text
   pub count : sent ≡ count_of bytes
 
@@ -24,7 +24,7 @@ parts_of None held sent text p = absurd (none-some text p)
 parts_of (Some bytes) held sent text p = elim (cases_Bool (sent == count_of bytes)) [
   | inl same ↦ record {
     bytes = bytes;
-    told = refl;
+    known = refl;
     whole = same_Some (bytes ++ held) text (rw same at p);
     count = eqb-true sent (count_of bytes) same;
   }
@@ -40,4 +40,4 @@ pub given_all : {W : Type 0} (written : W → Option (List ℕ)) (buffer : Buffe
     → bytes_given written buffer ≡ Some text → buffer.held ≡ [] → written buffer.writer ≡ Some text
 given_all written buffer text p none =
     let parts = given_parts written buffer text p in
-    parts.told ∙ ap Some (sym (append-nil parts.bytes) ∙ ap (λ rest. parts.bytes ++ rest) (sym none) ∙ parts.whole)
+    parts.known ∙ ap Some (sym (append-nil parts.bytes) ∙ ap (λ rest. parts.bytes ++ rest) (sym none) ∙ parts.whole)

@@ -7,16 +7,16 @@ use Rattle.pfs_base.proofs.Published.SendsOn.{GoesOn}
 use Rattle.pfs_base.specs.Text.{with_line_end, spaced, entry}
 
 -- numbers that follow another one, each after a space
-abbrev pub behind : List ℕ → List ℕ
-behind ns = flat_map (λ n. 32 ∷ decimal n) ns
+abbrev pub spaced_rest : List ℕ → List ℕ
+spaced_rest ns = flat_map (λ n. 32 ∷ decimal n) ns
 
 -- the numbers of two lists on one line, with a space before each of the second
-pub spaced-append : (n : ℕ) (ns ms : List ℕ) → spaced ((n ∷ ns) ++ ms) ≡ spaced (n ∷ ns) ++ behind ms
+pub spaced-append : (n : ℕ) (ns ms : List ℕ) → spaced ((n ∷ ns) ++ ms) ≡ spaced (n ∷ ns) ++ spaced_rest ms
 spaced-append n [] [] = sym (append-nil (decimal n))
 spaced-append n [] (m ∷ ms) = ap (λ l. decimal n ++ 32 ∷ l) (spaced-append m [] ms)
 spaced-append n (m ∷ ns) ms =
     ap (λ l. decimal n ++ 32 ∷ l) (spaced-append m ns ms)
-    ∙ sym (append_assoc (decimal n) (32 ∷ spaced (m ∷ ns)) (behind ms))
+    ∙ sym (append_assoc (decimal n) (32 ∷ spaced (m ∷ ns)) (spaced_rest ms))
 
 -- a line with one more number
 pub spaced-push : (ns : List ℕ) (n : ℕ) → spaced (ns ++ n ∷ []) ≡ spaced ns ++ entry (length ns) n
@@ -33,7 +33,7 @@ spaced-more ns place less =
 -- a line of two lists begins with the numbers of the first
 spaced_front : (ns ms : List ℕ) → 0 < length ns → (rest : List ℕ) × (spaced (ns ++ ms) ≡ spaced ns ++ rest)
 spaced_front [] ms some = absurd (omega arith)
-spaced_front (n ∷ ns) ms some = (behind ms, spaced-append n ns ms)
+spaced_front (n ∷ ns) ms some = (spaced_rest ms, spaced-append n ns ms)
 
 -- a line continues with the number at a place
 pub line_on : (ns : List ℕ) (place : ℕ) → place < length ns

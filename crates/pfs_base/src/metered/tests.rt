@@ -126,7 +126,7 @@ fn worked_rows(rt: HostRuntime) -> Result<(), Fail> {
 }
 
 #[test]
-fn the_greatest_sum_may_stand_at_any_place(rt: HostRuntime) -> Result<(), Fail> {
+fn the_greatest_sum_at_each_place(rt: HostRuntime) -> Result<(), Fail> {
     for len in 1..34 {
         for greatest in 0..len {
             let mut times = Vec::new(rt.alloc());
@@ -142,10 +142,10 @@ fn the_greatest_sum_may_stand_at_any_place(rt: HostRuntime) -> Result<(), Fail> 
             let mut bench = instance.metered();
             let a = row_from(rt.alloc(), &mut bench, 0, len)?;
             let b = row_from(rt.alloc(), &mut bench, len, len)?;
-            let want = 400 + greatest % 5 + (len + greatest) % 5;
+            let expected = 400 + greatest % 5 + (len + greatest) % 5;
             assert_eq!(rt;
                 joined(&mut bench, &a, &b)?,
-                (want as u64, len as u64),
+                (expected as u64, len as u64),
                 "{len} lengths, the greatest at {greatest}"
             );
         }

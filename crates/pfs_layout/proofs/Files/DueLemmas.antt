@@ -136,13 +136,13 @@ due_passes layout problem within = are_due_by_place layout (size_of problem) (du
 -- ---- the times of a complete block
 
 -- the number at the place of a job's time on a machine
-abbrev pub stands_at : Layout → Size → List ℕ → ℕ → ℕ → ℕ
-stands_at layout size numbers job machine = get_or numbers (place_of_time layout size job machine) 0
+abbrev pub listed_time : Layout → Size → List ℕ → ℕ → ℕ → ℕ
+listed_time layout size numbers job machine = get_or numbers (place_of_time layout size job machine) 0
 
 module _ (layout : Layout) (block : Block) where
   pub length-times : length (instance_of layout block).shop.times ≡ block.size.jobs * block.size.machines
   unfolding instance_of
-  length-times = length-table (stands_at layout block.size block.numbers) block.size.jobs block.size.machines
+  length-times = length-table (listed_time layout block.size block.numbers) block.size.jobs block.size.machines
 
 -- ---- from a problem to its due numbers and back
 
@@ -155,7 +155,7 @@ module _ (layout : Layout) (problem : Problem) where
       → instance_of layout due_block ≡ problem
   unfolding instance_of
   instance_due every =
-      let number : ℕ → ℕ → ℕ = stands_at layout due_block.size due_block.numbers in
+      let number : ℕ → ℕ → ℕ = listed_time layout due_block.size due_block.numbers in
       let times = same_table number problem.shop.jobs problem.shop.machines problem.shop.times
       every (λ job machine j m. sym (time_due layout problem job machine j m)) in
       rw (← times)
@@ -181,7 +181,7 @@ due_instance layout block all full =
     elim (place_is layout (instance_of layout block) k (omega (arith, count))) [
       | a_time job machine j m place ↦
           rw place (time_due layout (instance_of layout block) job machine j m
-          ∙ table_at (stands_at layout block.size block.numbers) block.size.jobs block.size.machines job machine 0 j m)
+          ∙ table_at (listed_time layout block.size block.numbers) block.size.jobs block.size.machines job machine 0 j m)
       | a_number machine wanted is ↦
           grind (arith, nat_tests, is, wanted, full, count, due_number layout block.size block.numbers k all)
     ])
@@ -193,7 +193,7 @@ pub times_short : (layout : Layout) (block : Block) → are_due layout block.siz
     → All (λ time. time ≤ LONGEST_TIME) (instance_of layout block).shop.times
 unfolding instance_of
 times_short layout block all full =
-    all_table (stands_at layout block.size block.numbers) block.size.jobs block.size.machines
+    all_table (listed_time layout block.size block.numbers) block.size.jobs block.size.machines
     (λ time. time ≤ LONGEST_TIME)
     (λ job machine j m.
     let place : ℕ = place_of_time layout block.size job machine in

@@ -242,12 +242,12 @@ file_completes layout input k problem f =
     let blocks = f.blocks in
     let lead = blocks_lead layout [] problem blocks.earlier blocks.own blocks.each blocks.is_own in
     let own : Block = due_block layout problem in
-    let stands : stand layout (lines f.text) ≡ completed lead.before own = rw blocks.parts lead.end in
+    let ends_at : stand layout (lines f.text) ≡ completed lead.before own = rw blocks.parts lead.end in
     let count = length_push lead.before own in
     let seeks : Seeks layout input k =
-    record { front = f.front; complete = rw stands (omega (arith, lead.as_many, blocks.count)); now = rw stands } in
+    record { front = f.front; complete = rw ends_at (omega (arith, lead.as_many, blocks.count)); now = rw ends_at } in
     let is = sym (instance_due layout problem blocks.is_own.within.within.every_time) in
-    record { seeks = seeks; earlier = lead.before; own = own; parts = rw stands; is = is }
+    record { seeks = seeks; earlier = lead.before; own = own; parts = rw ends_at; is = is }
 
 -- ---- and conversely
 

@@ -84,8 +84,8 @@ FollowsText r text complete now =
     FollowsBlocks (list_any is_word_byte (open_line text)) r (standing complete now) (ended_numbers (open_line text))
 
 pub valid_gap : (r : Blocks) (last : Line) (b : ℕ) → (is_blank b || is_line_end b) ≡ true
-    → after_byte r last b ≡ (let behind = last_number_ended r (open_number last.digits) in
-    if is_line_end b then line_ended behind (has_numbers_alone last.kinds) else behind)
+    → after_byte r last b ≡ (let ended = last_number_ended r (open_number last.digits) in
+    if is_line_end b then line_ended ended (has_numbers_alone last.kinds) else ended)
 valid_gap r last b gap = grind (arith, nat_tests)
 
 -- the outcome of a byte that doesn't end the line
@@ -217,18 +217,18 @@ pub end_byte : (r : Blocks) (last : Line) (text : List ℕ) (b : ℕ) (complete 
     (fault_within_limit r.layout now text b)
 unfolding wrong_size
 end_byte r last text b complete seeking end live five lines line f good =
-    let behind : Blocks = last_number_ended r (open_number last.digits) in
+    let ended : Blocks = last_number_ended r (open_number last.digits) in
     let keeps = keeps_last r (open_number last.digits) live in
     let part = number_part _ r last text complete seeking live five line f in
     let before : r.complete < r.wanted = live_few _ r seeking _ f.now live in
-    let few : behind.complete < behind.wanted = omega (arith, keeps.complete, keeps.wanted) in
-    let sought : behind.phase ≡ phases.Seeking = rw (lt-ltb _ _ few) at part.now.phase in
-    let outcome = sought_line behind complete (open_line text) (has_numbers_alone last.kinds) part sought few
+    let few : ended.complete < ended.wanted = omega (arith, keeps.complete, keeps.wanted) in
+    let sought : ended.phase ≡ phases.Seeking = rw (lt-ltb _ _ few) at part.now.phase in
+    let outcome = sought_line ended complete (open_line text) (has_numbers_alone last.kinds) part sought few
     (rw (line.has_digit, line.has_word)) in
     rw (valid_gap r last b (or_right (is_blank b) _ end), end)
-    (outcome_after r behind _ _ _ keeps (keeps.held sought) (rw (keeps.layout, keeps.line ∙ lines) at outcome))
+    (outcome_after r ended _ _ _ keeps (keeps.held sought) (rw (keeps.layout, keeps.line ∙ lines) at outcome))
 end_byte r last text b complete (inside block) end live five lines line f good =
-    let behind : Blocks = last_number_ended r (open_number last.digits) in
+    let ended : Blocks = last_number_ended r (open_number last.digits) in
     let numbered = has_numbers_alone last.kinds in
     let keeps = keeps_last r (open_number last.digits) live in
     let gap = or_right (is_blank b) (is_line_end b) end in
@@ -239,9 +239,9 @@ end_byte r last text b complete (inside block) end live five lines line f good =
       | inl none ↦
           let due : are_due r.layout block.size (block.numbers ++ numbers (open_line text)) ≡ true =
           due_line r.layout block text ∙ grind arith in
-          let next = body_line behind complete block (open_line text) numbered (rw none at part) unmixed
+          let next = body_line ended complete block (open_line text) numbered (rw none at part) unmixed
           (rw (← keeps.layout) at due) in
           rw none (rw keeps.layout at next)
-      | inr one ↦ rw one.1 (rejected_line r behind one.0 numbered (rw one.1 at part))
+      | inr one ↦ rw one.1 (rejected_line r ended one.0 numbered (rw one.1 at part))
     ])
 end_byte r last text b complete lost end live five lines line f good = absurd f.now

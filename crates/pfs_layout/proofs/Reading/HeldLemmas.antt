@@ -2,7 +2,7 @@
 use Rattle.pfs_layout.proofs.Words.{◌≡◌, ℕ, ◌≤◌, List, ◌++◌, take, drop, arith, Option, Some, None, inl, inr, Result}
 use Rattle.pfs_layout.proofs.Words.{Ok, Err, All, nat_tests, append_assoc, append-nil, by_push, Layout, LayoutFault}
 use Rattle.pfs_layout.proofs.Words.{Memory, Phase, Progress, ended_lines, Block, stand_after, stand, byte_fault, Fields}
-use Rattle.pfs_layout.proofs.Words.{block_read, time_count, HoldsFew, StandsIn, FeedMeets}
+use Rattle.pfs_layout.proofs.Words.{block_read, time_count, HoldsFew, HasReadIn, FeedMeets}
 use Rattle.std.proofs.lemmas.List.Elements.{All-push, All-get_or}
 use Rattle.std.proofs.lemmas.Option.{slice_get_cases}
 use Rattle.pfs_layout.specs.declared.blocks.Phase.TheVariants as phases
@@ -35,7 +35,7 @@ few_times layout k text right =
 
 -- ---- readers
 
-pub few_in : (phase : Phase) (r : Fields) (text : List ℕ) → StandsIn phase r text
+pub few_in : (phase : Phase) (r : Fields) (text : List ℕ) → HasReadIn phase r text
     → HoldsFew r.layout r.wanted text r.held
 unfolding block_read
 few_in (phases.Rejected fault) r text s = grind (arith, s, few_times r.layout r.wanted s.front s.sound)

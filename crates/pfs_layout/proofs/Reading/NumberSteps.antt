@@ -15,7 +15,7 @@ use Rattle.std.proofs.Math.Nat.{mul_comm}
 use Rattle.std.proofs.lemmas.List.{get_or_push, get_or-replicate}
 use Rattle.pfs_layout.specs.Private.Step.{with_number, next_of, after_time, after_machine, due_next}
 use Rattle.pfs_layout.specs.Private.Step.{with_problem_time, counted}
-use Rattle.pfs_layout.proofs.Files.DueLemmas.{stands_at, size_within}
+use Rattle.pfs_layout.proofs.Files.DueLemmas.{listed_time, size_within}
 use Rattle.pfs_layout.proofs.Tables.{table, length-table, table_at, same_table}
 use Rattle.std.specs.Prelude.{is_some, replicate}
 use Rattle.pfs_layout.specs.declared.body.Body.{Body}
@@ -56,7 +56,7 @@ module _ (layout : Layout) (size : Size) where
       record problem { shop = with_time problem.shop job machine v })
   unfolding instance_of
   instance_of-time ns v job machine j m at =
-      let times = table_with (stands_at layout size ns) (stands_at layout size (ns ++ v ∷ []))
+      let times = table_with (listed_time layout size ns) (listed_time layout size (ns ++ v ∷ []))
       size.jobs size.machines job machine v j m
       (get_or_push ns v 0 _ (sym at)) (λ r c p q other. index_push_other ns v _ (λ last.
       let same = same_time_place layout size r c job machine p q j m (last ∙ sym at) in other same.0 same.1)) in
@@ -74,8 +74,8 @@ pub instance_of-machine : (size : Size) (ns : List ℕ) (v : ℕ) → length ns 
     ≡ instance_of OrLib (record { size = size; numbers = ns })
 unfolding instance_of
 instance_of-machine size ns v even =
-    let before : ℕ → ℕ → ℕ = stands_at OrLib size ns in
-    let times = same_table (stands_at OrLib size (ns ++ v ∷ [])) size.jobs size.machines
+    let before : ℕ → ℕ → ℕ = listed_time OrLib size ns in
+    let times = same_table (listed_time OrLib size (ns ++ v ∷ [])) size.jobs size.machines
     (table before size.jobs size.machines) (length-table before size.jobs size.machines)
     (λ r c p q. table_at before size.jobs size.machines r c 0 p q
     ∙ sym (index_push_other ns v (place_of_time OrLib size r c) (λ last. omega arith))) in
@@ -109,12 +109,12 @@ module _ {layout : Layout} {size : Size} {count : ℕ} {body : Body} (f : Follow
   due_is = grind (arith, nat_tests, mod-mul-add body.job size.machines body.machine, f.place)
 
   -- after a time, and after a machine's number
-  pub time_behind : due_next layout body ≡ Due.Time → FollowsBody layout size (count + 1) (after_time layout body)
-  time_behind due = grind (arith, nat_tests, next_place, f.place)
+  pub after_time_follows : due_next layout body ≡ Due.Time → FollowsBody layout size (count + 1) (after_time layout body)
+  after_time_follows due = grind (arith, nat_tests, next_place, f.place)
 
-  pub machine_behind : {machine : ℕ} → due_next layout body ≡ Due.Machine machine
+  pub after_machine_follows : {machine : ℕ} → due_next layout body ≡ Due.Machine machine
       → FollowsBody layout size (count + 1) (after_machine body)
-  machine_behind due = grind (arith, nat_tests, f.place)
+  after_machine_follows due = grind (arith, nat_tests, f.place)
 
 -- ---- the wanted block's instance
 
@@ -224,13 +224,13 @@ module _ {has_word : Bool} (r : Blocks) (complete : List Block) (block : Block) 
   counted_follows : {body : Body} {instance : Option Problem} {held : ℕ}
       → FollowsBody r.layout block.size (length so_far + 1) body → KeepsOf (so_far ++ v ∷ []) instance held
       → CountsTo (record r { body = body; instance = instance; held = held }) None
-  counted_follows behind keeping =
+  counted_follows after keeping =
       let wanted = begun_wanted complete r.wanted (inside block) (more ++ v ∷ []) few in
       let count : length block.numbers + length (more ++ v ∷ []) ≡ length so_far + 1 =
       omega (arith, length-append block.numbers more, length_push more v) in
       record {
         complete = f.complete;
-        now = record { phase = f.now.phase; few = f.now.few; fits = f.now.fits; body = rw count behind };
+        now = record { phase = f.now.phase; few = f.now.few; fits = f.now.fits; body = rw count after };
         instance = rw (wanted, ← append_assoc) keeping.instance;
         held = rw (wanted, ← append_assoc) keeping.held;
       }
@@ -243,9 +243,9 @@ module _ {has_word : Bool} (r : Blocks) (complete : List Block) (block : Block) 
       → CountsTo (counted r due (min CEILING v)) None
   due_counts Due.Time e is =
       let same : min CEILING v ≡ v = grind (arith, nat_tests) in
-      rw same (counted_follows (time_behind follows e) (keeping_time v follows e keeps))
+      rw same (counted_follows (after_time_follows follows e) (keeping_time v follows e keeps))
   due_counts (Due.Machine machine) e is =
-      counted_follows (machine_behind follows e) (keeping_machine v follows e keeps)
+      counted_follows (after_machine_follows follows e) (keeping_machine v follows e keeps)
   due_counts Due.Nothing e is = grind arith
 
   begun_number : (first : ℕ) → CountsTo (number_ended r (min CEILING v) first)

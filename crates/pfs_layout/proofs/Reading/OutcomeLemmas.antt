@@ -2,8 +2,8 @@
 use Rattle.pfs_layout.proofs.Words.{◌≡◌, ℕ, ◌-◌, ◌≤◌, true, List, [], refl, sym, ◌∙◌, arith, Option, Some, None, inl}
 use Rattle.pfs_layout.proofs.Words.{inr, Result, Ok, Err, option_or, result_err, nat_tests, lt-ltb, le-ltb, append-nil}
 use Rattle.pfs_layout.proofs.Words.{Problem, LayoutFault, Phase, Blocks, lines, ends_early, fault_of_place, rejection}
-use Rattle.pfs_layout.proofs.Words.{accepted, line_ended, has_numbers_alone, at_end, is_live, Fields, Follows, StandsIn}
-use Rattle.pfs_layout.proofs.Words.{StandsAfter, FinishMeets}
+use Rattle.pfs_layout.proofs.Words.{accepted, line_ended, has_numbers_alone, at_end, is_live, Fields, Follows, HasReadIn}
+use Rattle.pfs_layout.proofs.Words.{HasRead, FinishMeets}
 use Rattle.std.specs.Result.{result_ok}
 use Rattle.pfs_layout.specs.declared.blocks.Phase.TheVariants as phases
 use Rattle.pfs_layout.specs.Private.Step.{end_fault}
@@ -52,7 +52,7 @@ live_end r text f live =
     ]
 
 -- a reader in this phase
-end_outcome : (p : Phase) (r : Fields) (text : List ℕ) → r.phase ≡ p → StandsIn p r text → EndOutcome r text
+end_outcome : (p : Phase) (r : Fields) (text : List ℕ) → r.phase ≡ p → HasReadIn p r text → EndOutcome r text
 unfolding line_ended accepted
 -- the wanted block is complete before the last line
 end_outcome phases.Done r text e f =
@@ -77,7 +77,7 @@ meets {r} {text} some ok err = record {
 }
 
 -- for a reader that has read this text, the end of the input is checked in this way
-pub finish_reports : (r : Fields) (text : List ℕ) → StandsAfter r text
+pub finish_reports : (r : Fields) (text : List ℕ) → HasRead r text
     → ((fault : LayoutFault) → end_fault (after_end r) ≡ Some fault → FinishMeets r text (Err fault))
     × (end_fault (after_end r) ≡ None
     → (problem : Problem) × ((at_end r.last r.blocks).instance ≡ Some problem) × FinishMeets r text (Ok problem))

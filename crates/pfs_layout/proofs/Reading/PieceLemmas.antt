@@ -2,9 +2,9 @@
 use Rattle.pfs_layout.proofs.Words.{nat_tests, ◌≡◌, ◌≢◌, ℕ, ◌+◌, ◌<◌, ◌≤◌, true, not, ◌&&◌, List, [], ◌∷◌, ◌++◌, length}
 use Rattle.pfs_layout.proofs.Words.{take, get_or, refl, ◌∙◌, arith, inl, inr, ◌-◌, cases_eq, append_assoc}
 use Rattle.pfs_layout.proofs.Words.{LONGEST_INPUT, Memory, Line, Blocks, is_digit, after_byte, IsReady, open_number}
-use Rattle.pfs_layout.proofs.Words.{Fields, fields, Follows, StandsAfter, EndsWantedSize, drop, subst, Some, Option}
+use Rattle.pfs_layout.proofs.Words.{Fields, fields, Follows, HasRead, EndsWantedSize, drop, subst, Some, Option}
 use Rattle.pfs_layout.proofs.Words.{append-nil, take_all, take-append-drop, LayoutFault, TooLong, Phase, byte_fault}
-use Rattle.pfs_layout.proofs.Words.{rejected, block_read, number_ended, StandsIn, IsReader, FeedMeets, is_blank}
+use Rattle.pfs_layout.proofs.Words.{rejected, block_read, number_ended, HasReadIn, IsReader, FeedMeets, is_blank}
 use Rattle.pfs_layout.proofs.Words.{last_number_ended, is_live}
 use Rattle.pfs_layout.specs.declared.scan.Number.{Number}
 use Rattle.pfs_layout.specs.Private.Step.{TakeMeets}
@@ -12,7 +12,7 @@ use Rattle.std.proofs.lemmas.List.{take_more, take-take, length-take-le, get_or-
 use Rattle.pfs_layout.specs.declared.blocks.Phase.TheVariants as phases
 use Rattle.pfs_layout.specs.Private.Step.{Pushes, LacksMemory}
 use Rattle.pfs_layout.proofs.Files.GoodLemmas.{stand_of, long_fault, sound}
-use Rattle.pfs_layout.proofs.Reading.ReaderSteps.{carries, live_follows, step_stands, follows_ready, wants_more}
+use Rattle.pfs_layout.proofs.Reading.ReaderSteps.{carries, live_follows, step_has_read, follows_ready, wants_more}
 use Rattle.pfs_layout.proofs.Reading.ReaderSteps.{sought_now, begun_now}
 use Rattle.pfs_layout.proofs.Reading.ByteSteps.{live-memory, rejected_memory, live_few}
 use Rattle.pfs_layout.specs.Reader.{IsRejected, progress_of}
@@ -33,7 +33,7 @@ wanted_size : {r : Fields} {new : Blocks} {text : List ℕ} {after : Line} (b : 
     → LacksMemory r.blocks (after_byte r.blocks r.last b) new → EndsWantedSize r.layout r.wanted text b
 wanted_size {r = r} {new = new} {text = text} {after = after} b f live short pushes lacks =
     let next : Fields = fields after (after_byte r.blocks r.last b) in
-    let follows = live_follows next (text ++ b ∷ []) (rw lacks.begins) (step_stands b f live short pushes) in
+    let follows = live_follows next (text ++ b ∷ []) (rw lacks.begins) (step_has_read b f live short pushes) in
     let begun = begun_now follows lacks.begins in
     let line = ends_line_at r.blocks new r.last b lacks in
     grind (arith, f.blocks.complete, lacks.wanted, sought_now f lacks.sought, begun, carries r.blocks r.last b live)
@@ -51,8 +51,8 @@ pub record TakenTo (old now : Fields) (piece : List ℕ) (i : ℕ) : Type 0 wher
   pub layout : now.layout ≡ old.layout
   pub wanted : now.wanted ≡ old.wanted
   pub offset : now.digits.offset ≡ old.digits.offset + i
-  pub follows : (text : List ℕ) → StandsAfter old text → Follows now (text ++ take i piece)
-  pub no_more : (text : List ℕ) → StandsAfter old text → (n : ℕ) → n < i
+  pub follows : (text : List ℕ) → HasRead old text → Follows now (text ++ take i piece)
+  pub no_more : (text : List ℕ) → HasRead old text → (n : ℕ) → n < i
       → length (stand_of old.layout (text ++ take n piece)).complete < old.wanted
 
 -- ---- one byte more, within the limit
@@ -70,37 +70,37 @@ module _ {old now : Fields} {piece : List ℕ} {i : ℕ} (t : TakenTo old now pi
 
 module _ {old now : Fields} {piece : List ℕ} {i : ℕ} (t : TakenTo old now piece i) (within : i < length piece)
     (room : old.digits.offset + length piece ≤ LONGEST_INPUT) where
-  no_more_then : (text : List ℕ) → StandsAfter old text → (n : ℕ) → n < i + 1
+  no_more_then : (text : List ℕ) → HasRead old text → (n : ℕ) → n < i + 1
       → length (stand_of old.layout (text ++ take n piece)).complete < old.wanted
   no_more_then text s n less =
       let f = t.follows text s in
       grind (arith, cases_eq n i, t.no_more text s n, rw t.layout at f.blocks.complete, wants_more f t.live, t.wanted)
 
-  short : (text : List ℕ) → StandsAfter old text → length (text ++ take i piece) < LONGEST_INPUT
+  short : (text : List ℕ) → HasRead old text → length (text ++ take i piece) < LONGEST_INPUT
   short text s = let f = t.follows text s in omega (arith, f.last_line.offset, t.offset)
 
-  pub taken_ready : (text : List ℕ) × StandsAfter old text → IsReady now.blocks
+  pub taken_ready : (text : List ℕ) × HasRead old text → IsReady now.blocks
   taken_ready some = follows_ready (t.follows some.0 some.1) t.live
 
   module _ {after : Line} {next : Blocks} (on : Pushes now.last (get_or piece i 0) after)
       (validates : next.phase ≢ phases.Rejected Memory → next ≡ after_byte now.blocks now.last (get_or piece i 0)) where
     -- unless the allocation failed, the blocks are those after the byte
     well_then : next.phase ≢ phases.Rejected Memory → (next.layout ≡ old.layout) × (next.wanted ≡ old.wanted)
-        × ((text : List ℕ) → StandsAfter old text → StandsAfter (fields after next) (text ++ take (i + 1) piece))
+        × ((text : List ℕ) → HasRead old text → HasRead (fields after next) (text ++ take (i + 1) piece))
     well_then well =
         let c = carries now.blocks now.last (get_or piece i 0) t.live in
         rw (validates well) (
           c.layout ∙ t.layout,
           c.wanted ∙ t.wanted,
           λ text s. rw (take_more piece i 0 within, ← append_assoc)
-              (step_stands (get_or piece i 0) (t.follows text s) t.live (short text s) on),
+              (step_has_read (get_or piece i 0) (t.follows text s) t.live (short text s) on),
         )
 
     -- after the byte, if the reader needs more
     pub taken_on : is_live next.phase ≡ true → TakenTo old (fields after next) piece (i + 1)
     taken_on live =
         let then = well_then (live-memory next.phase live) in
-        let follows = λ (text : List ℕ) (s : StandsAfter old text).
+        let follows = λ (text : List ℕ) (s : HasRead old text).
         live_follows (fields after next) _ live (then.2 text s) in
         let offset : after.digits.offset ≡ old.digits.offset + (i + 1) = omega (arith, t.offset, on.offset) in
         search no_more_then
@@ -108,7 +108,7 @@ module _ {old now : Fields} {piece : List ℕ} {i : ℕ} (t : TakenTo old now pi
     -- after the last byte
     pub taken_end : (next.phase ≡ phases.Rejected Memory
         → LacksMemory now.blocks (after_byte now.blocks now.last (get_or piece i 0)) next)
-        → (text : List ℕ) → StandsAfter old text
+        → (text : List ℕ) → HasRead old text
         → TakeMeets old text piece (after.digits.offset - old.digits.offset) (fields after next)
     taken_end wants text s =
         let used : after.digits.offset - old.digits.offset ≡ i + 1 = omega (arith, t.offset, on.offset) in
@@ -131,9 +131,9 @@ module _ {old now : Fields} {piece : List ℕ} {i : ℕ} (t : TakenTo old now pi
 -- ---- after a fault, and after the wanted block
 
 -- a reader whose allocation failed has read no text, since no byte has this fault
-pub memory_nowhere : (r : Fields) (text : List ℕ) → r.phase ≡ phases.Rejected Memory → StandsAfter r text → ⊥
+pub memory_nowhere : (r : Fields) (text : List ℕ) → r.phase ≡ phases.Rejected Memory → HasRead r text → ⊥
 memory_nowhere r text e s =
-    let rejected : IsRejected r text Memory = subst (λ p. StandsIn p r text) e s in
+    let rejected : IsRejected r text Memory = subst (λ p. HasReadIn p r text) e s in
     absurd (cc (rw rejected.here at (of_place r.layout rejected.front (Some rejected.byte) r.wanted)))
 
 -- the fault of a reader is that of the text
@@ -166,7 +166,7 @@ whole_text text piece used = rw (append_assoc, take-append-drop)
 module _ {old new : Fields} {text piece : List ℕ} {used : ℕ} (m : TakeMeets old text piece used new) where
   -- the reader after a piece, or after a failed allocation
   pub reader_of : IsReader new
-  reader_of = record { stands = λ h. (text ++ take used piece, m.stands h); none = m.none }
+  reader_of = record { has_read = λ h. (text ++ take used piece, m.has_read h); none = m.none }
 
   pub feed_of : used ≤ length piece → (is_live new.phase ≡ true → used ≡ length piece)
       → FeedMeets old text piece (progress_of new.phase used) new
@@ -177,24 +177,24 @@ module _ {old new : Fields} {text piece : List ℕ} {used : ℕ} (m : TakeMeets 
 
       by_phase : (p : Phase) → new.phase ≡ p → FeedMeets old text piece (progress_of p used) new
       by_phase phases.Done e =
-          let follows : Follows new taken = subst (λ p. StandsIn p new taken) e (m.stands (λ z. cc)) in
+          let follows : Follows new taken = subst (λ p. HasReadIn p new taken) e (m.has_read (λ z. cc)) in
           let right = faultless_after new.layout new.wanted taken (drop used piece) (done_enough new taken follows e)
           follows.sound in
           grind (arith, m, e, whole_text text piece used)
       by_phase (phases.Rejected fault) e =
           let stood : fault ≢ Memory → IsRejected new (text ++ piece) fault = λ other.
-          let here = subst (λ p. StandsIn p new taken) e (m.stands (λ z. other (cc))) in
+          let here = subst (λ p. HasReadIn p new taken) e (m.has_read (λ z. other (cc))) in
           rw (whole_text text piece used) (rejected_more new taken (drop used piece) fault here) in
           grind (arith, m.memory, m.layout, m.wanted, stood, rejected_fault new (text ++ piece) fault)
       by_phase phase e =
           let live : is_live new.phase ≡ true = rw e in
           let all : used ≡ length piece = whole live in
-          let follows = live_follows new taken live (m.stands (live-memory new.phase live)) in
+          let follows = live_follows new taken live (m.has_read (live-memory new.phase live)) in
           let right = rw (take_all used piece (omega arith), m.layout, m.wanted) at follows.sound in
           grind (arith, m, e, all)
 
 -- a reader that needs no more bytes uses none
-pub idle_meets : (r : Fields) (text piece : List ℕ) → StandsAfter r text → TakeMeets r text piece 0 r
+pub idle_meets : (r : Fields) (text piece : List ℕ) → HasRead r text → TakeMeets r text piece 0 r
 idle_meets r text piece s = grind (arith, memory_nowhere r text, append-nil {A = ℕ})
 
 -- ---- a piece that exceeds the limit
@@ -214,7 +214,7 @@ unfolding block_read
 long_meets {mid = mid} {text = text} piece room m all full within live =
     let front = front_meets piece room m (omega arith) (omega arith) in
     let taken : List ℕ = text ++ take room piece in
-    let follows = live_follows mid taken live (rw all at (front.stands (live-memory mid.phase live))) in
+    let follows = live_follows mid taken live (rw all at (front.has_read (live-memory mid.phase live))) in
     let wants = live_wants mid taken follows live in
     let good = (sound mid.layout mid.wanted taken follows.sound wants).1 in
     let here = long_fault mid.layout mid.wanted taken (get_or piece room 0) wants good (omega arith) in

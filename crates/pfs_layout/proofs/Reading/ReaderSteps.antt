@@ -4,7 +4,7 @@ use Rattle.pfs_layout.proofs.Words.{◌⊎◌, inl, inr, Blocks, last_number_end
 use Rattle.pfs_layout.proofs.Words.{[], ◌∷◌, ◌++◌, count_by, if◌then◌else◌, ◌==◌, list_any, length_push}
 use Rattle.pfs_layout.proofs.Words.{list_any-append, is_digit, is_line_end, is_word_byte, open_line, is_no_digit}
 use Rattle.pfs_layout.proofs.Words.{last_digits, FollowsLine, lt-ltb, Layout, Line, ended_parts, open_part}
-use Rattle.pfs_layout.proofs.Words.{ended_numbers, stand, byte_fault, fields, StandsAfter, sym, ◌∙◌, subst, mul-le-mul}
+use Rattle.pfs_layout.proofs.Words.{ended_numbers, stand, byte_fault, fields, HasRead, sym, ◌∙◌, subst, mul-le-mul}
 use Rattle.pfs_layout.proofs.Words.{nat_tests, length-append, cases_Bool, LONGEST_INPUT, LayoutFault}
 use Rattle.pfs_layout.proofs.Words.{is_blank, Size, is_within_limits, due_count, Block, seeking, inside, instance_of}
 use Rattle.pfs_layout.proofs.Words.{standing, fault_of_place, min, no_numbers, has_numbers_alone, open_number, IsReady}
@@ -69,11 +69,11 @@ line_push {b = b} offset first value digit word = record {
 -- ---- a reader that has read nothing
 
 -- a new reader has read the empty text
-pub new_stands : (last : Line) (r : Blocks) → FollowsLine last [] → 1 ≤ r.wanted
+pub new_has_read : (last : Line) (r : Blocks) → FollowsLine last [] → 1 ≤ r.wanted
     → r ≡ record r { complete = 0; line = 1; phase = phases.Seeking; size_line = no_numbers; instance = None; held = 0 }
-    → StandsAfter (fields last r) []
+    → HasRead (fields last r) []
 unfolding byte_fault ended_parts open_part stand ended_numbers
-new_stands last r line some is = rw is (record {
+new_has_read last r line some is = rw is (record {
   some = some;
   sound = refl;
   short = omega arith;
@@ -135,11 +135,11 @@ outcome r text b f live good = elim (cases_Bool (is_line_end b)) [
 -- ---- what a reader has read
 
 -- a reader that has met no fault has read the text
-pub stands_of : {r : Fields} {text : List ℕ} → Follows r text → StandsAfter r text
-stands_of f = grind (arith, f.blocks.now)
+pub has_read_of : {r : Fields} {text : List ℕ} → Follows r text → HasRead r text
+has_read_of f = grind (arith, f.blocks.now)
 
 -- a reader that needs more bytes has met no fault
-pub live_follows : (r : Fields) (text : List ℕ) → is_live r.phase ≡ true → StandsAfter r text → Follows r text
+pub live_follows : (r : Fields) (text : List ℕ) → is_live r.phase ≡ true → HasRead r text → Follows r text
 live_follows r text live s = grind arith
 
 -- it needs more blocks
@@ -147,10 +147,10 @@ pub wants_more : {r : Fields} {text : List ℕ} → Follows r text → is_live r
 wants_more f live = live_few _ _ _ _ f.blocks.now live
 
 module _ {r : Fields} {text : List ℕ} (f : Follows r text) (last : Line) (next : Blocks) (b : ℕ) where
-  stands_rejected : (fault : LayoutFault) → fault_of_place r.layout r.wanted text (Some b) ≡ Some fault
-      → IsRejection r.blocks fault next → StandsAfter (fields last next) (text ++ b ∷ [])
+  rejected_has_read : (fault : LayoutFault) → fault_of_place r.layout r.wanted text (Some b) ≡ Some fault
+      → IsRejection r.blocks fault next → HasRead (fields last next) (text ++ b ∷ [])
   unfolding block_read
-  stands_rejected fault here n = rw n.phase (record {
+  rejected_has_read fault here n = rw n.phase (record {
     front = text;
     byte = b;
     rest = [];
@@ -178,10 +178,10 @@ module _ {r : Fields} {text : List ℕ} (f : Follows r text) (last : Line) (next
       }
 
 -- one byte more
-pub step_stands : {r : Fields} {text : List ℕ} {after : Line} (b : ℕ) → Follows r text → is_live r.phase ≡ true
+pub step_has_read : {r : Fields} {text : List ℕ} {after : Line} (b : ℕ) → Follows r text → is_live r.phase ≡ true
     → length text < LONGEST_INPUT → Pushes r.last b after
-    → StandsAfter (fields after (after_byte r.blocks r.last b)) (text ++ b ∷ [])
-step_stands {r = r} {text = text} {after = after} b f live short pushes =
+    → HasRead (fields after (after_byte r.blocks r.last b)) (text ++ b ∷ [])
+step_has_read {r = r} {text = text} {after = after} b f live short pushes =
     let next : Blocks = after_byte r.blocks r.last b in
     let few : length (stand_of r.layout text).complete < r.wanted =
     omega (arith, f.blocks.complete, wants_more f live) in
@@ -190,8 +190,8 @@ step_stands {r = r} {text = text} {after = after} b f live short pushes =
     elim (cases_option (fault_within_limit r.layout (stand_of r.layout text).now text b)) [
       | inl none ↦
           let carried = carries r.blocks r.last b live in
-          stands_of (follows_on f after next b pushes short (place ∙ none) carried (rw none at out))
-      | inr one ↦ stands_rejected f after next b one.0 (place ∙ one.1) (rw one.1 at out)
+          has_read_of (follows_on f after next b pushes short (place ∙ none) carried (rw none at out))
+      | inr one ↦ rejected_has_read f after next b one.0 (place ∙ one.1) (rw one.1 at out)
     ]
 
 -- ---- what a reader that needs more bytes may do next
@@ -242,5 +242,5 @@ follows_ready {text = text} f live = record {
 
 pub reader_ready : {r : Fields} → IsReader r → is_live r.phase ≡ true → IsReady r.blocks
 reader_ready {r = r} some live =
-    let stands = some.stands (live-memory r.phase live) in
-    follows_ready (live_follows r stands.0 live stands.1) live
+    let has_read = some.has_read (live-memory r.phase live) in
+    follows_ready (live_follows r has_read.0 live has_read.1) live

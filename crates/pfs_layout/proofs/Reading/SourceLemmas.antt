@@ -3,7 +3,7 @@ use Rattle.pfs_layout.proofs.Words.{◌≡◌, ◌≢◌, ℕ, ◌<◌, ◌≤�
 use Rattle.pfs_layout.proofs.Words.{arith, Option, Some, inl, inr, Bool, ap, Result, Ok, Err, slice_index, ◌↔◌}
 use Rattle.pfs_layout.proofs.Words.{result_err, append_assoc, take_all, limits, Problem, Layout, LayoutFault, Read}
 use Rattle.pfs_layout.proofs.Words.{Memory, Progress, IsInstanceFile, RejectsInstance, is_live, Fields, Follows}
-use Rattle.pfs_layout.proofs.Words.{StandsIn, StandsAfter, EndsWantedSize, FeedMeets, FinishMeets, byte_fault}
+use Rattle.pfs_layout.proofs.Words.{HasReadIn, HasRead, EndsWantedSize, FeedMeets, FinishMeets, byte_fault}
 use Rattle.std.specs.Prelude.{IfSome}
 use Rattle.std.specs.Io.KnownBytes.{Keeps, Consumes}
 use Rattle.pfs_layout.specs.declared.blocks.Phase.TheVariants as phases
@@ -46,21 +46,21 @@ pub record Reading (layout : Layout) (k : ℕ) (first left : Option (List ℕ)) 
   pub wanted_is : r.wanted ≡ k
   pub live : is_live r.phase ≡ true
   pub front : List ℕ
-  pub stands : StandsAfter r front
-  pub told : (text : List ℕ) → first ≡ Some text → (rest : List ℕ) × (left ≡ Some rest) × (text ≡ front ++ rest)
+  pub has_read : HasRead r front
+  pub known : (text : List ℕ) → first ≡ Some text → (rest : List ℕ) × (left ≡ Some rest) × (text ≡ front ++ rest)
 
 module _ {layout : Layout} {k : ℕ} {first left : Option (List ℕ)} {r : Fields} (t : Reading layout k first left r)
     (next : Option (List ℕ)) (piece : List ℕ) (c : Consumes left next piece) where
   -- what is left of the bytes, if they are known
-  behind : (text : List ℕ) → first ≡ Some text
+  whole : (text : List ℕ) → first ≡ Some text
       → (more : List ℕ) × (next ≡ Some more) × (text ≡ (t.front ++ piece) ++ more)
-  behind text e = let rest = t.told text e in grind (arith, append_assoc {A = ℕ})
+  whole text e = let rest = t.known text e in grind (arith, append_assoc {A = ℕ})
 
   reported_after : (P : List ℕ → Type 0) → ((more : List ℕ) → next ≡ Some more → P ((t.front ++ piece) ++ more))
       → IfSome first P
   reported_after P all = elim (cases_option first) [
     | inl none ↦ rw none tt
-    | inr some ↦ let more = behind some.0 some.1 in rw (some.1, more.2) (all more.0 more.1)
+    | inr some ↦ let more = whole some.0 some.1 in rw (some.1, more.2) (all more.0 more.1)
   ]
 
   -- after one more piece
@@ -68,11 +68,11 @@ module _ {layout : Layout} {k : ℕ} {first left : Option (List ℕ)} {r : Field
       → progress.done ≡ false → Reading layout k first next new
   reading_more {new} {progress} m still =
       let all = take_all progress.used piece (omega (arith, m.whole still)) in
-      let stands : StandsAfter new (t.front ++ piece) = rw all at m.ok.1 in
+      let has_read : HasRead new (t.front ++ piece) = rw all at m.ok.1 in
       let no_fault : (fault : LayoutFault) → byte_fault new.layout new.wanted (t.front ++ piece) ≢ Some fault =
       λ fault e. cc ((m.exact (λ z. cc) fault).1 (rw (m.layout, m.wanted) at e)) in
       let live : is_live new.phase ≡ true = grind (arith, m.done, no_fault, rejected_fault new (t.front ++ piece)) in
-      grind (arith, m, t, stands, live, behind)
+      grind (arith, m, t, has_read, live, whole)
 
   -- the piece has a fault
   pub reading_fault : {new : Fields} {fault : LayoutFault} → FeedMeets r t.front piece (Err fault) new → fault ≢ Memory
@@ -89,7 +89,7 @@ module _ {layout : Layout} {k : ℕ} {first left : Option (List ℕ)} {r : Field
   reading_done {new} {progress} m ended meets =
       let front : List ℕ = t.front ++ take progress.used piece in
       let phase : new.phase ≡ phases.Done = m.done.0 ended in
-      let follows : Follows new front = subst (λ p. StandsIn p new front) phase m.ok.1 in
+      let follows : Follows new front = subst (λ p. HasReadIn p new front) phase m.ok.1 in
       let enough = done_enough new front follows phase in
       let held = enough_holds new.layout new.wanted follows.some front follows.sound enough in
       let here = completes_file new.layout front new.wanted held.0 held.1.0 in (
@@ -110,7 +110,7 @@ module _ {layout : Layout} {k : ℕ} {first left : Option (List ℕ)} {r : Field
       → (n : ℕ) × (n < length piece) × EndsWantedSize layout k (t.front ++ take n piece) (slice_index piece n))
       → IfSome first (λ bytes. ReadsAsFar layout k bytes next fault)
   reads_piece fault size failed memory = reported_after _ (λ more e.
-      let f = live_follows r t.front t.live t.stands in
+      let f = live_follows r t.front t.live t.has_read in
       let wanted : IsUndecided layout k t.front = grind (arith, f.sound, live_wants r t.front f t.live, t) in
       search)
 

@@ -19,7 +19,7 @@ use Rattle.pfs_layout.specs.Lines.{is_digit, is_blank, is_line_end, ended_lines}
 use Rattle.pfs_layout.specs.Block.{Layout, Size, is_within_limits, problem_of, sized, numbers_for, times_in, is_due}
 use Rattle.pfs_layout.specs.Block.{due_by, stand}
 use Rattle.pfs_layout.specs.Rejection.{LayoutFault, fault_of_due}
-use Rattle.pfs_layout.specs.Reader.{EndsWantedSize, Fields, FollowsLine, StandsAfter, is_live}
+use Rattle.pfs_layout.specs.Reader.{EndsWantedSize, Fields, FollowsLine, HasRead, is_live}
 
 -- ---- the line that is being read
 
@@ -176,9 +176,9 @@ mixed_met other r offset = r
 -- after this byte, where `last` is the line before it
 abbrev pub after_byte : Blocks → Line → ℕ → Blocks
 after_byte r last b =
-    let behind = last_number_ended r (open_number last.digits) in
-    if is_blank b then behind
-    else (if is_line_end b then line_ended behind (has_numbers_alone last.kinds)
+    let ended = last_number_ended r (open_number last.digits) in
+    if is_blank b then ended
+    else (if is_line_end b then line_ended ended (has_numbers_alone last.kinds)
     else (if (if is_digit b then last.kinds.has_word else last.kinds.has_digit)
     then mixed_met r.phase r last.digits.offset else r))
 
@@ -225,7 +225,7 @@ pub record IsReady (r : Blocks) : Type 0 where
 pub record TakeMeets (old : Fields) (text piece : List ℕ) (used : ℕ) (new : Fields) : Type 0 where
   pub layout : new.layout ≡ old.layout
   pub wanted : new.wanted ≡ old.wanted
-  pub stands : new.phase ≢ Phase.Rejected LayoutFault.Memory → StandsAfter new (text ++ take used piece)
+  pub has_read : new.phase ≢ Phase.Rejected LayoutFault.Memory → HasRead new (text ++ take used piece)
   pub memory : new.phase ≡ Phase.Rejected LayoutFault.Memory
       → (n : ℕ) × (n < length piece) × EndsWantedSize old.layout old.wanted (text ++ take n piece) (slice_index piece n)
   pub none : new.phase ≡ Phase.Rejected LayoutFault.Memory → new.held ≡ 0

@@ -55,14 +55,14 @@ module _ (a b : List ℕ) (same : length a ≡ length b) (small : greatest_join 
   first_small : (place : ℕ) → place ≤ length a → most_to a b place ≤ SPAN_MAX
   first_small place le = most_small a b SPAN_MAX place (λ k lt. each_small k (omega arith))
 
-  lanes_told : (whole : ℕ) (lanes : List ℕ) → 4 * whole ≤ length a → lanes ≡ lanes_at a b whole
+  lanes_known : (whole : ℕ) (lanes : List ℕ) → 4 * whole ≤ length a → lanes ≡ lanes_at a b whole
       → greatest (map (of_z w64) (map (to_z w64) lanes)) ≡ most_to a b (4 * whole)
-  lanes_told whole lanes within told =
+  lanes_known whole lanes within known =
       let lane = lane_most a b whole in
       let small =
       λ (k : ℕ) (lt : k < 4). lane_small a b SPAN_MAX whole k (λ c less. each_small (4 * c + k) (omega arith)) in
       let back = λ (k : ℕ) (lt : k < 4). of_z-to_z w64 (lane k) (let le = small k lt in omega arith) in
-      ap (λ l. greatest (map (of_z w64) (map (to_z w64) l))) told
+      ap (λ l. greatest (map (of_z w64) (map (to_z w64) l))) known
       ∙ ap greatest (four_same (back 0 (omega arith)) (back 1 (omega arith))
       (back 2 (omega arith)) (back 3 (omega arith)))
       ∙ greatest_four (lane 0) (lane 1) (lane 2) (lane 3) ∙ lanes_most a b whole
@@ -73,7 +73,7 @@ greatest_lane-most-requires-clause-in_limit c =
     let b = c.args.b.now in
     let whole = c.loop-chunk.chunk in
     let end = c.loop-chunk.auto.chunk-end in
-    let told = lanes_told a b c.requires.equal c.requires.in_limit whole c.loop-chunk.lanes (omega arith)
+    let known = lanes_known a b c.requires.equal c.requires.in_limit whole c.loop-chunk.lanes (omega arith)
     c.loop-chunk.invariant.lanes_are in
     let small = first_small a b c.requires.equal c.requires.in_limit (4 * whole) (omega arith) in
     omega arith
@@ -92,7 +92,7 @@ loop-left-init c =
     let all : 4 * whole ≡ whole_of a + 0 = omega arith in
     record {
       most_is = c.greatest_lane-most.ensures
-          ∙ lanes_told a b c.requires.equal c.requires.in_limit whole c.loop-chunk.lanes (omega arith)
+          ∙ lanes_known a b c.requires.equal c.requires.in_limit whole c.loop-chunk.lanes (omega arith)
           c.loop-chunk.invariant.lanes_are
           ∙ ap (most_to a b) all;
     }
@@ -114,7 +114,7 @@ greater-most-requires-clause-a c =
     let a = c.args.a.now in
     let place : ℕ = whole_of a + c.loop-left.left in
     let inside : place < length a = omega (arith, c.loop-left-test.true) in
-    let told = c.loop-left.invariant.most_is in
+    let known = c.loop-left.invariant.most_is in
     let small = first_small a c.args.b.now c.requires.equal c.requires.in_limit place (omega arith) in
     omega arith
 

@@ -3,7 +3,7 @@ use Rattle.std.proofs.Common.{◌∙◌, arith, rules}
 use Rattle.std.proofs.lemmas.List.{append-nil, get_or_append_left, length-drop, take_all}
 use Rattle.pfs_order.proofs.Published.Sequences.{length-lt-size}
 use Rattle.pfs_insert.proofs.FirstLeast.{best_is}
-use Rattle.pfs_insert.proofs.FlatRows.{row_le, row_split, row_behind, put_behind, row_in_front}
+use Rattle.pfs_insert.proofs.FlatRows.{row_le, row_split, row_after, put_after, row_in_front}
 use Rattle.pfs_insert.proofs.Exchange.{back_none}
 use Rattle.pfs_insert.proofs.TailTables.{backs_taken}
 use Rattle.pfs_insert.proofs.heads_tails.best_in_table.Given.{Over}
@@ -54,12 +54,12 @@ fill_tails-requires-clause-no_tail g c =
     let start = (shop.jobs - 1) * machines in
     let begin = no_tail_at shop.jobs machines some in
     let fits = last_fits shop.jobs machines some in
-    let behind = row_behind number machines none c.split_at_mut-heads.result.0.now c.split_at_mut-heads.result.1.now
+    let rest = row_after number machines none c.split_at_mut-heads.result.0.now c.split_at_mut-heads.result.1.now
     ((2 * shop.jobs - 1) * machines) start (omega (arith, heads_long g here))
     (rw c.split_at_mut-heads.ensures.value at c.requires.table.no_tail) in
     let tails = c.split_at_mut-tails.result.0.now in
     rw append-nil at (row_in_front number machines none tails c.split_at_mut-tails.result.1.now [] start
-    (omega (arith, tails_long g here)) (rw c.split_at_mut-tails.ensures.value at behind))
+    (omega (arith, tails_long g here)) (rw c.split_at_mut-tails.ensures.value at rest))
 
 pub best_by_rows-requires-clause-partial : goal.best_by_rows-requires-clause-partial
 best_by_rows-requires-clause-partial g c =
@@ -88,7 +88,7 @@ best_by_rows-requires-clause-parts g c =
     let rows_long = c.fill_tails.auto.rows ∙ tails in
     let rest = rows_of_all shop.jobs len shop.machines (few_jobs g here) in
     let all = row_split (2 * shop.jobs + 1) shop.jobs (shop.jobs + 1) shop.machines (omega arith) in
-    let behind = length-drop start rows in
+    let dropped = length-drop start rows in
     rw (
       c.fill_tails.ensures.shop,
       c.size-3.ensures.value,
@@ -136,8 +136,8 @@ best_by_rows-requires-clause-no_head g c =
       row_is = λ machine d lt.
           let at : 0 * shop.machines + machine ≡ machine = omega arith in
           let read = get_or_append_left heads c.split_at_mut-heads.result.1.now d machine (omega arith) in
-          let told = rw c.split_at_mut-heads.ensures.value at (c.requires.table.no_head machine d lt) in
-          rw at (ap number (sym read) ∙ told);
+          let known = rw c.split_at_mut-heads.ensures.value at (c.requires.table.no_head machine d lt) in
+          rw at (ap number (sym read) ∙ known);
     })
 
 -- the cells of one insertion are those of the tails and those of the places
@@ -186,7 +186,7 @@ returns-clause-table g c =
           let at : 0 * machines + machine ≡ machine = omega arith in
           ap number (get_or_append_left heads (tails ++ put) d machine (omega arith))
           ∙ rw at at (has.row_is machine d lt);
-      no_tail = put_behind number machines none heads (tails ++ put) ((2 * shop.jobs - 1) * machines) start
+      no_tail = put_after number machines none heads (tails ++ put) ((2 * shop.jobs - 1) * machines) start
           (omega arith) (row_in_front number machines none tails [] put start (omega arith) (rw append-nil zeros));
     }
 

@@ -2,7 +2,7 @@ use Rattle.std.proofs.Common.{◌+◌, ◌≤◌, length, drop, refl, ◌∙◌,
 use Rattle.std.proofs.lemmas.List.{length-take-le}
 use Rattle.pfs_insert.specs.Private.Rows.{head_of}
 use Rattle.pfs_insert.proofs.FlatRows.{row_le}
-use Rattle.pfs_insert.proofs.HeadTables.{heads_above, head_behind, heads_kept, short_heads}
+use Rattle.pfs_insert.proofs.HeadTables.{heads_above, head_after, heads_kept, short_heads}
 use Rattle.pfs_insert.proofs.TailRows.{head_first, head_next}
 use Rattle.pfs_insert.proofs.places.add_head.Goals.{After-at}
 use Rattle.pfs_insert.proofs.places.add_head.Goals as goal
@@ -28,13 +28,13 @@ returns-clause-head g c =
     let back = c.split_at_mut-front.result.1.now in
     let inside = row_le (place + 2) shop.jobs shop.machines (omega (arith, c.requires.place, c.requires.partial.few)) in
     let long = rw wide at split.front_len in
-    let behind : width ≤ length back = omega (arith, rw wide at split.back_len, c.requires.heads) in
-    let told = c.fill_head.ensures.row (head_of shop jobs place)
+    let enough : width ≤ length back = omega (arith, rw wide at split.back_len, c.requires.heads) in
+    let known = c.fill_head.ensures.row (head_of shop jobs place)
     (heads_above _ shop jobs _ _ _ place _ wide split.value split.front_len c.requires.head) in
     let next = head_next (head_first shop jobs place) refl c.at.ensures.value in
-    head_behind _ shop jobs _ c.fill_head.new.row (drop width back) (place + 1) long
-    (c.fill_head.auto.row ∙ length-take-le width back behind ∙ wide)
-    (λ machine d lt. told machine d lt ∙ next.same machine)
+    head_after _ shop jobs _ c.fill_head.new.row (drop width back) (place + 1) long
+    (c.fill_head.auto.row ∙ length-take-le width back enough ∙ wide)
+    (λ machine d lt. known machine d lt ∙ next.same machine)
 
 pub returns-clause-kept : goal.returns-clause-kept
 returns-clause-kept g c =

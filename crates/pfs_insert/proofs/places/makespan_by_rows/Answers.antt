@@ -30,10 +30,10 @@ joined g c =
     let backs = heaviest_back shop jobs place in
     let inside : place < length jobs + 1 = omega (arith, c.requires.place) in
     let long = row_long c.args.backs.now place _ (length jobs + 1) wide inside c.requires.long in
-    let told = row_taken number shop.machines backs c.args.backs.now place _ _ wide (omega arith)
+    let known = row_taken number shop.machines backs c.args.backs.now place _ _ wide (omega arith)
     (c.requires.backs.rows_are place c.requires.place) in
     join_is number (heaviest_front shop (insert jobs place c.args.job) place) backs shop.machines c.args.put.now _
-    c.requires.width long c.requires.put.row_is told
+    c.requires.width long c.requires.put.row_is known
 
 pub join_rows-requires-clause-in_limit : goal.join_rows-requires-clause-in_limit
 join_rows-requires-clause-in_limit g c =

@@ -9,13 +9,13 @@ use Rattle.pfs_insert.proofs.places.try_place.Goals.{After-machines-machines}
 use Rattle.pfs_insert.proofs.places.try_place.Goals as goal
 
 -- the row of heads before the place
-above_told : (g : Over) (c : After-machines-machines g) →
+above_known : (g : Over) (c : After-machines-machines g) →
     let place = c.args.place in
     let width = c.machines-machines.result in
     let shop = g.B.Bench.shop c.args.bench.now in
     HoldsHeads g.B.Span.Length.number shop c.args.seq.now.jobs
     (take ((place + 1) * width - place * width) (drop (place * width) c.args.heads.now)) place
-above_told g c =
+above_known g c =
     let shop = g.B.Bench.shop c.args.bench.now in
     row_taken g.B.Span.Length.number shop.machines (head_of shop c.args.seq.now.jobs c.args.place) c.args.heads.now
     c.args.place _ _ c.machines-machines.ensures (omega arith) c.requires.head.row_is
@@ -25,17 +25,17 @@ fill_head-requires-clause-above_short g c =
     let shop = g.B.Bench.shop c.args.bench.now in
     short_heads g.B.Span.Length.number shop c.args.seq.now.jobs (g.met.B.Bench.within c.args.bench.now)
     (omega (arith, c.requires.partial.few)) c.args.place c.requires.place _
-    (above_told g (goal.at.fill_head-requires-clause-above_short g c).After-machines-machines)
+    (above_known g (goal.at.fill_head-requires-clause-above_short g c).After-machines-machines)
 
 pub makespan_by_rows-span-requires-clause-put : goal.makespan_by_rows-span-requires-clause-put
 makespan_by_rows-span-requires-clause-put g c =
     let shop = g.B.Bench.shop c.args.bench.now in
     let jobs = c.args.seq.now.jobs in
     let here = (goal.at.makespan_by_rows-span-requires-clause-put g c).After-machines-machines in
-    let told = c.fill_head.ensures.row _ (above_told g here) in
+    let known = c.fill_head.ensures.row _ (above_known g here) in
     rw c.fill_head.ensures.shop (record {
       row_is = λ machine d lt.
-          told machine d lt ∙ put_row (head_first shop jobs c.args.place) c.args.job c.requires.place machine;
+          known machine d lt ∙ put_row (head_first shop jobs c.args.place) c.args.job c.requires.place machine;
     })
 
 pub returns-clause-best : goal.returns-clause-best

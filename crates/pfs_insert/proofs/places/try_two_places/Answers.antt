@@ -2,41 +2,41 @@ use Rattle.std.proofs.Common.{◌≡◌, ◌+◌, ◌-◌, ◌*◌, ◌≤◌, �
 use Rattle.std.proofs.lemmas.List.{length-take-le, length-append, append_assoc}
 use Rattle.pfs_insert.specs.Insertion.{makespan_with}
 use Rattle.pfs_insert.proofs.FlatRows.{row_fits}
-use Rattle.pfs_insert.proofs.HeadTables.{HoldsHeads, heads_above, head_behind, heads_kept, short_heads}
+use Rattle.pfs_insert.proofs.HeadTables.{HoldsHeads, heads_above, head_after, heads_kept, short_heads}
 use Rattle.pfs_insert.proofs.TailRows.{AreHeads, head_first, head_next, put_row}
 use Rattle.pfs_insert.proofs.places.try_two_places.Given.{Over}
 use Rattle.pfs_insert.proofs.places.try_two_places.Goals.{After-at-2, After-fill_two_places}
 use Rattle.pfs_insert.proofs.places.try_two_places.Goals as goal
 
 -- after the row that takes the second inserted row there is room for one more row
-behind_long : (g : Over) (c : After-at-2 g) → c.machines-machines.result ≤ length c.split_at_mut-next.result.1.now
-behind_long g c =
+rest_long : (g : Over) (c : After-at-2 g) → c.machines-machines.result ≤ length c.split_at_mut-next.result.1.now
+rest_long g c =
     let place = c.args.place in
     let back = c.split_at_mut-front.ensures.back_len in
-    let behind = c.split_at_mut-next.ensures.back_len in
+    let rest = c.split_at_mut-next.ensures.back_len in
     row_fits {place = place + 2} c.machines-machines.ensures (omega (arith, c.requires.place, c.requires.partial.few))
     c.requires.parts.heads_long (omega arith)
 
 pub slice_bounds-fill_two_places-end-2 : goal.slice_bounds-fill_two_places-end-2
-slice_bounds-fill_two_places-end-2 g c = behind_long g (goal.at.slice_bounds-fill_two_places-end-2 g c).After-at-2
+slice_bounds-fill_two_places-end-2 g c = rest_long g (goal.at.slice_bounds-fill_two_places-end-2 g c).After-at-2
 
 pub slice_bounds-fill_two_places-end-3 : goal.slice_bounds-fill_two_places-end-3
 slice_bounds-fill_two_places-end-3 g c =
-    sym (length-take-le _ _ (behind_long g (goal.at.slice_bounds-fill_two_places-end-3 g c).After-at-2))
+    sym (length-take-le _ _ (rest_long g (goal.at.slice_bounds-fill_two_places-end-3 g c).After-at-2))
 
 pub fill_two_places-requires-clause-head_width : goal.fill_two_places-requires-clause-head_width
 fill_two_places-requires-clause-head_width g c =
-    length-take-le _ _ (behind_long g (goal.at.fill_two_places-requires-clause-head_width g c).After-at-2)
+    length-take-le _ _ (rest_long g (goal.at.fill_two_places-requires-clause-head_width g c).After-at-2)
     ∙ c.machines-machines.ensures
 
 -- the row of heads before the place
-above_told : (g : Over) (c : After-at-2 g) →
+above_known : (g : Over) (c : After-at-2 g) →
     let front = c.split_at_mut-front.result.0.now in
     let start = c.args.place * c.machines-machines.result in
     let shop = g.B.Bench.shop c.args.bench.now in
     HoldsHeads g.B.Span.Length.number shop c.args.seq.now.jobs (take (length front - start) (drop start front))
     c.args.place
-above_told g c =
+above_known g c =
     let split = c.split_at_mut-front.ensures in
     heads_above _ (g.B.Bench.shop c.args.bench.now) c.args.seq.now.jobs _ _ _ c.args.place _ c.machines-machines.ensures
     split.value split.front_len c.requires.head
@@ -46,15 +46,15 @@ fill_two_places-requires-clause-above_short g c =
     let shop = g.B.Bench.shop c.args.bench.now in
     short_heads g.B.Span.Length.number shop c.args.seq.now.jobs (g.met.B.Bench.within c.args.bench.now)
     (omega (arith, c.requires.partial.few)) c.args.place (omega (arith, c.requires.place)) _
-    (above_told g (goal.at.fill_two_places-requires-clause-above_short g c).After-at-2)
+    (above_known g (goal.at.fill_two_places-requires-clause-above_short g c).After-at-2)
 
 pub makespan_by_rows-span-requires-clause-put : goal.makespan_by_rows-span-requires-clause-put
 makespan_by_rows-span-requires-clause-put g c =
     let first = head_first (g.B.Bench.shop c.args.bench.now) c.args.seq.now.jobs c.args.place in
     let here = (goal.at.makespan_by_rows-span-requires-clause-put g c).After-at-2 in
-    let told = c.fill_two_places.ensures.row _ (above_told g here) in
+    let known = c.fill_two_places.ensures.row _ (above_known g here) in
     rw c.fill_two_places.ensures.shop (record {
-      row_is = λ machine d lt. told machine d lt ∙ put_row first c.args.job (omega (arith, c.requires.place)) machine;
+      row_is = λ machine d lt. known machine d lt ∙ put_row first c.args.job (omega (arith, c.requires.place)) machine;
     })
 
 pub makespan_by_rows-span-requires-2-clause-put : goal.makespan_by_rows-span-requires-2-clause-put
@@ -62,9 +62,9 @@ makespan_by_rows-span-requires-2-clause-put g c =
     let first = head_first (g.B.Bench.shop c.args.bench.now) c.args.seq.now.jobs c.args.place in
     let between = head_next first refl c.at.ensures.value in
     let here = (goal.at.makespan_by_rows-span-requires-2-clause-put g c).After-at-2 in
-    let told = c.fill_two_places.ensures.next _ (above_told g here) in
+    let known = c.fill_two_places.ensures.next _ (above_known g here) in
     rw (c.makespan_by_rows-span.ensures.shop, c.fill_two_places.ensures.shop) (record {
-      row_is = λ machine d lt. told machine d lt ∙ put_row between c.args.job (omega (arith, c.requires.place)) machine;
+      row_is = λ machine d lt. known machine d lt ∙ put_row between c.args.job (omega (arith, c.requires.place)) machine;
     })
 
 pub returns-clause-best : goal.returns-clause-best
@@ -87,18 +87,18 @@ returns-clause-head g c =
     let wide = c.machines-machines.ensures in
     let here = (goal.at.returns-clause-head g c).After-at-2 in
     let front = c.split_at_mut-front.result.0.now in
-    let behind = c.split_at_mut-next.result.1.now in
+    let rest = c.split_at_mut-next.result.1.now in
     let next = c.fill_two_places.new.next in
     let new = c.fill_two_places.new.head in
     let next_long = c.fill_two_places.auto.next ∙ c.split_at_mut-next.ensures.front_len ∙ wide in
-    let new_long = c.fill_two_places.auto.head ∙ length-take-le width behind (behind_long g here) ∙ wide in
+    let new_long = c.fill_two_places.auto.head ∙ length-take-le width rest (rest_long g here) ∙ wide in
     let front_long = rw wide at c.split_at_mut-front.ensures.front_len in
     let both : length (front ++ next) ≡ (place + 2) * shop.machines = omega (arith, length-append front next) in
     let between = head_next (head_first shop jobs place) refl c.at.ensures.value in
     let after : AreHeads shop jobs _ (place + 2) = head_next between (omega arith) c.at-2.ensures.value in
-    let told = c.fill_two_places.ensures.head _ (above_told g here) in
-    rw append_assoc at (head_behind g.B.Span.Length.number shop jobs (front ++ next) new (drop width behind) (place + 2)
-    both new_long (λ machine d lt. told machine d lt ∙ after.same machine))
+    let known = c.fill_two_places.ensures.head _ (above_known g here) in
+    rw append_assoc at (head_after g.B.Span.Length.number shop jobs (front ++ next) new (drop width rest) (place + 2)
+    both new_long (λ machine d lt. known machine d lt ∙ after.same machine))
 
 pub returns-clause-kept : goal.returns-clause-kept
 returns-clause-kept g c =

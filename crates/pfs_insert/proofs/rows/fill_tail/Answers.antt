@@ -24,7 +24,7 @@ loop-machine-preserved g c =
     }
 
 pub returns-clause-row : goal.returns-clause-row
-returns-clause-row g c = λ tails told back d le.
+returns-clause-row g c = λ tails known back d le.
     let all = c.loop-machine-test.false in
     let some = (g.met.B.Bench.within c.args.bench.now).sizes.some_machine in
-    c.loop-machine.invariant.row_is.is tails told back d (omega arith)
+    c.loop-machine.invariant.row_is.is tails known back d (omega arith)

@@ -44,19 +44,19 @@ loop-machine-preserved g c =
     }
 
 pub returns-clause-row : goal.returns-clause-row
-returns-clause-row g c = λ heads told m d lt.
+returns-clause-row g c = λ heads known m d lt.
     let all = c.loop-machine-test.false in
     let width = c.requires.above_width in
-    c.loop-machine.invariant.row_is.is heads told m d (omega arith)
+    c.loop-machine.invariant.row_is.is heads known m d (omega arith)
 
 pub returns-clause-next : goal.returns-clause-next
-returns-clause-next g c = λ heads told m d lt.
+returns-clause-next g c = λ heads known m d lt.
     let all = c.loop-machine-test.false in
     let width = c.requires.above_width in
-    c.loop-machine.invariant.next_is.is heads told m d (omega arith)
+    c.loop-machine.invariant.next_is.is heads known m d (omega arith)
 
 pub returns-clause-head : goal.returns-clause-head
-returns-clause-head g c = λ heads told m d lt.
+returns-clause-head g c = λ heads known m d lt.
     let all = c.loop-machine-test.false in
     let width = c.requires.above_width in
-    c.loop-machine.invariant.head_is.is heads told m d (omega arith)
+    c.loop-machine.invariant.head_is.is heads known m d (omega arith)

@@ -3,8 +3,8 @@ use Rattle.std.proofs.lemmas.List.{length-take-le, length-drop, drop_all, append
 use borrow.Rule.Slice.PartMut.{post_of}
 use Rattle.pfs_insert.proofs.FlatRows.{row_le, row_fits, row_between}
 use Rattle.pfs_insert.proofs.TailRows.{tail_first, tail_next}
-use Rattle.pfs_insert.proofs.TailTables.{HoldsTails, TailsOn, tails_behind, tails_joined, tails_more}
-use Rattle.pfs_insert.proofs.TailTables.{first_tails, row_back, row_told, short_tails}
+use Rattle.pfs_insert.proofs.TailTables.{HoldsTails, TailsOn, tails_after, tails_joined, tails_more}
+use Rattle.pfs_insert.proofs.TailTables.{first_tails, row_back, row_known, short_tails}
 use Rattle.pfs_insert.proofs.tails.add_tail.Given.{Over}
 use Rattle.pfs_insert.proofs.tails.add_tail.Goals.{After-at}
 use Rattle.pfs_insert.proofs.tails.add_tail.Goals as goal
@@ -30,7 +30,7 @@ split_is g c =
     record {
       below_is = below_is;
       back_long = row_fits wide inside c.requires.rows split.back_len;
-      tails = tails_behind _ shop _ _ _ _ (c.args.place + 1) split.value (rw (below_is, wide) at split.front_len)
+      tails = tails_after _ shop _ _ _ _ (c.args.place + 1) split.value (rw (below_is, wide) at split.front_len)
           c.requires.tails;
     }
 
@@ -43,10 +43,10 @@ fill_tail-requires-clause-below_width g c =
     length-take-le _ _ is.back_long ∙ c.machines-machines.ensures
 
 -- the row below the one that is filled
-below_told : (g : Over) (c : After-at g) →
+below_known : (g : Over) (c : After-at g) →
     HoldsTails g.B.Span.Length.number (g.B.Bench.shop c.args.bench.now) c.args.seq.now.jobs
     (take c.machines-machines.result c.split_at_mut-front.result.1.now) (c.args.place + 1)
-below_told g c =
+below_known g c =
     first_tails _ (g.B.Bench.shop c.args.bench.now) c.args.seq.now.jobs _ (c.args.place + 1) c.machines-machines.result
     (omega (arith, c.machines-machines.ensures)) (omega (arith, c.requires.place)) (split_is g c).tails
 
@@ -55,7 +55,7 @@ fill_tail-requires-clause-below_short g c =
     let shop = g.B.Bench.shop c.args.bench.now in
     short_tails g.B.Span.Length.number shop c.args.seq.now.jobs (g.met.B.Bench.within c.args.bench.now)
     (omega (arith, c.requires.partial.few)) (c.args.place + 1) _
-    (below_told g (goal.at.fill_tail-requires-clause-below_short g c).After-at)
+    (below_known g (goal.at.fill_tail-requires-clause-below_short g c).After-at)
 
 pub returns-clause-tails : goal.returns-clause-tails
 returns-clause-tails g c =
@@ -83,7 +83,7 @@ returns-clause-tails g c =
     let rest : post_of start k front ≡ [] = drop_all k (drop start front) (omega arith) in
     let one = tail_next (tail_first shop jobs (place + 1)) refl c.requires.place c.at.ensures.value in
     let some = (g.met.B.Bench.within c.args.bench.now).sizes.some_machine in
-    let told = row_told number shop jobs new place _ one
-    (c.fill_tail.ensures.row _ (row_back number shop jobs _ (place + 1) some (below_told g here))) in
+    let known = row_known number shop jobs new place _ one
+    (c.fill_tail.ensures.row _ (row_back number shop jobs _ (place + 1) some (below_known g here))) in
     rw (rest, append-nil, append_assoc) (tails_joined number shop jobs (take start front) _ place
-    (above_long ∙ rw (top, wide) refl) (tails_more number shop jobs new _ place (place + 1) refl width told is.tails))
+    (above_long ∙ rw (top, wide) refl) (tails_more number shop jobs new _ place (place + 1) refl width known is.tails))

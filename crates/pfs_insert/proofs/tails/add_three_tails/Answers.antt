@@ -2,8 +2,8 @@ use Rattle.std.proofs.Common.{◌≡◌, ◌+◌, ◌-◌, ◌<◌, ◌≤◌, l
 use Rattle.std.proofs.lemmas.List.{length-take-le, append_assoc}
 use Rattle.pfs_insert.proofs.FlatRows.{row_fits, row_between}
 use Rattle.pfs_insert.proofs.TailRows.{tail_first, tail_next}
-use Rattle.pfs_insert.proofs.TailTables.{HoldsTails, TailsOn, tails_behind, tails_joined, tails_more}
-use Rattle.pfs_insert.proofs.TailTables.{first_tails, row_back, row_told, short_tails}
+use Rattle.pfs_insert.proofs.TailTables.{HoldsTails, TailsOn, tails_after, tails_joined, tails_more}
+use Rattle.pfs_insert.proofs.TailTables.{first_tails, row_back, row_known, short_tails}
 use Rattle.pfs_insert.proofs.tails.add_three_tails.Given.{Over}
 use Rattle.pfs_insert.proofs.tails.add_three_tails.Goals.{After-at-third}
 use Rattle.pfs_insert.proofs.tails.add_three_tails.Goals as goal
@@ -28,7 +28,7 @@ split_is g c =
     record {
       below_is = below_is;
       back_long = row_fits wide inside c.requires.rows split.back_len;
-      tails = tails_behind _ shop _ _ _ _ c.args.from split.value (rw (below_is, wide) at split.front_len)
+      tails = tails_after _ shop _ _ _ _ c.args.from split.value (rw (below_is, wide) at split.front_len)
           c.requires.tails;
     }
 
@@ -46,10 +46,10 @@ fill_three_tails-requires-clause-below_width g c =
     length-take-le _ _ is.back_long ∙ c.machines-machines.ensures
 
 -- the row below the three
-below_told : (g : Over) (c : After-at-third g) →
+below_known : (g : Over) (c : After-at-third g) →
     HoldsTails g.B.Span.Length.number (g.B.Bench.shop c.args.bench.now) c.args.seq.now.jobs
     (take c.machines-machines.result c.split_at_mut-front.result.1.now) c.args.from
-below_told g c =
+below_known g c =
     first_tails _ (g.B.Bench.shop c.args.bench.now) c.args.seq.now.jobs _ c.args.from c.machines-machines.result
     (omega (arith, c.machines-machines.ensures)) c.requires.from (split_is g c).tails
 
@@ -58,7 +58,7 @@ fill_three_tails-requires-clause-below_short g c =
     let shop = g.B.Bench.shop c.args.bench.now in
     short_tails g.B.Span.Length.number shop c.args.seq.now.jobs (g.met.B.Bench.within c.args.bench.now)
     (omega (arith, c.requires.partial.few)) c.args.from _
-    (below_told g (goal.at.fill_three_tails-requires-clause-below_short g c).After-at-third)
+    (below_known g (goal.at.fill_three_tails-requires-clause-below_short g c).After-at-third)
 
 pub returns-clause-tails : goal.returns-clause-tails
 returns-clause-tails g c =
@@ -92,12 +92,12 @@ returns-clause-tails g c =
     let two = tail_next {row = from - 2} one (omega arith) (omega arith) c.at-second.ensures.value in
     let three = tail_next {row = from - 3} two (omega arith) (omega arith) c.at-third.ensures.value in
     let some = (g.met.B.Bench.within c.args.bench.now).sizes.some_machine in
-    let tails = row_back number shop jobs _ from some (below_told g here) in
+    let tails = row_back number shop jobs _ from some (below_known g here) in
     simp append_assoc (tails_joined number shop jobs _ _ (from - 3) (rw (top, wide) at fourth.front_len)
     (tails_more number shop jobs last _ (from - 3) (from - 2) (omega arith) last_long
-    (row_told number shop jobs last (from - 3) _ three (ensures.last _ tails))
+    (row_known number shop jobs last (from - 3) _ three (ensures.last _ tails))
     (tails_more number shop jobs next _ (from - 2) (from - 1) (omega arith) next_long
-    (row_told number shop jobs next (from - 2) _ two (ensures.next _ tails))
+    (row_known number shop jobs next (from - 2) _ two (ensures.next _ tails))
     (tails_more number shop jobs row _ (from - 1) from (omega arith) row_long
-    (row_told number shop jobs row (from - 1) _ one (ensures.row _ tails))
+    (row_known number shop jobs row (from - 1) _ one (ensures.row _ tails))
     is.tails))))

@@ -17,14 +17,14 @@ pieces-preserved g c =
       working = c.in-Some.ensures.failed ∙ c.pieces.invariant.working;
       no_end = c.in-Some.ensures.ended ∙ reads_on _ c.in-Some.n _ c.if-n-eq0.false ∙ c.pieces.invariant.no_end;
       reading =
-          reading_more t _ _ c.in-Some.ensures.bytes.1 (c.in-Ok.ensures.meets t.front t.stands) c.if-progress.false;
+          reading_more t _ _ c.in-Some.ensures.bytes.1 (c.in-Ok.ensures.meets t.front t.has_read) c.if-progress.false;
     }
 
 -- a reader that needs more bytes has read no more than the limit, and more bytes than before
 pub pieces-smaller : goal.pieces-smaller
 pieces-smaller g c =
     let t = (pieces-preserved g c).reading in
-    let follows = live_follows c.feed.new.self t.front t.live t.stands in
+    let follows = live_follows c.feed.new.self t.front t.live t.has_read in
     omega (arith, c.in-Ok.ensures.moved, c.in-Ok.ensures.whole c.if-progress.false, length-take {A = ℕ})
 
 -- ---- the results
@@ -36,7 +36,7 @@ returns-in_default-clause-as_far g c = reads_failed c.pieces.invariant.reading _
 pub returns-then-n-eq0 : goal.returns-then-n-eq0
 returns-then-n-eq0 g c =
     let t = c.pieces.invariant.reading in
-    let ends = c.finish.ensures.meets t.front t.stands in
+    let ends = c.finish.ensures.meets t.front t.has_read in
     record {
       file = search rules;
       rejected = search rules;
@@ -51,7 +51,7 @@ pub returns-in-Err : goal.returns-in-Err
 returns-in-Err g c =
     let t = c.pieces.invariant.reading in
     let bytes = c.in-Some.ensures.bytes in
-    let meets = c.in-Err.ensures.meets t.front t.stands in
+    let meets = c.in-Err.ensures.meets t.front t.has_read in
     record {
       file = tt;
       rejected = λ read memory. reading_fault t _ _ bytes.1 meets memory;
@@ -68,7 +68,7 @@ pub returns-then-progress : goal.returns-then-progress
 returns-then-progress g c =
     let t = c.pieces.invariant.reading in
     let bytes = c.in-Some.ensures.bytes in
-    let meets = c.in-Ok.ensures.meets t.front t.stands in
+    let meets = c.in-Ok.ensures.meets t.front t.has_read in
     let ends = c.finish-then-progress.ensures.meets _ meets.ok.1 in
     let done = reading_done t _ _ bytes.1 meets c.if-progress.true ends in
     record {

@@ -4,6 +4,6 @@ use Rattle.pfs_base.proofs.metered.MeteredShop.total.Given as goal
 
 abbrev pub invariant-loop-time : goal.invariant-loop-time
 invariant-loop-time l = record {
-  told : l.total ≡ sum (take l.time-index l.time-items);
+  known : l.total ≡ sum (take l.time-index l.time-items);
   small : l.total ≤ LONGEST_TIME * l.time-index;
 }

@@ -15,7 +15,7 @@ returns-in-Err-clause-cells g c =
     let fits = row_le (c.loop-place.place + 1) count (count * machines) (omega arith) in
     let all = mul_assoc count count machines in
     let so_far = c.loop-place.invariant.counted in
-    let after = c.in-Err.ensures.refused in
+    let after = c.in-Err.ensures.uncounted in
     record { counted = tt; fault_low = omega arith; fault_high = omega arith }
 
 pub loop-place-preserved : goal.loop-place-preserved

@@ -30,7 +30,7 @@ loop-b-preserved-then-is_none c =
     (grind arith ∙ blank_validated c.loop-b.invariant blank c.number-number.ensures)
 
 pub end_last_number-requires : goal.end_last_number-requires
-end_last_number-requires c = taken_ready c.loop-b.invariant (omega arith) c.requires.room c.requires.stands
+end_last_number-requires c = taken_ready c.loop-b.invariant (omega arith) c.requires.room c.requires.has_read
 
 pub loop-b-preserved-then-is_blank : goal.loop-b-preserved-then-is_blank
 loop-b-preserved-then-is_blank c =
@@ -49,7 +49,7 @@ returns-then-not-is_live-clause-meets c =
 -- ---- any other byte
 
 pub after-requires-clause-ready : goal.after-requires-clause-ready
-after-requires-clause-ready c = taken_ready c.loop-b.invariant (omega arith) c.requires.room c.requires.stands
+after-requires-clause-ready c = taken_ready c.loop-b.invariant (omega arith) c.requires.room c.requires.has_read
 
 pub loop-b-preserved : goal.loop-b-preserved
 loop-b-preserved c =

@@ -12,15 +12,15 @@ returns-in-Some-clause-meets c text =
 pub unreachable-requires : goal.unreachable-requires
 unfolding line_ended
 unreachable-requires c =
-    let told = sym c.validate_end.ensures.fault ∙ c.in-None.is in
+    let known = sym c.validate_end.ensures.fault ∙ c.in-None.is in
     elim (rejected_memory c.self.inside.blocks.phase) [
-      | inl e ↦ let rejected = rw e at told in cc
-      | inr other ↦ let at = c.self.invariant.stands other in cc (((finish_reports _ at.0 at.1).1 told).1)
+      | inl e ↦ let rejected = rw e at known in cc
+      | inr other ↦ let at = c.self.invariant.has_read other in cc (((finish_reports _ at.0 at.1).1 known).1)
     ]
 
 pub returns-in-Some-instance-clause-meets : goal.returns-in-Some-instance-clause-meets
 returns-in-Some-instance-clause-meets c text =
     rw (← c.self.view_is) (λ s.
-    let told = (finish_reports _ text s).1 (sym c.validate_end.ensures.fault ∙ c.in-None.is) in
-    let same : c.in-Some-instance.instance ≡ told.0 = cc in
-    rw same told.2)
+    let known = (finish_reports _ text s).1 (sym c.validate_end.ensures.fault ∙ c.in-None.is) in
+    let same : c.in-Some-instance.instance ≡ known.0 = cc in
+    rw same known.2)

@@ -21,11 +21,11 @@ pub returns-in-Err-clause-cells : goal.returns-in-Err-clause-cells
 returns-in-Err-clause-cells g c =
     let invariant = c.loop-done.invariant in
     let long = length-take-le c.args.take c.deref.result.now (omega (arith, invariant.words)) in
-    let refused = c.in-Err.ensures.cells in
+    let failed = c.in-Err.ensures.cells in
     record {
       counted = tt;
-      fault_low = omega (arith, refused.fault_low, invariant.counted);
-      fault_high = le_trans (rw (long, invariant.same_shop) at refused.fault_high)
+      fault_low = omega (arith, failed.fault_low, invariant.counted);
+      fault_high = le_trans (rw (long, invariant.same_shop) at failed.fault_high)
           (next_fits (g.B.Bench.counted c.args.bench.now) _ _ c.loop-done.done c.args.count
           c.loop-done-test.true invariant.counted);
     }
