@@ -2,6 +2,7 @@
 ghost use Rattle.std.specs.Prelude.{◌≡◌, ◌+◌, ◌<◌, ◌^◌, length, false, Contains, IfOk};
 ghost use Rattle.pfs_insert.specs.Insertion.{heads_tails_cost};
 ghost use Rattle.pfs_insert.specs.Inserter.{IsBestPlace};
+ghost use Rattle.pfs_insert.specs.Private.Counting.{Counted};
 ghost use Rattle.pfs_insert.specs.Private.Rows.{sizes_of};
 ghost use Rattle.pfs_insert.specs.Private.Rows.{IsTable};
 
@@ -110,9 +111,8 @@ fn best_in_table<B: Bench>(
         + heads_tails_cost (length seq.now.jobs + 1) (B.shop bench.old).machines < 2 ^ 64 }
     ensures best { IsBestPlace (B.shop bench.old) seq.now.jobs job result.place (B.Span.number result.span) }
     ensures table { IsTable B.Span.number (sizes_of (B.shop bench.old)) table.new }
-    ensures counted { B.counted bench.new
-        ≡ B.counted bench.old + heads_tails_cost (length seq.now.jobs + 1) (B.shop bench.old).machines }
-    ensures shop { B.shop bench.new ≡ B.shop bench.old }
+    ensures bench { Counted (B.shop bench.old) (B.shop bench.new) (B.counted bench.old) (B.counted bench.new)
+        (heads_tails_cost (length seq.now.jobs + 1) (B.shop bench.old).machines) }
 {
     let machines = bench.machines();
     let (heads, rest) = table.split_at_mut(seq.size() * machines);

@@ -2,7 +2,8 @@
 ghost use Rattle.std.specs.Prelude.{◌≡◌, ℕ, ◌+◌, ◌-◌, ◌*◌, ◌<◌, ◌≤◌, ◌^◌, length};
 ghost use Rattle.pfs_insert.specs.Insertion.{makespan_with};
 ghost use Rattle.pfs_insert.specs.Private.BestSoFar.{IsBest};
-ghost use Rattle.pfs_insert.specs.Private.Rows.{AreParts, HasBacks, HasHead, IsPartial, IsPut, KeepsHeads};
+ghost use Rattle.pfs_insert.specs.Private.Counting.{Counted};
+ghost use Rattle.pfs_insert.specs.Private.Rows.{CanInsert, HasBacks, HasHead, HasRows, IsPartial, IsPut, KeepsHeads};
 
 use crate::inserter::{Placed, better};
 use crate::rows::{fill_head, fill_two_places};
@@ -21,18 +22,14 @@ pub(crate) fn best_by_rows<B: Bench>(
     backs: &[B::Span],
     put: &mut [B::Span],
 ) -> Placed<B::Span>
-    requires job { job < (B.shop bench.old).jobs }
-    requires partial { IsPartial (B.shop bench.old) seq.now }
-    requires parts { AreParts (B.shop bench.old) seq.now.jobs heads.old backs.now put.old }
-    requires no_head { HasHead B.Span.number (B.shop bench.old) seq.now.jobs heads.old 0 }
-    requires backs { HasBacks B.Span.number (B.shop bench.old) seq.now.jobs backs.now }
+    requires insertion { CanInsert (B.shop bench.old) seq.now job }
+    requires rows { HasRows B.Span.number (B.shop bench.old) seq.now.jobs heads.old backs.now put.old 0 }
     requires room { B.counted bench.old + (3 * length seq.now.jobs + 2) * (B.shop bench.old).machines < 2 ^ 64 }
     ensures best { IsBest B.Span.number (makespan_with (B.shop bench.old) seq.now.jobs job)
         (length seq.now.jobs + 1) result.place result.span }
     ensures no_head { HasHead B.Span.number (B.shop bench.old) seq.now.jobs heads.new 0 }
-    ensures counted { B.counted bench.new
-        ≡ B.counted bench.old + (3 * length seq.now.jobs + 2) * (B.shop bench.old).machines }
-    ensures shop { B.shop bench.new ≡ B.shop bench.old }
+    ensures bench { Counted (B.shop bench.old) (B.shop bench.new) (B.counted bench.old) (B.counted bench.new)
+        ((3 * length seq.now.jobs + 2) * (B.shop bench.old).machines) }
 {
     let len = seq.len();
     let mut best = Placed {
@@ -62,12 +59,9 @@ fn try_two_places<B: Bench>(
     put: &mut [B::Span],
     best: Placed<B::Span>,
 ) -> Placed<B::Span>
-    requires job { job < (B.shop bench.old).jobs }
+    requires insertion { CanInsert (B.shop bench.old) seq.now job }
     requires place { place + 2 ≤ length seq.now.jobs }
-    requires partial { IsPartial (B.shop bench.old) seq.now }
-    requires parts { AreParts (B.shop bench.old) seq.now.jobs heads.old backs.now put.old }
-    requires head { HasHead B.Span.number (B.shop bench.old) seq.now.jobs heads.old place }
-    requires backs { HasBacks B.Span.number (B.shop bench.old) seq.now.jobs backs.now }
+    requires rows { HasRows B.Span.number (B.shop bench.old) seq.now.jobs heads.old backs.now put.old place }
     requires best { 0 < place
         → IsBest B.Span.number (makespan_with (B.shop bench.old) seq.now.jobs job) place best.place best.span }
     requires room { B.counted bench.old + 6 * (B.shop bench.old).machines < 2 ^ 64 }
@@ -75,8 +69,8 @@ fn try_two_places<B: Bench>(
         (place + 2) result.place result.span }
     ensures head { HasHead B.Span.number (B.shop bench.old) seq.now.jobs heads.new (place + 2) }
     ensures kept { KeepsHeads B.Span.number (B.shop bench.old) seq.now.jobs heads.old heads.new place }
-    ensures counted { B.counted bench.new ≡ B.counted bench.old + 6 * (B.shop bench.old).machines }
-    ensures shop { B.shop bench.new ≡ B.shop bench.old }
+    ensures bench { Counted (B.shop bench.old) (B.shop bench.new) (B.counted bench.old) (B.counted bench.new)
+        (6 * (B.shop bench.old).machines) }
 {
     let machines = bench.machines();
     let (front, back) = heads.split_at_mut((place + 1) * machines);
@@ -107,8 +101,8 @@ fn add_head<B: Bench>(bench: &mut B, seq: &Seq, place: usize, heads: &mut [B::Sp
     requires room { B.counted bench.old + (B.shop bench.old).machines < 2 ^ 64 }
     ensures head { HasHead B.Span.number (B.shop bench.old) seq.now.jobs heads.new (place + 1) }
     ensures kept { KeepsHeads B.Span.number (B.shop bench.old) seq.now.jobs heads.old heads.new place }
-    ensures counted { B.counted bench.new ≡ B.counted bench.old + (B.shop bench.old).machines }
-    ensures shop { B.shop bench.new ≡ B.shop bench.old }
+    ensures bench { Counted (B.shop bench.old) (B.shop bench.new) (B.counted bench.old) (B.counted bench.new)
+        (B.shop bench.old).machines }
 {
     let machines = bench.machines();
     let (front, back) = heads.split_at_mut((place + 1) * machines);
@@ -132,19 +126,16 @@ fn try_place<B: Bench>(
     put: &mut [B::Span],
     best: Placed<B::Span>,
 ) -> Placed<B::Span>
-    requires job { job < (B.shop bench.old).jobs }
+    requires insertion { CanInsert (B.shop bench.old) seq.now job }
     requires place { place ≤ length seq.now.jobs }
-    requires partial { IsPartial (B.shop bench.old) seq.now }
-    requires parts { AreParts (B.shop bench.old) seq.now.jobs heads.now backs.now put.old }
-    requires head { HasHead B.Span.number (B.shop bench.old) seq.now.jobs heads.now place }
-    requires backs { HasBacks B.Span.number (B.shop bench.old) seq.now.jobs backs.now }
+    requires rows { HasRows B.Span.number (B.shop bench.old) seq.now.jobs heads.now backs.now put.old place }
     requires best { 0 < place
         → IsBest B.Span.number (makespan_with (B.shop bench.old) seq.now.jobs job) place best.place best.span }
     requires room { B.counted bench.old + 2 * (B.shop bench.old).machines < 2 ^ 64 }
     ensures best { IsBest B.Span.number (makespan_with (B.shop bench.old) seq.now.jobs job)
         (place + 1) result.place result.span }
-    ensures counted { B.counted bench.new ≡ B.counted bench.old + 2 * (B.shop bench.old).machines }
-    ensures shop { B.shop bench.new ≡ B.shop bench.old }
+    ensures bench { Counted (B.shop bench.old) (B.shop bench.new) (B.counted bench.old) (B.counted bench.new)
+        (2 * (B.shop bench.old).machines) }
 {
     let machines = bench.machines();
     fill_head(
@@ -167,17 +158,16 @@ fn makespan_by_rows<B: Bench>(
     put: &[B::Span],
     backs: &[B::Span],
 ) -> B::Span
-    requires job { job < (B.shop bench.old).jobs }
+    requires insertion { CanInsert (B.shop bench.old) seq.now job }
     requires place { place ≤ length seq.now.jobs }
-    requires partial { IsPartial (B.shop bench.old) seq.now }
     requires long { length backs.now ≡ (length seq.now.jobs + 1) * (B.shop bench.old).machines }
     requires width { length put.now ≡ (B.shop bench.old).machines }
     requires put { IsPut B.Span.number (B.shop bench.old) seq.now.jobs job place put.now }
     requires backs { HasBacks B.Span.number (B.shop bench.old) seq.now.jobs backs.now }
     requires room { B.counted bench.old + (B.shop bench.old).machines < 2 ^ 64 }
     ensures value { B.Span.number result ≡ makespan_with (B.shop bench.old) seq.now.jobs job place }
-    ensures counted { B.counted bench.new ≡ B.counted bench.old + (B.shop bench.old).machines }
-    ensures shop { B.shop bench.new ≡ B.shop bench.old }
+    ensures bench { Counted (B.shop bench.old) (B.shop bench.new) (B.counted bench.old) (B.counted bench.new)
+        (B.shop bench.old).machines }
 {
     let machines = bench.machines();
     bench.join_rows(put, &backs[place * machines..(place + 1) * machines])

@@ -1,6 +1,7 @@
 //! Rows of lengths, each computed from the row above or below it.
 ghost use Rattle.std.specs.Prelude.{◌≡◌, ◌+◌, ◌*◌, ◌<◌, ◌^◌, [], ◌∷◌, length};
-ghost use Rattle.pfs_insert.specs.Private.Rows.{AreHeadsAfter, AreShort, AreTailsBefore};
+ghost use Rattle.pfs_insert.specs.Private.Counting.{Counted};
+ghost use Rattle.pfs_insert.specs.Private.Rows.{AreHeadsAfter, AreShort, AreTailsBefore, AreThreeTails, AreTwoPlaces};
 
 use pfs_base::{Bench, Length};
 
@@ -13,8 +14,8 @@ pub(crate) fn fill_head<B: Bench>(bench: &mut B, job: usize, above: &[B::Span], 
     requires above_short { AreShort B.Span.number above.now (B.shop bench.old).machines }
     requires room { B.counted bench.old + (B.shop bench.old).machines < 2 ^ 64 }
     ensures row { AreHeadsAfter B.Span.number (B.shop bench.old) above.now (job ∷ []) row.new }
-    ensures counted { B.counted bench.new ≡ B.counted bench.old + (B.shop bench.old).machines }
-    ensures shop { B.shop bench.new ≡ B.shop bench.old }
+    ensures bench { Counted (B.shop bench.old) (B.shop bench.new) (B.counted bench.old) (B.counted bench.new)
+        (B.shop bench.old).machines }
 {
     let mut before = bench.zero();
     for machine in 0..above.len() {
@@ -32,8 +33,8 @@ pub(crate) fn fill_tail<B: Bench>(bench: &mut B, job: usize, below: &[B::Span], 
     requires below_short { AreShort B.Span.number below.now (B.shop bench.old).machines }
     requires room { B.counted bench.old + (B.shop bench.old).machines < 2 ^ 64 }
     ensures row { AreTailsBefore B.Span.number (B.shop bench.old) below.now (job ∷ []) row.new }
-    ensures counted { B.counted bench.new ≡ B.counted bench.old + (B.shop bench.old).machines }
-    ensures shop { B.shop bench.new ≡ B.shop bench.old }
+    ensures bench { Counted (B.shop bench.old) (B.shop bench.new) (B.counted bench.old) (B.counted bench.new)
+        (B.shop bench.old).machines }
 {
     let mut after = bench.zero();
     for machine in (0..below.len()).rev() {
@@ -54,20 +55,16 @@ pub(crate) fn fill_three_tails<B: Bench>(
     next: &mut [B::Span],
     last: &mut [B::Span],
 )
-    requires first { first < (B.shop bench.old).jobs }
-    requires second { second < (B.shop bench.old).jobs }
-    requires third { third < (B.shop bench.old).jobs }
+    requires jobs { let jobs = (B.shop bench.old).jobs in (first < jobs) × (second < jobs) × (third < jobs) }
     requires below_width { length below.now ≡ (B.shop bench.old).machines }
-    requires row_width { length row.old ≡ (B.shop bench.old).machines }
-    requires next_width { length next.old ≡ (B.shop bench.old).machines }
-    requires last_width { length last.old ≡ (B.shop bench.old).machines }
+    requires widths { let machines = (B.shop bench.old).machines in
+        (length row.old ≡ machines) × (length next.old ≡ machines) × (length last.old ≡ machines) }
     requires below_short { AreShort B.Span.number below.now (B.shop bench.old).machines }
     requires room { B.counted bench.old + 3 * (B.shop bench.old).machines < 2 ^ 64 }
-    ensures row { AreTailsBefore B.Span.number (B.shop bench.old) below.now (first ∷ []) row.new }
-    ensures next { AreTailsBefore B.Span.number (B.shop bench.old) below.now (first ∷ second ∷ []) next.new }
-    ensures last { AreTailsBefore B.Span.number (B.shop bench.old) below.now (first ∷ second ∷ third ∷ []) last.new }
-    ensures counted { B.counted bench.new ≡ B.counted bench.old + 3 * (B.shop bench.old).machines }
-    ensures shop { B.shop bench.new ≡ B.shop bench.old }
+    ensures rows { AreThreeTails B.Span.number (B.shop bench.old) below.now first second third
+        row.new next.new last.new }
+    ensures bench { Counted (B.shop bench.old) (B.shop bench.new) (B.counted bench.old) (B.counted bench.new)
+        (3 * (B.shop bench.old).machines) }
 {
     let mut one = bench.zero();
     let mut two = bench.zero();
@@ -96,20 +93,17 @@ pub(crate) fn fill_two_places<B: Bench>(
     next: &mut [B::Span],
     head: &mut [B::Span],
 )
-    requires first { first < (B.shop bench.old).jobs }
-    requires second { second < (B.shop bench.old).jobs }
-    requires job { job < (B.shop bench.old).jobs }
+    requires jobs { let jobs = (B.shop bench.old).jobs in (first < jobs) × (second < jobs) × (job < jobs) }
     requires above_width { length above.now ≡ (B.shop bench.old).machines }
-    requires row_width { length row.old ≡ (B.shop bench.old).machines }
-    requires next_width { length next.old ≡ (B.shop bench.old).machines }
+    requires widths { let machines = (B.shop bench.old).machines in
+        (length row.old ≡ machines) × (length next.old ≡ machines) }
     requires head_width { length head.old ≡ (B.shop bench.old).machines }
     requires above_short { AreShort B.Span.number above.now (B.shop bench.old).machines }
     requires room { B.counted bench.old + 4 * (B.shop bench.old).machines < 2 ^ 64 }
-    ensures row { AreHeadsAfter B.Span.number (B.shop bench.old) above.now (job ∷ []) row.new }
-    ensures next { AreHeadsAfter B.Span.number (B.shop bench.old) above.now (first ∷ job ∷ []) next.new }
-    ensures head { AreHeadsAfter B.Span.number (B.shop bench.old) above.now (first ∷ second ∷ []) head.new }
-    ensures counted { B.counted bench.new ≡ B.counted bench.old + 4 * (B.shop bench.old).machines }
-    ensures shop { B.shop bench.new ≡ B.shop bench.old }
+    ensures rows { AreTwoPlaces B.Span.number (B.shop bench.old) above.now first second job
+        row.new next.new head.new }
+    ensures bench { Counted (B.shop bench.old) (B.shop bench.new) (B.counted bench.old) (B.counted bench.new)
+        (4 * (B.shop bench.old).machines) }
 {
     let mut one = bench.zero();
     let mut two = bench.zero();

@@ -1,5 +1,6 @@
 //! The rows of tails of a sequence, filled from its last job on.
 ghost use Rattle.std.specs.Prelude.{◌≡◌, ℕ, ◌+◌, ◌-◌, ◌*◌, ◌<◌, ◌≤◌, ◌^◌, length};
+ghost use Rattle.pfs_insert.specs.Private.Counting.{Counted};
 ghost use Rattle.pfs_insert.specs.Private.Rows.{AreNumbersFrom, HasTails, IsPartial};
 
 use crate::rows::{fill_tail, fill_three_tails};
@@ -16,8 +17,8 @@ pub(crate) fn fill_tails<B: Bench>(bench: &mut B, seq: &Seq, rows: &mut [B::Span
         AreNumbersFrom B.Span.number rows.old ((shop.jobs - 1) * shop.machines) shop.machines (λ machine. 0) }
     requires room { B.counted bench.old + length seq.now.jobs * (B.shop bench.old).machines < 2 ^ 64 }
     ensures tails { HasTails B.Span.number (B.shop bench.old) seq.now.jobs rows.new 0 }
-    ensures counted { B.counted bench.new ≡ B.counted bench.old + length seq.now.jobs * (B.shop bench.old).machines }
-    ensures shop { B.shop bench.new ≡ B.shop bench.old }
+    ensures bench { Counted (B.shop bench.old) (B.shop bench.new) (B.counted bench.old) (B.counted bench.new)
+        (length seq.now.jobs * (B.shop bench.old).machines) }
 {
     let len = seq.len();
     for turn in 0..len / 3 {
@@ -38,8 +39,8 @@ fn add_three_tails<B: Bench>(bench: &mut B, seq: &Seq, rows: &mut [B::Span], fro
     requires tails { HasTails B.Span.number (B.shop bench.old) seq.now.jobs rows.old from }
     requires room { B.counted bench.old + 3 * (B.shop bench.old).machines < 2 ^ 64 }
     ensures tails { HasTails B.Span.number (B.shop bench.old) seq.now.jobs rows.new (from - 3) }
-    ensures counted { B.counted bench.new ≡ B.counted bench.old + 3 * (B.shop bench.old).machines }
-    ensures shop { B.shop bench.new ≡ B.shop bench.old }
+    ensures bench { Counted (B.shop bench.old) (B.shop bench.new) (B.counted bench.old) (B.counted bench.new)
+        (3 * (B.shop bench.old).machines) }
 {
     let machines = bench.machines();
     let below = seq.size() - 1 - seq.len() + from;
@@ -71,8 +72,8 @@ fn add_tail<B: Bench>(bench: &mut B, seq: &Seq, rows: &mut [B::Span], place: usi
     requires tails { HasTails B.Span.number (B.shop bench.old) seq.now.jobs rows.old (place + 1) }
     requires room { B.counted bench.old + (B.shop bench.old).machines < 2 ^ 64 }
     ensures tails { HasTails B.Span.number (B.shop bench.old) seq.now.jobs rows.new place }
-    ensures counted { B.counted bench.new ≡ B.counted bench.old + (B.shop bench.old).machines }
-    ensures shop { B.shop bench.new ≡ B.shop bench.old }
+    ensures bench { Counted (B.shop bench.old) (B.shop bench.new) (B.counted bench.old) (B.counted bench.new)
+        (B.shop bench.old).machines }
 {
     let machines = bench.machines();
     let below = seq.size() - seq.len() + place;

@@ -1,5 +1,5 @@
 -- Rows of lengths, each computed from the row above or below it.
-use Rattle.std.specs.Prelude.{◌≡◌, ℕ, zero, suc, ◌+◌, ◌-◌, ◌*◌, ◌<◌, ◌≤◌, max, List, length, map, fold, insert}
+use Rattle.std.specs.Prelude.{◌≡◌, ℕ, zero, suc, ◌+◌, ◌-◌, ◌*◌, ◌<◌, ◌≤◌, max, List, [], ◌∷◌, length, map, fold, insert}
 use Rattle.std.specs.List.{range_with_len, slice_index_or}
 use Rattle.pfs_base.specs.declared.limits.TheConstants.{MOST_JOBS, MOST_MACHINES, LONGEST_TIME}
 use Rattle.pfs_base.specs.FlowShop.{FlowShop, time_of}
@@ -65,6 +65,21 @@ AreTailsBefore {X} number shop below jobs row =
     (tails : ℕ → ℕ) → AreBack number below (shop.machines - 1) tails
     → AreBack number row (shop.machines - 1) (fold (λ values job. tail_row shop job values) tails jobs)
 
+-- the rows of tails of three jobs, each of which is directly before the one named before it
+pub record AreThreeTails {X : Type 0} (number : X → ℕ) (shop : FlowShop) (below : List X) (first second third : ℕ)
+    (row next last : List X) : Type 0 where
+  pub row_is : AreTailsBefore number shop below (first ∷ []) row
+  pub next_is : AreTailsBefore number shop below (first ∷ second ∷ []) next
+  pub last_is : AreTailsBefore number shop below (first ∷ second ∷ third ∷ []) last
+
+-- the row of a job inserted before the first of two jobs, that of the job inserted before the second, and the row of
+-- heads of the second
+pub record AreTwoPlaces {X : Type 0} (number : X → ℕ) (shop : FlowShop) (above : List X) (first second job : ℕ)
+    (row next head : List X) : Type 0 where
+  pub row_is : AreHeadsAfter number shop above (job ∷ []) row
+  pub next_is : AreHeadsAfter number shop above (first ∷ job ∷ []) next
+  pub head_is : AreHeadsAfter number shop above (first ∷ second ∷ []) head
+
 -- no length of a row is greater than a bound on the weight of any path within the limits
 abbrev pub AreShort : {X : Type 0} → (X → ℕ) → List X → ℕ → Type 0
 AreShort {X} number row machines =
@@ -95,6 +110,12 @@ pub record IsPartial (shop : FlowShop) (seq : Sequence) : Type 0 where
   pub size : seq.size ≡ shop.jobs
   pub few : length seq.jobs < shop.jobs
 
+-- a sequence made for the number of the shop's jobs that has room for at least one more, and a job of the shop
+pub record CanInsert (shop : FlowShop) (seq : Sequence) (job : ℕ) : Type 0 where
+  pub job_is : job < shop.jobs
+  pub size : seq.size ≡ shop.jobs
+  pub few : length seq.jobs < shop.jobs
+
 -- `rows` begins with the rows of tails of a sequence, one for each place
 pub record HasBacks {X : Type 0} (number : X → ℕ) (shop : FlowShop) (jobs : List ℕ) (rows : List X) : Type 0 where
   pub rows_are : (place : ℕ) → place ≤ length jobs
@@ -106,6 +127,13 @@ pub record AreParts {X : Type 0} (shop : FlowShop) (jobs : List ℕ) (heads back
   pub heads_long : length heads ≡ shop.jobs * shop.machines
   pub backs_long : length backs ≡ (length jobs + 1) * shop.machines
   pub put_long : length put ≡ shop.machines
+
+-- the parts of a table have their sizes, and contain the row of heads of a place and the rows of tails
+pub record HasRows {X : Type 0} (number : X → ℕ) (shop : FlowShop) (jobs : List ℕ) (heads backs put : List X)
+    (place : ℕ) : Type 0 where
+  pub parts : AreParts shop jobs heads backs put
+  pub head : HasHead number shop jobs heads place
+  pub backs_are : HasBacks number shop jobs backs
 
 -- each row of heads up to the row of `place` that is in the table `old` is in the table `new`
 abbrev pub KeepsHeads : {X : Type 0} → (X → ℕ) → FlowShop → List ℕ → List X → List X → ℕ → Type 0

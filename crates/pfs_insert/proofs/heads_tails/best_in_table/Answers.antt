@@ -61,10 +61,10 @@ fill_tails-requires-clause-no_tail g c =
     rw append-nil at (row_in_front number machines none tails c.split_at_mut-tails.result.1.now [] start
     (omega (arith, tails_long g here)) (rw c.split_at_mut-tails.ensures.value at rest))
 
-pub best_by_rows-requires-clause-partial : goal.best_by_rows-requires-clause-partial
-best_by_rows-requires-clause-partial g c =
-    let less = few_jobs g (goal.at.best_by_rows-requires-clause-partial g c).After-split_at_mut-tails in
-    rw c.fill_tails.ensures.shop (record { size = c.requires.size; few = less })
+pub best_by_rows-requires-clause-insertion : goal.best_by_rows-requires-clause-insertion
+best_by_rows-requires-clause-insertion g c =
+    let less = few_jobs g (goal.at.best_by_rows-requires-clause-insertion g c).After-split_at_mut-tails in
+    rw c.fill_tails.ensures.bench.shop (record { job_is = c.requires.job; size = c.requires.size; few = less })
 
 pub overflow_sub-first-2 : goal.overflow_sub-first-2
 overflow_sub-first-2 g c =
@@ -76,10 +76,11 @@ rows_of_all : (jobs len machines : ℕ) → len < jobs
     → jobs * machines ≡ (jobs - 1 - len) * machines + (len + 1) * machines
 rows_of_all jobs len machines inside = row_split jobs (jobs - 1 - len) (len + 1) machines (omega arith)
 
-pub best_by_rows-requires-clause-parts : goal.best_by_rows-requires-clause-parts
-best_by_rows-requires-clause-parts g c =
-    let here = (goal.at.best_by_rows-requires-clause-parts g c).After-split_at_mut-tails in
+pub best_by_rows-requires-clause-rows : goal.best_by_rows-requires-clause-rows
+best_by_rows-requires-clause-rows g c =
+    let number = g.B.Span.Length.number in
     let shop = g.B.Bench.shop c.args.bench.now in
+    let here = (goal.at.best_by_rows-requires-clause-rows g c).After-split_at_mut-tails in
     let len = length c.args.seq.now.jobs in
     let rows = c.fill_tails.new.rows in
     let start = (shop.jobs - 1 - len) * shop.machines in
@@ -89,55 +90,37 @@ best_by_rows-requires-clause-parts g c =
     let rest = rows_of_all shop.jobs len shop.machines (few_jobs g here) in
     let all = row_split (2 * shop.jobs + 1) shop.jobs (shop.jobs + 1) shop.machines (omega arith) in
     let dropped = length-drop start rows in
-    rw (
-      c.fill_tails.ensures.shop,
-      c.size-3.ensures.value,
-      c.requires.size,
-      c.len.ensures.value,
-      c.machines-machines.ensures,
-      take_all (length rows - start) (drop start rows) (omega arith),
-    ) (record {
-      heads_long = heads;
-      backs_long = omega arith;
-      put_long = omega (
-        arith,
-        c.requires.table.size,
-        c.split_at_mut-heads.ensures.back_len,
-        c.split_at_mut-tails.ensures.back_len,
-      );
-    })
-
-pub best_by_rows-requires-clause-backs : goal.best_by_rows-requires-clause-backs
-best_by_rows-requires-clause-backs g c =
-    let here = (goal.at.best_by_rows-requires-clause-backs g c).After-split_at_mut-tails in
-    let shop = g.B.Bench.shop c.args.bench.now in
-    let len = length c.args.seq.now.jobs in
-    let rows_long = c.fill_tails.auto.rows ∙ tails_long g here in
-    let rest = rows_of_all shop.jobs len shop.machines (few_jobs g here) in
-    let backs = backs_taken g.B.Span.Length.number shop c.args.seq.now.jobs c.fill_tails.new.rows _ _ refl (omega arith)
-    (omega arith) c.fill_tails.ensures.tails in
-    rw (
-      c.fill_tails.ensures.shop,
-      c.size-3.ensures.value,
-      c.requires.size,
-      c.len.ensures.value,
-      c.machines-machines.ensures,
-    ) backs
-
-pub best_by_rows-requires-clause-no_head : goal.best_by_rows-requires-clause-no_head
-best_by_rows-requires-clause-no_head g c =
-    let number = g.B.Span.Length.number in
-    let shop = g.B.Bench.shop c.args.bench.now in
     let some = (g.met.B.Bench.within c.args.bench.now).sizes.some_job in
-    let heads = c.split_at_mut-heads.result.0.now in
     let first = row_le 1 shop.jobs shop.machines some in
-    let long = heads_long g (goal.at.best_by_rows-requires-clause-no_head g c).After-split_at_mut-tails in
-    rw c.fill_tails.ensures.shop (record {
-      row_is = λ machine d lt.
-          let at : 0 * shop.machines + machine ≡ machine = omega arith in
-          let read = get_or_append_left heads c.split_at_mut-heads.result.1.now d machine (omega arith) in
-          let known = rw c.split_at_mut-heads.ensures.value at (c.requires.table.no_head machine d lt) in
-          rw at (ap number (sym read) ∙ known);
+    let front = c.split_at_mut-heads.result.0.now in
+    let backs = backs_taken number shop c.args.seq.now.jobs rows _ _ refl (omega arith)
+    (omega arith) c.fill_tails.ensures.tails in
+    let whole = take_all (length rows - start) (drop start rows) (omega arith) in
+    rw (
+      c.fill_tails.ensures.bench.shop,
+      c.size-3.ensures.value,
+      c.requires.size,
+      c.len.ensures.value,
+      c.machines-machines.ensures,
+    ) (record {
+      parts = rw whole (record {
+        heads_long = heads;
+        backs_long = omega arith;
+        put_long = omega (
+          arith,
+          c.requires.table.size,
+          c.split_at_mut-heads.ensures.back_len,
+          c.split_at_mut-tails.ensures.back_len,
+        );
+      });
+      head = record {
+        row_is = λ machine d lt.
+            let at : 0 * shop.machines + machine ≡ machine = omega arith in
+            let read = get_or_append_left front c.split_at_mut-heads.result.1.now d machine (omega arith) in
+            let known = rw c.split_at_mut-heads.ensures.value at (c.requires.table.no_head machine d lt) in
+            rw at (ap number (sym read) ∙ known);
+      };
+      backs_are = backs;
     })
 
 -- the cells of one insertion are those of the tails and those of the places
@@ -147,14 +130,14 @@ cells len machines = row_split (4 * (len + 1) - 2) len (3 * len + 2) machines (o
 pub best_by_rows-requires-clause-room : goal.best_by_rows-requires-clause-room
 best_by_rows-requires-clause-room g c =
     let shop = g.B.Bench.shop c.args.bench.now in
-    let tails = c.fill_tails.ensures.counted in
+    let tails = c.fill_tails.ensures.bench.counted in
     let all = cells (length c.args.seq.now.jobs) shop.machines in
-    rw c.fill_tails.ensures.shop (omega (arith, c.requires.room))
+    rw c.fill_tails.ensures.bench.shop (omega (arith, c.requires.room))
 
 pub returns-clause-best : goal.returns-clause-best
 returns-clause-best g c =
     best_is (g.B.Bench.shop c.args.bench.now) c.args.seq.now.jobs c.args.job
-    (rw c.fill_tails.ensures.shop at c.best_by_rows.ensures.best)
+    (rw c.fill_tails.ensures.bench.shop at c.best_by_rows.ensures.best)
 
 pub returns-clause-table : goal.returns-clause-table
 returns-clause-table g c =
@@ -172,7 +155,7 @@ returns-clause-table g c =
     let less = few_jobs g here in
     let long : length heads ≡ shop.jobs * machines = c.best_by_rows.auto.heads ∙ heads_long g here in
     let rows_long : length tails ≡ shop.jobs * machines = c.fill_tails.auto.rows ∙ tails_long g here in
-    let has = rw c.fill_tails.ensures.shop at c.best_by_rows.ensures.no_head in
+    let has = rw c.fill_tails.ensures.bench.shop at c.best_by_rows.ensures.no_head in
     let first = row_le 1 shop.jobs machines some in
     let begin = no_tail_at shop.jobs machines some in
     let fits = last_fits shop.jobs machines some in
@@ -190,10 +173,10 @@ returns-clause-table g c =
           (omega arith) (row_in_front number machines none tails [] put start (omega arith) (rw append-nil zeros));
     }
 
-pub returns-clause-counted : goal.returns-clause-counted
-returns-clause-counted g c =
+pub returns-clause-bench : goal.returns-clause-bench
+returns-clause-bench g c =
     let shop = g.B.Bench.shop c.args.bench.now in
     let all = cells (length c.args.seq.now.jobs) shop.machines in
-    let tails = c.fill_tails.ensures.counted in
-    let places = rw c.fill_tails.ensures.shop at c.best_by_rows.ensures.counted in
-    omega arith
+    let tails = c.fill_tails.ensures.bench.counted in
+    let places = rw c.fill_tails.ensures.bench.shop at c.best_by_rows.ensures.bench.counted in
+    record { counted = omega arith; shop = c.best_by_rows.ensures.bench.shop ∙ c.fill_tails.ensures.bench.shop }

@@ -21,9 +21,9 @@ loop-pair-preserved g c =
     let ensures = c.try_two_places-best.ensures in
     let next = row_split (6 * (pair + 1)) (6 * pair) 6 (g.B.Bench.shop c.args.bench.now).machines (omega arith) in
     let two : 2 * pair + 2 ≡ 2 * (pair + 1) = omega arith in
-    let counted = rw same at ensures.counted in
+    let counted = rw same at ensures.bench.counted in
     record {
-      same_shop = ensures.shop ∙ same;
+      same_shop = ensures.bench.shop ∙ same;
       counted = omega (arith, invariant.counted);
       no_head = (rw same at ensures.kept) 0 (omega arith) invariant.no_head;
       head = rw (same, two) at ensures.head;
@@ -52,10 +52,10 @@ try_place-requires-clause-room g c =
     let pairs : pair ≡ len / 2 = omega (arith, c.loop-pair-test.false, c.loop-pair.auto.pair-end, every) in
     elim c.if-len-eq1.branch [
       | then-len-eq1 w ↦
-          let tried = w.try_place-best.ensures.shop ∙ same in
-          let added = w.add_head.ensures.shop ∙ tried in
-          let try_counted = rw same at w.try_place-best.ensures.counted in
-          let add_counted = rw tried at w.add_head.ensures.counted in
+          let tried = w.try_place-best.ensures.bench.shop ∙ same in
+          let added = w.add_head.ensures.bench.shop ∙ tried in
+          let try_counted = rw same at w.try_place-best.ensures.bench.counted in
+          let add_counted = rw tried at w.add_head.ensures.bench.counted in
           let all = row_split (3 * len + 2) (6 * pair) 5 machines (omega (arith, w.if-len-eq1.true)) in
           rw (w.bench-is, added) (omega (arith, invariant.counted, c.requires.room))
       | else-len-eq1 w ↦
@@ -68,13 +68,13 @@ returns-clause-no_head g c =
     let invariant = c.loop-pair.invariant in
     elim c.if-len-eq1.branch [
       | then-len-eq1 w ↦
-          let kept = rw (w.try_place-best.ensures.shop ∙ invariant.same_shop) at w.add_head.ensures.kept in
+          let kept = rw (w.try_place-best.ensures.bench.shop ∙ invariant.same_shop) at w.add_head.ensures.kept in
           rw w.heads-is (kept 0 (omega arith) invariant.no_head)
       | else-len-eq1 w ↦ rw w.heads-is invariant.no_head
     ]
 
-pub returns-clause-counted : goal.returns-clause-counted
-returns-clause-counted g c =
+pub returns-clause-bench : goal.returns-clause-bench
+returns-clause-bench g c =
     let machines = (g.B.Bench.shop c.args.bench.now).machines in
     let len = length c.args.seq.now.jobs in
     let pair = c.loop-pair.pair in
@@ -84,15 +84,21 @@ returns-clause-counted g c =
     let pairs : pair ≡ len / 2 = omega (arith, c.loop-pair-test.false, c.loop-pair.auto.pair-end, every) in
     elim c.if-len-eq1.branch [
       | then-len-eq1 w ↦
-          let tried = w.try_place-best.ensures.shop ∙ same in
-          let added = w.add_head.ensures.shop ∙ tried in
-          let try_counted = rw same at w.try_place-best.ensures.counted in
-          let add_counted = rw tried at w.add_head.ensures.counted in
-          let last_counted = rw (w.bench-is, added) at c.try_place.ensures.counted in
+          let tried = w.try_place-best.ensures.bench.shop ∙ same in
+          let added = w.add_head.ensures.bench.shop ∙ tried in
+          let try_counted = rw same at w.try_place-best.ensures.bench.counted in
+          let add_counted = rw tried at w.add_head.ensures.bench.counted in
+          let last_counted = rw (w.bench-is, added) at c.try_place.ensures.bench.counted in
           let all = row_split (3 * len + 2) (6 * pair) 5 machines (omega (arith, w.if-len-eq1.true)) in
-          omega (arith, invariant.counted)
+          record {
+            counted = omega (arith, invariant.counted);
+            shop = c.try_place.ensures.bench.shop ∙ rw w.bench-is added;
+          }
       | else-len-eq1 w ↦
-          let last_counted = rw (w.bench-is, same) at c.try_place.ensures.counted in
+          let last_counted = rw (w.bench-is, same) at c.try_place.ensures.bench.counted in
           let all = row_split (3 * len + 2) (6 * pair) 2 machines (omega (arith, w.if-len-eq1.false)) in
-          omega (arith, invariant.counted)
+          record {
+            counted = omega (arith, invariant.counted);
+            shop = c.try_place.ensures.bench.shop ∙ rw w.bench-is same;
+          }
     ]

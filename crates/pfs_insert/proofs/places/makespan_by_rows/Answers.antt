@@ -41,7 +41,7 @@ join_rows-requires-clause-in_limit g c =
     let jobs = c.args.seq.now.jobs in
     let place = c.args.place in
     let within = g.met.B.Bench.within c.args.bench.now in
-    let few = c.requires.partial.few in
+    let few = c.requires.insertion.few in
     let is = joined g (goal.at.join_rows-requires-clause-in_limit g c).After-machines-machines in
     let sum = λ (machine : ℕ).
     heaviest_front shop (insert jobs place c.args.job) place machine + heaviest_back shop jobs place machine in

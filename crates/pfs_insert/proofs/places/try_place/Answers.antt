@@ -18,13 +18,13 @@ above_known : (g : Over) (c : After-machines-machines g) →
 above_known g c =
     let shop = g.B.Bench.shop c.args.bench.now in
     row_taken g.B.Span.Length.number shop.machines (head_of shop c.args.seq.now.jobs c.args.place) c.args.heads.now
-    c.args.place _ _ c.machines-machines.ensures (omega arith) c.requires.head.row_is
+    c.args.place _ _ c.machines-machines.ensures (omega arith) c.requires.rows.head.row_is
 
 pub fill_head-requires-clause-above_short : goal.fill_head-requires-clause-above_short
 fill_head-requires-clause-above_short g c =
     let shop = g.B.Bench.shop c.args.bench.now in
     short_heads g.B.Span.Length.number shop c.args.seq.now.jobs (g.met.B.Bench.within c.args.bench.now)
-    (omega (arith, c.requires.partial.few)) c.args.place c.requires.place _
+    (omega (arith, c.requires.insertion.few)) c.args.place c.requires.place _
     (above_known g (goal.at.fill_head-requires-clause-above_short g c).After-machines-machines)
 
 pub makespan_by_rows-span-requires-clause-put : goal.makespan_by_rows-span-requires-clause-put
@@ -33,7 +33,7 @@ makespan_by_rows-span-requires-clause-put g c =
     let jobs = c.args.seq.now.jobs in
     let here = (goal.at.makespan_by_rows-span-requires-clause-put g c).After-machines-machines in
     let known = c.fill_head.ensures.row _ (above_known g here) in
-    rw c.fill_head.ensures.shop (record {
+    rw c.fill_head.ensures.bench.shop (record {
       row_is = λ machine d lt.
           known machine d lt ∙ put_row (head_first shop jobs c.args.place) c.args.job c.requires.place machine;
     })
@@ -41,4 +41,4 @@ makespan_by_rows-span-requires-clause-put g c =
 pub returns-clause-best : goal.returns-clause-best
 returns-clause-best g c =
     c.better.ensures (makespan_with (g.B.Bench.shop c.args.bench.now) c.args.seq.now.jobs c.args.job) c.requires.best
-    (rw c.fill_head.ensures.shop at c.makespan_by_rows-span.ensures.value)
+    (rw c.fill_head.ensures.bench.shop at c.makespan_by_rows-span.ensures.value)

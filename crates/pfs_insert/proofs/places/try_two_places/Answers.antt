@@ -14,8 +14,8 @@ rest_long g c =
     let place = c.args.place in
     let back = c.split_at_mut-front.ensures.back_len in
     let rest = c.split_at_mut-next.ensures.back_len in
-    row_fits {place = place + 2} c.machines-machines.ensures (omega (arith, c.requires.place, c.requires.partial.few))
-    c.requires.parts.heads_long (omega arith)
+    row_fits {place = place + 2} c.machines-machines.ensures (omega (arith, c.requires.place, c.requires.insertion.few))
+    c.requires.rows.parts.heads_long (omega arith)
 
 pub slice_bounds-fill_two_places-end-2 : goal.slice_bounds-fill_two_places-end-2
 slice_bounds-fill_two_places-end-2 g c = rest_long g (goal.at.slice_bounds-fill_two_places-end-2 g c).After-at-2
@@ -39,21 +39,21 @@ above_known : (g : Over) (c : After-at-2 g) →
 above_known g c =
     let split = c.split_at_mut-front.ensures in
     heads_above _ (g.B.Bench.shop c.args.bench.now) c.args.seq.now.jobs _ _ _ c.args.place _ c.machines-machines.ensures
-    split.value split.front_len c.requires.head
+    split.value split.front_len c.requires.rows.head
 
 pub fill_two_places-requires-clause-above_short : goal.fill_two_places-requires-clause-above_short
 fill_two_places-requires-clause-above_short g c =
     let shop = g.B.Bench.shop c.args.bench.now in
     short_heads g.B.Span.Length.number shop c.args.seq.now.jobs (g.met.B.Bench.within c.args.bench.now)
-    (omega (arith, c.requires.partial.few)) c.args.place (omega (arith, c.requires.place)) _
+    (omega (arith, c.requires.insertion.few)) c.args.place (omega (arith, c.requires.place)) _
     (above_known g (goal.at.fill_two_places-requires-clause-above_short g c).After-at-2)
 
 pub makespan_by_rows-span-requires-clause-put : goal.makespan_by_rows-span-requires-clause-put
 makespan_by_rows-span-requires-clause-put g c =
     let first = head_first (g.B.Bench.shop c.args.bench.now) c.args.seq.now.jobs c.args.place in
     let here = (goal.at.makespan_by_rows-span-requires-clause-put g c).After-at-2 in
-    let known = c.fill_two_places.ensures.row _ (above_known g here) in
-    rw c.fill_two_places.ensures.shop (record {
+    let known = c.fill_two_places.ensures.rows.row_is _ (above_known g here) in
+    rw c.fill_two_places.ensures.bench.shop (record {
       row_is = λ machine d lt. known machine d lt ∙ put_row first c.args.job (omega (arith, c.requires.place)) machine;
     })
 
@@ -62,8 +62,8 @@ makespan_by_rows-span-requires-2-clause-put g c =
     let first = head_first (g.B.Bench.shop c.args.bench.now) c.args.seq.now.jobs c.args.place in
     let between = head_next first refl c.at.ensures.value in
     let here = (goal.at.makespan_by_rows-span-requires-2-clause-put g c).After-at-2 in
-    let known = c.fill_two_places.ensures.next _ (above_known g here) in
-    rw (c.makespan_by_rows-span.ensures.shop, c.fill_two_places.ensures.shop) (record {
+    let known = c.fill_two_places.ensures.rows.next_is _ (above_known g here) in
+    rw (c.makespan_by_rows-span.ensures.bench.shop, c.fill_two_places.ensures.bench.shop) (record {
       row_is = λ machine d lt. known machine d lt ∙ put_row between c.args.job (omega (arith, c.requires.place)) machine;
     })
 
@@ -71,10 +71,10 @@ pub returns-clause-best : goal.returns-clause-best
 returns-clause-best g c =
     let place = c.args.place in
     let value = makespan_with (g.B.Bench.shop c.args.bench.now) c.args.seq.now.jobs c.args.job in
-    let same = c.fill_two_places.ensures.shop in
+    let same = c.fill_two_places.ensures.bench.shop in
     let first = c.better-best.ensures value c.requires.best (rw same at c.makespan_by_rows-span.ensures.value) in
     let second = c.better.ensures value (λ some. first)
-    (rw (c.makespan_by_rows-span.ensures.shop, same) at c.makespan_by_rows-span-2.ensures.value) in
+    (rw (c.makespan_by_rows-span.ensures.bench.shop, same) at c.makespan_by_rows-span-2.ensures.value) in
     let two : place + 1 + 1 ≡ place + 2 = omega arith in
     rw two at second
 
@@ -96,7 +96,7 @@ returns-clause-head g c =
     let both : length (front ++ next) ≡ (place + 2) * shop.machines = omega (arith, length-append front next) in
     let between = head_next (head_first shop jobs place) refl c.at.ensures.value in
     let after : AreHeads shop jobs _ (place + 2) = head_next between (omega arith) c.at-2.ensures.value in
-    let known = c.fill_two_places.ensures.head _ (above_known g here) in
+    let known = c.fill_two_places.ensures.rows.head_is _ (above_known g here) in
     rw append_assoc at (head_after g.B.Span.Length.number shop jobs (front ++ next) new (drop width rest) (place + 2)
     both new_long (λ machine d lt. known machine d lt ∙ after.same machine))
 

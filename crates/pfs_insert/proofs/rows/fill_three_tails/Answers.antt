@@ -32,28 +32,21 @@ loop-machine-preserved g c =
         invariant.counted,
       );
       row_is = tail_stored number shop below (c.args.first ∷ []) some most invariant.row_is one
-          (c.loop-machine.auto.row ∙ c.requires.row_width);
+          (c.loop-machine.auto.row ∙ c.requires.widths.0);
       next_is = tail_stored number shop below (c.args.second ∷ c.args.first ∷ []) some most invariant.next_is two
-          (c.loop-machine.auto.next ∙ c.requires.next_width);
+          (c.loop-machine.auto.next ∙ c.requires.widths.1);
       last_is = tail_stored number shop below (c.args.third ∷ c.args.second ∷ c.args.first ∷ []) some most
           invariant.last_is three
-          (c.loop-machine.auto.last ∙ c.requires.last_width);
+          (c.loop-machine.auto.last ∙ c.requires.widths.2);
     }
 
-pub returns-clause-row : goal.returns-clause-row
-returns-clause-row g c = λ tails known back d le.
+pub returns-clause-rows : goal.returns-clause-rows
+returns-clause-rows g c =
     let all = c.loop-machine-test.false in
     let some = (g.met.B.Bench.within c.args.bench.now).sizes.some_machine in
-    c.loop-machine.invariant.row_is.is tails known back d (omega arith)
-
-pub returns-clause-next : goal.returns-clause-next
-returns-clause-next g c = λ tails known back d le.
-    let all = c.loop-machine-test.false in
-    let some = (g.met.B.Bench.within c.args.bench.now).sizes.some_machine in
-    c.loop-machine.invariant.next_is.is tails known back d (omega arith)
-
-pub returns-clause-last : goal.returns-clause-last
-returns-clause-last g c = λ tails known back d le.
-    let all = c.loop-machine-test.false in
-    let some = (g.met.B.Bench.within c.args.bench.now).sizes.some_machine in
-    c.loop-machine.invariant.last_is.is tails known back d (omega arith)
+    let invariant = c.loop-machine.invariant in
+    record {
+      row_is = λ tails known back d le. invariant.row_is.is tails known back d (omega arith);
+      next_is = λ tails known back d le. invariant.next_is.is tails known back d (omega arith);
+      last_is = λ tails known back d le. invariant.last_is.is tails known back d (omega arith);
+    }

@@ -35,28 +35,21 @@ loop-machine-preserved g c =
         invariant.counted,
       );
       row_is = head_stored number shop above (c.args.job ∷ []) invariant.row_is put
-          (omega (arith, c.loop-machine.auto.row, c.requires.row_width));
+          (omega (arith, c.loop-machine.auto.row, c.requires.widths.0));
       one_is = one;
       next_is = head_stored number shop above (c.args.job ∷ c.args.first ∷ []) invariant.next_is next
-          (omega (arith, c.loop-machine.auto.next, c.requires.next_width));
+          (omega (arith, c.loop-machine.auto.next, c.requires.widths.1));
       head_is = head_stored number shop above (c.args.second ∷ c.args.first ∷ []) invariant.head_is two
           (omega (arith, c.loop-machine.auto.head, c.requires.head_width));
     }
 
-pub returns-clause-row : goal.returns-clause-row
-returns-clause-row g c = λ heads known m d lt.
+pub returns-clause-rows : goal.returns-clause-rows
+returns-clause-rows g c =
     let all = c.loop-machine-test.false in
     let width = c.requires.above_width in
-    c.loop-machine.invariant.row_is.is heads known m d (omega arith)
-
-pub returns-clause-next : goal.returns-clause-next
-returns-clause-next g c = λ heads known m d lt.
-    let all = c.loop-machine-test.false in
-    let width = c.requires.above_width in
-    c.loop-machine.invariant.next_is.is heads known m d (omega arith)
-
-pub returns-clause-head : goal.returns-clause-head
-returns-clause-head g c = λ heads known m d lt.
-    let all = c.loop-machine-test.false in
-    let width = c.requires.above_width in
-    c.loop-machine.invariant.head_is.is heads known m d (omega arith)
+    let invariant = c.loop-machine.invariant in
+    record {
+      row_is = λ heads known m d lt. invariant.row_is.is heads known m d (omega arith);
+      next_is = λ heads known m d lt. invariant.next_is.is heads known m d (omega arith);
+      head_is = λ heads known m d lt. invariant.head_is.is heads known m d (omega arith);
+    }

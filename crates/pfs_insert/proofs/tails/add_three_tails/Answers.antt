@@ -60,6 +60,24 @@ fill_three_tails-requires-clause-below_short g c =
     (omega (arith, c.requires.partial.few)) c.args.from _
     (below_known g (goal.at.fill_three_tails-requires-clause-below_short g c).After-at-third)
 
+pub fill_three_tails-requires-clause-widths : goal.fill_three_tails-requires-clause-widths
+fill_three_tails-requires-clause-widths g c =
+    let is = split_is g (goal.at.fill_three_tails-requires-clause-widths g c).After-at-third in
+    let below = c.size.result - 1 - c.len.result + c.args.from in
+    let wide = c.machines-machines.ensures in
+    let split = c.split_at_mut-front.ensures in
+    let second = c.split_at_mut-front-2.ensures in
+    let third = c.split_at_mut-front-3.ensures in
+    let fourth = c.split_at_mut-last.ensures in
+    let below_is = is.below_is in
+    let inside = c.requires.from in
+    let enough = c.requires.some in
+    let few = c.requires.partial.few in (
+      row_between (below - 1) wide (omega arith) split.front_len second.back_len,
+      row_between (below - 2) wide (omega arith) second.front_len third.back_len,
+      row_between (below - 3) wide (omega arith) third.front_len fourth.back_len,
+    )
+
 pub returns-clause-tails : goal.returns-clause-tails
 returns-clause-tails g c =
     let number = g.B.Span.Length.number in
@@ -95,9 +113,9 @@ returns-clause-tails g c =
     let tails = row_back number shop jobs _ from some (below_known g here) in
     simp append_assoc (tails_joined number shop jobs _ _ (from - 3) (rw (top, wide) at fourth.front_len)
     (tails_more number shop jobs last _ (from - 3) (from - 2) (omega arith) last_long
-    (row_known number shop jobs last (from - 3) _ three (ensures.last _ tails))
+    (row_known number shop jobs last (from - 3) _ three (ensures.rows.last_is _ tails))
     (tails_more number shop jobs next _ (from - 2) (from - 1) (omega arith) next_long
-    (row_known number shop jobs next (from - 2) _ two (ensures.next _ tails))
+    (row_known number shop jobs next (from - 2) _ two (ensures.rows.next_is _ tails))
     (tails_more number shop jobs row _ (from - 1) from (omega arith) row_long
-    (row_known number shop jobs row (from - 1) _ one (ensures.row _ tails))
+    (row_known number shop jobs row (from - 1) _ one (ensures.rows.row_is _ tails))
     is.tails))))
