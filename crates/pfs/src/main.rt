@@ -2,7 +2,7 @@
 #![tactic(auto)]
 
 ghost use Rattle.std.specs.Prelude.{None};
-ghost use Rattle.pfs_desk.specs.Standing.{unstated};
+ghost use Rattle.pfs_desk.specs.FileState.{unknown};
 
 use pfs_base::{Buffered, FromRead, ToWrite};
 use pfs_desk::{Files, OpenFault, PathText, Stop, UsageFault, finish, run_program};
@@ -20,7 +20,7 @@ struct SystemFiles<'a> {
 impl Files for SystemFiles<'_> {
     type File = FromRead<File>;
 
-    ghost standing = { λ files path. unstated };
+    ghost state = { λ files path. unknown };
 
     ghost log = { λ files. None };
 

@@ -19,8 +19,8 @@ use Rattle.pfs_desk.specs.Engine.{SolveOutput}
 use Rattle.pfs_desk.specs.Headline.{PrintsSolution, ReadsOn, RunsOn, Solves}
 use Rattle.pfs_desk.specs.Solve.{take_for}
 
-abbrev refusing : LayoutFault → Result Outcome DeskFault
-refusing fault = Err (faults.Layout fault)
+abbrev rejecting : LayoutFault → Result Outcome DeskFault
+rejecting fault = Err (faults.Layout fault)
 
 module _ (layout : Layout) (file : List ℕ) (block : ℕ) (some : 1 ≤ block) (options : SolveOptions)
     (old new : Option (List ℕ)) (reader_failed writer_failed : Bool) where
@@ -34,12 +34,12 @@ module _ (layout : Layout) (file : List ℕ) (block : ℕ) (some : 1 ≤ block) 
   one_problem : (problem other : Problem) → Is problem → Is other → problem ≡ other
   one_problem problem other holds holds_other = ⊎_elim
       (λ accepted. accepted.0.no_other problem holds ∙ sym (accepted.0.no_other other holds_other))
-      (λ refused. absurd (refused.1 problem holds)) (one_verdict layout file block some)
+      (λ rejected. absurd (rejected.1 problem holds)) (one_verdict layout file block some)
 
   -- a block that contains a problem is not rejected
   not_both : (problem : Problem) (fault : LayoutFault) → Is problem → RejectsInstance layout file block fault → ⊥
   not_both problem fault holds rejects = ⊎_elim (λ accepted. accepted.1 fault rejects)
-      (λ refused. refused.1 problem holds) (one_verdict layout file block some)
+      (λ rejected. rejected.1 problem holds) (one_verdict layout file block some)
 
   -- the stated destruction size is not above the number of jobs if it is at most that number
   too_many_taken : (problem other : Problem) (asked : ℕ) → Is problem → Is other
@@ -57,22 +57,22 @@ module _ (layout : Layout) (file : List ℕ) (block : ℕ) (some : 1 ≤ block) 
   held {result} problem holds within prints = record {
     accepted = λ other holds_other few runs. subst (λ p. PrintsSolution p options old new result)
         (one_problem problem other holds holds_other) (prints runs);
-    refused = λ fault rejects reads. absurd (not_both problem fault holds rejects);
+    rejected = λ fault rejects reads. absurd (not_both problem fault holds rejects);
     too_many = λ other asked holds_other is above reads.
         absurd (too_many_taken other problem asked holds_other holds within is above);
   }
 
   -- the file is rejected
-  refused_file : (fault : LayoutFault) → WritesNothing old new writer_failed
+  rejected_file : (fault : LayoutFault) → WritesNothing old new writer_failed
       → (fault ≢ layout_faults.Read → fault ≢ layout_faults.Memory → RejectsInstance layout file block fault)
-      → (Some fault ≡ Some layout_faults.Read → reader_failed ≡ true) → IsResult (refusing fault)
-  refused_file fault nothing rejects failed =
-      let reported : ReadsOn reader_failed (refusing fault) → RejectsInstance layout file block fault = λ reads. rejects
-      (λ e. true≢false (sym (failed (ap Some e)) ∙ reads.reading)) (λ e. reads.room (ap refusing e)) in
+      → (Some fault ≡ Some layout_faults.Read → reader_failed ≡ true) → IsResult (rejecting fault)
+  rejected_file fault nothing rejects failed =
+      let reported : ReadsOn reader_failed (rejecting fault) → RejectsInstance layout file block fault = λ reads. rejects
+      (λ e. true≢false (sym (failed (ap Some e)) ∙ reads.reading)) (λ e. reads.room (ap rejecting e)) in
       record {
         accepted = λ problem holds few runs. absurd (not_both problem fault holds (reported runs.reads));
-        refused = λ other rejects_other reads. record {
-          reported = ap refusing (one_fault layout file block fault other (reported reads) rejects_other);
+        rejected = λ other rejects_other reads. record {
+          reported = ap rejecting (one_fault layout file block fault other (reported reads) rejects_other);
           kept = nothing.kept;
         };
         too_many = λ problem asked holds is above reads. absurd (not_both problem fault holds (reported reads));
@@ -88,21 +88,21 @@ module _ (layout : Layout) (file : List ℕ) (block : ℕ) (some : 1 ≤ block) 
       let few = solution.few_taken in
       held output.problem output.holds (rw solution.taken at few)
       (λ runs. record { done = ap Ok output.done; text = writes.text; solution = solution; bytes = writes.bytes })
-  has_result (Err (faults.Layout fault)) nothing first read = refused_file fault nothing first.1 read
-  has_result (Err (faults.Order fault)) nothing refused read = absurd refused
-  has_result (Err (faults.TakeRange taken jobs)) nothing refused read = record {
+  has_result (Err (faults.Layout fault)) nothing first read = rejected_file fault nothing first.1 read
+  has_result (Err (faults.Order fault)) nothing rejected read = absurd rejected
+  has_result (Err (faults.TakeRange taken jobs)) nothing rejected read = record {
     accepted = λ problem holds few runs.
-        absurd (too_many_taken refused.problem problem taken refused.holds holds few refused.above.0 refused.above.1);
-    refused = λ reported rejects reads. absurd (not_both refused.problem reported refused.holds rejects);
+        absurd (too_many_taken rejected.problem problem taken rejected.holds holds few rejected.above.0 rejected.above.1);
+    rejected = λ reported rejects reads. absurd (not_both rejected.problem reported rejected.holds rejects);
     too_many = λ problem asked holds is above reads. record {
       reported =
-          let same = ap (λ (p : Problem). p.shop.jobs) (one_problem refused.problem problem refused.holds holds) in
-          let takes : taken ≡ asked = ap (λ o. unwrap_or o taken) (sym refused.above.0 ∙ is) in
-          rw (takes, refused.above.2, same);
+          let same = ap (λ (p : Problem). p.shop.jobs) (one_problem rejected.problem problem rejected.holds holds) in
+          let takes : taken ≡ asked = ap (λ o. unwrap_or o taken) (sym rejected.above.0 ∙ is) in
+          rw (takes, rejected.above.2, same);
       kept = nothing.kept;
     };
   }
-  has_result (Err (faults.Write fault)) front refused read =
+  has_result (Err (faults.Write fault)) front rejected read =
       let solution = front.is_output.solution in
       let few = solution.few_taken in
       held front.is_output.problem front.is_output.holds (rw solution.taken at few)

@@ -16,12 +16,12 @@ use Rattle.pfs_desk.specs.declared.fault.DeskFault.TheVariants as faults
 use Rattle.pfs_desk.specs.declared.fault.Outcome.{Outcome}
 use Rattle.pfs_desk.specs.declared.stop.Stop.{Stop}
 use Rattle.pfs_desk.specs.declared.stop.Stop.TheVariants as stops_for
-use Rattle.pfs_desk.specs.Private.LetsOut.{EndsOutput, ReportsSent}
+use Rattle.pfs_desk.specs.Private.Ending.{EndsOutput, ReportsSent}
 use Rattle.pfs_desk.specs.Engine.{IsUnread, SourceUse}
 use Rattle.pfs_desk.specs.Program.{JobResult, prints, stops, WritesResult, reports_write}
 use Rattle.pfs_desk.specs.ProgramText.{usage_stop}
-use Rattle.pfs_desk.specs.Standing.{FileEvent, Standing}
-use Rattle.pfs_desk.specs.WholeProgram.{FrontStands, IsFront, RejectsWords, Runs, Stands, WordsAskFor}
+use Rattle.pfs_desk.specs.FileState.{FileEvent, FileState}
+use Rattle.pfs_desk.specs.WholeProgram.{WritesPrefix, IsFront, RejectsWords, Runs, WritesText, WordsAskFor}
 
 pub asks_for : {A : Type 0} (f : A → List ℕ) (words : List A) (asked : Job)
     → (words ≡ [] → asked ≡ job.Value Taillard 1 None)
@@ -47,7 +47,7 @@ front_of_parts out held sent k reported text parts same =
     record {
       count = length bytes;
       within = omega arith;
-      stands = parts.known ∙ ap Some (sym (take-append_seam bytes held) ∙ ap (take (length bytes)) parts.whole
+      is_prefix = parts.known ∙ ap Some (sym (take-append_seam bytes held) ∙ ap (take (length bytes)) parts.whole
           ∙ take-take (length bytes) k text few);
       reported_is = same ∙ parts.count;
     }
@@ -59,13 +59,13 @@ none_of_none (x ∷ xs) held p = cc
 -- a stop that reports no failed write is kept
 stays : (stop : Stop) (held : List ℕ) (sent : ℕ) (ended : Result Outcome Stop) → reports_write (Err stop) ≡ false
     → EndsOutput (Err stop) held sent ended → ended ≡ Err stop
-stays stops_for.Usage held sent ended unstated q = q
-stays stops_for.Open held sent ended unstated q = q
-stays (stops_for.Fault (faults.Layout fault)) held sent ended unstated q = q
-stays (stops_for.Fault (faults.Order fault)) held sent ended unstated q = q
-stays (stops_for.Fault (faults.TakeRange taken jobs)) held sent ended unstated q = q
-stays (stops_for.Fault (faults.Write fault)) held sent ended unstated q = absurd (true≢false unstated)
-stays (stops_for.Fault faults.Memory) held sent ended unstated q = q
+stays stops_for.Usage held sent ended unwritten q = q
+stays stops_for.Open held sent ended unwritten q = q
+stays (stops_for.Fault (faults.Layout fault)) held sent ended unwritten q = q
+stays (stops_for.Fault (faults.Order fault)) held sent ended unwritten q = q
+stays (stops_for.Fault (faults.TakeRange taken jobs)) held sent ended unwritten q = q
+stays (stops_for.Fault (faults.Write fault)) held sent ended unwritten q = absurd (true≢false unwritten)
+stays (stops_for.Fault faults.Memory) held sent ended unwritten q = q
 
 module _ {W : Type 0} (written : W → Option (List ℕ)) (old mid new : Buffering W)
     (kept : Keeps (bytes_given written mid) (bytes_given written new)) where
@@ -83,7 +83,7 @@ module _ {W : Type 0} (written : W → Option (List ℕ)) (old mid new : Bufferi
 
   front_reported : (text : List ℕ) (k : ℕ) (ended : Result Outcome Stop)
       → Appends (bytes_given written old) (bytes_given written mid) (take k text) → ReportsSent new.sent ended
-      → FrontStands text (IsNew written old) (written new.writer) ended
+      → WritesPrefix text (IsNew written old) (written new.writer) ended
   front_reported text k ended p q = record {
     fault = q.fault;
     reported = q.reported;
@@ -91,24 +91,24 @@ module _ {W : Type 0} (written : W → Option (List ℕ)) (old mid new : Bufferi
         q.counted;
   }
 
-  pub stands : (failed failed' : Bool) (returned : JobResult) (reached ended : Result Outcome Stop)
+  pub writes_text : (failed failed' : Bool) (returned : JobResult) (reached ended : Result Outcome Stop)
       → failed ≡ reports_write reached → failed' ≡ reports_write ended
       → WritesResult (bytes_given written old) (bytes_given written mid) failed returned reached
       → EndsOutput reached new.held new.sent ended
-      → Stands (IsNew written old) (written new.writer) failed' returned ended
-  stands failed failed' (prints outcome text) reached ended t t' (inl p) q =
+      → WritesText (IsNew written old) (written new.writer) failed' returned ended
+  writes_text failed failed' (prints outcome text) reached ended t t' (inl p) q =
       all-stand (subst (λ r. EndsOutput r new.held new.sent ended) p.0 q) where
         all-stand : EndsOutput (Ok outcome) new.held new.sent ended
-            → Stands (IsNew written old) (written new.writer) failed' (prints outcome text) ended
+            → WritesText (IsNew written old) (written new.writer) failed' (prints outcome text) ended
         all-stand (inl r) = inl (r.0, λ fresh. given_all written new text (given-text text p.1 fresh) r.1)
         all-stand (inr r) = inr (front_reported text (length text) ended (rw (take-length text) p.1) r)
-  stands failed failed' (prints outcome text) reached ended t t' (inr p) q =
+  writes_text failed failed' (prints outcome text) reached ended t t' (inr p) q =
       inr (front_reported text _ ended p.front.bytes (subst (λ r. EndsOutput r new.held new.sent ended) p.reported q))
-  stands failed failed' (stops stop) reached ended t t' p q =
-      let unstated : reports_write (Err stop) ≡ false = subst (λ r. reports_write r ≡ false) p.0 (sym t ∙ p.1) in
-      let same = stays stop new.held new.sent ended unstated
+  writes_text failed failed' (stops stop) reached ended t t' p q =
+      let unwritten : reports_write (Err stop) ≡ false = subst (λ r. reports_write r ≡ false) p.0 (sym t ∙ p.1) in
+      let same = stays stop new.held new.sent ended unwritten
       (subst (λ r. EndsOutput r new.held new.sent ended) p.0 q) in
-      (same, t' ∙ subst (λ r. reports_write r ≡ false) (sym same) unstated, given-nothing p.2)
+      (same, t' ∙ subst (λ r. reports_write r ≡ false) (sym same) unwritten, given-nothing p.2)
 
 -- the arguments are invalid, or a memory allocation failed
 rejects_words : {A : Type 0} (f : A → List ℕ) (words : List A) (fault : UsageFault) → (words ≡ [] → ⊥)
@@ -122,15 +122,15 @@ usage_reports : (fault : UsageFault) → reports_write (Err (usage_stop fault)) 
 usage_reports usage_faults.Usage = refl
 usage_reports usage_faults.Memory = refl
 
-pub gives_rejection : {A : Type 0} (f : A → List ℕ) (words : List A) (standing : List ℕ → Standing)
+pub gives_rejection : {A : Type 0} (f : A → List ℕ) (words : List A) (state : List ℕ → FileState)
     (log : Option (List FileEvent)) (input : SourceUse) (fresh : Type 0) (out : Option (List ℕ)) (failed : Bool)
     (fault : UsageFault) (ended : Result Outcome Stop) → ended ≡ Err (usage_stop fault) → IsUnread input
     → failed ≡ false → (fresh → out ≡ Some []) → (words ≡ [] → ⊥)
     → ((word : List ℕ) (others : List (List ℕ)) → map f words ≡ word ∷ others → fault ≡ usage_faults.Usage
-    → AsksForNothing word others) → Runs (map f words) standing log log input fresh out failed ended
-gives_rejection f words standing log input fresh out failed fault ended e unread working nothing some usage = record {
+    → AsksForNothing word others) → Runs (map f words) state log log input fresh out failed ended
+gives_rejection f words state log input fresh out failed fault ended e unread working nothing some usage = record {
   returned = stops (usage_stop fault);
-  is_result = inl (record { refused = rejects_words f words fault some usage; none_opened = refl; unread = unread });
+  is_result = inl (record { rejected = rejects_words f words fault some usage; none_opened = refl; unread = unread });
   is_written = (e, working, nothing);
   write_failed = working ∙ sym (subst (λ r. reports_write r ≡ false) (sym e) (usage_reports fault));
 }

@@ -14,13 +14,13 @@ use Rattle.pfs_desk.specs.declared.stop.Stop.{Stop}
 use Rattle.pfs_desk.specs.declared.stop.Stop.TheVariants.{Fault}
 use Rattle.pfs_desk.specs.Engine.{WritesOutput, IsAuditFault, SourceUse, IsUnread, ReadsBlock, ReadsOrder}
 use Rattle.pfs_desk.specs.Engine.{layout_fault_of, order_fault_of}
-use Rattle.pfs_desk.specs.Private.LetsOut.{ending, OpensBoth, RefusesOne}
+use Rattle.pfs_desk.specs.Private.Ending.{ending, OpensBoth, OneFails}
 use Rattle.pfs_desk.specs.Program.{JobResult, prints, stops, layout_fault_in, order_fault_in, closing}
 use Rattle.pfs_desk.specs.Program.{StopsAtPath, ReadsFiles, IsResultOf, ReturnsOn, ReturnsOnBoth, ReturnsFor, RunsJob}
 use Rattle.pfs_desk.specs.Program.{Delivers, ReturnsValue}
 use Rattle.pfs_desk.specs.Program.{paths_of, WritesResult, reports_write}
 use Rattle.pfs_desk.specs.ProgramText.{open_stop}
-use Rattle.pfs_desk.specs.Standing.{Standing, FileEvent, opened, refused, Logs, MayOpen, MayRefuse}
+use Rattle.pfs_desk.specs.FileState.{FileState, FileEvent, opened, not_opened, Logs, MayOpen, MayFail}
 
 pub logs_then : (a b c : Option (List FileEvent)) (xs ys : List FileEvent) → Logs a b xs → Logs b c ys
     → Logs a c (xs ++ ys)
@@ -32,25 +32,25 @@ logs_none None = tt
 logs_none (Some x) = ap Some (sym (append-nil x))
 
 -- no file was opened
-pub reads_none : (standing : List ℕ → Standing) (log : Option (List FileEvent)) → ReadsFiles standing log log [] []
-reads_none standing log = record { give = tt; events = logs_none log }
+pub reads_none : (state : List ℕ → FileState) (log : Option (List FileEvent)) → ReadsFiles state log log [] []
+reads_none state log = record { give = tt; events = logs_none log }
 
 -- one file was opened, read and closed
-pub reads_file : (standing : List ℕ → Standing) (log between log' : Option (List FileEvent)) (path : List ℕ)
-    (file : SourceUse) → MayOpen (standing path) file.given → file.was_ended ≡ false
+pub reads_file : (state : List ℕ → FileState) (log between log' : Option (List FileEvent)) (path : List ℕ)
+    (file : SourceUse) → MayOpen (state path) file.given → file.was_ended ≡ false
     → Logs log between (opened path ∷ []) → Logs between log' (closing file ∷ [])
-    → ReadsFiles standing log log' (path ∷ []) (file ∷ [])
-reads_file standing log between log' path file give fresh opens closes =
+    → ReadsFiles state log log' (path ∷ []) (file ∷ [])
+reads_file state log between log' path file give fresh opens closes =
     record { give = (give, fresh, tt); events = logs_then log between log' _ _ opens closes }
 
 -- two files were opened, read and closed
-pub reads_files : (standing : List ℕ → Standing) (log opens closes log' : Option (List FileEvent))
+pub reads_files : (state : List ℕ → FileState) (log opens closes log' : Option (List FileEvent))
     (path order_path : List ℕ) (file orders : SourceUse)
-    → OpensBoth standing log opens path order_path file.given orders.given → file.was_ended ≡ false
+    → OpensBoth state log opens path order_path file.given orders.given → file.was_ended ≡ false
     → orders.was_ended ≡ false → Logs opens closes (closing file ∷ [])
     → Logs closes log' (closing orders ∷ [])
-    → ReadsFiles standing log log' (path ∷ order_path ∷ []) (file ∷ orders ∷ [])
-reads_files standing log opens closes log' path order_path file orders both fresh fresh_orders p q = record {
+    → ReadsFiles state log log' (path ∷ order_path ∷ []) (file ∷ orders ∷ [])
+reads_files state log opens closes log' path order_path file orders both fresh fresh_orders p q = record {
   give = (both.give, fresh, (both.give_orders, fresh_orders, tt));
   events = logs_then log opens log' _ _ both.events (logs_then opens closes log' _ _ p q);
 }
@@ -70,26 +70,26 @@ opening_reports : (fault : OpenFault) → reports_write (Err (open_stop fault)) 
 opening_reports open_faults.Closed = refl
 opening_reports open_faults.Memory = refl
 
-module _ (standing : List ℕ → Standing) (log log' : Option (List FileEvent)) where
-  stops_first : (path : List ℕ) (behind : List (List ℕ)) (fault : OpenFault) → MayRefuse (standing path) fault
-      → Logs log log' (refused path fault ∷ [])
-      → StopsAtPath standing log log' (path ∷ behind) (stops (open_stop fault))
-  stops_first path behind fault may events = record {
+module _ (state : List ℕ → FileState) (log log' : Option (List FileEvent)) where
+  stops_first : (path : List ℕ) (rest : List (List ℕ)) (fault : OpenFault) → MayFail (state path) fault
+      → Logs log log' (not_opened path fault ∷ [])
+      → StopsAtPath state log log' (path ∷ rest) (stops (open_stop fault))
+  stops_first path rest fault may events = record {
     before = [];
     path = path;
-    after = behind;
+    after = rest;
     given = [];
     fault = fault;
     parts = refl;
     give = tt;
-    may_refuse = may;
+    may_fail = may;
     events = events;
     reported = refl;
   }
 
-  stops_one : (path order_path : List ℕ) (fault : OpenFault) → RefusesOne standing log log' path order_path fault
-      → StopsAtPath standing log log' (path ∷ order_path ∷ []) (stops (open_stop fault))
-  stops_one path order_path fault (inl p) = stops_first path (order_path ∷ []) fault p.may_refuse p.events
+  stops_one : (path order_path : List ℕ) (fault : OpenFault) → OneFails state log log' path order_path fault
+      → StopsAtPath state log log' (path ∷ order_path ∷ []) (stops (open_stop fault))
+  stops_one path order_path fault (inl p) = stops_first path (order_path ∷ []) fault p.may_fail p.events
   stops_one path order_path fault (inr p) = record {
     before = path ∷ [];
     path = order_path;
@@ -98,7 +98,7 @@ module _ (standing : List ℕ → Standing) (log log' : Option (List FileEvent))
     fault = fault;
     parts = refl;
     give = (p.give, refl, tt);
-    may_refuse = p.may_refuse;
+    may_fail = p.may_fail;
     events = p.events;
     reported = refl;
   }
@@ -106,24 +106,24 @@ module _ (standing : List ℕ → Standing) (log log' : Option (List FileEvent))
   -- the only path of a job, or the first of two, or the second, could not be opened
   pub gives_closed : (asked : Job) (path : List ℕ) (input : SourceUse) (old : Option (List ℕ)) (failed : Bool)
       (fault : OpenFault) (ended : Result Outcome Stop) → paths_of asked ≡ path ∷ [] → IsUnread input → failed ≡ false
-      → ended ≡ Err (open_stop fault) → MayRefuse (standing path) fault → Logs log log' (refused path fault ∷ [])
-      → Delivers (RunsJob asked standing log log' input) (WritesResult old old failed) failed ended
+      → ended ≡ Err (open_stop fault) → MayFail (state path) fault → Logs log log' (not_opened path fault ∷ [])
+      → Delivers (RunsJob asked state log log' input) (WritesResult old old failed) failed ended
   gives_closed asked path input old failed fault ended one unread working e may events =
       gives_stop _ old failed (open_stop fault) ended e (opening_reports fault) working (inl (
         unread,
-        subst (λ paths. StopsAtPath standing log log' paths (stops (open_stop fault))) (sym one)
+        subst (λ paths. StopsAtPath state log log' paths (stops (open_stop fault))) (sym one)
             (stops_first path [] fault may events),
       ))
 
   pub gives_one_closed : (asked : Job) (path order_path : List ℕ) (input : SourceUse) (old : Option (List ℕ))
       (failed : Bool) (fault : OpenFault) (ended : Result Outcome Stop) → paths_of asked ≡ path ∷ order_path ∷ []
       → IsUnread input → failed ≡ false → ended ≡ Err (open_stop fault)
-      → RefusesOne standing log log' path order_path fault
-      → Delivers (RunsJob asked standing log log' input) (WritesResult old old failed) failed ended
+      → OneFails state log log' path order_path fault
+      → Delivers (RunsJob asked state log log' input) (WritesResult old old failed) failed ended
   gives_one_closed asked path order_path input old failed fault ended two unread working e rejects =
       gives_stop _ old failed (open_stop fault) ended e (opening_reports fault) working (inl (
         unread,
-        subst (λ paths. StopsAtPath standing log log' paths (stops (open_stop fault))) (sym two)
+        subst (λ paths. StopsAtPath state log log' paths (stops (open_stop fault))) (sym two)
             (stops_one path order_path fault rejects),
       ))
 
@@ -183,17 +183,17 @@ module _ (Output : Outcome → List ℕ → Type 0) (IsFault : DeskFault → Typ
       }
 
 -- a job delivers what its engine delivers on its files, which were opened, read and closed
-pub gives_run : (asked : Job) (standing : List ℕ → Standing) (log log' : Option (List FileEvent)) (input : SourceUse)
+pub gives_run : (asked : Job) (state : List ℕ → FileState) (log log' : Option (List FileEvent)) (input : SourceUse)
     (paths : List (List ℕ)) (files : List SourceUse) (IsWritten : JobResult → Result Outcome Stop → Type 0)
     (failed : Bool) (reached ended : Result Outcome Stop) → ended ≡ reached → paths_of asked ≡ paths
-    → ReadsFiles standing log log' paths files → Delivers (ReturnsFor asked input files) IsWritten failed reached
-    → Delivers (RunsJob asked standing log log' input) IsWritten failed ended
-gives_run asked standing log log' input paths files IsWritten failed reached ended e are reads gave =
-    subst (Delivers (RunsJob asked standing log log' input) IsWritten failed) (sym e) (record {
+    → ReadsFiles state log log' paths files → Delivers (ReturnsFor asked input files) IsWritten failed reached
+    → Delivers (RunsJob asked state log log' input) IsWritten failed ended
+gives_run asked state log log' input paths files IsWritten failed reached ended e are reads gave =
+    subst (Delivers (RunsJob asked state log log' input) IsWritten failed) (sym e) (record {
       returned = gave.returned;
       is_result = inr (record {
         files = files;
-        reads = subst (λ some. ReadsFiles standing log log' some files) (sym are) reads;
+        reads = subst (λ some. ReadsFiles state log log' some files) (sym are) reads;
         has_result = gave.is_result;
       });
       is_written = gave.is_written;

@@ -35,8 +35,8 @@ Holds layout file block problem = IfSome file (λ bytes. IsInstanceFile limits l
 
 -- an instance file has this fault before the end of the block, or the fault is a failed read or memory allocation; it
 -- is never that of a seed, since no seed is given
-abbrev pub RefusesFirst : Layout → Option (List ℕ) → ℕ → LayoutFault → Type 0
-RefusesFirst layout file block fault = (fault ≢ layout_faults.SeedRange)
+abbrev pub RejectsFirst : Layout → Option (List ℕ) → ℕ → LayoutFault → Type 0
+RejectsFirst layout file block fault = (fault ≢ layout_faults.SeedRange)
     × (fault ≢ layout_faults.Read → fault ≢ layout_faults.Memory
     → IfSome file (λ bytes. RejectsInstance layout bytes block fault))
 
@@ -46,11 +46,11 @@ States file stated = IfSome file (λ bytes. IsOrderFile bytes stated)
 
 -- the block of the instance file contains a problem; and the order file is rejected with this fault, or the fault is a
 -- failed read or memory allocation
-pub record RefusesSecond (layout : Layout) (file : Option (List ℕ)) (block : ℕ) (order_file : Option (List ℕ))
+pub record RejectsSecond (layout : Layout) (file : Option (List ℕ)) (block : ℕ) (order_file : Option (List ℕ))
     (fault : OrderFault) : Type 0 where
   pub problem : Problem
   pub holds : Holds layout file block problem
-  pub refused : IfSome order_file (λ bytes. RejectsUnlessFailed bytes fault)
+  pub rejected : IfSome order_file (λ bytes. RejectsUnlessFailed bytes fault)
 
 -- when an engine with an order file allocates further memory: after both files were read, if the order file states an
 -- order that fits the instance
@@ -79,14 +79,14 @@ pub record AllowsTake (layout : Layout) (file : Option (List ℕ)) (block : ℕ)
 -- the faults that each command may report, and when: here those of `value`. `WritesOutput` below says when that of a
 -- write is reported
 abbrev pub IsValueFault : Layout → Option (List ℕ) → ℕ → DeskFault → Type 0
-IsValueFault layout file block (faults.Layout fault) = RefusesFirst layout file block fault
+IsValueFault layout file block (faults.Layout fault) = RejectsFirst layout file block fault
 IsValueFault layout file block faults.Memory = (problem : Problem) × Holds layout file block problem
 IsValueFault layout file block (Write fault) = ⊤
 IsValueFault layout file block others = ⊥
 
 -- those of `solve`: the destruction size is validated after the instance file and before more memory is allocated
 abbrev pub IsSolveFault : Layout → Option (List ℕ) → ℕ → Option ℕ → DeskFault → Type 0
-IsSolveFault layout file block asked (faults.Layout fault) = RefusesFirst layout file block fault
+IsSolveFault layout file block asked (faults.Layout fault) = RejectsFirst layout file block fault
 IsSolveFault layout file block asked (faults.TakeRange take jobs) =
     RejectsTake layout file block asked (faults.TakeRange take jobs)
 IsSolveFault layout file block asked faults.Memory = AllowsTake layout file block asked
@@ -95,15 +95,15 @@ IsSolveFault layout file block asked others = ⊥
 
 -- those of `check` and of `table`: the order file is validated after the instance file
 abbrev pub IsAuditFault : Layout → Option (List ℕ) → ℕ → Option (List ℕ) → DeskFault → Type 0
-IsAuditFault layout file block order_file (faults.Layout fault) = RefusesFirst layout file block fault
-IsAuditFault layout file block order_file (Order fault) = RefusesSecond layout file block order_file fault
+IsAuditFault layout file block order_file (faults.Layout fault) = RejectsFirst layout file block fault
+IsAuditFault layout file block order_file (Order fault) = RejectsSecond layout file block order_file fault
 IsAuditFault layout file block order_file faults.Memory = NeedsAfterBoth layout file block order_file
 IsAuditFault layout file block order_file (Write fault) = ⊤
 IsAuditFault layout file block order_file others = ⊥
 
 -- those of `convert`, which allocates no memory after the instance file was read
 abbrev pub IsConvertFault : Layout → Option (List ℕ) → ℕ → DeskFault → Type 0
-IsConvertFault layout file block (faults.Layout fault) = RefusesFirst layout file block fault
+IsConvertFault layout file block (faults.Layout fault) = RejectsFirst layout file block fault
 IsConvertFault layout file block (Write fault) = ⊤
 IsConvertFault layout file block others = ⊥
 

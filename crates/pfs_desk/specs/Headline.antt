@@ -48,7 +48,7 @@ pub record Solves (layout : Layout) (file : List ℕ) (block : ℕ) (options : S
       → take_for options.take problem.shop.jobs ≤ problem.shop.jobs
       → RunsOn reader_failed writer_failed result → PrintsSolution problem options old new result
   -- each other file is rejected with its fault
-  pub refused : (fault : LayoutFault) → RejectsInstance layout file block fault
+  pub rejected : (fault : LayoutFault) → RejectsInstance layout file block fault
       → ReadsOn reader_failed result → ReportsFault (faults.Layout fault) old new result
   -- a stated destruction size above the number of jobs is rejected
   pub too_many : (problem : Problem) (asked : ℕ) → IsInstanceFile limits layout file block problem

@@ -6,5 +6,5 @@ pub mod Private
 pub mod Program
 pub mod ProgramText
 pub mod Solve
-pub mod Standing
+pub mod FileState
 pub mod WholeProgram

@@ -1,3 +1,3 @@
 -- Definitions that no contract of a public function cites.
-pub mod LetsOut
+pub mod Ending
 pub mod Printable

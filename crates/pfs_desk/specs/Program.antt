@@ -22,7 +22,7 @@ use Rattle.pfs_desk.specs.Engine.{ValueOutput, SolveOutput, CheckOutput, TableOu
 use Rattle.pfs_desk.specs.Engine.{IsValueFault, IsSolveFault, IsAuditFault, IsConvertFault, IsGenerateFault}
 use Rattle.pfs_desk.specs.Engine.{SourceUse, source_use, IsUnread, ReadsBlock, ReadsOrder}
 use Rattle.pfs_desk.specs.ProgramText.{open_stop}
-use Rattle.pfs_desk.specs.Standing.{Standing, MayOpen, MayRefuse, FileEvent, opened, refused, closed, Logs}
+use Rattle.pfs_desk.specs.FileState.{FileState, MayOpen, MayFail, FileEvent, opened, not_opened, closed, Logs}
 
 -- the result of a job: a text to print and the outcome after it, or why the program stops without one
 pub data JobResult : Type 0 where
@@ -56,24 +56,24 @@ paths_of (job.Convert source target block path) = path ∷ []
 paths_of (job.Generate jobs machines seed) = []
 
 -- each of these opened files has the bytes at its path, and no read of it had reported the end
-abbrev pub GiveStanding : (List ℕ → Standing) → List (List ℕ) → List SourceUse → Type 0
-GiveStanding standing [] [] = ⊤
-GiveStanding standing (path ∷ paths) (file ∷ files) =
-    MayOpen (standing path) file.given × (file.was_ended ≡ false) × GiveStanding standing paths files
-GiveStanding standing paths files = ⊥
+abbrev pub GiveFiles : (List ℕ → FileState) → List (List ℕ) → List SourceUse → Type 0
+GiveFiles state [] [] = ⊤
+GiveFiles state (path ∷ paths) (file ∷ files) =
+    MayOpen (state path) file.given × (file.was_ended ≡ false) × GiveFiles state paths files
+GiveFiles state paths files = ⊥
 
 -- the event of closing a file after this use
 abbrev pub closing : SourceUse → FileEvent
 closing file = closed file.left file.failed file.ended
 
 -- all paths were opened, one after the other; then the files were read, and closed
-pub record ReadsFiles (standing : List ℕ → Standing) (log log' : Option (List FileEvent)) (paths : List (List ℕ))
+pub record ReadsFiles (state : List ℕ → FileState) (log log' : Option (List FileEvent)) (paths : List (List ℕ))
     (files : List SourceUse) : Type 0 where
-  pub give : GiveStanding standing paths files
+  pub give : GiveFiles state paths files
   pub events : Logs log log' (map opened paths ++ map closing files)
 
 -- a path could not be opened: those before it were, and their files were closed unread
-pub record StopsAtPath (standing : List ℕ → Standing) (log log' : Option (List FileEvent)) (paths : List (List ℕ))
+pub record StopsAtPath (state : List ℕ → FileState) (log log' : Option (List FileEvent)) (paths : List (List ℕ))
     (returned : JobResult) : Type 0 where
   pub before : List (List ℕ)
   pub path : List ℕ
@@ -81,9 +81,9 @@ pub record StopsAtPath (standing : List ℕ → Standing) (log log' : Option (Li
   pub given : List (Option (List ℕ))
   pub fault : OpenFault
   pub parts : paths ≡ before ++ path ∷ after
-  pub give : GiveStanding standing before (map unread given)
-  pub may_refuse : MayRefuse (standing path) fault
-  pub events : Logs log log' (map opened before ++ refused path fault ∷ map closing (map unread given))
+  pub give : GiveFiles state before (map unread given)
+  pub may_fail : MayFail (state path) fault
+  pub events : Logs log log' (map opened before ++ not_opened path fault ∷ map closing (map unread given))
   pub reported : returned ≡ stops (open_stop fault)
 
 -- ---- what an engine returns
@@ -133,19 +133,19 @@ ReturnsFor (job.Generate jobs machines seed) input [] returned = IsUnread input
 ReturnsFor others input files returned = ⊥
 
 -- all files of the job were opened, read and closed, and the job's engine has this result
-pub record RunsEngine (asked : Job) (standing : List ℕ → Standing) (log log' : Option (List FileEvent))
+pub record RunsEngine (asked : Job) (state : List ℕ → FileState) (log log' : Option (List FileEvent))
     (input : SourceUse) (returned : JobResult) : Type 0 where
   pub files : List SourceUse
-  pub reads : ReadsFiles standing log log' (paths_of asked) files
+  pub reads : ReadsFiles state log log' (paths_of asked) files
   pub has_result : ReturnsFor asked input files returned
 
 -- what the program does for a job, and the job's result: a path could not be opened, or the engine ran; log and log'
 -- are the log before and after
-abbrev pub RunsJob : Job → (List ℕ → Standing) → Option (List FileEvent) → Option (List FileEvent) → SourceUse
+abbrev pub RunsJob : Job → (List ℕ → FileState) → Option (List FileEvent) → Option (List FileEvent) → SourceUse
     → JobResult → Type 0
-RunsJob asked standing log log' input returned =
-    (IsUnread input × StopsAtPath standing log log' (paths_of asked) returned)
-    ⊎ RunsEngine asked standing log log' input returned
+RunsJob asked state log log' input returned =
+    (IsUnread input × StopsAtPath state log log' (paths_of asked) returned)
+    ⊎ RunsEngine asked state log log' input returned
 
 -- ---- what is written of the result
 

@@ -14,7 +14,7 @@ use Rattle.pfs_desk.specs.declared.stop.Stop.TheVariants.{Usage, Fault}
 use Rattle.pfs_desk.specs.Engine.{IsUnread, SourceUse}
 use Rattle.pfs_desk.specs.Program.{JobResult, prints, stops, Delivers, RunsJob}
 use Rattle.pfs_desk.specs.ProgramText.{Reports, exit_status_of}
-use Rattle.pfs_desk.specs.Standing.{FileEvent, Standing}
+use Rattle.pfs_desk.specs.FileState.{FileEvent, FileState}
 
 -- the arguments ask for this job; without arguments it is `value` of block 1 of standard input, in Taillard's layout
 abbrev pub WordsAskFor : List (List ℕ) → Job → Type 0
@@ -31,32 +31,32 @@ RejectsWords words others = ⊥
 -- the program stops without a job: it opens no file and reads nothing
 pub record RunsNothing (words : List (List ℕ)) (log log' : Option (List FileEvent)) (input : SourceUse)
     (returned : JobResult) : Type 0 where
-  pub refused : RejectsWords words returned
+  pub rejected : RejectsWords words returned
   pub none_opened : log' ≡ log
   pub unread : IsUnread input
 
 -- the arguments ask for a job, which is run
-pub record RunsFor (words : List (List ℕ)) (standing : List ℕ → Standing) (log log' : Option (List FileEvent))
+pub record RunsFor (words : List (List ℕ)) (state : List ℕ → FileState) (log log' : Option (List FileEvent))
     (input : SourceUse) (returned : JobResult) : Type 0 where
   pub job : Job
   pub asks : WordsAskFor words job
-  pub runs : RunsJob job standing log log' input returned
+  pub runs : RunsJob job state log log' input returned
 
 -- what the program does for its arguments, and its result: one of the two above
-abbrev pub ComesTo : List (List ℕ) → (List ℕ → Standing) → Option (List FileEvent) → Option (List FileEvent)
+abbrev pub ComesTo : List (List ℕ) → (List ℕ → FileState) → Option (List FileEvent) → Option (List FileEvent)
     → SourceUse → JobResult → Type 0
-ComesTo words standing log log' input returned =
-    RunsNothing words log log' input returned ⊎ RunsFor words standing log log' input returned
+ComesTo words state log log' input returned =
+    RunsNothing words log log' input returned ⊎ RunsFor words state log log' input returned
 
 -- the output is a prefix of a text, and the reported number is the prefix's length, or 2^64 - 1 if that is less
 pub record IsFront (text : List ℕ) (out : Option (List ℕ)) (reported : ℕ) : Type 0 where
   pub count : ℕ
   pub within : count ≤ length text
-  pub stands : out ≡ Some (take count text)
+  pub is_prefix : out ≡ Some (take count text)
   pub reported_is : reported ≡ min count (2 ^ 64 - 1)
 
 -- a failed write is reported, and if the output was empty before (`fresh`), then it is a prefix of the text now
-pub record FrontStands (text : List ℕ) (fresh : Type 0) (out : Option (List ℕ)) (ended : Result Outcome Stop)
+pub record WritesPrefix (text : List ℕ) (fresh : Type 0) (out : Option (List ℕ)) (ended : Result Outcome Stop)
     : Type 0 where
   pub fault : WriteFault
   pub reported : ended ≡ Err (Fault (faults.Write fault))
@@ -64,22 +64,22 @@ pub record FrontStands (text : List ℕ) (fresh : Type 0) (out : Option (List �
 
 -- the output is all of the result's text, or a prefix of it if a write failed, or empty if the result has no text;
 -- `fresh` says that the output was empty before
-abbrev pub Stands : Type 0 → Option (List ℕ) → Bool → JobResult → Result Outcome Stop → Type 0
-Stands fresh out failed (prints outcome text) ended =
-    ((ended ≡ Ok outcome) × (fresh → out ≡ Some text)) ⊎ FrontStands text fresh out ended
-Stands fresh out failed (stops stop) ended = (ended ≡ Err stop) × (failed ≡ false) × (fresh → out ≡ Some [])
+abbrev pub WritesText : Type 0 → Option (List ℕ) → Bool → JobResult → Result Outcome Stop → Type 0
+WritesText fresh out failed (prints outcome text) ended =
+    ((ended ≡ Ok outcome) × (fresh → out ≡ Some text)) ⊎ WritesPrefix text fresh out ended
+WritesText fresh out failed (stops stop) ended = (ended ≡ Err stop) × (failed ≡ false) × (fresh → out ≡ Some [])
 
 -- what the program does until it reports how it ended
-abbrev pub Runs : List (List ℕ) → (List ℕ → Standing) → Option (List FileEvent) → Option (List FileEvent) → SourceUse
+abbrev pub Runs : List (List ℕ) → (List ℕ → FileState) → Option (List FileEvent) → Option (List FileEvent) → SourceUse
     → Type 0 → Option (List ℕ) → Bool → Result Outcome Stop → Type 0
-Runs words standing log log' input fresh out failed ended =
-    Delivers (ComesTo words standing log log' input) (Stands fresh out failed) failed ended
+Runs words state log log' input fresh out failed ended =
+    Delivers (ComesTo words state log log' input) (WritesText fresh out failed) failed ended
 
 -- all that the program does, up to its exit status; a failed write to the error output does not change the status
-pub record Ends (words : List (List ℕ)) (standing : List ℕ → Standing) (log log' : Option (List FileEvent))
+pub record Ends (words : List (List ℕ)) (state : List ℕ → FileState) (log log' : Option (List FileEvent))
     (input : SourceUse) (fresh : Type 0) (out : Option (List ℕ)) (failed : Bool) (errors errors' : Option (List ℕ))
     (errors_failed : Bool) (status : ℕ) : Type 0 where
   pub ended : Result Outcome Stop
-  pub runs : Runs words standing log log' input fresh out failed ended
+  pub runs : Runs words state log log' input fresh out failed ended
   pub reported : Reports ended errors errors' errors_failed
   pub status_is : status ≡ exit_status_of ended

@@ -3,8 +3,8 @@ ghost use Rattle.std.specs.Prelude.{◌≡◌, ◌∷◌, [], length, false, IfO
 ghost use Rattle.pfs_words.specs.Jobs.{IsWithinLimits};
 ghost use Rattle.pfs_desk.specs.Engine.{IsUnread, SourceUse, source_use};
 ghost use Rattle.pfs_desk.specs.Program.{Delivers, ReturnsFor, RunsJob, WritesResult, paths_of};
-ghost use Rattle.pfs_desk.specs.Private.LetsOut.{OpensBoth, RefusesOne};
-ghost use Rattle.pfs_desk.specs.Private.LetsOut.{ending as ending_of};
+ghost use Rattle.pfs_desk.specs.Private.Ending.{OpensBoth, OneFails};
+ghost use Rattle.pfs_desk.specs.Private.Ending.{ending as ending_of};
 
 use crate::engines::check::run_check;
 use crate::engines::convert::run_convert;
@@ -33,7 +33,7 @@ pub fn run_job<F: Files, R: Source, W: Sink>(
     requires within { IsWithinLimits job.now }
     requires reading { R.has_failed input.old ≡ false }
     requires writing { W.has_failed writer.old ≡ false }
-    ensures { Delivers (RunsJob job.now (F.standing files.old) (F.log files.old) (F.log files.new)
+    ensures { Delivers (RunsJob job.now (F.state files.old) (F.log files.old) (F.log files.new)
         (source_use (R.left input.old) (R.left input.new) (R.has_failed input.new)
         (R.has_ended input.old) (R.has_ended input.new)))
         (WritesResult (W.written writer.old) (W.written writer.new) (W.has_failed writer.new))
@@ -87,7 +87,7 @@ fn run_on_file<F: Files, W: Sink>(
     requires within { IsWithinLimits job.now }
     requires writing { W.has_failed writer.old ≡ false }
     ensures { (input : SourceUse) → IsUnread input → Delivers (RunsJob job.now
-        (F.standing files.old) (F.log files.old) (F.log files.new) input)
+        (F.state files.old) (F.log files.old) (F.log files.new) input)
         (WritesResult (W.written writer.old) (W.written writer.new) (W.has_failed writer.new))
         (W.has_failed writer.new) result }
 {
@@ -140,14 +140,14 @@ fn open_both<F: Files>(
     path: &PathText,
     order_path: &PathText,
 ) -> Result<(F::File, F::File), OpenFault>
-    ensures kept { F.standing files.new ≡ F.standing files.old }
-    ensures both { IfOk result (λ both. OpensBoth (F.standing files.old) (F.log files.old) (F.log files.new)
+    ensures kept { F.state files.new ≡ F.state files.old }
+    ensures both { IfOk result (λ both. OpensBoth (F.state files.old) (F.log files.old) (F.log files.new)
         path.now order_path.now (F.File.left both.0) (F.File.left both.1)) }
     ensures working { IfOk result (λ both. F.File.has_failed both.0 ≡ false) }
     ensures working_orders { IfOk result (λ both. F.File.has_failed both.1 ≡ false) }
     ensures fresh { IfOk result (λ both. F.File.has_ended both.0 ≡ false) }
     ensures fresh_orders { IfOk result (λ both. F.File.has_ended both.1 ≡ false) }
-    ensures refused { IfErr result (RefusesOne (F.standing files.old) (F.log files.old) (F.log files.new)
+    ensures fails { IfErr result (OneFails (F.state files.old) (F.log files.old) (F.log files.new)
         path.now order_path.now) }
 {
     let file = files.open(path)?;
@@ -173,7 +173,7 @@ fn run_on_both<F: Files, W: Sink>(
     requires within { IsWithinLimits job.now }
     requires writing { W.has_failed writer.old ≡ false }
     ensures { (input : SourceUse) → IsUnread input → Delivers (RunsJob job.now
-        (F.standing files.old) (F.log files.old) (F.log files.new) input)
+        (F.state files.old) (F.log files.old) (F.log files.new) input)
         (WritesResult (W.written writer.old) (W.written writer.new) (W.has_failed writer.new))
         (W.has_failed writer.new) result }
 {

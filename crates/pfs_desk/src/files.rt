@@ -1,6 +1,6 @@
 //! Files that are opened for reading.
 ghost use Rattle.std.specs.Prelude.{◌≡◌, ℕ, ◌∷◌, [], List, Option, false, IfOk, IfErr};
-ghost use Rattle.pfs_desk.specs.Standing.{Standing, MayOpen, MayRefuse, FileEvent, closed, open_event, Logs};
+ghost use Rattle.pfs_desk.specs.FileState.{FileState, MayOpen, MayFail, FileEvent, closed, open_event, Logs};
 
 use pfs_base::Source;
 use pfs_words::PathText;
@@ -20,22 +20,22 @@ pub trait Files {
     /// An open file.
     type File: Source + Drop;
 
-    ghost standing: { Self → List ℕ → Standing };
+    ghost state: { Self → List ℕ → FileState };
 
     ghost log: { Self → Option (List FileEvent) };
 
     /// Opens the file at a path. No byte of it has been read.
     fn open(&mut self, path: &PathText) -> Result<Self::File, OpenFault>
         ensures log { Logs (log self.old) (log self.new) (open_event path.now result ∷ []) }
-        ensures kept { standing self.new ≡ standing self.old }
-        ensures given { IfOk result (λ file. MayOpen (standing self.old path.now) (Self.File.left file)) }
+        ensures kept { state self.new ≡ state self.old }
+        ensures given { IfOk result (λ file. MayOpen (state self.old path.now) (Self.File.left file)) }
         ensures working { IfOk result (λ file. Self.File.has_failed file ≡ false) }
         ensures fresh { IfOk result (λ file. Self.File.has_ended file ≡ false) }
-        ensures refused { IfErr result (MayRefuse (standing self.old path.now)) };
+        ensures fails { IfErr result (MayFail (state self.old path.now)) };
 
     /// Closes an open file.
     fn close(&mut self, file: Self::File)
         ensures log { Logs (log self.old) (log self.new)
             (closed (Self.File.left file) (Self.File.has_failed file) (Self.File.has_ended file) ∷ []) }
-        ensures kept { standing self.new ≡ standing self.old };
+        ensures kept { state self.new ≡ state self.old };
 }

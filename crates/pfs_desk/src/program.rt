@@ -5,7 +5,7 @@ ghost use Rattle.pfs_base.specs.Buffer.{IsNew, bytes_given};
 ghost use Rattle.pfs_desk.specs.Engine.{source_use};
 ghost use Rattle.pfs_desk.specs.Program.{reports_write};
 ghost use Rattle.pfs_desk.specs.WholeProgram.{Ends, Runs};
-ghost use Rattle.pfs_desk.specs.Private.LetsOut.{EndsOutput};
+ghost use Rattle.pfs_desk.specs.Private.Ending.{EndsOutput};
 
 use crate::dispatch::run_job;
 use crate::fault::{DeskFault, Outcome};
@@ -28,7 +28,7 @@ pub fn run_program<F: Files, R: Source, W: Sink, E: Sink>(
     requires reading { R.has_failed input.old ≡ false }
     requires writing { W.has_failed output.old.writer ≡ false }
     requires reporting { E.has_failed errors.old ≡ false }
-    ensures { Ends (map string_bytes words.now) (F.standing files.old) (F.log files.old) (F.log files.new)
+    ensures { Ends (map string_bytes words.now) (F.state files.old) (F.log files.old) (F.log files.new)
         (source_use (R.left input.old) (R.left input.new) (R.has_failed input.new)
         (R.has_ended input.old) (R.has_ended input.new))
         (IsNew W.written output.old) (W.written output.new.writer) (W.has_failed output.new.writer)
@@ -48,7 +48,7 @@ fn run<F: Files, R: Source, W: Sink>(
 ) -> Result<Outcome, Stop>
     requires reading { R.has_failed input.old ≡ false }
     requires writing { W.has_failed output.old.writer ≡ false }
-    ensures { Runs (map string_bytes words.now) (F.standing files.old) (F.log files.old) (F.log files.new)
+    ensures { Runs (map string_bytes words.now) (F.state files.old) (F.log files.old) (F.log files.new)
         (source_use (R.left input.old) (R.left input.new) (R.has_failed input.new)
         (R.has_ended input.old) (R.has_ended input.new))
         (IsNew W.written output.old) (W.written output.new.writer) (W.has_failed output.new.writer) result }

@@ -21,7 +21,7 @@ const FILES: [(&[u8], usize, u64, Option<LayoutFault>); 7] = [
     (BY_MACHINE, 1, 121, None),
     (BY_MACHINE, 16, 8, None),
     (BY_MACHINE, 121, 1, None),
-    (b"1 1 0 0 0\n3\nbehind", 1, 12, None),
+    (b"1 1 0 0 0\n3\nbeyond", 1, 12, None),
     (b"1 1 0 0 0", 3, 4, Some(LayoutFault::Truncated { have: 0 })),
     (BY_JOB, 1, 23, Some(LayoutFault::SizeCount { line: 2 })),
     (BY_JOB, 16, 2, Some(LayoutFault::SizeCount { line: 2 })),

@@ -49,7 +49,7 @@ fn letters<'a>(events: &[Event<'a>], letters: &mut [u8; 4]) {
     for (letter, event) in letters.iter_mut().zip(events) {
         *letter = match event {
             Event::Opened(_) => b'O',
-            Event::Refused(_, _) => b'R',
+            Event::NotOpened(_, _) => b'R',
             Event::Closed(_, true, _) => b'F',
             Event::Closed(_, _, true) => b'E',
             Event::Closed(left, _, _) if *left == BY_MACHINE || *left == ORDER => b'U',
@@ -96,7 +96,7 @@ fn a_log_names_the_paths_in_their_order(rt: HostRuntime) -> Result<(), Fail> {
         matches!(events.next(), Some(Event::Opened(path)) if path.as_slice() == b"ta".as_slice())
     );
     assert!(rt;
-        matches!(events.next(), Some(Event::Refused(path, OpenFault::Closed)) if path.as_slice() == b"none".as_slice())
+        matches!(events.next(), Some(Event::NotOpened(path, OpenFault::Closed)) if path.as_slice() == b"none".as_slice())
     );
     Ok(())
 }

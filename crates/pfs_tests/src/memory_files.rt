@@ -77,7 +77,7 @@ impl<'a, R: Abort> MemoryFiles<'a, R> {
 impl<'a, R: Abort> Files for MemoryFiles<'a, R> {
     type File = Pieces<'a>;
 
-    ghost standing = { λ f path. at_path f.one.path.now f.one.bytes.now f.other.path.now f.other.bytes.now path };
+    ghost state = { λ f path. at_path f.one.path.now f.one.bytes.now f.other.path.now f.other.bytes.now path };
 
     ghost log = { λ f. Some (map event_of f.events.items) };
 
@@ -89,7 +89,7 @@ impl<'a, R: Abort> Files for MemoryFiles<'a, R> {
         } else if name == self.other.path {
             self.other.bytes
         } else {
-            self.note(Event::Refused(copy, OpenFault::Closed));
+            self.note(Event::NotOpened(copy, OpenFault::Closed));
             return Err(OpenFault::Closed);
         };
         self.note(Event::Opened(copy));

@@ -13,7 +13,7 @@ returns-in-None g c =
     let input = source_use (left c.args.input.now) (left run.new.reader) (g.R.Source.has_failed run.new.reader)
     (ended c.args.input.now) (ended run.new.reader) in
     let is = c.in-Value.is ∙ ap (Value c.in-Value.layout c.in-Value.block) c.in-None.is in
-    gives_run c.args.job.now (g.F.Files.standing c.args.files.now) (g.F.Files.log c.args.files.now) _ input [] [] _ _
+    gives_run c.args.job.now (g.F.Files.state c.args.files.now) (g.F.Files.log c.args.files.now) _ input [] [] _ _
     _ _ c.ending.ensures (ap paths_of is) (reads_none _ _)
     (gives_on (ReturnsFor c.args.job.now input []) _ _ _ _ _ _ run.result run.ensures.written input run.ensures.reads _
     run.ensures.fault (λ returned has_result.
@@ -46,7 +46,7 @@ returns-in-Generate g c =
     let ended = g.R.Source.has_ended c.args.input.now in
     let input = source_use left left (g.R.Source.has_failed c.args.input.now) ended ended in
     let is = c.in-Generate.is in
-    gives_run c.args.job.now (g.F.Files.standing c.args.files.now) (g.F.Files.log c.args.files.now) _ input [] [] _ _
+    gives_run c.args.job.now (g.F.Files.state c.args.files.now) (g.F.Files.log c.args.files.now) _ input [] [] _ _
     _ _ c.ending-in-Generate.ensures (ap paths_of is) (reads_none _ _)
     (gives_ending _ _ _ _ _ (ReturnsFor c.args.job.now input []) run.result run.ensures.written run.ensures.faults
     (λ returned is_result first second. subst (λ job. ReturnsFor job input [] returned) (sym is) (

@@ -6,7 +6,7 @@ use Rattle.pfs_desk.proofs.dispatch.run_on_both.Goals as goal
 pub returns-in_err-file : goal.returns-in_err-file
 returns-in_err-file g c = λ input unread.
     gives_one_closed _ _ _ _ c.args.path.now c.args.order_path.now input _ _ c.in_err-file.field-0.0 _ c.requires.paths
-    unread c.requires.writing (search rules) c.in_err-file.ensures.refused
+    unread c.requires.writing (search rules) c.in_err-file.ensures.fails
 
 pub returns : goal.returns
 returns g c = λ input unread.

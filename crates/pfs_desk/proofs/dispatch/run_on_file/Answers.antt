@@ -6,7 +6,7 @@ use Rattle.pfs_desk.proofs.dispatch.run_on_file.Goals as goal
 pub returns-in_err-file : goal.returns-in_err-file
 returns-in_err-file g c = λ input unread.
     gives_closed _ _ _ _ c.args.path.now input _ _ c.in_err-file.field-0.0 _ c.requires.path unread c.requires.writing
-    (search rules) c.in_err-file.ensures.refused c.in_err-file.ensures.log
+    (search rules) c.in_err-file.ensures.fails c.in_err-file.ensures.log
 
 pub returns : goal.returns
 returns g c = λ input unread.

@@ -1,5 +1,5 @@
 use Rattle.std.proofs.Common.{Err, ap, inr, refl, rules}
-use Rattle.pfs_desk.proofs.ProgramLemmas.{asks_for, gives_rejection, stands}
+use Rattle.pfs_desk.proofs.ProgramLemmas.{asks_for, gives_rejection, writes_text}
 use Rattle.pfs_desk.proofs.program.run.Goals as goal
 
 pub returns-in_err-job : goal.returns-in_err-job
@@ -25,7 +25,7 @@ returns g c =
             (λ word others e. c.in_ok-job.ensures.job word others e);
         runs = gave.is_result;
       });
-      is_written = stands g.W.Sink.written c.args.output.now mid out.new.output out.ensures.kept
+      is_written = writes_text g.W.Sink.written c.args.output.now mid out.new.output out.ensures.kept
           (g.W.Sink.has_failed mid.writer) (g.W.Sink.has_failed out.new.output.writer) gave.returned
           c.run_job-returned.result out.result gave.write_failed out.ensures.failed gave.is_written out.ensures.ends;
       write_failed = out.ensures.failed;

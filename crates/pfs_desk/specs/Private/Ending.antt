@@ -7,34 +7,34 @@ use Rattle.pfs_desk.specs.declared.fault.Outcome.{Outcome}
 use Rattle.pfs_desk.specs.declared.stop.Stop.{Stop}
 use Rattle.pfs_desk.specs.declared.stop.Stop.TheVariants.{Fault}
 use Rattle.pfs_desk.specs.declared.files.OpenFault.{OpenFault}
-use Rattle.pfs_desk.specs.Standing.{Standing, MayOpen, MayRefuse, FileEvent, opened, refused, closed, Logs}
+use Rattle.pfs_desk.specs.FileState.{FileState, MayOpen, MayFail, FileEvent, opened, not_opened, closed, Logs}
 
 -- both files were opened, one after the other
-pub record OpensBoth (standing : List ℕ → Standing) (log log' : Option (List FileEvent)) (path order_path : List ℕ)
+pub record OpensBoth (state : List ℕ → FileState) (log log' : Option (List FileEvent)) (path order_path : List ℕ)
     (file orders : Option (List ℕ)) : Type 0 where
-  pub give : MayOpen (standing path) file
-  pub give_orders : MayOpen (standing order_path) orders
+  pub give : MayOpen (state path) file
+  pub give_orders : MayOpen (state order_path) orders
   pub events : Logs log log' (opened path ∷ opened order_path ∷ [])
 
 -- the first path could not be opened
-pub record RefusesFirstPath (standing : List ℕ → Standing) (log log' : Option (List FileEvent)) (path : List ℕ)
+pub record FirstFails (state : List ℕ → FileState) (log log' : Option (List FileEvent)) (path : List ℕ)
     (fault : OpenFault) : Type 0 where
-  pub may_refuse : MayRefuse (standing path) fault
-  pub events : Logs log log' (refused path fault ∷ [])
+  pub may_fail : MayFail (state path) fault
+  pub events : Logs log log' (not_opened path fault ∷ [])
 
 -- the second path could not be opened, and the first file was closed unread
-pub record RefusesSecondPath (standing : List ℕ → Standing) (log log' : Option (List FileEvent))
+pub record SecondFails (state : List ℕ → FileState) (log log' : Option (List FileEvent))
     (path order_path : List ℕ) (fault : OpenFault) : Type 0 where
   pub file : Option (List ℕ)
-  pub give : MayOpen (standing path) file
-  pub may_refuse : MayRefuse (standing order_path) fault
-  pub events : Logs log log' (opened path ∷ refused order_path fault ∷ closed file false false ∷ [])
+  pub give : MayOpen (state path) file
+  pub may_fail : MayFail (state order_path) fault
+  pub events : Logs log log' (opened path ∷ not_opened order_path fault ∷ closed file false false ∷ [])
 
 -- one of the two paths could not be opened
-abbrev pub RefusesOne : (List ℕ → Standing) → Option (List FileEvent) → Option (List FileEvent) → List ℕ → List ℕ
+abbrev pub OneFails : (List ℕ → FileState) → Option (List FileEvent) → Option (List FileEvent) → List ℕ → List ℕ
     → OpenFault → Type 0
-RefusesOne standing log log' path order_path fault = RefusesFirstPath standing log log' path fault
-    ⊎ RefusesSecondPath standing log log' path order_path fault
+OneFails state log log' path order_path fault = FirstFails state log log' path fault
+    ⊎ SecondFails state log log' path order_path fault
 
 -- the result of an engine as the program's
 abbrev pub ending : Result Outcome DeskFault → Result Outcome Stop
