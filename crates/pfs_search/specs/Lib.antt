@@ -3,6 +3,7 @@ pub mod Examples
 pub mod Greedy
 pub mod MostCells
 pub mod Neh
+pub mod Private
 pub mod Ranking
 pub mod RoundsStop
 pub mod SearcherView

@@ -9,6 +9,7 @@ mod kept;
 pub mod laws;
 mod passes;
 mod rankings;
+mod rounds;
 mod searcher;
 mod solution;
 mod workspace;

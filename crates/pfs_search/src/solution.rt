@@ -4,9 +4,11 @@ ghost use Rattle.pfs_base.specs.Paths.{makespan as makespan_of};
 ghost use Rattle.pfs_insert.specs.Insertion.{heads_tails_cost};
 ghost use Rattle.pfs_wave.specs.Served.{IsServed, lanes_of};
 ghost use Rattle.pfs_search.specs.Solution.{IsFound, IsImproved};
+ghost use Rattle.pfs_search.specs.Private.Starts.{InLimits, IsReady, IsStart};
 
 use crate::fault::SearchFault;
 use crate::kept::Kept;
+use crate::rounds::Rounds;
 use crate::searcher::Searcher;
 use pfs_audit::makespan;
 use pfs_base::{Bench, Instance, Length, MOST_PASSES, MOST_ROUNDS, Shop, Span};
@@ -53,14 +55,16 @@ pub fn solve(
     ensures short { IfOk result (λ found. found.makespan < 10 ^ 18) }
     ensures fault { IfErr result (λ fault. fault ≡ SearchFault.Memory 0) }
 {
+    let rounds = Rounds {
+        count: rounds,
+        take,
+        passes,
+        seed,
+    };
     match method_for(instance) {
-        Method::HeadsTails => solve_by_rows(alloc, instance, rounds, take, passes, seed),
-        Method::Wavefront16(width) => {
-            solve_in_width::<Short>(alloc, instance, width, rounds, take, passes, seed)
-        }
-        Method::Wavefront32(width) => {
-            solve_in_width::<Long>(alloc, instance, width, rounds, take, passes, seed)
-        }
+        Method::HeadsTails => solve_by_rows(alloc, instance, rounds),
+        Method::Wavefront16(width) => solve_in_width::<Short>(alloc, instance, width, rounds),
+        Method::Wavefront32(width) => solve_in_width::<Long>(alloc, instance, width, rounds),
     }
 }
 
@@ -89,15 +93,19 @@ pub fn improve(
     ensures fault { IfErr result (λ fault. fault ≡ SearchFault.Memory 0) }
 {
     let start = measure(alloc, instance, order)?;
+    let rounds = Rounds {
+        count,
+        take,
+        passes,
+        seed,
+    };
     match method_for(instance) {
-        Method::HeadsTails => {
-            improve_by_rows(alloc, instance, start, first, count, take, passes, seed)
-        }
+        Method::HeadsTails => improve_by_rows(alloc, instance, start, first, rounds),
         Method::Wavefront16(width) => improve_in_width::<Short>(
-            alloc, instance, width, start, first, count, take, passes, seed,
+            alloc, instance, width, start, first, rounds,
         ),
         Method::Wavefront32(width) => improve_in_width::<Long>(
-            alloc, instance, width, start, first, count, take, passes, seed,
+            alloc, instance, width, start, first, rounds,
         ),
     }
 }
@@ -106,17 +114,12 @@ pub fn improve(
 fn solve_by_rows(
     alloc: Global,
     instance: &Instance,
-    rounds: u32,
-    take: usize,
-    passes: u32,
-    seed: u64,
+    rounds: Rounds,
 ) -> Result<Solution, SearchFault>
-    requires some { 1 ≤ take }
-    requires few { take ≤ instance.now.shop.jobs }
-    requires rounds { rounds ≤ MOST_ROUNDS }
-    requires passes { passes ≤ MOST_PASSES }
+    requires limits { InLimits instance.now.shop 0 rounds }
     ensures found { IfOk result (λ found.
-        IsFound instance.now.shop rounds take passes seed found.order found.makespan found.cells) }
+        IsFound instance.now.shop rounds.count rounds.take rounds.passes rounds.seed
+        found.order found.makespan found.cells) }
     ensures short { IfOk result (λ found. found.makespan < 10 ^ 18) }
     ensures fault { IfErr result (λ fault. fault ≡ SearchFault.Memory 0) }
 {
@@ -124,7 +127,7 @@ fn solve_by_rows(
     let Ok(inserter) = HeadsTails::new(alloc, &bench) else {
         return Err(SearchFault::Memory { done: 0 });
     };
-    let kept = search(alloc, &mut bench, inserter, rounds, take, passes, seed)?;
+    let kept = search(alloc, &mut bench, inserter, rounds)?;
     Ok(Solution {
         order: kept.order,
         makespan: bench.reveal(kept.span),
@@ -137,41 +140,24 @@ fn solve_in_width<B: Band>(
     alloc: Global,
     instance: &Instance,
     width: Width,
-    rounds: u32,
-    take: usize,
-    passes: u32,
-    seed: u64,
+    rounds: Rounds,
 ) -> Result<Solution, SearchFault>
     requires served { IsServed instance.now.shop (lanes_of width) B.CAP }
-    requires some { 1 ≤ take }
-    requires few { take ≤ instance.now.shop.jobs }
-    requires rounds { rounds ≤ MOST_ROUNDS }
-    requires passes { passes ≤ MOST_PASSES }
+    requires limits { InLimits instance.now.shop 0 rounds }
     ensures found { IfOk result (λ found.
-        IsFound instance.now.shop rounds take passes seed found.order found.makespan found.cells) }
+        IsFound instance.now.shop rounds.count rounds.take rounds.passes rounds.seed
+        found.order found.makespan found.cells) }
     ensures short { IfOk result (λ found. found.makespan < 10 ^ 18) }
     ensures fault { IfErr result (λ fault. fault ≡ SearchFault.Memory 0) }
 {
     match width {
-        Width::Lanes8 => solve_in_lanes::<OneBand<B>>(alloc, instance, rounds, take, passes, seed),
-        Width::Lanes16 => solve_in_lanes::<TwoBands<B>>(
-            alloc, instance, rounds, take, passes, seed,
-        ),
-        Width::Lanes24 => solve_in_lanes::<ThreeBands<B>>(
-            alloc, instance, rounds, take, passes, seed,
-        ),
-        Width::Lanes40 => solve_in_lanes::<FiveBands<B>>(
-            alloc, instance, rounds, take, passes, seed,
-        ),
-        Width::Lanes64 => solve_in_lanes::<EightBands<B>>(
-            alloc, instance, rounds, take, passes, seed,
-        ),
-        Width::Lanes104 => solve_in_lanes::<ThirteenBands<B>>(
-            alloc, instance, rounds, take, passes, seed,
-        ),
-        Width::Lanes208 => solve_in_lanes::<TwentySixBands<B>>(
-            alloc, instance, rounds, take, passes, seed,
-        ),
+        Width::Lanes8 => solve_in_lanes::<OneBand<B>>(alloc, instance, rounds),
+        Width::Lanes16 => solve_in_lanes::<TwoBands<B>>(alloc, instance, rounds),
+        Width::Lanes24 => solve_in_lanes::<ThreeBands<B>>(alloc, instance, rounds),
+        Width::Lanes40 => solve_in_lanes::<FiveBands<B>>(alloc, instance, rounds),
+        Width::Lanes64 => solve_in_lanes::<EightBands<B>>(alloc, instance, rounds),
+        Width::Lanes104 => solve_in_lanes::<ThirteenBands<B>>(alloc, instance, rounds),
+        Width::Lanes208 => solve_in_lanes::<TwentySixBands<B>>(alloc, instance, rounds),
     }
 }
 
@@ -179,18 +165,13 @@ fn solve_in_width<B: Band>(
 fn solve_in_lanes<L: Passes>(
     alloc: Global,
     instance: &Instance,
-    rounds: u32,
-    take: usize,
-    passes: u32,
-    seed: u64,
+    rounds: Rounds,
 ) -> Result<Solution, SearchFault>
     requires served { IsServed instance.now.shop L.WIDTH L.Band.CAP }
-    requires some { 1 ≤ take }
-    requires few { take ≤ instance.now.shop.jobs }
-    requires rounds { rounds ≤ MOST_ROUNDS }
-    requires passes { passes ≤ MOST_PASSES }
+    requires limits { InLimits instance.now.shop 0 rounds }
     ensures found { IfOk result (λ found.
-        IsFound instance.now.shop rounds take passes seed found.order found.makespan found.cells) }
+        IsFound instance.now.shop rounds.count rounds.take rounds.passes rounds.seed
+        found.order found.makespan found.cells) }
     ensures short { IfOk result (λ found. found.makespan < 10 ^ 18) }
     ensures fault { IfErr result (λ fault. fault ≡ SearchFault.Memory 0) }
 {
@@ -200,7 +181,7 @@ fn solve_in_lanes<L: Passes>(
     let Ok(inserter) = Wavefront::new(alloc, &bench) else {
         return Err(SearchFault::Memory { done: 0 });
     };
-    let found = search(alloc, &mut bench, inserter, rounds, take, passes, seed)?;
+    let found = search(alloc, &mut bench, inserter, rounds)?;
     Ok(Solution {
         order: found.order,
         makespan: bench.reveal(found.span),
@@ -214,18 +195,12 @@ fn improve_by_rows(
     instance: &Instance,
     start: Kept<Span>,
     first: u32,
-    count: u32,
-    take: usize,
-    passes: u32,
-    seed: u64,
+    rounds: Rounds,
 ) -> Result<Solution, SearchFault>
-    requires order_jobs { length start.order ≡ instance.now.shop.jobs }
-    requires span { start.span ≡ makespan_of instance.now.shop start.order }
-    requires some { 1 ≤ take }
-    requires few { take ≤ instance.now.shop.jobs }
-    requires rounds { first + count ≤ MOST_ROUNDS }
-    requires passes { passes ≤ MOST_PASSES }
-    ensures found { IfOk result (λ found. IsImproved instance.now.shop start.order first count take passes seed
+    requires start { IsStart instance.now.shop start.order start.span }
+    requires limits { InLimits instance.now.shop first rounds }
+    ensures found { IfOk result (λ found.
+        IsImproved instance.now.shop start.order first rounds.count rounds.take rounds.passes rounds.seed
         found.order found.makespan found.cells) }
     ensures short { IfOk result (λ found. found.makespan < 10 ^ 18) }
     ensures fault { IfErr result (λ fault. fault ≡ SearchFault.Memory 0) }
@@ -234,9 +209,7 @@ fn improve_by_rows(
     let Ok(inserter) = HeadsTails::new(alloc, &bench) else {
         return Err(SearchFault::Memory { done: 0 });
     };
-    let improved = go_on(
-        alloc, &mut bench, inserter, start, first, count, take, passes, seed,
-    )?;
+    let improved = go_on(alloc, &mut bench, inserter, start, first, rounds)?;
     Ok(Solution {
         order: improved.order,
         makespan: bench.reveal(improved.span),
@@ -251,44 +224,28 @@ fn improve_in_width<B: Band>(
     width: Width,
     start: Kept<Span>,
     first: u32,
-    count: u32,
-    take: usize,
-    passes: u32,
-    seed: u64,
+    rounds: Rounds,
 ) -> Result<Solution, SearchFault>
     requires served { IsServed instance.now.shop (lanes_of width) B.CAP }
-    requires order_jobs { length start.order ≡ instance.now.shop.jobs }
-    requires span { start.span ≡ makespan_of instance.now.shop start.order }
-    requires some { 1 ≤ take }
-    requires few { take ≤ instance.now.shop.jobs }
-    requires rounds { first + count ≤ MOST_ROUNDS }
-    requires passes { passes ≤ MOST_PASSES }
-    ensures found { IfOk result (λ found. IsImproved instance.now.shop start.order first count take passes seed
+    requires start { IsStart instance.now.shop start.order start.span }
+    requires limits { InLimits instance.now.shop first rounds }
+    ensures found { IfOk result (λ found.
+        IsImproved instance.now.shop start.order first rounds.count rounds.take rounds.passes rounds.seed
         found.order found.makespan found.cells) }
     ensures short { IfOk result (λ found. found.makespan < 10 ^ 18) }
     ensures fault { IfErr result (λ fault. fault ≡ SearchFault.Memory 0) }
 {
     match width {
-        Width::Lanes8 => improve_in_lanes::<OneBand<B>>(
-            alloc, instance, start, first, count, take, passes, seed,
-        ),
-        Width::Lanes16 => improve_in_lanes::<TwoBands<B>>(
-            alloc, instance, start, first, count, take, passes, seed,
-        ),
-        Width::Lanes24 => improve_in_lanes::<ThreeBands<B>>(
-            alloc, instance, start, first, count, take, passes, seed,
-        ),
-        Width::Lanes40 => improve_in_lanes::<FiveBands<B>>(
-            alloc, instance, start, first, count, take, passes, seed,
-        ),
-        Width::Lanes64 => improve_in_lanes::<EightBands<B>>(
-            alloc, instance, start, first, count, take, passes, seed,
-        ),
+        Width::Lanes8 => improve_in_lanes::<OneBand<B>>(alloc, instance, start, first, rounds),
+        Width::Lanes16 => improve_in_lanes::<TwoBands<B>>(alloc, instance, start, first, rounds),
+        Width::Lanes24 => improve_in_lanes::<ThreeBands<B>>(alloc, instance, start, first, rounds),
+        Width::Lanes40 => improve_in_lanes::<FiveBands<B>>(alloc, instance, start, first, rounds),
+        Width::Lanes64 => improve_in_lanes::<EightBands<B>>(alloc, instance, start, first, rounds),
         Width::Lanes104 => improve_in_lanes::<ThirteenBands<B>>(
-            alloc, instance, start, first, count, take, passes, seed,
+            alloc, instance, start, first, rounds,
         ),
         Width::Lanes208 => improve_in_lanes::<TwentySixBands<B>>(
-            alloc, instance, start, first, count, take, passes, seed,
+            alloc, instance, start, first, rounds,
         ),
     }
 }
@@ -299,19 +256,13 @@ fn improve_in_lanes<L: Passes>(
     instance: &Instance,
     start: Kept<Span>,
     first: u32,
-    count: u32,
-    take: usize,
-    passes: u32,
-    seed: u64,
+    rounds: Rounds,
 ) -> Result<Solution, SearchFault>
     requires served { IsServed instance.now.shop L.WIDTH L.Band.CAP }
-    requires order_jobs { length start.order ≡ instance.now.shop.jobs }
-    requires span { start.span ≡ makespan_of instance.now.shop start.order }
-    requires some { 1 ≤ take }
-    requires few { take ≤ instance.now.shop.jobs }
-    requires rounds { first + count ≤ MOST_ROUNDS }
-    requires passes { passes ≤ MOST_PASSES }
-    ensures found { IfOk result (λ found. IsImproved instance.now.shop start.order first count take passes seed
+    requires start { IsStart instance.now.shop start.order start.span }
+    requires limits { InLimits instance.now.shop first rounds }
+    ensures found { IfOk result (λ found.
+        IsImproved instance.now.shop start.order first rounds.count rounds.take rounds.passes rounds.seed
         found.order found.makespan found.cells) }
     ensures short { IfOk result (λ found. found.makespan < 10 ^ 18) }
     ensures fault { IfErr result (λ fault. fault ≡ SearchFault.Memory 0) }
@@ -322,9 +273,7 @@ fn improve_in_lanes<L: Passes>(
     let Ok(wavefront) = Wavefront::new(alloc, &bench) else {
         return Err(SearchFault::Memory { done: 0 });
     };
-    let shorter = go_on(
-        alloc, &mut bench, wavefront, start, first, count, take, passes, seed,
-    )?;
+    let shorter = go_on(alloc, &mut bench, wavefront, start, first, rounds)?;
     Ok(Solution {
         order: shorter.order,
         makespan: bench.reveal(shorter.span),
@@ -338,22 +287,13 @@ fn search<B: Shop, I: Inserter<B> + Drop>(
     alloc: Global,
     bench: &mut B,
     inserter: I,
-    rounds: u32,
-    take: usize,
-    passes: u32,
-    seed: u64,
+    rounds: Rounds,
 ) -> Result<Kept<B::Span>, SearchFault>
-    requires jobs { (I.sizes inserter).jobs ≡ (B.shop bench.old).jobs }
-    requires machines { (I.sizes inserter).machines ≡ (B.shop bench.old).machines }
-    requires cost { I.cost ≡ heads_tails_cost }
-    requires sure { I.can_refuse ≡ false }
-    requires fresh { B.counted bench.old ≡ 0 }
-    requires some { 1 ≤ take }
-    requires few { take ≤ (B.shop bench.old).jobs }
-    requires rounds { rounds ≤ MOST_ROUNDS }
-    requires passes { passes ≤ MOST_PASSES }
+    requires ready { IsReady (B.shop bench.old) (B.counted bench.old) (I.sizes inserter) I.cost I.can_refuse }
+    requires limits { InLimits (B.shop bench.old) 0 rounds }
     ensures found { IfOk result (λ kept.
-        IsFound (B.shop bench.old) rounds take passes seed kept.order (B.Span.number kept.span) (B.counted bench.new)) }
+        IsFound (B.shop bench.old) rounds.count rounds.take rounds.passes rounds.seed
+        kept.order (B.Span.number kept.span) (B.counted bench.new)) }
     ensures short { IfOk result (λ kept. B.Span.number kept.span < 10 ^ 18) }
     ensures fault { IfErr result (λ fault. fault ≡ SearchFault.Memory 0) }
 {
@@ -363,8 +303,16 @@ fn search<B: Shop, I: Inserter<B> + Drop>(
     let mut searcher = Searcher::new(alloc, bench.jobs(), inserter)?;
     let mut kept = Kept::new(order, bench.zero());
     searcher.neh(alloc, bench, &mut kept)?;
-    let mut rng = Pcg32::seed_from_u64(seed);
-    searcher.rounds(alloc, bench, &mut kept, rounds, take, passes, &mut rng)?;
+    let mut rng = Pcg32::seed_from_u64(rounds.seed);
+    searcher.rounds(
+        alloc,
+        bench,
+        &mut kept,
+        rounds.count,
+        rounds.take,
+        rounds.passes,
+        &mut rng,
+    )?;
     // Called for its contract, which says that an order has each job once.
     let _jobs = kept.order.len();
     Ok(kept)
@@ -384,8 +332,8 @@ fn measure(alloc: Global, instance: &Instance, order: Order) -> Result<Kept<Span
     Ok(Kept::new(order, span))
 }
 
-// Rounds `first` to `first + count - 1` of the search of a seed, from an order with its makespan, on a bench with a
-// count of 0.
+// Rounds `first` to `first + rounds.count - 1` of the search of a seed, from an order with its makespan, on a bench with
+// a count of 0.
 #[inline(always)]
 fn go_on<B: Shop, I: Inserter<B> + Drop>(
     alloc: Global,
@@ -393,32 +341,30 @@ fn go_on<B: Shop, I: Inserter<B> + Drop>(
     inserter: I,
     start: Kept<B::Span>,
     first: u32,
-    count: u32,
-    take: usize,
-    passes: u32,
-    seed: u64,
+    rounds: Rounds,
 ) -> Result<Kept<B::Span>, SearchFault>
-    requires jobs { (I.sizes inserter).jobs ≡ (B.shop bench.old).jobs }
-    requires machines { (I.sizes inserter).machines ≡ (B.shop bench.old).machines }
-    requires cost { I.cost ≡ heads_tails_cost }
-    requires sure { I.can_refuse ≡ false }
-    requires fresh { B.counted bench.old ≡ 0 }
-    requires order_jobs { length start.order ≡ (B.shop bench.old).jobs }
-    requires span { B.Span.number start.span ≡ makespan_of (B.shop bench.old) start.order }
-    requires some { 1 ≤ take }
-    requires few { take ≤ (B.shop bench.old).jobs }
-    requires rounds { first + count ≤ MOST_ROUNDS }
-    requires passes { passes ≤ MOST_PASSES }
-    ensures found { IfOk result (λ kept. IsImproved (B.shop bench.old) start.order first count take passes seed
+    requires ready { IsReady (B.shop bench.old) (B.counted bench.old) (I.sizes inserter) I.cost I.can_refuse }
+    requires start { IsStart (B.shop bench.old) start.order (B.Span.number start.span) }
+    requires limits { InLimits (B.shop bench.old) first rounds }
+    ensures found { IfOk result (λ kept.
+        IsImproved (B.shop bench.old) start.order first rounds.count rounds.take rounds.passes rounds.seed
         kept.order (B.Span.number kept.span) (B.counted bench.new)) }
     ensures short { IfOk result (λ kept. B.Span.number kept.span < 10 ^ 18) }
     ensures fault { IfErr result (λ fault. fault ≡ SearchFault.Memory 0) }
 {
     let mut kept = start;
     let mut searcher = Searcher::new(alloc, bench.jobs(), inserter)?;
-    let mut rng = Pcg32::seed_from_u64(seed);
-    rng.advance(first as u64 * take as u64);
-    searcher.rounds(alloc, bench, &mut kept, count, take, passes, &mut rng)?;
+    let mut rng = Pcg32::seed_from_u64(rounds.seed);
+    rng.advance(first as u64 * rounds.take as u64);
+    searcher.rounds(
+        alloc,
+        bench,
+        &mut kept,
+        rounds.count,
+        rounds.take,
+        rounds.passes,
+        &mut rng,
+    )?;
     // Called for its contract, which says that an order has each job once.
     let _jobs = kept.order.len();
     Ok(kept)

@@ -10,24 +10,26 @@ use Rattle.pfs_search.proofs.solution.go_on.Goals as goal
 
 pub rounds-requires-clause-room : goal.rounds-requires-clause-room
 rounds-requires-clause-room g c =
-    let short : c.args.count ≤ MOST_ROUNDS = omega (arith, c.requires.rounds) in
+    let rounds = c.args.rounds in
+    let short : rounds.count ≤ MOST_ROUNDS = omega (arith, c.requires.limits.count) in
     omega (
       arith,
-      rounds_room (g.B.Bench.shop c.args.bench.now) c.args.count c.args.take c.args.passes
-          (g.met.B.Bench.within c.args.bench.now) c.requires.few short c.requires.passes,
-      c.requires.fresh,
-      same_rounds (g.B.Bench.shop c.args.bench.now) c.args.count c.args.take c.args.passes c.requires.cost,
+      rounds_room (g.B.Bench.shop c.args.bench.now) rounds.count rounds.take rounds.passes
+          (g.met.B.Bench.within c.args.bench.now) c.requires.limits.few short c.requires.limits.passes,
+      c.requires.ready.fresh,
+      same_rounds (g.B.Bench.shop c.args.bench.now) rounds.count rounds.take rounds.passes c.requires.ready.cost,
     )
 
 pub returns-clause-found : goal.returns-clause-found
 returns-clause-found g c =
+    let rounds = c.args.rounds in
     let number = g.B.Span.Length.number in
     let counted = g.B.Bench.counted in
     let shop = g.B.Bench.shop c.args.bench.now in
     let start = c.args.start in
     let kept = c.rounds.new.kept in
     let generator = c.advance.new.self in
-    let rounds_done : RoundsDone shop c.args.count c.args.take c.args.passes (stream_of (steps_u32 pcg32) generator)
+    let rounds_done : RoundsDone shop rounds.count rounds.take rounds.passes (stream_of (steps_u32 pcg32) generator)
     start.order (number start.span) (counted c.args.bench.now) kept.order (number kept.span)
     (counted c.rounds.new.bench) = record {
       is_order = c.in_ok-rounds.ensures.order;
@@ -35,16 +37,16 @@ returns-clause-found g c =
       never_rises = c.in_ok-rounds.ensures.never_rises;
       counted = c.in_ok-rounds.ensures.cells.counted
           ∙ ap (λ n. counted c.args.bench.now + n)
-          (same_rounds shop c.args.count c.args.take c.args.passes c.requires.cost);
+          (same_rounds shop rounds.count rounds.take rounds.passes c.requires.ready.cost);
     } in
     let all : length kept.order ≡ shop.jobs =
     c.in_ok-rounds.ensures.still_fit.order_jobs ∙ ap (λ (s : FlowShop). s.jobs) c.in_ok-rounds.ensures.shop in
     let distinct = subst (λ n. IsSequence n kept.order) all c.len-jobs.ensures.sequence in
     let begun = c.seed_from_u64-rng.ensures in
-    let advanced = c.advance.ensures ∙ ap (advance 64 multiplier_64 (c.args.first * c.args.take)) begun in
-    improved_is shop c.args.first c.args.count c.args.take c.args.passes c.args.seed generator start.order
+    let advanced = c.advance.ensures ∙ ap (advance 64 multiplier_64 (c.args.first * rounds.take)) begun in
+    improved_is shop c.args.first rounds.count rounds.take rounds.passes rounds.seed generator start.order
     (number start.span) (counted c.args.bench.now) kept.order (number kept.span) (counted c.rounds.new.bench)
-    c.requires.few advanced c.requires.span c.requires.fresh rounds_done all distinct
+    c.requires.limits.few advanced c.requires.start.span_is c.requires.ready.fresh rounds_done all distinct
 
 pub returns-clause-short : goal.returns-clause-short
 returns-clause-short g c =

@@ -2,6 +2,7 @@ use Rattle.std.proofs.Common.{◌≡◌, ◌+◌, ◌≤◌, length, ap, subst, 
 use Rattle.rand_core.specs.Steps.{stream_of, steps_u32}
 use Rattle.rand_pcg.specs.Pcg.{pcg32}
 use Rattle.pfs_base.specs.FlowShop.{FlowShop}
+use Rattle.pfs_base.specs.declared.limits.TheConstants.{MOST_ROUNDS}
 use Rattle.pfs_order.specs.Sequence.{IsSequence}
 use Rattle.pfs_search.proofs.Found.{neh_room, rounds_room, makespan_short, NehDone, RoundsDone, found_is, same_neh}
 use Rattle.pfs_search.proofs.Found.{same_rounds}
@@ -13,29 +14,32 @@ neh-requires-clause-room g c =
     omega (
       arith,
       neh_room shop (g.met.B.Bench.within c.args.bench.now),
-      c.requires.fresh,
-      same_neh shop c.requires.cost,
+      c.requires.ready.fresh,
+      same_neh shop c.requires.ready.cost,
     )
 
 pub rounds-requires-clause-room : goal.rounds-requires-clause-room
 rounds-requires-clause-room g c =
+    let rounds = c.args.rounds in
     let shop = g.B.Bench.shop c.args.bench.now in
     let then_shop = g.B.Bench.shop c.neh.new.bench in
     let jobs = ap (λ (s : FlowShop). s.jobs) c.in_ok-neh.ensures.shop in
-    let few : c.args.take ≤ then_shop.jobs = omega (arith, c.requires.few) in
+    let few : rounds.take ≤ then_shop.jobs = omega (arith, c.requires.limits.few) in
+    let short : rounds.count ≤ MOST_ROUNDS = omega (arith, c.requires.limits.count) in
     omega (
       arith,
       neh_room shop (g.met.B.Bench.within c.args.bench.now),
-      rounds_room then_shop c.args.rounds c.args.take c.args.passes
-          (g.met.B.Bench.within c.neh.new.bench) few c.requires.rounds c.requires.passes,
-      c.requires.fresh,
+      rounds_room then_shop rounds.count rounds.take rounds.passes
+          (g.met.B.Bench.within c.neh.new.bench) few short c.requires.limits.passes,
+      c.requires.ready.fresh,
       c.in_ok-neh.ensures.cells.counted,
-      same_neh shop c.requires.cost,
-      same_rounds then_shop c.args.rounds c.args.take c.args.passes c.requires.cost,
+      same_neh shop c.requires.ready.cost,
+      same_rounds then_shop rounds.count rounds.take rounds.passes c.requires.ready.cost,
     )
 
 pub returns-clause-found : goal.returns-clause-found
 returns-clause-found g c =
+    let rounds = c.args.rounds in
     let number = g.B.Span.Length.number in
     let counted = g.B.Bench.counted in
     let shop = g.B.Bench.shop c.args.bench.now in
@@ -52,14 +56,14 @@ returns-clause-found g c =
       is_span = c.in_ok-neh.ensures.span;
       counted = omega (
         arith,
-        c.requires.fresh,
+        c.requires.ready.fresh,
         c.in_ok-neh.ensures.cells.counted,
-        same_neh shop c.requires.cost,
+        same_neh shop c.requires.ready.cost,
       );
     } in
-    let rounds_done : RoundsDone shop c.args.rounds c.args.take c.args.passes stream neh.order neh_span neh_cells
+    let rounds_done : RoundsDone shop rounds.count rounds.take rounds.passes stream neh.order neh_span neh_cells
     kept.order span cells =
-    subst (λ s. RoundsDone s c.args.rounds c.args.take c.args.passes stream neh.order neh_span neh_cells
+    subst (λ s. RoundsDone s rounds.count rounds.take rounds.passes stream neh.order neh_span neh_cells
     kept.order span cells) c.in_ok-neh.ensures.shop
     (record {
       is_order = c.in_ok-rounds.ensures.order;
@@ -67,14 +71,14 @@ returns-clause-found g c =
       never_rises = c.in_ok-rounds.ensures.never_rises;
       counted = c.in_ok-rounds.ensures.cells.counted
           ∙ ap (λ n. neh_cells + n)
-          (same_rounds (g.B.Bench.shop c.neh.new.bench) c.args.rounds c.args.take c.args.passes c.requires.cost);
+          (same_rounds (g.B.Bench.shop c.neh.new.bench) rounds.count rounds.take rounds.passes c.requires.ready.cost);
     }) in
     let all : length kept.order ≡ shop.jobs =
     c.in_ok-rounds.ensures.still_fit.order_jobs
     ∙ ap (λ (s : FlowShop). s.jobs) (c.in_ok-rounds.ensures.shop ∙ c.in_ok-neh.ensures.shop) in
     let distinct = subst (λ n. IsSequence n kept.order) all c.len-jobs.ensures.sequence in
-    found_is shop c.args.rounds c.args.take c.args.passes c.args.seed c.seed_from_u64-rng.result neh.order neh_span
-    neh_cells kept.order span cells c.requires.few
+    found_is shop rounds.count rounds.take rounds.passes rounds.seed c.seed_from_u64-rng.result neh.order neh_span
+    neh_cells kept.order span cells c.requires.limits.few
     c.seed_from_u64-rng.ensures neh_done rounds_done all distinct
 
 pub returns-clause-short : goal.returns-clause-short
