@@ -15,8 +15,8 @@ use pfs_base::{Instance, MOST_MACHINES};
 use pfs_insert::{HeadsTails, Inserter, Placed};
 use pfs_order::Seq;
 use pfs_wave::{
-    Band, EightBands, FiveBands, Long, MeteredLanes, Method, OneBand, Passes, Short, ThirteenBands,
-    ThreeBands, TwentySixBands, TwoBands, Wavefront, Width, method_for,
+    Band, Long, ManyLanes, MeteredLanes, Method, OneBand, Passes, Short, ThreeBands, TwoBands,
+    Wavefront, Width, method_for,
 };
 use std::alloc::Global;
 
@@ -129,7 +129,7 @@ fn best_by_rows(
 }
 
 // `best_place` by a wavefront of a given width.
-fn best_in_width<B: Band>(
+fn best_in_width<B: ManyLanes>(
     alloc: Global,
     instance: &Instance,
     width: Width,
@@ -148,10 +148,10 @@ fn best_in_width<B: Band>(
         Width::Lanes8 => best_in_lanes::<OneBand<B>>(alloc, instance, sequence, job),
         Width::Lanes16 => best_in_lanes::<TwoBands<B>>(alloc, instance, sequence, job),
         Width::Lanes24 => best_in_lanes::<ThreeBands<B>>(alloc, instance, sequence, job),
-        Width::Lanes40 => best_in_lanes::<FiveBands<B>>(alloc, instance, sequence, job),
-        Width::Lanes64 => best_in_lanes::<EightBands<B>>(alloc, instance, sequence, job),
-        Width::Lanes104 => best_in_lanes::<ThirteenBands<B>>(alloc, instance, sequence, job),
-        Width::Lanes208 => best_in_lanes::<TwentySixBands<B>>(alloc, instance, sequence, job),
+        Width::Lanes40 => best_in_lanes::<B::Lanes40>(alloc, instance, sequence, job),
+        Width::Lanes64 => best_in_lanes::<B::Lanes64>(alloc, instance, sequence, job),
+        Width::Lanes104 => best_in_lanes::<B::Lanes104>(alloc, instance, sequence, job),
+        Width::Lanes208 => best_in_lanes::<B::Lanes208>(alloc, instance, sequence, job),
     }
 }
 

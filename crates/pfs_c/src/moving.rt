@@ -13,8 +13,8 @@ use pfs_base::{Bench, Instance, Length, MOST_PASSES};
 use pfs_insert::{HeadsTails, Inserter};
 use pfs_order::Seq;
 use pfs_wave::{
-    Band, EightBands, FiveBands, Long, MeteredLanes, Method, OneBand, Passes, Short, ThirteenBands,
-    ThreeBands, TwentySixBands, TwoBands, Wavefront, Width, method_for,
+    Band, Long, ManyLanes, MeteredLanes, Method, OneBand, Passes, Short, ThreeBands, TwoBands,
+    Wavefront, Width, method_for,
 };
 use std::alloc::Global;
 
@@ -74,7 +74,7 @@ fn visit_by_rows(
 }
 
 // What `make_visits` does, by a wavefront of a given width.
-fn visit_in_width<B: Band>(
+fn visit_in_width<B: ManyLanes>(
     alloc: Global,
     instance: &Instance,
     width: Width,
@@ -95,10 +95,10 @@ fn visit_in_width<B: Band>(
         Width::Lanes8 => visit_in_lanes::<OneBand<B>>(alloc, instance, seq, list, passes),
         Width::Lanes16 => visit_in_lanes::<TwoBands<B>>(alloc, instance, seq, list, passes),
         Width::Lanes24 => visit_in_lanes::<ThreeBands<B>>(alloc, instance, seq, list, passes),
-        Width::Lanes40 => visit_in_lanes::<FiveBands<B>>(alloc, instance, seq, list, passes),
-        Width::Lanes64 => visit_in_lanes::<EightBands<B>>(alloc, instance, seq, list, passes),
-        Width::Lanes104 => visit_in_lanes::<ThirteenBands<B>>(alloc, instance, seq, list, passes),
-        Width::Lanes208 => visit_in_lanes::<TwentySixBands<B>>(alloc, instance, seq, list, passes),
+        Width::Lanes40 => visit_in_lanes::<B::Lanes40>(alloc, instance, seq, list, passes),
+        Width::Lanes64 => visit_in_lanes::<B::Lanes64>(alloc, instance, seq, list, passes),
+        Width::Lanes104 => visit_in_lanes::<B::Lanes104>(alloc, instance, seq, list, passes),
+        Width::Lanes208 => visit_in_lanes::<B::Lanes208>(alloc, instance, seq, list, passes),
     }
 }
 

@@ -9,8 +9,8 @@ use pfs_insert::{HeadsTails, Inserter};
 use pfs_order::Seq;
 use pfs_tests::shops::shop;
 use pfs_wave::{
-    Band, EightBands, FiveBands, Long, MeteredLanes, OneBand, Passes, Short, ThirteenBands,
-    ThreeBands, TwentySixBands, TwoBands, Wavefront, Width, is_served, method_for,
+    Band, Long, ManyLanes, MeteredLanes, OneBand, Passes, Short, ThreeBands, TwoBands, Wavefront,
+    Width, is_served, method_for,
 };
 
 /// Inserts the jobs of a shop into a sequence in the order of their numbers, each at its best place. The arguments are
@@ -26,7 +26,7 @@ pub(crate) fn wavefronts_call(rt: &HostRuntime, words: &[String]) -> Result<(), 
 }
 
 // Inserts all jobs with each width that serves the shop.
-fn insert_in_widths<B: Band>(rt: &HostRuntime, instance: &Instance) -> Result<(), Stop> {
+fn insert_in_widths<B: ManyLanes>(rt: &HostRuntime, instance: &Instance) -> Result<(), Stop> {
     if is_served(instance, Width::Lanes8, B::CAP) {
         insert_all::<OneBand<B>>(rt, instance)?;
     }
@@ -37,16 +37,16 @@ fn insert_in_widths<B: Band>(rt: &HostRuntime, instance: &Instance) -> Result<()
         insert_all::<ThreeBands<B>>(rt, instance)?;
     }
     if is_served(instance, Width::Lanes40, B::CAP) {
-        insert_all::<FiveBands<B>>(rt, instance)?;
+        insert_all::<B::Lanes40>(rt, instance)?;
     }
     if is_served(instance, Width::Lanes64, B::CAP) {
-        insert_all::<EightBands<B>>(rt, instance)?;
+        insert_all::<B::Lanes64>(rt, instance)?;
     }
     if is_served(instance, Width::Lanes104, B::CAP) {
-        insert_all::<ThirteenBands<B>>(rt, instance)?;
+        insert_all::<B::Lanes104>(rt, instance)?;
     }
     if is_served(instance, Width::Lanes208, B::CAP) {
-        insert_all::<TwentySixBands<B>>(rt, instance)?;
+        insert_all::<B::Lanes208>(rt, instance)?;
     }
     Ok(())
 }

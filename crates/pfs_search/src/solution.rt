@@ -15,8 +15,8 @@ use pfs_base::{Bench, Instance, Length, MOST_PASSES, MOST_ROUNDS, Shop, Span};
 use pfs_insert::{HeadsTails, Inserter};
 use pfs_order::Order;
 use pfs_wave::{
-    Band, EightBands, FiveBands, Long, MeteredLanes, Method, OneBand, Passes, Short, ThirteenBands,
-    ThreeBands, TwentySixBands, TwoBands, Wavefront, Width, method_for,
+    Band, Long, ManyLanes, MeteredLanes, Method, OneBand, Passes, Short, ThreeBands, TwoBands,
+    Wavefront, Width, method_for,
 };
 use rand_core::SeedableRng;
 use rand_pcg::Pcg32;
@@ -136,7 +136,7 @@ fn solve_by_rows(
 }
 
 // `solve` by a wavefront of a given width.
-fn solve_in_width<B: Band>(
+fn solve_in_width<B: ManyLanes>(
     alloc: Global,
     instance: &Instance,
     width: Width,
@@ -154,10 +154,10 @@ fn solve_in_width<B: Band>(
         Width::Lanes8 => solve_in_lanes::<OneBand<B>>(alloc, instance, rounds),
         Width::Lanes16 => solve_in_lanes::<TwoBands<B>>(alloc, instance, rounds),
         Width::Lanes24 => solve_in_lanes::<ThreeBands<B>>(alloc, instance, rounds),
-        Width::Lanes40 => solve_in_lanes::<FiveBands<B>>(alloc, instance, rounds),
-        Width::Lanes64 => solve_in_lanes::<EightBands<B>>(alloc, instance, rounds),
-        Width::Lanes104 => solve_in_lanes::<ThirteenBands<B>>(alloc, instance, rounds),
-        Width::Lanes208 => solve_in_lanes::<TwentySixBands<B>>(alloc, instance, rounds),
+        Width::Lanes40 => solve_in_lanes::<B::Lanes40>(alloc, instance, rounds),
+        Width::Lanes64 => solve_in_lanes::<B::Lanes64>(alloc, instance, rounds),
+        Width::Lanes104 => solve_in_lanes::<B::Lanes104>(alloc, instance, rounds),
+        Width::Lanes208 => solve_in_lanes::<B::Lanes208>(alloc, instance, rounds),
     }
 }
 
@@ -218,7 +218,7 @@ fn improve_by_rows(
 }
 
 // `improve` by a wavefront of a given width, from an order and its makespan.
-fn improve_in_width<B: Band>(
+fn improve_in_width<B: ManyLanes>(
     alloc: Global,
     instance: &Instance,
     width: Width,
@@ -239,14 +239,10 @@ fn improve_in_width<B: Band>(
         Width::Lanes8 => improve_in_lanes::<OneBand<B>>(alloc, instance, start, first, rounds),
         Width::Lanes16 => improve_in_lanes::<TwoBands<B>>(alloc, instance, start, first, rounds),
         Width::Lanes24 => improve_in_lanes::<ThreeBands<B>>(alloc, instance, start, first, rounds),
-        Width::Lanes40 => improve_in_lanes::<FiveBands<B>>(alloc, instance, start, first, rounds),
-        Width::Lanes64 => improve_in_lanes::<EightBands<B>>(alloc, instance, start, first, rounds),
-        Width::Lanes104 => improve_in_lanes::<ThirteenBands<B>>(
-            alloc, instance, start, first, rounds,
-        ),
-        Width::Lanes208 => improve_in_lanes::<TwentySixBands<B>>(
-            alloc, instance, start, first, rounds,
-        ),
+        Width::Lanes40 => improve_in_lanes::<B::Lanes40>(alloc, instance, start, first, rounds),
+        Width::Lanes64 => improve_in_lanes::<B::Lanes64>(alloc, instance, start, first, rounds),
+        Width::Lanes104 => improve_in_lanes::<B::Lanes104>(alloc, instance, start, first, rounds),
+        Width::Lanes208 => improve_in_lanes::<B::Lanes208>(alloc, instance, start, first, rounds),
     }
 }
 

@@ -6,7 +6,7 @@ ghost use Rattle.std.proofs.lemmas.List.{length-append};
 use crate::band::Band;
 use crate::blocks::Front;
 use crate::kernels::{fill_sums, fill_tails};
-use crate::lanes::{FewLanes, Lanes, Part, Passes};
+use crate::lanes::{Lanes, Part, Passes, WholeRow};
 
 /// The lanes of `a`, and after them those of `b`.
 #[derive(Drop)]
@@ -70,7 +70,7 @@ impl<A: Part, B: Part<Band = A::Band>> Lanes for Joined<A, B> {
     }
 }
 
-impl<A: Part, B: Part<Band = A::Band>> FewLanes for Joined<A, B> {
+impl<A: Part, B: Part<Band = A::Band>> WholeRow for Joined<A, B> {
     #[inline(always)]
     fn last(&self) -> <A::Band as Band>::Number {
         self.b.last()

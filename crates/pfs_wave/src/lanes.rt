@@ -79,8 +79,9 @@ pub trait Passes: Lanes {
             (Self.lanes job.now) Self.WIDTH (step + 1)) (Self.WIDTH - 1) 0 };
 }
 
-/// A row of few lanes, which stay in registers from one step to the next.
-pub trait FewLanes: Lanes {
+/// A row that a loop computes as a whole. The fewer its lanes, the more of them stay in registers from one step to the
+/// next.
+pub trait WholeRow: Lanes {
     /// The value of the last lane.
     fn last(&self) -> <Self::Band as Band>::Number
         ensures { Self.Band.number result ≡ slice_index_or (Self.lanes self.now) (Self.WIDTH - 1) 0 };
@@ -105,7 +106,7 @@ pub trait FewLanes: Lanes {
             (Self.lanes inserted.now) (Self.lanes tails.now) };
 }
 
-/// A row of at most 16 lanes, which can be a part of a wider one.
-pub trait Part: FewLanes {
-    ghost part: { Self.WIDTH ≤ 16 };
+/// A row of at most 104 lanes, which can be a part of a wider one.
+pub trait Part: WholeRow {
+    ghost part: { Self.WIDTH ≤ 104 };
 }

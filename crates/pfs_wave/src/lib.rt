@@ -27,11 +27,11 @@ mod wavefront;
 mod wide;
 
 pub use band::Band;
-pub use bands::{EightBands, FiveBands, ThirteenBands, ThreeBands, TwentySixBands, TwoBands};
+pub use bands::{ManyLanes, ThreeBands, TwoBands};
 pub use bench::LaneBench;
 pub use blocks::Front;
 pub use joined::Joined;
-pub use lanes::{FewLanes, Lanes, Part, Passes};
+pub use lanes::{Lanes, Part, Passes, WholeRow};
 pub use least::Found;
 pub use long::Long;
 pub use metered::MeteredLanes;

@@ -5,7 +5,7 @@ ghost use Rattle.std.proofs.Common.{arith, refl};
 use crate::band::Band;
 use crate::blocks::Front;
 use crate::kernels::{fill_sums, fill_tails};
-use crate::lanes::{FewLanes, Lanes, Passes};
+use crate::lanes::{Lanes, Passes, WholeRow};
 
 /// Eight lanes, in one band.
 #[derive(Drop)]
@@ -53,7 +53,7 @@ impl<B: Band> Lanes for OneBand<B> {
     }
 }
 
-impl<B: Band> FewLanes for OneBand<B> {
+impl<B: Band> WholeRow for OneBand<B> {
     #[inline(always)]
     fn last(&self) -> B::Number {
         self.one.last()

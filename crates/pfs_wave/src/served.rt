@@ -105,7 +105,8 @@ fn is_fast_long(instance: &Instance, width: Width) -> bool
 {
     let jobs = instance.jobs();
     let lanes = width.lanes();
-    2 * lanes <= jobs && (lanes <= 24 || (jobs + lanes) * lanes <= 2 * jobs * instance.machines())
+    2 * lanes <= jobs
+        && (lanes <= 24 || (4 * lanes <= jobs && 6 * lanes <= 7 * instance.machines()))
 }
 
 // The least width with a lane for each machine.

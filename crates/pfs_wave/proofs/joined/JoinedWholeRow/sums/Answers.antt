@@ -1,6 +1,6 @@
 use Rattle.std.proofs.Common.{arith}
 use Rattle.pfs_wave.proofs.JoinedRows.{sums_joined}
-use Rattle.pfs_wave.proofs.joined.JoinedFewLanes.sums.Goals as goal
+use Rattle.pfs_wave.proofs.joined.JoinedWholeRow.sums.Goals as goal
 
 pub returns : goal.returns
 returns g c =

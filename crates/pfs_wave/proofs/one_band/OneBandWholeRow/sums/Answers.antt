@@ -1,5 +1,5 @@
 use Rattle.pfs_wave.proofs.OneBandLemmas.{sums_one}
-use Rattle.pfs_wave.proofs.one_band.OneBandFewLanes.sums.Goals as goal
+use Rattle.pfs_wave.proofs.one_band.OneBandWholeRow.sums.Goals as goal
 
 pub returns : goal.returns
 returns g c =

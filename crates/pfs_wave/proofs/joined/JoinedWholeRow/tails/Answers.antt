@@ -1,6 +1,6 @@
 use Rattle.std.proofs.Common.{◌∙◌, sym, arith}
 use Rattle.pfs_wave.proofs.JoinedRows.{tails_joined}
-use Rattle.pfs_wave.proofs.joined.JoinedFewLanes.tails.Goals as goal
+use Rattle.pfs_wave.proofs.joined.JoinedWholeRow.tails.Goals as goal
 
 pub returns : goal.returns
 returns g c =

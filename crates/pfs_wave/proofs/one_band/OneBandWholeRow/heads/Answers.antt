@@ -1,5 +1,5 @@
 use Rattle.pfs_wave.proofs.OneBandLemmas.{heads_one}
-use Rattle.pfs_wave.proofs.one_band.OneBandFewLanes.heads.Goals as goal
+use Rattle.pfs_wave.proofs.one_band.OneBandWholeRow.heads.Goals as goal
 
 pub returns : goal.returns
 returns g c =

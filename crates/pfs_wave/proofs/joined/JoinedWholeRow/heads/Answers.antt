@@ -1,6 +1,6 @@
 use Rattle.std.proofs.Common.{arith}
 use Rattle.pfs_wave.proofs.JoinedRows.{heads_joined}
-use Rattle.pfs_wave.proofs.joined.JoinedFewLanes.heads.Goals as goal
+use Rattle.pfs_wave.proofs.joined.JoinedWholeRow.heads.Goals as goal
 
 pub returns : goal.returns
 returns g c =
