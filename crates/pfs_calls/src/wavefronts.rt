@@ -9,8 +9,8 @@ use pfs_insert::{HeadsTails, Inserter};
 use pfs_order::Seq;
 use pfs_tests::shops::shop;
 use pfs_wave::{
-    Band, Long, ManyLanes, MeteredLanes, OneBand, Passes, Short, ThreeBands, TwoBands, Wavefront,
-    Width, is_served, method_for,
+    Band, EightBands, FiveBands, Long, MeteredLanes, OneBand, Passes, Short, ThirteenBands,
+    ThreeBands, TwentySixBands, TwoBands, Wavefront, Wide, Width, is_served, method_for,
 };
 
 /// Inserts the jobs of a shop into a sequence in the order of their numbers, each at its best place. The arguments are
@@ -22,11 +22,12 @@ pub(crate) fn wavefronts_call(rt: &HostRuntime, words: &[String]) -> Result<(), 
     let instance = shop(rt.alloc(), number(words, 0)?, number(words, 1)?, &times)?;
     println!(rt; "{:?}", method_for(&instance))?;
     insert_in_widths::<Short>(rt, &instance)?;
-    insert_in_widths::<Long>(rt, &instance)
+    insert_in_widths::<Long>(rt, &instance)?;
+    insert_in_bands(rt, &instance)
 }
 
 // Inserts all jobs with each width that serves the shop.
-fn insert_in_widths<B: ManyLanes>(rt: &HostRuntime, instance: &Instance) -> Result<(), Stop> {
+fn insert_in_widths<B: Band>(rt: &HostRuntime, instance: &Instance) -> Result<(), Stop> {
     if is_served(instance, Width::Lanes8, B::CAP) {
         insert_all::<OneBand<B>>(rt, instance)?;
     }
@@ -37,16 +38,33 @@ fn insert_in_widths<B: ManyLanes>(rt: &HostRuntime, instance: &Instance) -> Resu
         insert_all::<ThreeBands<B>>(rt, instance)?;
     }
     if is_served(instance, Width::Lanes40, B::CAP) {
-        insert_all::<B::Lanes40>(rt, instance)?;
+        insert_all::<FiveBands<B>>(rt, instance)?;
     }
     if is_served(instance, Width::Lanes64, B::CAP) {
-        insert_all::<B::Lanes64>(rt, instance)?;
+        insert_all::<EightBands<B>>(rt, instance)?;
     }
     if is_served(instance, Width::Lanes104, B::CAP) {
-        insert_all::<B::Lanes104>(rt, instance)?;
+        insert_all::<ThirteenBands<B>>(rt, instance)?;
     }
     if is_served(instance, Width::Lanes208, B::CAP) {
-        insert_all::<B::Lanes208>(rt, instance)?;
+        insert_all::<TwentySixBands<B>>(rt, instance)?;
+    }
+    Ok(())
+}
+
+// Inserts all jobs with each width of wide rows that serves the shop.
+fn insert_in_bands(rt: &HostRuntime, instance: &Instance) -> Result<(), Stop> {
+    if is_served(instance, Width::Lanes40, Long::CAP) {
+        insert_all::<Wide<Long, 5>>(rt, instance)?;
+    }
+    if is_served(instance, Width::Lanes64, Long::CAP) {
+        insert_all::<Wide<Long, 8>>(rt, instance)?;
+    }
+    if is_served(instance, Width::Lanes104, Long::CAP) {
+        insert_all::<Wide<Long, 13>>(rt, instance)?;
+    }
+    if is_served(instance, Width::Lanes208, Long::CAP) {
+        insert_all::<Wide<Long, 26>>(rt, instance)?;
     }
     Ok(())
 }

@@ -15,8 +15,8 @@ use pfs_base::{Bench, Instance, Length, MOST_PASSES, MOST_ROUNDS, Shop, Span};
 use pfs_insert::{HeadsTails, Inserter};
 use pfs_order::Order;
 use pfs_wave::{
-    Band, Long, ManyLanes, MeteredLanes, Method, OneBand, Passes, Short, ThreeBands, TwoBands,
-    Wavefront, Width, method_for,
+    Band, EightBands, FiveBands, Long, MeteredLanes, Method, OneBand, Passes, Short, ThirteenBands,
+    ThreeBands, TwentySixBands, TwoBands, Wavefront, Wide, Width, method_for,
 };
 use rand_core::SeedableRng;
 use rand_pcg::Pcg32;
@@ -64,7 +64,7 @@ pub fn solve(
     match method_for(instance) {
         Method::HeadsTails => solve_by_rows(alloc, instance, rounds),
         Method::Wavefront16(width) => solve_in_width::<Short>(alloc, instance, width, rounds),
-        Method::Wavefront32(width) => solve_in_width::<Long>(alloc, instance, width, rounds),
+        Method::Wavefront32(width) => solve_in_bands::<Long>(alloc, instance, width, rounds),
     }
 }
 
@@ -104,7 +104,7 @@ pub fn improve(
         Method::Wavefront16(width) => improve_in_width::<Short>(
             alloc, instance, width, start, first, rounds,
         ),
-        Method::Wavefront32(width) => improve_in_width::<Long>(
+        Method::Wavefront32(width) => improve_in_bands::<Long>(
             alloc, instance, width, start, first, rounds,
         ),
     }
@@ -136,7 +136,7 @@ fn solve_by_rows(
 }
 
 // `solve` by a wavefront of a given width.
-fn solve_in_width<B: ManyLanes>(
+fn solve_in_width<B: Band>(
     alloc: Global,
     instance: &Instance,
     width: Width,
@@ -154,10 +154,36 @@ fn solve_in_width<B: ManyLanes>(
         Width::Lanes8 => solve_in_lanes::<OneBand<B>>(alloc, instance, rounds),
         Width::Lanes16 => solve_in_lanes::<TwoBands<B>>(alloc, instance, rounds),
         Width::Lanes24 => solve_in_lanes::<ThreeBands<B>>(alloc, instance, rounds),
-        Width::Lanes40 => solve_in_lanes::<B::Lanes40>(alloc, instance, rounds),
-        Width::Lanes64 => solve_in_lanes::<B::Lanes64>(alloc, instance, rounds),
-        Width::Lanes104 => solve_in_lanes::<B::Lanes104>(alloc, instance, rounds),
-        Width::Lanes208 => solve_in_lanes::<B::Lanes208>(alloc, instance, rounds),
+        Width::Lanes40 => solve_in_lanes::<FiveBands<B>>(alloc, instance, rounds),
+        Width::Lanes64 => solve_in_lanes::<EightBands<B>>(alloc, instance, rounds),
+        Width::Lanes104 => solve_in_lanes::<ThirteenBands<B>>(alloc, instance, rounds),
+        Width::Lanes208 => solve_in_lanes::<TwentySixBands<B>>(alloc, instance, rounds),
+    }
+}
+
+// The same, by rows of bands where there are more than 24 lanes.
+fn solve_in_bands<B: Band>(
+    alloc: Global,
+    instance: &Instance,
+    width: Width,
+    rounds: Rounds,
+) -> Result<Solution, SearchFault>
+    requires served { IsServed instance.now.shop (lanes_of width) B.CAP }
+    requires limits { InLimits instance.now.shop 0 rounds }
+    ensures found { IfOk result (λ found.
+        IsFound instance.now.shop rounds.count rounds.take rounds.passes rounds.seed
+        found.order found.makespan found.cells) }
+    ensures short { IfOk result (λ found. found.makespan < 10 ^ 18) }
+    ensures fault { IfErr result (λ fault. fault ≡ SearchFault.Memory 0) }
+{
+    match width {
+        Width::Lanes8 | Width::Lanes16 | Width::Lanes24 => solve_in_width::<B>(
+            alloc, instance, width, rounds,
+        ),
+        Width::Lanes40 => solve_in_lanes::<Wide<B, 5>>(alloc, instance, rounds),
+        Width::Lanes64 => solve_in_lanes::<Wide<B, 8>>(alloc, instance, rounds),
+        Width::Lanes104 => solve_in_lanes::<Wide<B, 13>>(alloc, instance, rounds),
+        Width::Lanes208 => solve_in_lanes::<Wide<B, 26>>(alloc, instance, rounds),
     }
 }
 
@@ -218,7 +244,7 @@ fn improve_by_rows(
 }
 
 // `improve` by a wavefront of a given width, from an order and its makespan.
-fn improve_in_width<B: ManyLanes>(
+fn improve_in_width<B: Band>(
     alloc: Global,
     instance: &Instance,
     width: Width,
@@ -239,10 +265,43 @@ fn improve_in_width<B: ManyLanes>(
         Width::Lanes8 => improve_in_lanes::<OneBand<B>>(alloc, instance, start, first, rounds),
         Width::Lanes16 => improve_in_lanes::<TwoBands<B>>(alloc, instance, start, first, rounds),
         Width::Lanes24 => improve_in_lanes::<ThreeBands<B>>(alloc, instance, start, first, rounds),
-        Width::Lanes40 => improve_in_lanes::<B::Lanes40>(alloc, instance, start, first, rounds),
-        Width::Lanes64 => improve_in_lanes::<B::Lanes64>(alloc, instance, start, first, rounds),
-        Width::Lanes104 => improve_in_lanes::<B::Lanes104>(alloc, instance, start, first, rounds),
-        Width::Lanes208 => improve_in_lanes::<B::Lanes208>(alloc, instance, start, first, rounds),
+        Width::Lanes40 => improve_in_lanes::<FiveBands<B>>(alloc, instance, start, first, rounds),
+        Width::Lanes64 => improve_in_lanes::<EightBands<B>>(alloc, instance, start, first, rounds),
+        Width::Lanes104 => improve_in_lanes::<ThirteenBands<B>>(
+            alloc, instance, start, first, rounds,
+        ),
+        Width::Lanes208 => improve_in_lanes::<TwentySixBands<B>>(
+            alloc, instance, start, first, rounds,
+        ),
+    }
+}
+
+// The same, by rows of bands where there are more than 24 lanes.
+fn improve_in_bands<B: Band>(
+    alloc: Global,
+    instance: &Instance,
+    width: Width,
+    start: Kept<Span>,
+    first: u32,
+    rounds: Rounds,
+) -> Result<Solution, SearchFault>
+    requires served { IsServed instance.now.shop (lanes_of width) B.CAP }
+    requires start { IsStart instance.now.shop start.order start.span }
+    requires limits { InLimits instance.now.shop first rounds }
+    ensures found { IfOk result (λ found.
+        IsImproved instance.now.shop start.order first rounds.count rounds.take rounds.passes rounds.seed
+        found.order found.makespan found.cells) }
+    ensures short { IfOk result (λ found. found.makespan < 10 ^ 18) }
+    ensures fault { IfErr result (λ fault. fault ≡ SearchFault.Memory 0) }
+{
+    match width {
+        Width::Lanes8 | Width::Lanes16 | Width::Lanes24 => improve_in_width::<B>(
+            alloc, instance, width, start, first, rounds,
+        ),
+        Width::Lanes40 => improve_in_lanes::<Wide<B, 5>>(alloc, instance, start, first, rounds),
+        Width::Lanes64 => improve_in_lanes::<Wide<B, 8>>(alloc, instance, start, first, rounds),
+        Width::Lanes104 => improve_in_lanes::<Wide<B, 13>>(alloc, instance, start, first, rounds),
+        Width::Lanes208 => improve_in_lanes::<Wide<B, 26>>(alloc, instance, start, first, rounds),
     }
 }
 

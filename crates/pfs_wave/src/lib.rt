@@ -27,7 +27,7 @@ mod wavefront;
 mod wide;
 
 pub use band::Band;
-pub use bands::{ManyLanes, ThreeBands, TwoBands};
+pub use bands::{EightBands, FiveBands, ThirteenBands, ThreeBands, TwentySixBands, TwoBands};
 pub use bench::LaneBench;
 pub use blocks::Front;
 pub use joined::Joined;
