@@ -16,7 +16,7 @@ use pfs_insert::{HeadsTails, Inserter, Placed};
 use pfs_order::Seq;
 use pfs_wave::{
     Band, EightBands, FiveBands, Long, MeteredLanes, Method, OneBand, Passes, Short, ThirteenBands,
-    ThreeBands, TwentySixBands, TwoBands, Wavefront, Wide, Width, method_for,
+    ThreeBands, TwentySixBands, TwoBands, Wavefront, Width, method_for,
 };
 use std::alloc::Global;
 
@@ -94,7 +94,7 @@ pub(crate) fn best_place(
     match method_for(instance) {
         Method::HeadsTails => best_by_rows(alloc, instance, sequence, job),
         Method::Wavefront16(width) => best_in_width::<Short>(alloc, instance, width, sequence, job),
-        Method::Wavefront32(width) => best_in_bands::<Long>(alloc, instance, width, sequence, job),
+        Method::Wavefront32(width) => best_in_width::<Long>(alloc, instance, width, sequence, job),
     }
 }
 
@@ -152,33 +152,6 @@ fn best_in_width<B: Band>(
         Width::Lanes64 => best_in_lanes::<EightBands<B>>(alloc, instance, sequence, job),
         Width::Lanes104 => best_in_lanes::<ThirteenBands<B>>(alloc, instance, sequence, job),
         Width::Lanes208 => best_in_lanes::<TwentySixBands<B>>(alloc, instance, sequence, job),
-    }
-}
-
-// The same, by rows of bands where there are more than 24 lanes.
-fn best_in_bands<B: Band>(
-    alloc: Global,
-    instance: &Instance,
-    width: Width,
-    sequence: &Seq,
-    job: usize,
-) -> Result<Placed<u64>, CallFault>
-    requires served { IsServed instance.now.shop (lanes_of width) B.CAP }
-    requires size { sequence.now.size ≡ instance.now.shop.jobs }
-    requires job { job < instance.now.shop.jobs }
-    requires absent { Contains sequence.now.jobs job → ⊥ }
-    ensures best { IfOk result (λ best.
-        IsBestPlace instance.now.shop sequence.now.jobs job best.place best.span) }
-    ensures memory { IfErr result (λ why. why ≡ CallFault.Memory) }
-{
-    match width {
-        Width::Lanes8 | Width::Lanes16 | Width::Lanes24 => best_in_width::<B>(
-            alloc, instance, width, sequence, job,
-        ),
-        Width::Lanes40 => best_in_lanes::<Wide<B, 5>>(alloc, instance, sequence, job),
-        Width::Lanes64 => best_in_lanes::<Wide<B, 8>>(alloc, instance, sequence, job),
-        Width::Lanes104 => best_in_lanes::<Wide<B, 13>>(alloc, instance, sequence, job),
-        Width::Lanes208 => best_in_lanes::<Wide<B, 26>>(alloc, instance, sequence, job),
     }
 }
 

@@ -14,7 +14,7 @@ use pfs_insert::{HeadsTails, Inserter};
 use pfs_order::Seq;
 use pfs_wave::{
     Band, EightBands, FiveBands, Long, MeteredLanes, Method, OneBand, Passes, Short, ThirteenBands,
-    ThreeBands, TwentySixBands, TwoBands, Wavefront, Wide, Width, method_for,
+    ThreeBands, TwentySixBands, TwoBands, Wavefront, Width, method_for,
 };
 use std::alloc::Global;
 
@@ -41,7 +41,7 @@ pub(crate) fn make_visits(
         Method::Wavefront16(width) => visit_in_width::<Short>(
             alloc, instance, width, seq, list, passes,
         ),
-        Method::Wavefront32(width) => visit_in_bands::<Long>(
+        Method::Wavefront32(width) => visit_in_width::<Long>(
             alloc, instance, width, seq, list, passes,
         ),
     }
@@ -99,35 +99,6 @@ fn visit_in_width<B: Band>(
         Width::Lanes64 => visit_in_lanes::<EightBands<B>>(alloc, instance, seq, list, passes),
         Width::Lanes104 => visit_in_lanes::<ThirteenBands<B>>(alloc, instance, seq, list, passes),
         Width::Lanes208 => visit_in_lanes::<TwentySixBands<B>>(alloc, instance, seq, list, passes),
-    }
-}
-
-// The same, by rows of bands where there are more than 24 lanes.
-fn visit_in_bands<B: Band>(
-    alloc: Global,
-    instance: &Instance,
-    width: Width,
-    seq: &mut Seq,
-    list: &[u32],
-    passes: u32,
-) -> Result<Option<u64>, CallFault>
-    requires served { IsServed instance.now.shop (lanes_of width) B.CAP }
-    requires size { seq.old.size ≡ instance.now.shop.jobs }
-    requires jobs { All (λ job. job < instance.now.shop.jobs) list.now }
-    requires few { length list.now ≤ instance.now.shop.jobs }
-    requires passes { passes ≤ MOST_PASSES }
-    ensures jobs { OnOk result (seq.new.jobs ≡ after_visits instance.now.shop list.now passes seq.old.jobs) }
-    ensures span { IfOk result (λ last. IfSome last (λ span. span ≡ makespan instance.now.shop seq.new.jobs)) }
-    ensures memory { IfErr result (λ why. why ≡ CallFault.Memory) }
-{
-    match width {
-        Width::Lanes8 | Width::Lanes16 | Width::Lanes24 => visit_in_width::<B>(
-            alloc, instance, width, seq, list, passes,
-        ),
-        Width::Lanes40 => visit_in_lanes::<Wide<B, 5>>(alloc, instance, seq, list, passes),
-        Width::Lanes64 => visit_in_lanes::<Wide<B, 8>>(alloc, instance, seq, list, passes),
-        Width::Lanes104 => visit_in_lanes::<Wide<B, 13>>(alloc, instance, seq, list, passes),
-        Width::Lanes208 => visit_in_lanes::<Wide<B, 26>>(alloc, instance, seq, list, passes),
     }
 }
 

@@ -16,7 +16,7 @@ use pfs_insert::{HeadsTails, Inserter};
 use pfs_order::Order;
 use pfs_wave::{
     Band, EightBands, FiveBands, Long, MeteredLanes, Method, OneBand, Passes, Short, ThirteenBands,
-    ThreeBands, TwentySixBands, TwoBands, Wavefront, Wide, Width, method_for,
+    ThreeBands, TwentySixBands, TwoBands, Wavefront, Width, method_for,
 };
 use rand_core::SeedableRng;
 use rand_pcg::Pcg32;
@@ -64,7 +64,7 @@ pub fn solve(
     match method_for(instance) {
         Method::HeadsTails => solve_by_rows(alloc, instance, rounds),
         Method::Wavefront16(width) => solve_in_width::<Short>(alloc, instance, width, rounds),
-        Method::Wavefront32(width) => solve_in_bands::<Long>(alloc, instance, width, rounds),
+        Method::Wavefront32(width) => solve_in_width::<Long>(alloc, instance, width, rounds),
     }
 }
 
@@ -104,7 +104,7 @@ pub fn improve(
         Method::Wavefront16(width) => improve_in_width::<Short>(
             alloc, instance, width, start, first, rounds,
         ),
-        Method::Wavefront32(width) => improve_in_bands::<Long>(
+        Method::Wavefront32(width) => improve_in_width::<Long>(
             alloc, instance, width, start, first, rounds,
         ),
     }
@@ -158,32 +158,6 @@ fn solve_in_width<B: Band>(
         Width::Lanes64 => solve_in_lanes::<EightBands<B>>(alloc, instance, rounds),
         Width::Lanes104 => solve_in_lanes::<ThirteenBands<B>>(alloc, instance, rounds),
         Width::Lanes208 => solve_in_lanes::<TwentySixBands<B>>(alloc, instance, rounds),
-    }
-}
-
-// The same, by rows of bands where there are more than 24 lanes.
-fn solve_in_bands<B: Band>(
-    alloc: Global,
-    instance: &Instance,
-    width: Width,
-    rounds: Rounds,
-) -> Result<Solution, SearchFault>
-    requires served { IsServed instance.now.shop (lanes_of width) B.CAP }
-    requires limits { InLimits instance.now.shop 0 rounds }
-    ensures found { IfOk result (λ found.
-        IsFound instance.now.shop rounds.count rounds.take rounds.passes rounds.seed
-        found.order found.makespan found.cells) }
-    ensures short { IfOk result (λ found. found.makespan < 10 ^ 18) }
-    ensures fault { IfErr result (λ fault. fault ≡ SearchFault.Memory 0) }
-{
-    match width {
-        Width::Lanes8 | Width::Lanes16 | Width::Lanes24 => solve_in_width::<B>(
-            alloc, instance, width, rounds,
-        ),
-        Width::Lanes40 => solve_in_lanes::<Wide<B, 5>>(alloc, instance, rounds),
-        Width::Lanes64 => solve_in_lanes::<Wide<B, 8>>(alloc, instance, rounds),
-        Width::Lanes104 => solve_in_lanes::<Wide<B, 13>>(alloc, instance, rounds),
-        Width::Lanes208 => solve_in_lanes::<Wide<B, 26>>(alloc, instance, rounds),
     }
 }
 
@@ -273,35 +247,6 @@ fn improve_in_width<B: Band>(
         Width::Lanes208 => improve_in_lanes::<TwentySixBands<B>>(
             alloc, instance, start, first, rounds,
         ),
-    }
-}
-
-// The same, by rows of bands where there are more than 24 lanes.
-fn improve_in_bands<B: Band>(
-    alloc: Global,
-    instance: &Instance,
-    width: Width,
-    start: Kept<Span>,
-    first: u32,
-    rounds: Rounds,
-) -> Result<Solution, SearchFault>
-    requires served { IsServed instance.now.shop (lanes_of width) B.CAP }
-    requires start { IsStart instance.now.shop start.order start.span }
-    requires limits { InLimits instance.now.shop first rounds }
-    ensures found { IfOk result (λ found.
-        IsImproved instance.now.shop start.order first rounds.count rounds.take rounds.passes rounds.seed
-        found.order found.makespan found.cells) }
-    ensures short { IfOk result (λ found. found.makespan < 10 ^ 18) }
-    ensures fault { IfErr result (λ fault. fault ≡ SearchFault.Memory 0) }
-{
-    match width {
-        Width::Lanes8 | Width::Lanes16 | Width::Lanes24 => improve_in_width::<B>(
-            alloc, instance, width, start, first, rounds,
-        ),
-        Width::Lanes40 => improve_in_lanes::<Wide<B, 5>>(alloc, instance, start, first, rounds),
-        Width::Lanes64 => improve_in_lanes::<Wide<B, 8>>(alloc, instance, start, first, rounds),
-        Width::Lanes104 => improve_in_lanes::<Wide<B, 13>>(alloc, instance, start, first, rounds),
-        Width::Lanes208 => improve_in_lanes::<Wide<B, 26>>(alloc, instance, start, first, rounds),
     }
 }
 

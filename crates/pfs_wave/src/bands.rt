@@ -1,10 +1,11 @@
-//! Rows of lanes of each width, which loops compute as wholes.
+//! Rows of lanes of each width.
 ghost use Rattle.std.proofs.Common.{arith};
 
 use crate::band::Band;
 use crate::joined::Joined;
 use crate::lanes::Part;
 use crate::one_band::OneBand;
+use crate::wide::Wide;
 
 /// Rows of 16 lanes.
 pub type TwoBands<B> = Joined<OneBand<B>, OneBand<B>>;
@@ -19,10 +20,10 @@ pub type FiveBands<B> = Joined<ThreeBands<B>, TwoBands<B>>;
 pub type EightBands<B> = Joined<FiveBands<B>, ThreeBands<B>>;
 
 /// Rows of 104 lanes.
-pub type ThirteenBands<B> = Joined<EightBands<B>, FiveBands<B>>;
+pub type ThirteenBands<B> = Wide<B, 13>;
 
 /// Rows of 208 lanes, more than a shop has machines.
-pub type TwentySixBands<B> = Joined<ThirteenBands<B>, ThirteenBands<B>>;
+pub type TwentySixBands<B> = Wide<B, 26>;
 
 impl<B: Band> Part for OneBand<B> {
     ghost part = { Prim.omega arith };
@@ -37,13 +38,5 @@ impl<B: Band> Part for ThreeBands<B> {
 }
 
 impl<B: Band> Part for FiveBands<B> {
-    ghost part = { Prim.omega arith };
-}
-
-impl<B: Band> Part for EightBands<B> {
-    ghost part = { Prim.omega arith };
-}
-
-impl<B: Band> Part for ThirteenBands<B> {
     ghost part = { Prim.omega arith };
 }

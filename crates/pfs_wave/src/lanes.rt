@@ -106,7 +106,7 @@ pub trait WholeRow: Lanes {
             (Self.lanes inserted.now) (Self.lanes tails.now) };
 }
 
-/// A row of at most 104 lanes, which can be a part of a wider one.
+/// A row of at most 40 lanes, which can be a part of a wider one.
 pub trait Part: WholeRow {
-    ghost part: { Self.WIDTH ≤ 104 };
+    ghost part: { Self.WIDTH ≤ 40 };
 }

@@ -106,7 +106,8 @@ fn is_fast_long(instance: &Instance, width: Width) -> bool
     let jobs = instance.jobs();
     let lanes = width.lanes();
     2 * lanes <= jobs
-        && (lanes <= 24 || (4 * lanes <= jobs && 6 * lanes <= 7 * instance.machines()))
+        && (lanes <= 24
+            || (104 <= lanes && 4 * lanes <= jobs && 6 * lanes <= 7 * instance.machines()))
 }
 
 // The least width with a lane for each machine.

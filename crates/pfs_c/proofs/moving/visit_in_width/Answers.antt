@@ -1,22 +1,6 @@
 use Rattle.std.proofs.Common.{arith}
 use Rattle.pfs_wave.proofs.Published.Room.{room}
-use Rattle.pfs_c.proofs.moving.visit_in_bands.Goals as goal
-
-pub visit_in_lanes-requires-in-Lanes40-room-L-Passes : goal.visit_in_lanes-requires-in-Lanes40-room-L-Passes
-visit_in_lanes-requires-in-Lanes40-room-L-Passes g c κs within =
-    room _ _ 5 g.met.B.Band.aligned g.met.B.Band.small (omega arith)
-
-pub visit_in_lanes-requires-in-Lanes40-room-L-Lanes : goal.visit_in_lanes-requires-in-Lanes40-room-L-Lanes
-visit_in_lanes-requires-in-Lanes40-room-L-Lanes g c κs within =
-    room _ _ 5 g.met.B.Band.aligned g.met.B.Band.small (omega arith)
-
-pub visit_in_lanes-requires-in-Lanes64-room-L-Passes : goal.visit_in_lanes-requires-in-Lanes64-room-L-Passes
-visit_in_lanes-requires-in-Lanes64-room-L-Passes g c κs within =
-    room _ _ 8 g.met.B.Band.aligned g.met.B.Band.small (omega arith)
-
-pub visit_in_lanes-requires-in-Lanes64-room-L-Lanes : goal.visit_in_lanes-requires-in-Lanes64-room-L-Lanes
-visit_in_lanes-requires-in-Lanes64-room-L-Lanes g c κs within =
-    room _ _ 8 g.met.B.Band.aligned g.met.B.Band.small (omega arith)
+use Rattle.pfs_c.proofs.moving.visit_in_width.Goals as goal
 
 pub visit_in_lanes-requires-in-Lanes104-room-L-Passes : goal.visit_in_lanes-requires-in-Lanes104-room-L-Passes
 visit_in_lanes-requires-in-Lanes104-room-L-Passes g c κs within =
