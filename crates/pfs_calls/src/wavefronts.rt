@@ -84,6 +84,9 @@ fn insert_all<L: Passes>(rt: &HostRuntime, instance: &Instance) -> Result<(), St
         }
         let best = rows.best(rt.alloc(), &mut bench, &seq, job)?;
         print_best(rt, &bench, best.place, best.span)?;
+        if !bench.room(6_000_000_000) {
+            return Err(Stop::Other);
+        }
         let best = lanes.best(rt.alloc(), &mut bench, &seq, job)?;
         print_best(rt, &bench, best.place, best.span)?;
         seq.insert_at(best.place, job);

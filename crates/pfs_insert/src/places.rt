@@ -3,7 +3,7 @@ ghost use Rattle.std.specs.Prelude.{◌≡◌, ℕ, ◌+◌, ◌-◌, ◌*◌, �
 ghost use Rattle.pfs_insert.specs.Insertion.{makespan_with};
 ghost use Rattle.pfs_insert.specs.Private.BestSoFar.{IsBest};
 ghost use Rattle.pfs_insert.specs.Private.Counting.{Counted};
-ghost use Rattle.pfs_insert.specs.Private.Rows.{CanInsert, HasBacks, HasHead, HasRows, IsPartial, IsPut, KeepsHeads};
+ghost use Rattle.pfs_insert.specs.Private.Rows.{CanInsert, HasBacks, HasHead, HasTableRows, IsPartial, IsPut, KeepsHeads};
 
 use crate::inserter::{Placed, better};
 use crate::rows::{fill_head, fill_two_places};
@@ -23,7 +23,7 @@ pub(crate) fn best_by_rows<B: Bench>(
     put: &mut [B::Span],
 ) -> Placed<B::Span>
     requires insertion { CanInsert (B.shop bench.old) seq.now job }
-    requires rows { HasRows B.Span.number (B.shop bench.old) seq.now.jobs heads.old backs.now put.old 0 }
+    requires rows { HasTableRows B.Span.number (B.shop bench.old) seq.now.jobs heads.old backs.now put.old 0 }
     requires room { B.counted bench.old + (3 * length seq.now.jobs + 2) * (B.shop bench.old).machines < 2 ^ 64 }
     ensures best { IsBest B.Span.number (makespan_with (B.shop bench.old) seq.now.jobs job)
         (length seq.now.jobs + 1) result.place result.span }
@@ -61,7 +61,7 @@ fn try_two_places<B: Bench>(
 ) -> Placed<B::Span>
     requires insertion { CanInsert (B.shop bench.old) seq.now job }
     requires place { place + 2 ≤ length seq.now.jobs }
-    requires rows { HasRows B.Span.number (B.shop bench.old) seq.now.jobs heads.old backs.now put.old place }
+    requires rows { HasTableRows B.Span.number (B.shop bench.old) seq.now.jobs heads.old backs.now put.old place }
     requires best { 0 < place
         → IsBest B.Span.number (makespan_with (B.shop bench.old) seq.now.jobs job) place best.place best.span }
     requires room { B.counted bench.old + 6 * (B.shop bench.old).machines < 2 ^ 64 }
@@ -128,7 +128,7 @@ fn try_place<B: Bench>(
 ) -> Placed<B::Span>
     requires insertion { CanInsert (B.shop bench.old) seq.now job }
     requires place { place ≤ length seq.now.jobs }
-    requires rows { HasRows B.Span.number (B.shop bench.old) seq.now.jobs heads.now backs.now put.old place }
+    requires rows { HasTableRows B.Span.number (B.shop bench.old) seq.now.jobs heads.now backs.now put.old place }
     requires best { 0 < place
         → IsBest B.Span.number (makespan_with (B.shop bench.old) seq.now.jobs job) place best.place best.span }
     requires room { B.counted bench.old + 2 * (B.shop bench.old).machines < 2 ^ 64 }

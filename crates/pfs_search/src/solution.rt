@@ -4,7 +4,7 @@ ghost use Rattle.pfs_base.specs.Paths.{makespan as makespan_of};
 ghost use Rattle.pfs_insert.specs.Insertion.{heads_tails_cost};
 ghost use Rattle.pfs_wave.specs.Served.{IsServed, lanes_of};
 ghost use Rattle.pfs_search.specs.Solution.{IsFound, IsImproved};
-ghost use Rattle.pfs_search.specs.Private.Starts.{InLimits, IsReady, IsStart};
+ghost use Rattle.pfs_search.specs.Private.Starts.{InLimits, MayStart, IsStart};
 
 use crate::fault::SearchFault;
 use crate::kept::Kept;
@@ -289,7 +289,7 @@ fn search<B: Shop, I: Inserter<B> + Drop>(
     inserter: I,
     rounds: Rounds,
 ) -> Result<Kept<B::Span>, SearchFault>
-    requires ready { IsReady (B.shop bench.old) (B.counted bench.old) (I.sizes inserter) I.cost I.can_refuse }
+    requires ready { MayStart (B.shop bench.old) (B.counted bench.old) (I.sizes inserter) I.cost I.can_refuse }
     requires limits { InLimits (B.shop bench.old) 0 rounds }
     ensures found { IfOk result (λ kept.
         IsFound (B.shop bench.old) rounds.count rounds.take rounds.passes rounds.seed
@@ -343,7 +343,7 @@ fn go_on<B: Shop, I: Inserter<B> + Drop>(
     first: u32,
     rounds: Rounds,
 ) -> Result<Kept<B::Span>, SearchFault>
-    requires ready { IsReady (B.shop bench.old) (B.counted bench.old) (I.sizes inserter) I.cost I.can_refuse }
+    requires ready { MayStart (B.shop bench.old) (B.counted bench.old) (I.sizes inserter) I.cost I.can_refuse }
     requires start { IsStart (B.shop bench.old) start.order (B.Span.number start.span) }
     requires limits { InLimits (B.shop bench.old) first rounds }
     ensures found { IfOk result (λ kept.

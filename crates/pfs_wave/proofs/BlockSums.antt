@@ -10,7 +10,7 @@ use Rattle.std.proofs.lemmas.Slice.{take-put_mid}
 use borrow.Rule.Slice.PartMut.{put_mid}
 use Rattle.pfs_wave.specs.Lanes.{rows_of, capped_add, heads_step, sums_step, zeros}
 use Rattle.pfs_wave.specs.Private.SkewedBand.{eight_from}
-use Rattle.pfs_wave.specs.Private.Blocks.{WavePass, AreWide, IsBlock, IsFront, IsCarry, AreCarries, heads_after, inserted_after}
+use Rattle.pfs_wave.specs.Private.Blocks.{WavePass, AreWide, IsStepBlock, IsBandAfter, IsCarry, AreCarries, heads_after, inserted_after}
 use Rattle.pfs_wave.specs.Private.Blocks.{sums_after}
 use Rattle.pfs_wave.specs.declared.blocks.Front.{Front}
 use Rattle.pfs_wave.proofs.WavefrontLaws.{heads_next, heads_first, inserted_next, inserted_first, sums_next, sums_first}
@@ -124,7 +124,7 @@ module _ (cap width : ℕ) (pass : WavePass) (wide : AreWide width pass) where
 
   module _ {B N : Type 0} (lanes : B → List ℕ) (first : ℕ) (fits : first + 8 ≤ width) where
     -- the front of one band is what the next band takes from it
-    pub carry_of : (step : ℕ) (front : Front B N) → IsFront lanes cap width pass first step front
+    pub carry_of : (step : ℕ) (front : Front B N) → IsBandAfter lanes cap width pass first step front
         → IsCarry lanes cap width pass (first + 8) step front
     carry_of step front is = record {
       head = ap (λ l. get_or l 7 0) is.head ∙ last_lane first (heads_after cap width pass step);
@@ -134,7 +134,7 @@ module _ (cap width : ℕ) (pass : WavePass) (wide : AreWide width pass) where
 
     -- one more step of a band
     pub front_more : (step : ℕ) (front carry new : Front B N) (times tails job : B) → step < pass.steps
-        → IsFront lanes cap width pass first step front → IsCarry lanes cap width pass first step carry
+        → IsBandAfter lanes cap width pass first step front → IsCarry lanes cap width pass first step carry
         → lanes times ≡ eight_from first (pass.times step) → lanes tails ≡ eight_from first (pass.tails step)
         → lanes job ≡ eight_from first pass.job
         → lanes new.head ≡ heads_step cap (get_or (lanes carry.head) 7 0) (lanes front.head) (lanes front.head)
@@ -143,7 +143,7 @@ module _ (cap width : ℕ) (pass : WavePass) (wide : AreWide width pass) where
         (lanes front.head) (lanes job)
         → lanes new.sum ≡ sums_step cap (get_or (lanes carry.sum) 7 0) (lanes front.sum) (lanes new.inserted)
         (lanes tails)
-        → IsFront lanes cap width pass first (step + 1) new
+        → IsBandAfter lanes cap width pass first (step + 1) new
     front_more step front carry new times tails job lt is carried times_are tails_are job_is head_is inserted_is sum_is =
         let heads = heads_after cap width pass step in
         let inserted = inserted_after cap width pass step in
@@ -167,18 +167,18 @@ module _ (cap width : ℕ) (pass : WavePass) (wide : AreWide width pass) where
 -- of the band before for the other steps
 pub record IsBandSoFar {B N : Type 0} (lanes : B → List ℕ) (cap width : ℕ) (pass : WavePass) (first at count done : ℕ)
     (now : Front B N) (carries : List (Front B N)) : Type 0 where
-  pub front : IsFront lanes cap width pass first (at + done) now
+  pub front : IsBandAfter lanes cap width pass first (at + done) now
   pub carried : AreCarries lanes cap width pass (first + 8) at done carries
   pub rest : (step : ℕ) (other : Front B N) → done ≤ step → step < count
       → IsCarry lanes cap width pass first (at + step) (get_or carries step other)
 
 module _ {B N : Type 0} (lanes : B → List ℕ) (cap width : ℕ) (pass : WavePass) (wide : AreWide width pass)
     (first at count : ℕ) (fits : first + 8 ≤ width) where
-  pub band_none : (front : Front B N) (carries : List (Front B N)) → IsFront lanes cap width pass first at front
+  pub band_none : (front : Front B N) (carries : List (Front B N)) → IsBandAfter lanes cap width pass first at front
       → AreCarries lanes cap width pass first at count carries
       → IsBandSoFar lanes cap width pass first at count 0 front carries
   band_none front carries is are = record {
-    front = subst (λ n. IsFront lanes cap width pass first n front) here is;
+    front = subst (λ n. IsBandAfter lanes cap width pass first n front) here is;
     carried = λ step other lt. absurd (omega arith);
     rest = λ step other le lt. are step other lt;
   }
@@ -188,7 +188,7 @@ module _ {B N : Type 0} (lanes : B → List ℕ) (cap width : ℕ) (pass : WaveP
 
   pub band_more : (done : ℕ) (now new : Front B N) (carries : List (Front B N))
       → IsBandSoFar lanes cap width pass first at count done now carries → done < count → count ≤ length carries
-      → IsFront lanes cap width pass first (at + (done + 1)) new
+      → IsBandAfter lanes cap width pass first (at + (done + 1)) new
       → IsBandSoFar lanes cap width pass first at count (done + 1) new (slice_set carries done now)
   band_more done now new carries so_far lt room is = record {
     front = is;
@@ -216,9 +216,9 @@ AreZeros {B} {N} lanes count carries =
 pub record AreSoFar {B N : Type 0} (lanes : B → List ℕ) (cap width : ℕ) (pass : WavePass) (at count bands : ℕ)
     (fronts carries : List (Front B N)) : Type 0 where
   pub done : (band : ℕ) (other : Front B N) → band < bands
-      → IsFront lanes cap width pass (8 * band) (at + count) (get_or fronts band other)
+      → IsBandAfter lanes cap width pass (8 * band) (at + count) (get_or fronts band other)
   pub rest : (band : ℕ) (other : Front B N) → bands ≤ band → band < length fronts
-      → IsFront lanes cap width pass (8 * band) at (get_or fronts band other)
+      → IsBandAfter lanes cap width pass (8 * band) at (get_or fronts band other)
   pub carried : AreCarries lanes cap width pass (8 * bands) at count carries
 
 module _ {B N : Type 0} (lanes : B → List ℕ) where
@@ -237,7 +237,7 @@ module _ {B N : Type 0} (lanes : B → List ℕ) where
   module _ (cap width : ℕ) (pass : WavePass) (at count : ℕ) where
     pub bands_none : (fronts carries : List (Front B N))
         → ((band : ℕ) (other : Front B N) → band < length fronts
-        → IsFront lanes cap width pass (8 * band) at (get_or fronts band other))
+        → IsBandAfter lanes cap width pass (8 * band) at (get_or fronts band other))
         → AreZeros lanes count carries → AreSoFar lanes cap width pass at count 0 fronts carries
     bands_none fronts carries are none = record {
       done = λ band other lt. absurd (omega arith);
@@ -253,7 +253,7 @@ module _ {B N : Type 0} (lanes : B → List ℕ) where
 
     pub bands_more : (band : ℕ) (new : Front B N) (fronts carries others : List (Front B N))
         → AreSoFar lanes cap width pass at count band fronts carries → band < length fronts
-        → IsFront lanes cap width pass (8 * band) (at + count) new
+        → IsBandAfter lanes cap width pass (8 * band) (at + count) new
         → AreCarries lanes cap width pass (8 * band + 8) at count others
         → AreSoFar lanes cap width pass at count (band + 1) (slice_set fronts band new) others
     bands_more band new fronts carries others so_far lt is are =
@@ -329,7 +329,7 @@ module _ {X : Type 0} (lanes : X → List ℕ) (width : ℕ) (wide : (row : X) �
     }
 
     pub part_block : (a k : ℕ) → a + k ≤ length times
-        → IsBlock width (whole_pass (map lanes times) (map lanes tails) (lanes job)) a
+        → IsStepBlock width (whole_pass (map lanes times) (map lanes tails) (lanes job)) a
         (map lanes (take k (drop a times))) (map lanes (take k (drop a tails)))
     part_block a k inside =
         let times_long = length-map (take k (drop a times)) lanes in
@@ -350,7 +350,7 @@ eight_zeros width first fits =
 -- before the first step all lanes are 0
 pub front_zero : {B N : Type 0} (lanes : B → List ℕ) (cap width : ℕ) (pass : WavePass) (first : ℕ) (front : Front B N)
     → first + 8 ≤ width → lanes front.head ≡ zeros 8 → lanes front.inserted ≡ zeros 8 → lanes front.sum ≡ zeros 8
-    → IsFront lanes cap width pass first 0 front
+    → IsBandAfter lanes cap width pass first 0 front
 front_zero lanes cap width pass first front fits head inserted sum =
     let none = sym (eight_zeros width first fits) in
     record {
@@ -366,7 +366,7 @@ lane_last row (suc width) some = ap (λ n. get_or row n 0) {x = width} (omega ar
 -- the last sums of a block, from the fronts before each of its steps and the last front after it
 pub block_sums : {B N : Type 0} (lanes : B → List ℕ) (cap width : ℕ) (pass : WavePass) → AreWide width pass
     → (at count last : ℕ) (front : Front B N) → 8 * last + 8 ≡ width
-    → IsFront lanes cap width pass (8 * last) (at + count) front → at + count ≤ pass.steps
+    → IsBandAfter lanes cap width pass (8 * last) (at + count) front → at + count ≤ pass.steps
     → get_or (lanes front.sum) 7 0 ≡ get_or (0 ∷ sums_after cap width pass (at + count)) width 0
 block_sums lanes cap width pass wide at count last front all is inside =
     (carry_of cap width pass wide lanes (8 * last) (omega arith) (at + count) front is).sum

@@ -1,15 +1,12 @@
 -- The tails of a block of steps, computed one band after the other.
 use Rattle.std.proofs.Common.{inl, inr, ℕ, zero, suc, ◌≡◌, ◌+◌, ◌-◌, ◌*◌, ◌<◌, ◌≤◌, List, [], ◌∷◌, ◌++◌, max, length, map}
 use Rattle.std.proofs.Common.{take, drop, get_or, slice_set, refl, ap, ◌∙◌, sym, arith, subst}
-use borrow.Rule.Slice.PartMut.{put_mid}
 use Rattle.std.specs.Simd.Lanes.{zip2}
-use Rattle.std.proofs.lemmas.Bool.{cases_eq, cases_lt}
-use Rattle.std.proofs.lemmas.List.{take_more, drop_all, drop-drop, take_at, drop_at, take-append-drop, take-append-le}
+use Rattle.std.proofs.lemmas.Bool.{cases_eq}
+use Rattle.std.proofs.lemmas.List.{take_more, drop_all, drop-drop, drop_at, take-append-drop, take-append-le}
 use Rattle.std.proofs.lemmas.List.{drop-append-le, length-append, length-drop, length-take-le, get_or-drop, get_or-take}
-use Rattle.std.proofs.lemmas.List.{get_or-set_same, get_or-set_other, get_or_past, get_or-map, get_or-append-add}
-use Rattle.std.proofs.lemmas.List.{get_or_append_left, length-map, drop-replicate, replicate-append-replicate}
-use Rattle.std.proofs.lemmas.Slice.{drop-put_mid}
-use Rattle.pfs_wave.specs.Lanes.{capped_add, zeros, rows_of, tails_step, tails_at}
+use Rattle.std.proofs.lemmas.List.{get_or-set_same, get_or-set_other, get_or_past}
+use Rattle.pfs_wave.specs.Lanes.{capped_add, zeros, tails_step, tails_at}
 use Rattle.pfs_wave.specs.Private.SkewedBand.{eight_from}
 use Rattle.pfs_wave.specs.Private.Blocks.{WavePass, AreWide, AreTailCarries, AreTailsFrom, AreRowsFrom, AreAfters}
 use Rattle.pfs_wave.specs.Private.Blocks.{tails_of}
@@ -309,124 +306,3 @@ module _ {B : Type 0} (lanes : B → List ℕ) (cap width : ℕ) (pass : WavePas
         tails_are = subst (λ n. AreTailsFrom cap width pass (8 * n) at new_tails) here filled;
         carries_are = subst (λ n. AreTailCarries lanes cap width pass (8 * n) at count new_carries) here carried;
       }
-
--- ---- all blocks
-
--- the rows of a pass over `count` steps, of which the tails are not read
-abbrev pub tails_pass : ℕ → ℕ → List (List ℕ) → WavePass
-tails_pass width count times = record { steps = count; times = rows_of times; tails = rows_of times; job = zeros width }
-
--- the tails of all steps from `from` on
-pub record AreBlocksFilled {X B : Type 0} (rows : X → List ℕ) (lanes : B → List ℕ) (cap width count : ℕ)
-    (times : List (List ℕ)) (from : ℕ) (tails : List X) (afters : List B) : Type 0 where
-  pub afters_are : AreAfters lanes cap width (tails_pass width count times) from afters
-  pub tails_are : (step : ℕ) (other : X) → from ≤ step → step < count
-      → rows (get_or tails step other) ≡ tails_of cap width (tails_pass width count times) step
-
--- a part of a list, and the list after a write to the part
-module _ {X : Type 0} (a k : ℕ) (xs ys : List X) (inside : a ≤ length xs) where
-  part_inside : (other : X) (step : ℕ) → a ≤ step → step < a + length ys
-      → get_or (put_mid a k xs ys) step other ≡ get_or ys (step - a) other
-  part_inside other step le lt =
-      let front = length-take-le a xs inside in
-      let here : step ≡ length (take a xs) + (step - a) = omega arith in
-      let rest = drop k (drop a xs) in
-      ap (λ n. get_or (put_mid a k xs ys) n other) here
-      ∙ get_or-append-add (take a xs) (ys ++ rest) (step - a) other
-      ∙ get_or_append_left ys rest other (step - a) (omega arith)
-
-  part_after : (other : X) (step : ℕ) → a + k ≤ step → length ys ≡ k
-      → get_or (put_mid a k xs ys) step other ≡ get_or xs step other
-  part_after other step le long =
-      let new = put_mid a k xs ys in
-      let here : step ≡ step + 0 = omega arith in
-      ap (λ n. get_or new n other) here ∙ sym (get_or-drop step new 0 other)
-      ∙ ap (λ l. get_or l 0 other) (drop-put_mid a k xs ys step le inside long) ∙ get_or-drop step xs 0 other
-      ∙ ap (λ n. get_or xs n other) (sym here)
-
-  pub part_long : length ys ≡ k → a + k ≤ length xs → length (put_mid a k xs ys) ≡ length xs
-  part_long long fits =
-      let rest = drop k (drop a xs) in
-      omega (
-        arith,
-        length-append (take a xs) (ys ++ rest),
-        length-append ys rest,
-        length-drop k (drop a xs),
-        length-drop a xs,
-        length-take-le a xs inside,
-      )
-
-module _ {X : Type 0} (rows : X → List ℕ) where
-  pub map_read : (all : List X) (step : ℕ) (value : List ℕ) → step < length all
-      → ((other : X) → rows (get_or all step other) ≡ value) → get_or (map rows all) step [] ≡ value
-  map_read [] step value lt is = absurd (omega arith)
-  map_read (row ∷ all) zero value lt is = is row
-  map_read (row ∷ all) (suc step) value lt is = map_read all step value (omega arith) is
-
-  pub part_rows : (times : List X) (from count : ℕ) → from + count ≤ length times
-      → AreRowsFrom (rows_of (map rows times)) from (map rows (take count (drop from times)))
-  part_rows times from count le step lt =
-      let part = take count (drop from times) in
-      let long : length part ≡ count = length-take-le count (drop from times) (omega (arith, length-drop from times)) in
-      let few : step < count = omega (arith, length-map part rows) in
-      map_read part step (get_or (map rows times) (from + step) []) (omega arith)
-      (λ other.
-      ap rows (get_or-take count (drop from times) step other few ∙ get_or-drop from times step other)
-      ∙ sym (get_or-map rows times (from + step) other [] (omega arith)))
-
-  pub pass_wide : (width : ℕ) → ((row : X) → length (rows row) ≡ width) → (times : List X)
-      → AreWide width (tails_pass width (length times) (map rows times))
-  pass_wide width wide times =
-      let each : (step : ℕ) → step < length times → length (get_or (map rows times) step []) ≡ width =
-      λ step lt. rows_wide rows width wide times step (omega (arith, length-map times rows)) in
-      record {
-        times = each;
-        tails = each;
-        job = length-zeros width;
-      }
-
-  module _ {B : Type 0} (lanes : B → List ℕ) (cap width count : ℕ) (times : List (List ℕ)) where
-    pub blocks_begun : (tails : List X) (afters : List B) (from : ℕ) → 8 * length afters ≡ width → from ≡ count
-        → ((band : ℕ) (other : B) → band < length afters → lanes (get_or afters band other) ≡ zeros 8)
-        → AreBlocksFilled rows lanes cap width count times from tails afters
-    blocks_begun tails afters from all from_is none =
-        let end : count - from ≡ zero = omega arith in
-        record {
-          afters_are = λ band other lt.
-              let left = width - (8 * band + 8) in
-              let more : width - 8 * band ≡ 8 + left = omega arith in
-              none band other lt
-              ∙ sym (ap (λ n. eight_from (8 * band) (tails_at cap (rows_of times) width count n)) end
-              ∙ ap (eight_from (8 * band)) (tails_last cap (rows_of times) width count)
-              ∙ ap (take 8) (drop-replicate (8 * band) width 0 ∙ ap zeros more
-              ∙ sym (replicate-append-replicate 8 left 0))
-              ∙ take_at (zeros 8) (zeros left) 8 (length-zeros 8));
-          tails_are = λ step other le lt. absurd (omega arith);
-        }
-
-    -- one more block
-    pub blocks_more : (from to next : ℕ) (tails part : List X) (afters new_afters : List B)
-        → AreBlocksFilled rows lanes cap width count times to tails afters → from ≤ to → to ≤ count
-        → next ≡ from → length tails ≡ count → length part ≡ to - from
-        → AreTailsFrom cap width (tails_pass width count times) 0 from (map rows part)
-        → AreAfters lanes cap width (tails_pass width count times) from new_afters
-        → AreBlocksFilled rows lanes cap width count times next (put_mid from (to - from) tails part) new_afters
-    blocks_more from to next tails part afters new_afters so_far le inside next_is same long filled after_is =
-        let pass = tails_pass width count times in
-        let begun : from ≤ length tails = omega arith in
-        record {
-          afters_are = subst (λ n. AreAfters lanes cap width pass n new_afters) (sym next_is) after_is;
-          tails_are = λ step other later lt.
-              elim (cases_lt step to) [
-                | inl now ↦
-                    let here : from + (step - from) ≡ step = omega arith in
-                    let few : step - from < length part = omega arith in
-                    ap rows (part_inside from (to - from) tails part begun other step (omega arith) (omega arith))
-                    ∙ sym (get_or-map rows part (step - from) other [] few)
-                    ∙ filled (step - from) (omega (arith, length-map part rows))
-                    ∙ ap (tails_of cap width pass) here
-                | inr past ↦
-                    ap rows (part_after from (to - from) tails part begun other step (omega arith) long)
-                    ∙ so_far.tails_are step other past lt
-              ];
-        }

@@ -4,7 +4,7 @@ ghost use Rattle.std.specs.Prelude.{◌≡◌, ℕ, ◌+◌, ◌-◌, ◌*◌, �
 ghost use Rattle.std.specs.List.{slice_index_or};
 ghost use Rattle.pfs_wave.specs.Lanes.{rows_of, tails_at, heads_step, sums_step, sums_at, zeros};
 ghost use Rattle.pfs_wave.specs.Private.SkewedBand.{eight_from};
-ghost use Rattle.pfs_wave.specs.Private.Blocks.{WavePass, IsBlock, IsFront, AreFronts, AreCarries};
+ghost use Rattle.pfs_wave.specs.Private.Blocks.{WavePass, IsStepBlock, IsBandAfter, AreFronts, AreCarries};
 ghost use Rattle.pfs_wave.specs.Private.Blocks.{AreAfters, AreTailCarries, AreTailsFrom, AreRowsFrom, AreWide, tails_of};
 
 use crate::band::Band;
@@ -73,11 +73,11 @@ fn sum_band<L: Lanes>(
     requires room { length times.now ≤ length carries.old }
     ensures carries { length carries.new ≡ length carries.old }
     ensures front { (pass : WavePass) (at : ℕ)
-        → IsBlock L.WIDTH pass at (map L.lanes times.now) (map L.lanes tails.now)
+        → IsStepBlock L.WIDTH pass at (map L.lanes times.now) (map L.lanes tails.now)
         → L.Band.lanes job ≡ eight_from (8 * band) pass.job
-        → IsFront L.Band.lanes L.Band.CAP L.WIDTH pass (8 * band) at front
+        → IsBandAfter L.Band.lanes L.Band.CAP L.WIDTH pass (8 * band) at front
         → AreCarries L.Band.lanes L.Band.CAP L.WIDTH pass (8 * band) at (length times.now) carries.old
-        → IsFront L.Band.lanes L.Band.CAP L.WIDTH pass (8 * band) (at + length times.now) result
+        → IsBandAfter L.Band.lanes L.Band.CAP L.WIDTH pass (8 * band) (at + length times.now) result
         × AreCarries L.Band.lanes L.Band.CAP L.WIDTH pass (8 * band + 8) at (length times.now) carries.new }
 {
     let mut now = front;
@@ -105,7 +105,7 @@ fn sum_block<L: Lanes>(
     ensures bands { length fronts.new ≡ length fronts.old }
     ensures carries { length carries.new ≡ length carries.old }
     ensures fronts { (pass : WavePass) (at : ℕ)
-        → IsBlock L.WIDTH pass at (map L.lanes times.now) (map L.lanes tails.now) → L.lanes job.now ≡ pass.job
+        → IsStepBlock L.WIDTH pass at (map L.lanes times.now) (map L.lanes tails.now) → L.lanes job.now ≡ pass.job
         → AreFronts L.Band.lanes L.Band.CAP L.WIDTH pass at fronts.old
         → AreFronts L.Band.lanes L.Band.CAP L.WIDTH pass (at + length times.now) fronts.new
         × AreCarries L.Band.lanes L.Band.CAP L.WIDTH pass L.WIDTH at (length times.now) carries.new }

@@ -129,7 +129,7 @@ pub record AreParts {X : Type 0} (shop : FlowShop) (jobs : List ℕ) (heads back
   pub put_long : length put ≡ shop.machines
 
 -- the parts of a table have their sizes, and contain the row of heads of a place and the rows of tails
-pub record HasRows {X : Type 0} (number : X → ℕ) (shop : FlowShop) (jobs : List ℕ) (heads backs put : List X)
+pub record HasTableRows {X : Type 0} (number : X → ℕ) (shop : FlowShop) (jobs : List ℕ) (heads backs put : List X)
     (place : ℕ) : Type 0 where
   pub parts : AreParts shop jobs heads backs put
   pub head : HasHead number shop jobs heads place

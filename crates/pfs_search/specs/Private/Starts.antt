@@ -17,7 +17,7 @@ pub record InLimits (shop : FlowShop) (first : ℕ) (rounds : Rounds) : Type 0 w
 
 -- an inserter for shops of this one's sizes that has the cost of heads and tails and can't fail, and a bench that has
 -- counted no cell
-pub record IsReady (shop : FlowShop) (counted : ℕ) (sizes : Sizes) (cells : ℕ → ℕ → ℕ) (can_fail : Bool) : Type 0 where
+pub record MayStart (shop : FlowShop) (counted : ℕ) (sizes : Sizes) (cells : ℕ → ℕ → ℕ) (can_fail : Bool) : Type 0 where
   pub jobs : sizes.jobs ≡ shop.jobs
   pub machines : sizes.machines ≡ shop.machines
   pub cost : cells ≡ heads_tails_cost

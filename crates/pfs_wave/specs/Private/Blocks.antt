@@ -37,14 +37,14 @@ abbrev pub AreRowsFrom : Rows → ℕ → List (List ℕ) → Type 0
 AreRowsFrom all at rows = (step : ℕ) → step < length rows → slice_index_or rows step [] ≡ all (at + step)
 
 -- the times and the tails of a block
-pub record IsBlock (width : ℕ) (pass : WavePass) (at : ℕ) (times tails : List (List ℕ)) : Type 0 where
+pub record IsStepBlock (width : ℕ) (pass : WavePass) (at : ℕ) (times tails : List (List ℕ)) : Type 0 where
   pub wide : AreWide width pass
   pub inside : at + length times ≤ pass.steps
   pub times_are : AreRowsFrom pass.times at times
   pub tails_are : AreRowsFrom pass.tails at tails
 
 -- the eight lanes from `first` on, after a number of steps
-pub record IsFront {B N : Type 0} (lanes : B → List ℕ) (cap width : ℕ) (pass : WavePass) (first step : ℕ)
+pub record IsBandAfter {B N : Type 0} (lanes : B → List ℕ) (cap width : ℕ) (pass : WavePass) (first step : ℕ)
     (front : Front B N) : Type 0 where
   pub head : lanes front.head ≡ eight_from first (heads_after cap width pass step)
   pub inserted : lanes front.inserted ≡ eight_from first (inserted_after cap width pass step)
@@ -68,7 +68,7 @@ AreCarries {B} {N} lanes cap width pass first at count carries =
 abbrev pub AreFronts : {B N : Type 0} → (B → List ℕ) → ℕ → ℕ → WavePass → ℕ → List (Front B N) → Type 0
 AreFronts {B} {N} lanes cap width pass step fronts =
     (band : ℕ) (other : Front B N) → band < length fronts
-    → IsFront lanes cap width pass (8 * band) step (slice_index_or fronts band other)
+    → IsBandAfter lanes cap width pass (8 * band) step (slice_index_or fronts band other)
 
 -- for each step of a block, the first lane is lane `next` of the tails of the step after it
 abbrev pub AreTailCarries : {B : Type 0} → (B → List ℕ) → ℕ → ℕ → WavePass → ℕ → ℕ → ℕ → List B → Type 0

@@ -1,7 +1,7 @@
 use Rattle.std.proofs.Common.{◌≡◌, ℕ, ◌+◌, ◌-◌, ◌*◌, ◌∷◌, ◌∙◌, map, min, take, drop, length, get_or, ap}
 use Rattle.std.proofs.Common.{subst, refl, arith}
 use Rattle.std.proofs.lemmas.List.{length-map, length-take-le, length-drop}
-use Rattle.pfs_wave.specs.Private.Blocks.{AreFronts, IsFront, sums_after}
+use Rattle.pfs_wave.specs.Private.Blocks.{AreFronts, IsBandAfter, sums_after}
 use Rattle.pfs_wave.proofs.BlockSums.{whole_pass, front_zero, put_part, pass_wide, part_block, block_sums, lane_last}
 use Rattle.pfs_wave.proofs.blocks.fill_sums.Goals as goal
 
@@ -81,7 +81,7 @@ loop-block-preserved g c =
           let here : at + (step + 1) ≡ at + step + 1 = omega arith in
           c.keep_sums.ensures.sums sum (λ s other less. (done.1 s other (omega arith)).sum)
           (block_sums band cap width pass wide at part last front (omega arith)
-          (subst (λ n. IsFront band cap width pass (8 * last) (at + n) front) same_part (done.0 last read (omega arith)))
+          (subst (λ n. IsBandAfter band cap width pass (8 * last) (at + n) front) same_part (done.0 last read (omega arith)))
           (omega arith))
           step (omega (arith, c.keep_sums.ensures.steps))
           ∙ lane_last (sums_after cap width pass (at + (step + 1))) width (omega arith)

@@ -1,6 +1,6 @@
 use Rattle.std.proofs.Common.{◌≡◌, ◌+◌, ◌*◌, ◌<◌, ◌∙◌, length, ap, sym, subst, refl, arith}
 use Rattle.std.proofs.lemmas.List.{length-map, length-set}
-use Rattle.pfs_wave.specs.Private.Blocks.{IsFront}
+use Rattle.pfs_wave.specs.Private.Blocks.{IsBandAfter}
 use Rattle.pfs_wave.specs.Private.SkewedBand.{eight_from}
 use Rattle.pfs_wave.proofs.FilledSteps.{row_read}
 use Rattle.pfs_wave.proofs.BlockSums.{band_none, band_more, front_more}
@@ -37,7 +37,7 @@ loop-step-preserved g c =
           let next : at + step + 1 ≡ at + (step + 1) = omega arith in
           band_more band cap width pass block.wide first at count c.requires.band step c.loop-step.now
           c.next-now.result c.loop-step.carries so_far inside (omega (arith, c.loop-step.invariant.carries))
-          (subst (λ n. IsFront band cap width pass first n c.next-now.result) next
+          (subst (λ n. IsBandAfter band cap width pass first n c.next-now.result) next
           (front_more cap width pass block.wide band first c.requires.band (at + step) c.loop-step.now
           c.index-carries-step.result c.next-now.result c.band.result c.band-in-loop-step.result c.args.job
           (omega arith) so_far.front
@@ -58,7 +58,7 @@ returns-clause-front g c pass at block job is are =
     let outside = c.loop-step-test.false in
     let end = c.loop-step.auto.step-end in
     let all : c.loop-step.step ≡ length c.args.times.now = omega arith in (
-      subst (λ n. IsFront band g.L.Band.Band.CAP g.L.Lanes.WIDTH pass (8 * c.args.band) (at + n) c.loop-step.now) all
+      subst (λ n. IsBandAfter band g.L.Band.Band.CAP g.L.Lanes.WIDTH pass (8 * c.args.band) (at + n) c.loop-step.now) all
           so_far.front,
       λ step other lt. so_far.carried step other (omega arith),
     )

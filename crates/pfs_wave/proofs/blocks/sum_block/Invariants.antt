@@ -1,5 +1,5 @@
 use Rattle.std.proofs.Common.{ℕ, ◌≡◌, map, length}
-use Rattle.pfs_wave.specs.Private.Blocks.{WavePass, IsBlock, AreFronts}
+use Rattle.pfs_wave.specs.Private.Blocks.{WavePass, IsStepBlock, AreFronts}
 use Rattle.pfs_wave.proofs.BlockSums.{AreZeros, AreSoFar}
 use Rattle.pfs_wave.proofs.blocks.sum_block.Given as goal
 
@@ -20,7 +20,7 @@ invariant-loop-band g l =
     record {
       bands : length l.fronts ≡ length l.fn.fronts;
       carries : length l.carries ≡ length l.fn.carries;
-      so_far : (pass : WavePass) (at : ℕ) → IsBlock width pass at (map lanes l.times) (map lanes l.tails)
+      so_far : (pass : WavePass) (at : ℕ) → IsStepBlock width pass at (map lanes l.times) (map lanes l.tails)
           → lanes l.job ≡ pass.job → AreFronts band cap width pass at l.fn.fronts
           → AreSoFar band cap width pass at (length l.times) l.band l.fronts l.carries;
     }
