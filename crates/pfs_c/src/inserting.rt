@@ -15,7 +15,7 @@ use pfs_base::{Instance, MOST_MACHINES};
 use pfs_insert::{HeadsTails, Inserter, Placed};
 use pfs_order::Seq;
 use pfs_wave::{
-    Band, EightBands, FiveBands, Long, MeteredLanes, Method, OneBand, Passes, Short, ThirteenBands,
+    Band, EightBands, FiveBands, Lanes, Long, MeteredLanes, Method, OneBand, Short, ThirteenBands,
     ThreeBands, TwentySixBands, TwoBands, Wavefront, Width, method_for,
 };
 use std::alloc::Global;
@@ -156,7 +156,7 @@ fn best_in_width<B: Band>(
 }
 
 // `best_place` by a wavefront.
-fn best_in_lanes<L: Passes>(
+fn best_in_lanes<L: Lanes>(
     alloc: Global,
     instance: &Instance,
     sequence: &Seq,

@@ -13,7 +13,7 @@ use pfs_base::{Bench, Instance, Length, MOST_PASSES};
 use pfs_insert::{HeadsTails, Inserter};
 use pfs_order::Seq;
 use pfs_wave::{
-    Band, EightBands, FiveBands, Long, MeteredLanes, Method, OneBand, Passes, Short, ThirteenBands,
+    Band, EightBands, FiveBands, Lanes, Long, MeteredLanes, Method, OneBand, Short, ThirteenBands,
     ThreeBands, TwentySixBands, TwoBands, Wavefront, Width, method_for,
 };
 use std::alloc::Global;
@@ -103,7 +103,7 @@ fn visit_in_width<B: Band>(
 }
 
 // What `make_visits` does, by a wavefront.
-fn visit_in_lanes<L: Passes>(
+fn visit_in_lanes<L: Lanes>(
     alloc: Global,
     instance: &Instance,
     seq: &mut Seq,

@@ -9,7 +9,7 @@ use pfs_insert::{HeadsTails, Inserter};
 use pfs_order::Seq;
 use pfs_tests::shops::shop;
 use pfs_wave::{
-    Band, EightBands, FiveBands, Long, MeteredLanes, OneBand, Passes, Short, ThirteenBands,
+    Band, EightBands, FiveBands, Lanes, Long, MeteredLanes, OneBand, Short, ThirteenBands,
     ThreeBands, TwentySixBands, TwoBands, Wavefront, Width, is_served, method_for,
 };
 
@@ -22,9 +22,7 @@ pub(crate) fn wavefronts_call(rt: &HostRuntime, words: &[String]) -> Result<(), 
     let instance = shop(rt.alloc(), number(words, 0)?, number(words, 1)?, &times)?;
     println!(rt; "{:?}", method_for(&instance))?;
     insert_in_widths::<Short>(rt, &instance)?;
-    insert_in_short_rows(rt, &instance)?;
-    insert_in_widths::<Long>(rt, &instance)?;
-    insert_in_long_rows(rt, &instance)
+    insert_in_widths::<Long>(rt, &instance)
 }
 
 // Inserts all jobs with each width that serves the shop.
@@ -44,32 +42,16 @@ fn insert_in_widths<B: Band>(rt: &HostRuntime, instance: &Instance) -> Result<()
     if is_served(instance, Width::Lanes64, B::CAP) {
         insert_all::<EightBands<B>>(rt, instance)?;
     }
-    Ok(())
-}
-
-// Inserts all jobs with each width of wide rows that serves the shop.
-fn insert_in_short_rows(rt: &HostRuntime, instance: &Instance) -> Result<(), Stop> {
-    if is_served(instance, Width::Lanes104, Short::CAP) {
-        insert_all::<ThirteenBands<Short>>(rt, instance)?;
+    if is_served(instance, Width::Lanes104, B::CAP) {
+        insert_all::<ThirteenBands<B>>(rt, instance)?;
     }
-    if is_served(instance, Width::Lanes208, Short::CAP) {
-        insert_all::<TwentySixBands<Short>>(rt, instance)?;
+    if is_served(instance, Width::Lanes208, B::CAP) {
+        insert_all::<TwentySixBands<B>>(rt, instance)?;
     }
     Ok(())
 }
 
-// Inserts all jobs with each width of wide rows that serves the shop.
-fn insert_in_long_rows(rt: &HostRuntime, instance: &Instance) -> Result<(), Stop> {
-    if is_served(instance, Width::Lanes104, Long::CAP) {
-        insert_all::<ThirteenBands<Long>>(rt, instance)?;
-    }
-    if is_served(instance, Width::Lanes208, Long::CAP) {
-        insert_all::<TwentySixBands<Long>>(rt, instance)?;
-    }
-    Ok(())
-}
-
-fn insert_all<L: Passes>(rt: &HostRuntime, instance: &Instance) -> Result<(), Stop>
+fn insert_all<L: Lanes>(rt: &HostRuntime, instance: &Instance) -> Result<(), Stop>
     requires { IsServed instance.now.shop L.WIDTH L.Band.CAP }
 {
     let mut seq = Seq::new(rt.alloc(), instance.jobs())?;
@@ -84,9 +66,6 @@ fn insert_all<L: Passes>(rt: &HostRuntime, instance: &Instance) -> Result<(), St
         }
         let best = rows.best(rt.alloc(), &mut bench, &seq, job)?;
         print_best(rt, &bench, best.place, best.span)?;
-        if !bench.room(6_000_000_000) {
-            return Err(Stop::Other);
-        }
         let best = lanes.best(rt.alloc(), &mut bench, &seq, job)?;
         print_best(rt, &bench, best.place, best.span)?;
         seq.insert_at(best.place, job);
@@ -95,7 +74,7 @@ fn insert_all<L: Passes>(rt: &HostRuntime, instance: &Instance) -> Result<(), St
 }
 
 // Prints a place, the makespan with the job there, and the number of cells that were counted by then.
-fn print_best<L: Passes>(
+fn print_best<L: Lanes>(
     rt: &HostRuntime,
     bench: &MeteredLanes<'_, L>,
     place: usize,

@@ -15,7 +15,7 @@ use pfs_base::{Bench, Instance, Length, MOST_PASSES, MOST_ROUNDS, Shop, Span};
 use pfs_insert::{HeadsTails, Inserter};
 use pfs_order::Order;
 use pfs_wave::{
-    Band, EightBands, FiveBands, Long, MeteredLanes, Method, OneBand, Passes, Short, ThirteenBands,
+    Band, EightBands, FiveBands, Lanes, Long, MeteredLanes, Method, OneBand, Short, ThirteenBands,
     ThreeBands, TwentySixBands, TwoBands, Wavefront, Width, method_for,
 };
 use rand_core::SeedableRng;
@@ -162,7 +162,7 @@ fn solve_in_width<B: Band>(
 }
 
 // `solve` by a wavefront.
-fn solve_in_lanes<L: Passes>(
+fn solve_in_lanes<L: Lanes>(
     alloc: Global,
     instance: &Instance,
     rounds: Rounds,
@@ -251,7 +251,7 @@ fn improve_in_width<B: Band>(
 }
 
 // `improve` by a wavefront, from an order and its makespan.
-fn improve_in_lanes<L: Passes>(
+fn improve_in_lanes<L: Lanes>(
     alloc: Global,
     instance: &Instance,
     start: Kept<Span>,

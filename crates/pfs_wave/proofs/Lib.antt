@@ -1,8 +1,5 @@
-pub mod AllTails
 pub mod BandSteps
 pub mod BestFound
-pub mod BlockSums
-pub mod BlockTails
 pub mod CappedLeast
 pub mod EightLanes
 pub mod FilledSteps
@@ -14,7 +11,6 @@ pub mod Longest
 pub mod OneBandLemmas
 pub mod ServedPaths
 pub mod ShopRows
-pub mod Published
 pub mod SkewedTimes
 pub mod SmallLanes
 pub mod Steps
@@ -23,4 +19,3 @@ pub mod PastRows
 pub mod TakenSteps
 pub mod VectorLemmas
 pub mod WavefrontLaws
-pub mod WideRows

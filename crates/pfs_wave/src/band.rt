@@ -1,8 +1,6 @@
 //! Bands of eight lanes.
 ghost use Rattle.std.specs.Prelude.{◌≡◌, ℕ, ◌+◌, ◌≤◌, ◌^◌, ◌∷◌, [], ◌++◌, List, length, map, max, min, take, drop};
 ghost use Rattle.std.specs.List.{All, slice_index_or};
-ghost use Rattle.std.specs.Align.{type_align};
-ghost use Rattle.std.specs.Mem.{type_size};
 ghost use Rattle.std.specs.Simd.Lanes.{chunk, zip2};
 ghost use Rattle.pfs_wave.specs.Lanes.{capped_add, zeros};
 ghost use Rattle.pfs_wave.specs.Least.{IsLeastSoFar};
@@ -100,8 +98,4 @@ pub trait Band: Copy + Drop {
             result.place result.sum };
 
     ghost eight: { (band : Self) → length (lanes band) ≡ 8 };
-
-    ghost small: { type_size Self.row ≤ 64 };
-
-    ghost aligned: { type_align Self.row ≤ 64 };
 }

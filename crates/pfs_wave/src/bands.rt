@@ -5,7 +5,6 @@ use crate::band::Band;
 use crate::joined::Joined;
 use crate::lanes::Part;
 use crate::one_band::OneBand;
-use crate::wide::Wide;
 
 /// Rows of 16 lanes.
 pub type TwoBands<B> = Joined<OneBand<B>, OneBand<B>>;
@@ -20,10 +19,10 @@ pub type FiveBands<B> = Joined<ThreeBands<B>, TwoBands<B>>;
 pub type EightBands<B> = Joined<FiveBands<B>, ThreeBands<B>>;
 
 /// Rows of 104 lanes.
-pub type ThirteenBands<B> = Wide<B, 13>;
+pub type ThirteenBands<B> = Joined<EightBands<B>, FiveBands<B>>;
 
 /// Rows of 208 lanes, more than a shop has machines.
-pub type TwentySixBands<B> = Wide<B, 26>;
+pub type TwentySixBands<B> = Joined<ThirteenBands<B>, ThirteenBands<B>>;
 
 impl<B: Band> Part for OneBand<B> {
     ghost part = { Prim.omega arith };
@@ -38,5 +37,13 @@ impl<B: Band> Part for ThreeBands<B> {
 }
 
 impl<B: Band> Part for FiveBands<B> {
+    ghost part = { Prim.omega arith };
+}
+
+impl<B: Band> Part for EightBands<B> {
+    ghost part = { Prim.omega arith };
+}
+
+impl<B: Band> Part for ThirteenBands<B> {
     ghost part = { Prim.omega arith };
 }

@@ -6,7 +6,7 @@ ghost use Rattle.pfs_wave.specs.Served.{IsServed};
 ghost use Rattle.pfs_wave.specs.Lanes.{rows_of};
 ghost use Rattle.pfs_wave.specs.Wavefront.{HoldTails};
 
-use crate::lanes::Passes;
+use crate::lanes::Lanes;
 use crate::tables::Tables;
 use pfs_base::{Bench, Length};
 use pfs_insert::Placed;
@@ -18,7 +18,7 @@ use pfs_order::Seq;
 /// The bench keeps the times of the last sequence in that order.
 pub trait LaneBench: Bench {
     /// A row of its lanes.
-    type Lanes: Passes;
+    type Lanes: Lanes;
 
     /// The sequence whose times are in the lanes' order.
     ghost held: { Self → List ℕ };

@@ -4,9 +4,7 @@ ghost use Rattle.std.proofs.Common.{arith, ◌∙◌};
 ghost use Rattle.std.proofs.lemmas.List.{length-append};
 
 use crate::band::Band;
-use crate::blocks::Front;
-use crate::kernels::{fill_sums, fill_tails};
-use crate::lanes::{Lanes, Part, Passes, WholeRow};
+use crate::lanes::{Lanes, Part};
 
 /// The lanes of `a`, and after them those of `b`.
 #[derive(Drop)]
@@ -68,9 +66,7 @@ impl<A: Part, B: Part<Band = A::Band>> Lanes for Joined<A, B> {
             self.b.put_band(band - bands, values);
         }
     }
-}
 
-impl<A: Part, B: Part<Band = A::Band>> WholeRow for Joined<A, B> {
     #[inline(always)]
     fn last(&self) -> <A::Band as Band>::Number {
         self.b.last()
@@ -110,23 +106,5 @@ impl<A: Part, B: Part<Band = A::Band>> WholeRow for Joined<A, B> {
             a: A::sums(&before.a, &inserted.a, &tails.a, carry),
             b: B::sums(&before.b, &inserted.b, &tails.b, between),
         }
-    }
-}
-
-impl<A: Part, B: Part<Band = A::Band>> Passes for Joined<A, B> {
-    #[inline(always)]
-    fn fill_tails(times: &[Joined<A, B>], tails: &mut [Joined<A, B>], _work: &mut [A::Band]) {
-        fill_tails(times, tails);
-    }
-
-    #[inline(always)]
-    fn fill_sums(
-        times: &[Joined<A, B>],
-        tails: &[Joined<A, B>],
-        job: &Joined<A, B>,
-        sums: &mut [<A::Band as Band>::Number],
-        _work: &mut [Front<A::Band>],
-    ) {
-        fill_sums(times, tails, job, sums);
     }
 }

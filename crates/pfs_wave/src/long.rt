@@ -1,6 +1,5 @@
 //! Bands of 32-bit lanes.
 ghost use Rattle.std.specs.Prelude.{◌≡◌, ℕ, ◌≤◌, length};
-ghost use Rattle.std.proofs.Common.{arith};
 ghost use Rattle.std.specs.List.{All};
 
 use crate::band::Band;
@@ -27,10 +26,6 @@ impl Band for Long {
     const CAP: u32 = 2147483647;
 
     ghost eight = { λ band. band.eight };
-
-    ghost small = { Prim.omega arith };
-
-    ghost aligned = { Prim.omega arith };
 
     #[inline(always)]
     fn zeros() -> Long {

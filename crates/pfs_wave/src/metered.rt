@@ -7,7 +7,7 @@ ghost use Rattle.pfs_wave.specs.Wavefront.{HasRows};
 
 use crate::band::Band;
 use crate::bench::LaneBench;
-use crate::lanes::Passes;
+use crate::lanes::Lanes;
 use crate::skewed::SkewedTimes;
 use crate::tables::Tables;
 use pfs_base::{Bench, Instance, Length, Metered, Shop, Span};
@@ -18,7 +18,7 @@ use std::marker::Model;
 
 /// A metered bench over an instance that a wavefront serves, with the times of each job in lanes.
 #[derive(Drop)]
-pub struct MeteredLanes<'a, L: Passes> {
+pub struct MeteredLanes<'a, L: Lanes> {
     bench: Metered<'a>,
     skewed: SkewedTimes<L>,
     ghost within: { IsWithin limits (⟦<Metered<'static> as Bench>⟧.shop bench) },
@@ -26,7 +26,7 @@ pub struct MeteredLanes<'a, L: Passes> {
     ghost rows: { HasRows (⟦<Metered<'static> as Bench>⟧.shop bench) L.WIDTH skewed.rows },
 }
 
-impl<'a, L: Passes> MeteredLanes<'a, L> {
+impl<'a, L: Lanes> MeteredLanes<'a, L> {
     /// A bench over an instance, with a count of 0 cells. It reserves memory for the rows of its jobs and for the times
     /// of a sequence, and returns `AllocError` where that fails.
     pub fn new(alloc: Global, instance: &'a Instance) -> Result<MeteredLanes<'a, L>, AllocError>
@@ -49,7 +49,7 @@ impl<'a, L: Passes> MeteredLanes<'a, L> {
     }
 }
 
-impl<'a, L: Passes> Bench for MeteredLanes<'a, L> {
+impl<'a, L: Lanes> Bench for MeteredLanes<'a, L> {
     type Span = Span;
 
     ghost shop = { λ b. ⟦<Metered<'static> as Bench>⟧.shop b.bench };
@@ -97,13 +97,13 @@ impl<'a, L: Passes> Bench for MeteredLanes<'a, L> {
     }
 }
 
-impl<L: Passes> Shop for MeteredLanes<'_, L> {
+impl<L: Lanes> Shop for MeteredLanes<'_, L> {
     fn total(&self, job: usize) -> u64 {
         self.bench.total(job)
     }
 }
 
-impl<'a, L: Passes> LaneBench for MeteredLanes<'a, L> {
+impl<'a, L: Lanes> LaneBench for MeteredLanes<'a, L> {
     type Lanes = L;
 
     ghost held = { λ b. b.skewed.jobs };
@@ -115,16 +115,14 @@ impl<'a, L: Passes> LaneBench for MeteredLanes<'a, L> {
         let cells = seq.len() as u64 * self.bench.machines() as u64;
         self.bench.count(cells);
         self.skewed.hold(seq.as_slice());
-        self.skewed.fill_tails(&mut tables.tails, &mut tables.bands);
+        self.skewed.fill_tails(&mut tables.tails);
     }
 
     #[inline(always)]
     fn best_place(&mut self, seq: &Seq, job: usize, tables: &mut Tables<L>) -> Placed<Span> {
         let cells = (3 * seq.len() as u64 + 2) * self.bench.machines() as u64;
         self.bench.count(cells);
-        let found = self
-            .skewed
-            .best_place(job, &tables.tails, &mut tables.sums, &mut tables.fronts);
+        let found = self.skewed.best_place(job, &tables.tails, &mut tables.sums);
         Placed {
             place: found.place,
             span: self.bench.length(u64::from(found.sum)),

@@ -3,9 +3,7 @@ ghost use Rattle.std.specs.Prelude.{◌≡◌, ℕ, ◌+◌, ◌-◌, ◌*◌, �
 ghost use Rattle.std.proofs.Common.{arith, refl};
 
 use crate::band::Band;
-use crate::blocks::Front;
-use crate::kernels::{fill_sums, fill_tails};
-use crate::lanes::{Lanes, Passes, WholeRow};
+use crate::lanes::Lanes;
 
 /// Eight lanes, in one band.
 #[derive(Drop)]
@@ -51,9 +49,7 @@ impl<B: Band> Lanes for OneBand<B> {
     fn put_band(&mut self, _band: usize, values: B) {
         self.one = values;
     }
-}
 
-impl<B: Band> WholeRow for OneBand<B> {
     #[inline(always)]
     fn last(&self) -> B::Number {
         self.one.last()
@@ -83,23 +79,5 @@ impl<B: Band> WholeRow for OneBand<B> {
         OneBand {
             one: before.one.up(carry).greater(inserted.one.sum(tails.one)),
         }
-    }
-}
-
-impl<B: Band> Passes for OneBand<B> {
-    #[inline(always)]
-    fn fill_tails(times: &[OneBand<B>], tails: &mut [OneBand<B>], _work: &mut [B]) {
-        fill_tails(times, tails);
-    }
-
-    #[inline(always)]
-    fn fill_sums(
-        times: &[OneBand<B>],
-        tails: &[OneBand<B>],
-        job: &OneBand<B>,
-        sums: &mut [B::Number],
-        _work: &mut [Front<B>],
-    ) {
-        fill_sums(times, tails, job, sums);
     }
 }

@@ -1,6 +1,5 @@
 //! Bands of 16-bit lanes.
 ghost use Rattle.std.specs.Prelude.{◌≡◌, ℕ, ◌≤◌, length, min};
-ghost use Rattle.std.proofs.Common.{arith};
 ghost use Rattle.std.specs.Simd.Lanes.{Each1, zip2};
 ghost use Rattle.pfs_wave.specs.Lanes.{capped_add};
 
@@ -52,10 +51,6 @@ impl Band for Short {
     const CAP: u32 = 65535;
 
     ghost eight = { λ band. band.eight };
-
-    ghost small = { Prim.omega arith };
-
-    ghost aligned = { Prim.omega arith };
 
     #[inline(always)]
     fn zeros() -> Short {

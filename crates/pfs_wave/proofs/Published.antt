@@ -1,2 +1,0 @@
--- Lemmas that the proofs of dependent crates may cite.
-pub mod Room

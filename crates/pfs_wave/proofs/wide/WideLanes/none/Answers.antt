@@ -1,5 +1,0 @@
-use Rattle.pfs_wave.proofs.WideRows.{all_none}
-use Rattle.pfs_wave.proofs.wide.WideLanes.none.Goals as goal
-
-pub returns : goal.returns
-returns g c = all_none g.B.Band.lanes c.zeros.result c.zeros.ensures g.row.N
