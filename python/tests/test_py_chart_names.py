@@ -24,7 +24,7 @@ SEEN = PEN + """
 function now(done) {
   const {texts} = drawnBy(done), bars = {};
   for (const {text, x, y} of texts) {
-    const machine = Math.floor((y - TOP) / ROW), place = machine < machines ? firstBehind(machine, timeAt(x)) : jobs;
+    const machine = Math.floor((y - TOP) / ROW), place = machine < machines ? firstAfter(machine, timeAt(x)) : jobs;
     if (x > left && x < width - RIGHT && place < jobs) bars[`${machine} ${place}`] = text;
   }
   return {bars, key: [...key.children].map(item => item.textContent),
