@@ -33,7 +33,7 @@ def value(layout: str, text: str, block: int) -> tuple[bytes, bytes, int]:
 
 @make
 def test_a_block_of_a_file_has_taillards_times(script: Any) -> None:
-    """In each layout and however they are written, and each block has the times of its own seed."""
+    """In each layout and however they are written, and each block has the times of its seed."""
     source = script.random.Random(1)
     for seed in (script.seed_of(0), script.seed_of(1), script.seed_of(999)):
         [length] = {second_program.makespan(second_program.generated(4, 3, seed), range(4))}

@@ -177,7 +177,7 @@ def signed(copy: Copy, sums: pathlib.Path, key: str, line: str, **env: str) -> s
 
 
 def test_the_sums_are_signed_by_a_key_of_ssh(copy: Copy, folder: pathlib.Path) -> None:
-    """Without a key there is no signature, and no older one."""
+    """Without a key there is neither a new signature nor an older one."""
     output_of([tool("ssh-keygen"), "-q", "-t", "ed25519", "-N", "", "-f", "key"], folder)
     (folder / "signers").write_text(f"pfs {(folder / 'key.pub').read_text()}")
     line = line_of_install("^ssh-keygen -Y verify .*$", copy)
@@ -300,7 +300,7 @@ def test_the_tarball_has_the_installed_files_and_the_pages(unpacked: pathlib.Pat
 
 @pytest.fixture
 def local(folder: pathlib.Path) -> pathlib.Path:
-    """A folder /usr/local as it may be, with a mode and a link of its own."""
+    """A folder /usr/local as it may be, with another mode and a link."""
     made = folder / "root" / "usr" / "local"
     for name in ("bin", "include", "lib", "man", "share"):
         (made / name).mkdir(parents=True)

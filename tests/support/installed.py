@@ -54,7 +54,7 @@ PLACES = {
 }
 # Which folders the installation has made.
 NOTES = "libexec/pfs/installed-folders"
-# What the library's installation has beside links.
+# What the library's installation has besides links.
 LIBRARY = {"lib/libpfs.a": "lib/out/libpfs.a", "lib/libpfs.so.0": "lib/out/libpfs.so.0",
            "lib/libpfs.so": "lib/out/libpfs.so.0", "include/pfs.h": "lib/pfs.h",
            "lib/cmake/pfs/pfsConfig.cmake": "lib/pfsConfig.cmake", "share/man/man3/pfs.3": "share/pfs.3"}
@@ -100,7 +100,7 @@ def environment(folder: pathlib.Path, pfs: Program) -> dict[str, str]:
     """What the tools of a copy are run with: the kit's version is that of the program, and git knows no other
     configuration than this."""
     logic = re.search(rb"rattle logic=([0-9a-f]{16})", pfs.path.read_bytes())
-    assert logic, "the program doesn't tell with which kit it was built"
+    assert logic, "the program doesn't contain the version of the kit that built it"
     git = {"user.name": "A Tester", "user.email": "tester@example.org", "safe.directory": "*"}
     env = {"RT_VERSION": KIT.format(logic=logic[1].decode()), "RT_NOTES": str(folder / "notes"),
            "RT_PROGRAM": str(pfs.path), "GIT_CONFIG_GLOBAL": os.devnull, "GIT_CONFIG_NOSYSTEM": "1",
@@ -171,11 +171,11 @@ def found_by_bash(prefix: pathlib.Path, folder: pathlib.Path) -> None:
 def found_by_fish(prefix: pathlib.Path, folder: pathlib.Path) -> None:
     env = with_path(prefix / "bin") | {"XDG_DATA_DIRS": f"{prefix}/share", "HOME": str(folder)}
     got = output_of([tool("fish"), "-c", "complete -C 'pfs so'"], folder, env=env)
-    assert got.split()[:1] == ["solve"], "what fish offers behind `pfs so`"
+    assert got.split()[:1] == ["solve"], "what fish offers after `pfs so`"
 
 
 def found_by_zsh(root: pathlib.Path, folder: pathlib.Path) -> None:
-    """Zsh looks in folders of its own, which are sought below the root here."""
+    """Zsh looks in its own folders, which are sought below the root here."""
     line = "fpath=($fpath[1,-1] $ROOT$^fpath(N)); autoload -Uz compinit; compinit -u -D; print -- $_comps[pfs]"
     got = output_of([tool("zsh"), "-f", "-c", line], folder, env=dict(os.environ, ROOT=str(root), HOME=str(folder)))
     folders = output_of(["zsh", "-f", "-c", "print -l $fpath"], folder).split()
@@ -214,7 +214,7 @@ def folders_below(folder: pathlib.Path) -> set[str]:
 
 
 def left_below(folder: pathlib.Path) -> list[str]:
-    """All that is no folder, also a link that leads nowhere."""
+    """All that is not a folder, also a link that leads nowhere."""
     return [str(path.relative_to(folder)) for path in folder.rglob("*") if not path.is_dir()]
 
 
@@ -223,7 +223,7 @@ def tools_of(prefix: pathlib.Path) -> dict[str, str]:
     return with_path(prefix / "bin")
 
 
-# Beside its texts, a call of the C library, which `libpfs0` depends on.
+# Besides its texts, a call of the C library, which `libpfs0` depends on.
 CALL = "int puts(const char *); int pfs_call(void) { return puts(\"\"); }\n"
 
 
@@ -262,6 +262,6 @@ def commit_time(copy: Copy) -> int:
 
 
 def version(copy: Copy) -> str:
-    """The version of a commit that is no release."""
+    """The version of a commit that is not a release."""
     time = datetime.datetime.fromtimestamp(commit_time(copy), datetime.timezone.utc)
     return f"{VERSION}+{time:%Y%m%d.%H%M%S}"
