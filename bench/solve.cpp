@@ -77,10 +77,10 @@ private:
             const uint32_t* time = times(order[row]);
             const Length* below = &tails[(row + 1) * machines];
             Length* here = &tails[row * machines];
-            Length behind = 0;
+            Length tail = 0;
             for (size_t machine = machines; machine-- > 0;) {
-                behind = std::max(below[machine], behind) + (Length)time[machine];
-                here[machine] = behind;
+                tail = std::max(below[machine], tail) + (Length)time[machine];
+                here[machine] = tail;
             }
             cells += machines;
         }

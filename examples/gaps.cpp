@@ -1,4 +1,4 @@
-// How far NEH is from the lower bound, and how far so many rounds of iterated greedy bring it, on shops of Taillard's
+// The gap of NEH to the lower bound, and that after a number of rounds of iterated greedy, on shops of Taillard's
 // generator: one line for each seed.
 // usage: gaps JOBS MACHINES ROUNDS SEED ..
 #include <cinttypes>

@@ -43,7 +43,7 @@ if ! test -e out/rlib/stamp; then
     esac
     for at in $(seq 1000); do
         if grep -q "begin $other" "$NOTES"; then break; fi
-        test $at != 1000 || { echo "$other doesn't begin beside $crate"; exit 3; }
+        test $at != 1000 || { echo "$other doesn't begin while $crate is built"; exit 3; }
         sleep 0.01
     done
 fi

@@ -1,6 +1,6 @@
-"""What the completions of bash, zsh and fish offer, each asked in its own shell, against the usage text: commands,
-options that aren't there yet, layouts, and files where a path may stand. What zsh and fish say of an option and of a
-path is compared with what the program takes."""
+"""The completions of bash, zsh and fish, each run in its own shell, compared with the usage text: commands, options
+that the line does not have yet, layouts, and files where a path may be given. The descriptions that zsh and fish show
+for an option and a path are compared with what the program accepts."""
 import os
 import pathlib
 import re
@@ -19,8 +19,8 @@ FILES = ["best", "three", "two words"]
 SHELLS = ["bash", "zsh", "fish"]
 MOST_SECONDS = 120
 
-# For each line: bash's words, of which the sign of `--layout=orlib` is one, then the function, and what it answers.
-# Where it leaves the word to bash's default, that is a file.
+# For each line: bash's words, of which the `=` of `--layout=orlib` is one, then the function, and what it returns.
+# Where it leaves the word to bash's default, the completion is a file name.
 BASH = """
 source {script}
 compopt() {{ [ "$*" != '-o default' ] || is_file=1; }}
@@ -34,7 +34,7 @@ offer() {{
 }}
 """
 
-# Each answer is a word, and perhaps a tab and what is said of it.
+# Each line is a word, and perhaps a tab and its description.
 FISH = """
 source {script}
 function offer
@@ -43,8 +43,8 @@ function offer
 end
 """
 
-# Each word that is offered goes to the file `offered`, and the sign to it once all are there. What is said of words
-# goes there behind a tab, and so does the heading above them.
+# Each word that is offered is written to the file `offered`, and `=` after the last one. A word's description and its
+# heading follow it after a tab.
 ZSH = """
 PROMPT=
 fpath=({folder} $fpath)
@@ -80,7 +80,7 @@ class Line(NamedTuple):
 
 
 class Answer(NamedTuple):
-    """The words that are offered, and what is said of them."""
+    """Offered words, and their descriptions."""
     words: set[str]
     said: list[str]
 
@@ -137,7 +137,7 @@ ASKED = list({line.text: line for line in lines()}.values())
 # How a shell is asked
 
 def answer_of(lines: list[str]) -> Answer:
-    """The words bare: without the folder's sign, the option in front of a value, and the sign before a space."""
+    """Words without a folder's slash, the option in front of a value, and the backslash before a space."""
     words = [line.partition("\t")[0].replace("\\ ", " ") for line in lines]
     said = [line for line in lines if "\t" in line]
     return Answer({re.sub("^--[a-z]+=", "", word).rstrip("/") for word in words} - {""}, said)
@@ -189,7 +189,7 @@ Answers = Callable[[str, str], Answer]
 
 @pytest.fixture(scope="module")
 def answers(top: pathlib.Path, tmp_path_factory: pytest.TempPathFactory) -> Answers:
-    """What a shell answers to a line. Each shell is started once, and asked all lines."""
+    """What a shell offers for a line. Each shell is started once, for all lines."""
     found: dict[str, dict[str, Answer]] = {}
 
     def answer(shell: str, line: str) -> Answer:
@@ -222,7 +222,7 @@ def test_the_usage_text_has_commands() -> None:
 @in_shells(*SHELLS)
 def test_offers(shell: str, line: Line, answers: Answers) -> None:
     got = answers(shell, line.text).words
-    # where no path may stand, zsh tells the options that may
+    # where no path may be given, zsh also offers the options
     beside = {word for word in got if word.startswith("--")} if line.text.endswith(" ") else set()
     assert got - beside == line.offered
 

@@ -23,11 +23,11 @@ def test_what_is_private_is_not_reached(top: pathlib.Path) -> None:
     assert {each for each in reached(top / "crates") if each.file.startswith("Private.")} == set()
 
 
-# What a type or an implementation is to contracts, in its braces.
+# The definition of a ghost item, in its braces.
 MEMBER = re.compile(r"^ *ghost \w+ ?[=:] \{([^}]*)\}", re.MULTILINE)
-# Worked examples, and one that stands beside its like for NEH and rounds.
+# Worked examples, and a definition that belongs next to those for NEH and rounds.
 EXAMPLES = {"Examples", "Shops"}
-BESIDE_ITS_LIKE = {"pass_cost_on"}
+NEXT_TO_SIMILAR = {"pass_cost_on"}
 
 
 def test_what_only_proofs_and_private_functions_use_is_private(top: pathlib.Path) -> None:
@@ -37,7 +37,7 @@ def test_what_only_proofs_and_private_functions_use_is_private(top: pathlib.Path
                for inside in MEMBER.findall(path.read_text()) for word in WORD.findall(inside)}
     others = {each for each in set(all_definitions(crates)) - reached(crates)
               if not each.file.startswith("Private.") and each.file not in EXAMPLES
-              and (each.crate, each.name) not in members and each.name not in BESIDE_ITS_LIKE}
+              and (each.crate, each.name) not in members and each.name not in NEXT_TO_SIMILAR}
     assert others == set()
 
 
@@ -106,7 +106,7 @@ def test_each_promise_of_a_crate_is_in_the_list_of_proofs(crate: str, top: pathl
 
 # A crate over another one: what is reached of these
 
-LOW = """-- so many
+LOW = """-- twice the number
 abbrev pub doubled : ℕ → ℕ
 doubled n = n + n
 
@@ -172,7 +172,7 @@ def test_what_a_folder_has_is_reached(crates: pathlib.Path) -> None:
     (crates / "high" / "src" / "lib.rt").write_text("pub mod inner;\n")
     (crates / "high" / "src" / "inner.rt").write_text(CODE.format(item="pub fn four(n: u64) -> u64"))
     assert reached(crates) == {FOUR, Definition("low", "Inner.Sums", "doubled")}
-    assert "| Inner.Sums | `doubled` | so many |" in page(crates)
+    assert "| Inner.Sums | `doubled` | twice the number |" in page(crates)
 
 
 def test_the_page_has_the_comments_of_the_definitions(crates: pathlib.Path) -> None:
@@ -180,4 +180,4 @@ def test_the_page_has_the_comments_of_the_definitions(crates: pathlib.Path) -> N
     (crates / "high" / "src" / "inner.rt").write_text(CODE.format(item="pub fn four(n: u64) -> u64"))
     assert re.findall(r"^\| (?!File|-).*$|^##.*$", page(crates), re.MULTILINE) \
         == ["## high", r"| Times | `Fourfold` | four of it, by doubled \| and not by thrice |",
-            "## low", "| Sums | `doubled` | so many |"]
+            "## low", "| Sums | `doubled` | twice the number |"]

@@ -333,20 +333,20 @@ def test_a_file_that_shrinks_before_it_is_read(pfs: Program, piped: pathlib.Path
     assert ended(child) == refused("truncated after 5 times", 2)
 
 
-@pytest.mark.parametrize("size_behind", [lambda position: position // 2, lambda position: position + 128],
-                         ids=["before the place", "behind the place"])
+@pytest.mark.parametrize("size_after", [lambda position: position // 2, lambda position: position + 128],
+                         ids=["before the place", "after the place"])
 def test_a_file_that_shrinks_while_it_is_read(pfs: Program, folder: pathlib.Path,
-                                              size_behind: Callable[[int], int]) -> None:
+                                              size_after: Callable[[int], int]) -> None:
     """A file of lines of 128 bytes, each with a time, gets another size where it is being read. A size before the place
     that is read ends the file there."""
     head, line = b"2000 200 0 0 0\n", b"0" * 127 + b"\n"
     (folder / "shrinks").write_bytes(head + line * 399_000)
     child, position = stopped_while_reading(pfs, folder / "shrinks")
-    end = size_behind(position)
+    end = size_after(position)
     os.truncate(folder / "shrinks", end)
     child.send_signal(signal.SIGCONT)
     begun = -(-(max(position, end) - len(head)) // len(line))
-    assert ended(child) == refused(f"truncated after {begun} times", 2), f"{end} bytes behind {position}"
+    assert ended(child) == refused(f"truncated after {begun} times", 2), f"{end} bytes after {position}"
 
 
 def stopped_while_reading(pfs: Program, file: pathlib.Path) -> tuple[subprocess.Popen[bytes], int]:
@@ -438,7 +438,7 @@ LONG_LINES: dict[str, tuple[Words, Ran]] = {
     "many paths": (VALUE.split(" ") + ["three"] * MANY, NO_COMMAND),
     "many options": (VALUE.split(" ") + ["--block=1"] * MANY, NO_COMMAND),
     "many numbers": (["generate"] + ["1"] * MANY, NO_COMMAND),
-    "many paths behind --": (VALUE.split(" ") + ["--"] + ["-"] * MANY, NO_COMMAND),
+    "many paths after --": (VALUE.split(" ") + ["--"] + ["-"] * MANY, NO_COMMAND),
     "a long command": ([LONG], NO_COMMAND),
     "a long path": (["value", "--layout", "taillard", LONG], refused("cannot open")),
     "a long order path": (CHECK.split(" ")[:-1] + [LONG], refused("cannot open")),

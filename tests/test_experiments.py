@@ -161,12 +161,12 @@ def test_a_full_disk_is_reported(kib: int, experiment: Experiment) -> None:
     small.mkdir()
     run = " ".join(map(str, experiment.words("run", "plan.toml", "small/out.csv", "--jobs", "1",
                                             program=small_program(experiment))))
-    script = (f"mount -t tmpfs -o size={kib}k none small && {run} 2> told; echo $? > status; "
+    script = (f"mount -t tmpfs -o size={kib}k none small && {run} 2> report; echo $? > status; "
               "find small -name '*.new' > halves; "
               f"mount -o remount,size=9m small && {run} 2> again; echo $? > status2; cp small/out.csv all.csv")
     done = subprocess.run(["unshare", "-m", "sh", "-c", script], cwd=experiment.folder, capture_output=True, text=True)
     assert done.returncode == 0, done.stderr
-    got = (experiment.folder / "told").read_text()
+    got = (experiment.folder / "report").read_text()
     status = int((experiment.folder / "status").read_text())
     refused = re.fullmatch("experiments/run: [^\n]*: No space left on device\n", got)
     assert status == 0 or (status == 2 and refused), got
@@ -1006,11 +1006,11 @@ def test_no_run_is_lost_or_made_again(kills: Kills, experiment: Experiment) -> N
 
 def test_two_starts_at_once_make_each_run_once(experiment: Experiment) -> None:
     (experiment.folder / "plan.toml").write_text(HALF)
-    with experiment.gate() as gate, open(experiment.folder / "told", "wb") as got:
+    with experiment.gate() as gate, open(experiment.folder / "report", "wb") as got:
         first = start(experiment, "plan.toml", "out.csv", "--jobs", "1")
         wait_until(lambda: len(experiment.started()) == 1, "the first start makes a run")
         second = start(experiment, "plan.toml", "out.csv", "--jobs", "1", stderr=got)
-        waits = (experiment.folder / "told").read_text
+        waits = (experiment.folder / "report").read_text
         wait_until(lambda: len(experiment.started()) > 1 or "\n" in waits(), "the second start waits, or makes a run")
         started, line = experiment.started(), waits()
         gate.open()
@@ -1130,7 +1130,7 @@ def test_on_slurm_a_second_start_waits_for_the_array_of_the_first(experiment: Ex
     """Also if the first start was killed while it waited for its array. A result exists only once it is complete."""
     (experiment.folder / "plan.toml").write_text(HALF)
     words = ["--tasks", "1", "plan.toml", "out.csv", "--time=5"]
-    with experiment.gate() as gate, open(experiment.folder / "told", "wb") as got:
+    with experiment.gate() as gate, open(experiment.folder / "report", "wb") as got:
         first = start(experiment, *words, name="slurm", env=slurm.env)
         wait_until(lambda: len(experiment.started()) == 1, "the array makes a run")
         begun = [path.name for path in (experiment.runs / "results").iterdir() if path.name.isdigit()]
@@ -1149,7 +1149,7 @@ def test_on_slurm_a_second_start_waits_for_the_array_of_the_first(experiment: Ex
 
 def waiting_for(experiment: Experiment, slurm: Cluster) -> str:
     """Why the second array waits, or that it doesn't."""
-    got = experiment.folder / "told"
+    got = experiment.folder / "report"
     wait_until(lambda: "Submitted batch job" in got.read_text(), "the second array is submitted")
     number = number_of(got.read_text())
 
@@ -1178,10 +1178,10 @@ def test_what_slurm_says_of_a_task_that_it_ended_is_in_the_csv(
     """And the next start makes its runs."""
     (experiment.folder / "plan.toml").write_text(HALF)
     words = ["--tasks", "2", "plan.toml", "out.csv", "--time=5"]
-    with experiment.gate(), open(experiment.folder / "told", "wb") as got:
+    with experiment.gate(), open(experiment.folder / "report", "wb") as got:
         begun = start(experiment, *words, name="slurm", env=slurm.env, stderr=got)
         wait_until(lambda: len(experiment.started()) == 2, "two tasks make a run each")
-        end(slurm, number_of((experiment.folder / "told").read_text()))
+        end(slurm, number_of((experiment.folder / "report").read_text()))
         assert begun.process.wait(100) == 1
     lost = experiment.rows()
     assert [row.seed for row in lost] == ["1", "2"], "the runs that were begun"

@@ -62,7 +62,7 @@ UNCHANGED = b"memory, 3 jobs, 2 machines, times 3 2 2 5 4 1\n"
 # - the instance and the bench are unchanged, the reader holds no time, and only the finished rounds are kept;
 # - a call that may be repeated then returns its result, and a reader that failed returns the same fault again;
 # - an inserter that evaluates each order from scratch has counted the places before, of six cells each;
-# - the generator, which returns the odd numbers, has drawn the words of the finished rounds and of the failed one;
+# - the generator, which returns the odd numbers, has drawn the random words of the finished rounds and the failed one;
 # - an engine writes nothing, and reports whether the instance's allocation failed, the order's, or a later one, which
 #   is made only if the order fits the instance.
 LEFT: dict[str, list[bytes]] = {
@@ -108,15 +108,15 @@ def shim(tmp_path_factory: pytest.TempPathFactory) -> Shim:
     return Shim(tmp_path_factory.mktemp("shim"))
 
 
-def refuse_each(shim: Shim, program: Program, words: Words, folder: pathlib.Path, answer: Ran, refusals: list[Ran],
+def refuse_each(shim: Shim, program: Program, words: Words, folder: pathlib.Path, expected: Ran, refusals: list[Ran],
                 stdin: bytes = b"") -> None:
-    """Let each allocation fail in turn. Such a run has one of the `refusals`, and the run without a failure has the
-    `answer`. All refusals occur in this order, each perhaps more than once."""
+    """Let each allocation fail in turn. Such a run returns one of the `refusals`, and the run without a failure
+    returns `expected`. All refusals occur in this order, each perhaps more than once."""
     got: list[Ran] = []
     for growth in range(1, MOST_GROWTHS):
         ran, is_refused = shim.run_refused(program, words, folder, stdin, growth)
         if not is_refused:
-            assert ran == answer, "no allocation failed"
+            assert ran == expected, "no allocation failed"
             assert [refusal for refusal, _ in groupby(got)] == refusals, "the runs in which an allocation failed"
             return
         assert ran in refusals, f"allocation {growth} failed"

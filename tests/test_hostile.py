@@ -78,7 +78,7 @@ class Fill:
     def __init__(self, folder: pathlib.Path, part: bytes) -> None:
         self.path = folder / "great"
         self.part = part
-        self.told = FILLS[part]
+        self.reported = FILLS[part]
         write_repeated(self.path, part, SIZE)
 
 
@@ -98,8 +98,8 @@ def fill(request: pytest.FixtureRequest, tmp_path_factory: pytest.TempPathFactor
 @pytest.mark.seconds(3)
 def test_a_fill_in_linear_time(pfs: Program, folder: pathlib.Path, fill: Fill) -> None:
     write_repeated(folder / "eighth", fill.part, SIZE // 8)
-    eighth = run_large(pfs, words_of("value", folder / "eighth"), folder, [], fill.told, 2).seconds
-    whole = run_large(pfs, words_of("value", fill.path), folder, [], fill.told, 2).seconds
+    eighth = run_large(pfs, words_of("value", folder / "eighth"), folder, [], fill.reported, 2).seconds
+    whole = run_large(pfs, words_of("value", fill.path), folder, [], fill.reported, 2).seconds
     assert is_linear(whole, eighth), f"{whole} s, and {eighth} s for an eighth of the file"
 
 
@@ -107,17 +107,17 @@ def test_a_fill_in_linear_time(pfs: Program, folder: pathlib.Path, fill: Fill) -
 @pytest.mark.parametrize(("fill", "command"), [filled(part, command) for part in (b"x", b"7 ") for command in OTHERS],
                          indirect=["fill"])
 def test_a_fill(pfs: Program, small: pathlib.Path, fill: Fill, command: str) -> None:
-    run_large(pfs, words_of(command, fill.path, small / "best"), small, [], fill.told, 2)
+    run_large(pfs, words_of(command, fill.path, small / "best"), small, [], fill.reported, 2)
 
 
 @pytest.mark.seconds(3)
 def test_a_fill_by_job(pfs: Program, folder: pathlib.Path, fill: Fill) -> None:
-    run_large(pfs, ["value", "--layout", "orlib", str(fill.path)], folder, [], fill.told, 2)
+    run_large(pfs, ["value", "--layout", "orlib", str(fill.path)], folder, [], fill.reported, 2)
 
 
 @pytest.mark.seconds(3)
 def test_a_fill_as_input(pfs: Program, folder: pathlib.Path, fill: Fill) -> None:
-    run_large(pfs, [], folder, [], fill.told, 2, stdin=fill.path)
+    run_large(pfs, [], folder, [], fill.reported, 2, stdin=fill.path)
 
 
 @pytest.mark.seconds(3)

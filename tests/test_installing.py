@@ -380,7 +380,7 @@ def test_a_commit_that_is_tagged_with_the_version_has_it_alone(copy: Copy) -> No
 
 
 def test_a_release_by_its_changelog_has_its_number_alone(copy: Copy, folder: pathlib.Path) -> None:
-    """If there is no tag and nothing has changed. Debian sorts later commits after the release."""
+    """Without a tag, if nothing has changed. Debian sorts later commits after the release."""
     found, messages = release(copy)
     assert found.version == version(copy) and VERSION in messages.splitlines()[0]
     changes = copy.top / "CHANGELOG.md"

@@ -1,6 +1,6 @@
 """The 120 instances that `make taillard` writes are Taillard's: their times are those of the generator's recurrence,
-and the bound that `pfs check` prints of each is the published one. What README tells of the quality of orders is what
-searches give on some of them."""
+and `pfs check` prints the published bound of each. The quality of orders in README is what searches find on some of
+them."""
 import csv
 import fnmatch
 import pathlib

@@ -1,5 +1,5 @@
-"""The line of SECURITY.md for files that anybody may have made, as it is there: it changes no result, and ends what
-takes too long or needs too much memory."""
+"""The command line that SECURITY.md gives for untrusted files: it changes no result, and stops a run that takes too
+long or needs too much memory."""
 import pathlib
 import re
 import shutil

@@ -206,8 +206,8 @@ def test_the_published_bound_has_two_summands(pfs: Program, folder: pathlib.Path
     """The load of the first machine, and the least time of a job on the later machines, that of the third job."""
     generated = pfs.run("generate 20 5 873654221", folder).stdout
     first, *others = [[int(time) for time in row.split()] for row in generated.splitlines()[3:]]
-    behind = [sum(times) for times in zip(*others)]
-    assert (sum(first), min(behind), behind[2]) == (1121, 111, 111)
+    others_after = [sum(times) for times in zip(*others)]
+    assert (sum(first), min(others_after), others_after[2]) == (1121, 111, 111)
     (folder / "file").write_bytes(generated)
     (folder / "orders").write_bytes(pfs.run("solve --layout taillard file", folder).stdout)
     ran = pfs.run("check --layout taillard file orders", folder)

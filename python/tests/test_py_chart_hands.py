@@ -27,7 +27,7 @@ function tap(time, machine) { finger("pointerdown", 1, time, machine); lift(1); 
 const MOVES = {
   "a tap": () => tap(25),
   "a tap that trembles": () => { finger("pointerdown", 1, 25); finger("pointermove", 1, 25.1); lift(1); },
-  "a tap beside": () => { tap(25); tap(5, 2); },
+  "a second tap elsewhere": () => { tap(25); tap(5, 2); },
   "a tap outside": () => {
     tap(25);
     document.body.dispatchEvent(new PointerEvent("pointerdown", {pointerId: 3, bubbles: true}));
@@ -108,7 +108,7 @@ TIP = "job table\nmachine saw\nstart 20\nend 50"
 
 
 @TOGETHER
-@pytest.mark.parametrize(("move", "tip"), [("a tap", TIP), ("a tap that trembles", TIP), ("a tap beside", ""),
+@pytest.mark.parametrize(("move", "tip"), [("a tap", TIP), ("a tap that trembles", TIP), ("a second tap elsewhere", ""),
                                            ("a tap outside", "")])
 def test_a_tap_shows_what_it_is_on_until_the_next(seen: dict[str, Any], move: str, tip: str) -> None:
     """Above the chart, which outlines it and stays as it is."""

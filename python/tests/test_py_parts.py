@@ -1,4 +1,4 @@
-"""The parts of a method of one's own: heads and tails, construction and local search."""
+"""Building blocks of search methods: heads and tails, construction and local search."""
 import itertools
 from collections.abc import Callable
 

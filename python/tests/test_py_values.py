@@ -218,7 +218,7 @@ def test_rpds_that_are_rejected(words: tuple[Any, ...], kind: type[Exception], w
         pfs.Instance([[1]]).rpd(*words)
 
 
-def test_nothing_that_is_handed_out_can_be_written_to() -> None:
+def test_returned_arrays_are_read_only() -> None:
     times = np.array([[3, 2], [2, 5], [4, 1]], dtype=np.uint32)
     shop = pfs.Instance(times)
     times[:] = 9

@@ -102,7 +102,7 @@ def faults_of_a_file(place: bytearray) -> Iterator[None]:
         yield
     except Stop as stop:
         [(found, number)] = [(found, number) for text, number in FAULTS.items()
-                             if (found := re.fullmatch(b"pfs: " + text + b"\n", stop.told))]
+                             if (found := re.fullmatch(b"pfs: " + text + b"\n", stop.reported))]
         put64(place, int(found[1] or 0))
         raise Fault(number) from None
 

@@ -46,7 +46,7 @@ class Stop(Exception):
 
     def __init__(self, got: bytes, status: int) -> None:
         super().__init__(got)
-        self.told = got
+        self.reported = got
         self.status = status
 
 
@@ -561,7 +561,7 @@ def answer(words: Sequence[bytes], stdin: bytes, files: Files) -> tuple[bytes, b
     try:
         text, status = run(words, stdin, files)
     except Stop as stop:
-        return b"", stop.told, stop.status
+        return b"", stop.reported, stop.status
     return text, b"", status
 
 

@@ -38,6 +38,6 @@ module _ (cap : ℕ) (shop : FlowShop) (order : List ℕ) (job width last : ℕ)
       let sum_is = λ (at : ℕ) (lt : at < length order + 1). ap (λ v. slice_index_or v at 0) is ∙ sum_at at lt in
       let inside : place < length order + 1 = first.within in
       let least_is = sum_is place inside in
-      let told = capped_least_law cap (makespan_with shop order job) (λ at. slice_index_or part at 0)
+      let capped_is = capped_least_law cap (makespan_with shop order job) (λ at. slice_index_or part at 0)
       (length order + 1) place sum_is first (omega (arith, least_is, short place (omega arith))) in
-      best_place_found shop order job told.0 (here ∙ told.1)
+      best_place_found shop order job capped_is.0 (here ∙ capped_is.1)

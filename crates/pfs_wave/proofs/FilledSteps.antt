@@ -52,7 +52,7 @@ more_filled {cap} {width} {times} {tails} {after} {new} {kept} left row so_far l
       after_is = rw add-one next;
       tails_are = λ step inside le.
           elim (cases_lt row step) [
-            | inl behind ↦
+            | inl other ↦
                 get_or-set_other tails row step kept [] (omega arith) ∙ so_far.tails_are step inside (omega arith)
             | inr here ↦
                 let same : step ≡ row = omega arith in

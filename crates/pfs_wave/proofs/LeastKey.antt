@@ -75,5 +75,5 @@ next_key value count before key least so_far few key_is least_is =
 
 pub all_keys : (value : ℕ → ℕ) {count all key : ℕ} → IsLeastKey value count key → count ≡ all
     → IsLeastSoFar value all (key % 65536) (key / 65536)
-all_keys value {count} {all} {key} told e =
-    let here = told.is in subst (λ n. IsLeastSoFar value n (key % 65536) (key / 65536)) e here
+all_keys value {count} {all} {key} least e =
+    let here = least.is in subst (λ n. IsLeastSoFar value n (key % 65536) (key / 65536)) e here

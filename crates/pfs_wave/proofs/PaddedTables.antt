@@ -31,8 +31,8 @@ module _ (shop : FlowShop) (values : ℕ → ℕ) (lane : ℕ) where
   pub on_inside : lane < shop.machines → on_machine shop values lane ≡ values lane
   on_inside lt = rw (lt-ltb lane shop.machines lt) refl
 
-  pub on_behind : shop.machines ≤ lane → on_machine shop values lane ≡ 0
-  on_behind le = rw (le-ltb lane shop.machines le) refl
+  pub on_padding : shop.machines ≤ lane → on_machine shop values lane ≡ 0
+  on_padding le = rw (le-ltb lane shop.machines le) refl
 
 module _ (shop : FlowShop) (jobs : List ℕ) (row lane : ℕ) where
   pub time_inside : row < length jobs → lane < shop.machines → padded_time shop jobs row lane
@@ -42,10 +42,10 @@ module _ (shop : FlowShop) (jobs : List ℕ) (row lane : ℕ) where
   pub time_none : length jobs ≤ row → padded_time shop jobs row lane ≡ 0
   time_none le = rw (le-ltb row (length jobs) le) refl
 
-  pub time_behind : shop.machines ≤ lane → padded_time shop jobs row lane ≡ 0
-  time_behind le =
+  pub time_on_padding : shop.machines ≤ lane → padded_time shop jobs row lane ≡ 0
+  time_on_padding le =
       elim (cases_lt row (length jobs)) [
-        | inl lt ↦ rw (lt-ltb row (length jobs) lt) (on_behind shop (operation shop jobs row) lane le)
+        | inl lt ↦ rw (lt-ltb row (length jobs) lt) (on_padding shop (operation shop jobs row) lane le)
         | inr none ↦ time_none none
       ]
 
@@ -60,7 +60,7 @@ module _ (shop : FlowShop) (jobs : List ℕ) where
   padded_none row lane none =
       elim (cases_lt lane shop.machines) [
         | inl inside ↦ on_inside shop (heaviest_back shop jobs row) lane inside ∙ back_none shop jobs row lane none
-        | inr behind ↦ on_behind shop (heaviest_back shop jobs row) lane behind
+        | inr padding ↦ on_padding shop (heaviest_back shop jobs row) lane padding
       ]
 
   -- each tail, from the tail of the next machine and the tail of the next row
@@ -86,7 +86,7 @@ module _ (shop : FlowShop) (jobs : List ℕ) where
                 omega (
                   arith,
                   on_inside shop here lane inside,
-                  on_behind shop here (suc lane) at_end,
+                  on_padding shop here (suc lane) at_end,
                   on_inside shop under lane inside,
                   time_inside shop jobs row lane some inside,
                   back_last shop jobs row lane some (omega arith),
@@ -101,13 +101,13 @@ module _ (shop : FlowShop) (jobs : List ℕ) where
                 time_none shop jobs row lane none,
               )
         ]
-        | inr behind ↦
+        | inr padding ↦
             omega (
               arith,
-              on_behind shop here lane behind,
-              on_behind shop here (suc lane) (omega arith),
-              on_behind shop under lane behind,
-              time_behind shop jobs row lane behind,
+              on_padding shop here lane padding,
+              on_padding shop here (suc lane) (omega arith),
+              on_padding shop under lane padding,
+              time_on_padding shop jobs row lane padding,
             )
       ]
 
@@ -117,8 +117,8 @@ module _ (shop : FlowShop) (some : 1 ≤ shop.machines) where
   pub machine_inside : (lane : ℕ) → lane < shop.machines → machine_at shop lane ≡ lane
   machine_inside lane lt = omega arith
 
-  pub machine_behind : (lane : ℕ) → shop.machines ≤ suc lane → machine_at shop (suc lane) ≡ machine_at shop lane
-  machine_behind lane le = omega arith
+  pub machine_on_padding : (lane : ℕ) → shop.machines ≤ suc lane → machine_at shop (suc lane) ≡ machine_at shop lane
+  machine_on_padding lane le = omega arith
 
   module _ (jobs : List ℕ) where
     abbrev pub padded_head : ℕ → ℕ → ℕ
@@ -143,11 +143,11 @@ module _ (shop : FlowShop) (some : 1 ≤ shop.machines) where
                 head_step (operation shop jobs) place (suc lane),
                 time_inside shop jobs place (suc lane) lt inside,
               ))
-          | inr behind ↦
-              rw (machine_behind lane behind) (omega (
+          | inr padding ↦
+              rw (machine_on_padding lane padding) (omega (
                 arith,
                 head_step (operation shop jobs) place (machine_at shop lane),
-                time_behind shop jobs place (suc lane) behind,
+                time_on_padding shop jobs place (suc lane) padding,
               ))
         ]
 
@@ -188,12 +188,12 @@ module _ (shop : FlowShop) (some : 1 ≤ shop.machines) (jobs : List ℕ) (job p
               same_heads shop jobs job place within place (suc lane) (omega arith),
               job_inside (suc lane) inside,
             ))
-        | inr behind ↦
-            rw (machine_behind shop some lane behind) (omega (
+        | inr padding ↦
+            rw (machine_on_padding shop some lane padding) (omega (
               arith,
               head_step weigh_with place (machine_at shop lane),
               same_heads shop jobs job place within place (machine_at shop lane) (omega arith),
-              on_behind shop (time_of shop job) (suc lane) behind,
+              on_padding shop (time_of shop job) (suc lane) padding,
             ))
       ]
 
@@ -221,11 +221,11 @@ module _ (shop : FlowShop) (some : 1 ≤ shop.machines) (jobs : List ℕ) (job p
               greatest_to_more through lane,
               on_inside shop (heaviest_back shop jobs place) (suc lane) inside,
             ))
-        | inr behind ↦
-            rw (machine_behind shop some lane behind) (omega (
+        | inr padding ↦
+            rw (machine_on_padding shop some lane padding) (omega (
               arith,
               greatest_to_le through (machine_at shop lane),
-              on_behind shop (heaviest_back shop jobs place) (suc lane) behind,
+              on_padding shop (heaviest_back shop jobs place) (suc lane) padding,
             ))
       ]
 

@@ -8,7 +8,7 @@ use Rattle.std.specs.Simd.Lanes.{zip2}
 use Rattle.pfs_base.specs.FlowShop.{FlowShop, time_of}
 use Rattle.pfs_wave.specs.Lanes.{capped_add}
 use Rattle.pfs_wave.specs.Wavefront.{on_machine}
-use Rattle.pfs_wave.proofs.PaddedTables.{on_inside, on_behind}
+use Rattle.pfs_wave.proofs.PaddedTables.{on_inside, on_padding}
 
 abbrev pub AreSmall : ℕ → List ℕ → Type 0
 AreSmall cap lanes = All (λ value. value ≤ cap) lanes
@@ -82,5 +82,5 @@ machine_small shop job lane cap small =
         | inr past ↦
             omega (arith, on_inside shop (time_of shop job) lane inside, get_or_past shop.times at 0 past)
       ]
-      | inr behind ↦ omega (arith, on_behind shop (time_of shop job) lane behind)
+      | inr padding ↦ omega (arith, on_padding shop (time_of shop job) lane padding)
     ]

@@ -12,7 +12,7 @@ use Rattle.pfs_wave.proofs.Steps.{capped_none, capped_step, zeros-get_or, length
 use Rattle.pfs_wave.proofs.Steps.{capped_more}
 use Rattle.pfs_wave.proofs.Steps.{length-heads_step, heads_lane, length-sums_step, sums_lane}
 use Rattle.pfs_insert.specs.Exchange.{heaviest_back}
-use Rattle.pfs_wave.proofs.PaddedTables.{padded_back, padded_back_step, padded_none, on_behind}
+use Rattle.pfs_wave.proofs.PaddedTables.{padded_back, padded_back_step, padded_none, on_padding}
 use Rattle.pfs_wave.proofs.PaddedTables.{padded_head, padded_head_first, padded_head_step, padded_inserted}
 use Rattle.pfs_wave.proofs.PaddedTables.{padded_inserted_first, padded_inserted_step, padded_sum, padded_sum_first}
 use Rattle.pfs_wave.proofs.PaddedTables.{padded_sum_step, padded_sum_last}
@@ -93,7 +93,7 @@ module _ (cap : ℕ) (shop : FlowShop) (jobs : List ℕ) (width : ℕ) (times : 
         | inl more ↦ tails_are left row (suc lane) (omega arith) more
         | inr at_end ↦
             get_or_past below (suc lane) 0 (omega arith) ∙ capped_none cap
-            ∙ ap (capped cap) (sym (on_behind shop (heaviest_back shop jobs row) (suc lane) (omega arith)))
+            ∙ ap (capped cap) (sym (on_padding shop (heaviest_back shop jobs row) (suc lane) (omega arith)))
       ] in
       let under = tails_are left (suc row) lane (omega arith) lt in
       ap (λ v. get_or v lane 0) (tails_next cap times width steps left)
