@@ -67,8 +67,8 @@ module _ (layout : Layout) (file : List ℕ) (block : ℕ) (some : 1 ≤ block) 
       → (fault ≢ layout_faults.Read → fault ≢ layout_faults.Memory → RejectsInstance layout file block fault)
       → (Some fault ≡ Some layout_faults.Read → reader_failed ≡ true) → IsResult (rejecting fault)
   rejected_file fault nothing rejects failed =
-      let reported : ReadsOn reader_failed (rejecting fault) → RejectsInstance layout file block fault = λ reads. rejects
-      (λ e. true≢false (sym (failed (ap Some e)) ∙ reads.reading)) (λ e. reads.room (ap rejecting e)) in
+      let reported : ReadsOn reader_failed (rejecting fault) → RejectsInstance layout file block fault =
+      λ reads. rejects (λ e. true≢false (sym (failed (ap Some e)) ∙ reads.reading)) (λ e. reads.room (ap rejecting e)) in
       record {
         accepted = λ problem holds few runs. absurd (not_both problem fault holds (reported runs.reads));
         rejected = λ other rejects_other reads. record {
@@ -92,7 +92,8 @@ module _ (layout : Layout) (file : List ℕ) (block : ℕ) (some : 1 ≤ block) 
   has_result (Err (faults.Order fault)) nothing rejected read = absurd rejected
   has_result (Err (faults.TakeRange taken jobs)) nothing rejected read = record {
     accepted = λ problem holds few runs.
-        absurd (too_many_taken rejected.problem problem taken rejected.holds holds few rejected.above.0 rejected.above.1);
+        absurd (too_many_taken rejected.problem problem taken rejected.holds holds few rejected.above.0
+        rejected.above.1);
     rejected = λ reported rejects reads. absurd (not_both rejected.problem reported rejected.holds rejects);
     too_many = λ problem asked holds is above reads. record {
       reported =

@@ -3,7 +3,8 @@ ghost use Rattle.std.specs.Prelude.{◌≡◌, ℕ, ◌+◌, ◌-◌, ◌*◌, �
 ghost use Rattle.pfs_insert.specs.Insertion.{makespan_with};
 ghost use Rattle.pfs_insert.specs.Private.BestSoFar.{IsBest};
 ghost use Rattle.pfs_insert.specs.Private.Counting.{Counted};
-ghost use Rattle.pfs_insert.specs.Private.Rows.{CanInsert, HasBacks, HasHead, HasTableRows, IsPartial, IsPut, KeepsHeads};
+ghost use Rattle.pfs_insert.specs.Private.Rows.{CanInsert, HasBacks, HasHead, HasTableRows};
+ghost use Rattle.pfs_insert.specs.Private.Rows.{IsPartial, IsPut, KeepsHeads};
 
 use crate::inserter::{Placed, better};
 use crate::rows::{fill_head, fill_two_places};

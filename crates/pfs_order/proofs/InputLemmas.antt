@@ -136,8 +136,8 @@ reads returned (long bytes c size is) =
     reads_front _ _ (result_err returned) bytes c (omega arith) (λ failed. absurd (cc)) (λ _. size)
     (λ _ other. absurd (other (ap result_err is))) (λ none. absurd (cc))
 reads returned (whole bytes c end few j) =
-    reads_front _ _ (result_err returned) bytes c (omega arith) (λ _. few) (λ known. absurd (never_long returned j known))
-    (λ _ _. end) (λ memory. (end, of_memory returned j memory))
+    reads_front _ _ (result_err returned) bytes c (omega arith) (λ _. few)
+    (λ known. absurd (never_long returned j known)) (λ _ _. end) (λ memory. (end, of_memory returned j memory))
   where
     never_long : (read : Result StatedOrder OrderFault) → ValidatesText bytes read → result_err read ≢ Some TooLong
     never_long (Ok file) k is = cc

@@ -332,8 +332,8 @@ fn measure(alloc: Global, instance: &Instance, order: Order) -> Result<Kept<Span
     Ok(Kept::new(order, span))
 }
 
-// Rounds `first` to `first + rounds.count - 1` of the search of a seed, from an order with its makespan, on a bench with
-// a count of 0.
+// Rounds `first` to `first + rounds.count - 1` of the search of a seed, from an order with its makespan, on a bench
+// with a count of 0.
 #[inline(always)]
 fn go_on<B: Shop, I: Inserter<B> + Drop>(
     alloc: Global,

@@ -181,7 +181,8 @@ due_instance layout block all full =
     elim (place_is layout (instance_of layout block) k (omega (arith, count))) [
       | a_time job machine j m place ↦
           rw place (time_due layout (instance_of layout block) job machine j m
-          ∙ table_at (listed_time layout block.size block.numbers) block.size.jobs block.size.machines job machine 0 j m)
+          ∙ table_at (listed_time layout block.size block.numbers) block.size.jobs block.size.machines job machine
+          0 j m)
       | a_number machine wanted is ↦
           grind (arith, nat_tests, is, wanted, full, count, due_number layout block.size block.numbers k all)
     ])

@@ -109,7 +109,8 @@ module _ {layout : Layout} {size : Size} {count : ℕ} {body : Body} (f : Follow
   due_is = grind (arith, nat_tests, mod-mul-add body.job size.machines body.machine, f.place)
 
   -- after a time, and after a machine's number
-  pub after_time_follows : due_next layout body ≡ Due.Time → FollowsBody layout size (count + 1) (after_time layout body)
+  pub after_time_follows : due_next layout body ≡ Due.Time
+      → FollowsBody layout size (count + 1) (after_time layout body)
   after_time_follows due = grind (arith, nat_tests, next_place, f.place)
 
   pub after_machine_follows : {machine : ℕ} → due_next layout body ≡ Due.Machine machine

@@ -2,8 +2,8 @@
 use Rattle.pfs_layout.proofs.Words.{◌≡◌, ℕ, ◌-◌, ◌≤◌, true, List, [], refl, sym, ◌∙◌, arith, Option, Some, None, inl}
 use Rattle.pfs_layout.proofs.Words.{inr, Result, Ok, Err, option_or, result_err, nat_tests, lt-ltb, le-ltb, append-nil}
 use Rattle.pfs_layout.proofs.Words.{Problem, LayoutFault, Phase, Blocks, lines, ends_early, fault_of_place, rejection}
-use Rattle.pfs_layout.proofs.Words.{accepted, line_ended, has_numbers_alone, at_end, is_live, Fields, Follows, HasReadIn}
-use Rattle.pfs_layout.proofs.Words.{HasRead, FinishMeets}
+use Rattle.pfs_layout.proofs.Words.{accepted, line_ended, has_numbers_alone, at_end, is_live, Fields, Follows}
+use Rattle.pfs_layout.proofs.Words.{HasReadIn, HasRead, FinishMeets}
 use Rattle.std.specs.Result.{result_ok}
 use Rattle.pfs_layout.specs.declared.blocks.Phase.TheVariants as phases
 use Rattle.pfs_layout.specs.Private.Step.{end_fault}

@@ -64,7 +64,8 @@ makespan_by_rows-span-requires-2-clause-put g c =
     let here = (goal.at.makespan_by_rows-span-requires-2-clause-put g c).After-at-2 in
     let known = c.fill_two_places.ensures.rows.next_is _ (above_known g here) in
     rw (c.makespan_by_rows-span.ensures.bench.shop, c.fill_two_places.ensures.bench.shop) (record {
-      row_is = λ machine d lt. known machine d lt ∙ put_row between c.args.job (omega (arith, c.requires.place)) machine;
+      row_is = λ machine d lt.
+          known machine d lt ∙ put_row between c.args.job (omega (arith, c.requires.place)) machine;
     })
 
 pub returns-clause-best : goal.returns-clause-best

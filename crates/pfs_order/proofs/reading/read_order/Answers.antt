@@ -13,7 +13,8 @@ pub returns-in_err-filled : goal.returns-in_err-filled
 returns-in_err-filled g c =
     let p = err_from_is_err_and c.from_residual.result c.from_residual.ensures.1 in
     let is : c.from_residual.result ≡ Err Read = rw (p.1, p.2, c.in_err-filled.ensures.fault) refl in
-    let known : Reported (g.R.Source.left c.args.reader.now) (g.R.Source.left c.fill.new.reader) c.from_residual.result =
+    let known : Reported (g.R.Source.left c.args.reader.now) (g.R.Source.left c.fill.new.reader)
+    c.from_residual.result =
     stopped (rw c.fill.auto.buffer at c.in_err-filled.ensures.stopped) is in
     owed _ known (λ _. c.in_err-filled.ensures.failed) (λ _. is) (λ _. c.in_err-filled.ensures.before_end)
 

@@ -12,7 +12,8 @@ returns-then-not-is_live-clause-meets c text s =
 
 pub returns-then-piece-room-clause-reader : goal.returns-then-piece-room-clause-reader
 returns-then-piece-room-clause-reader c =
-    let some = c.requires.has_read (live-memory c.args.self.now.phase (sym c.is_live.ensures ∙ c.if-not-is_live.false)) in
+    let live = live-memory c.args.self.now.phase (sym c.is_live.ensures ∙ c.if-not-is_live.false) in
+    let some = c.requires.has_read live in
     reader_of (c.take.ensures.meets some.0 some.1)
 
 pub returns-then-piece-room-clause-meets : goal.returns-then-piece-room-clause-meets
@@ -34,7 +35,8 @@ returns-then-is_live-clause-meets c text s =
 
 pub returns-then-is_live-clause-reader : goal.returns-then-is_live-clause-reader
 returns-then-is_live-clause-reader c =
-    let some = c.requires.has_read (live-memory c.args.self.now.phase (sym c.is_live.ensures ∙ c.if-not-is_live.false)) in
+    let live = live-memory c.args.self.now.phase (sym c.is_live.ensures ∙ c.if-not-is_live.false) in
+    let some = c.requires.has_read live in
     let meets = returns-then-is_live-clause-meets c some.0 some.1 in
     record {
       has_read = λ h. (some.0 ++ c.args.piece.now, meets.rejected (λ z. cc));
@@ -43,7 +45,8 @@ returns-then-is_live-clause-reader c =
 
 pub returns-clause-reader : goal.returns-clause-reader
 returns-clause-reader c =
-    let some = c.requires.has_read (live-memory c.args.self.now.phase (sym c.is_live.ensures ∙ c.if-not-is_live.false)) in
+    let live = live-memory c.args.self.now.phase (sym c.is_live.ensures ∙ c.if-not-is_live.false) in
+    let some = c.requires.has_read live in
     reader_of (c.take-2.ensures.meets some.0 some.1)
 
 pub returns-clause-meets : goal.returns-clause-meets
