@@ -50,13 +50,13 @@ def integer_from(least: int) -> Callable[[str], int]:
     return read
 
 
-def need(program: str, package: str) -> None:
+def require_program(program: str, package: str) -> None:
     """Raises an error with the name of the package if a program is not installed."""
     if shutil.which(program) is None:
         raise ExperimentError(f"{program} is not installed (Debian: {package})")
 
 
-def need_pfs(program: str | None) -> str:
+def find_pfs(program: str | None) -> str:
     """Returns the absolute path of the program, which must be pfs."""
     if program is None:
         raise ExperimentError("pfs is not built (make run) and not on the path: pass it with --pfs")

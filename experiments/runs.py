@@ -16,7 +16,7 @@ import sys
 from collections.abc import Iterator
 from typing import Any, NamedTuple, TextIO
 
-from commands import HERE, IS_INSTALLED, need_pfs
+from commands import HERE, IS_INSTALLED, find_pfs
 from csvs import ExperimentError, Row, reference_of
 from plan import read_plan
 
@@ -67,12 +67,12 @@ def prepare(plan_path: str, csv_path: str, program: str | None) -> Experiment:
     folder = pathlib.Path(os.path.abspath(csv_path) + ".d")
     if not folder.name.isprintable() or "\t" in folder.name:
         raise ExperimentError(f"{csv_path}: the name of a CSV must be UTF-8 without control characters")
-    pfs = "" if (folder / "plan.json").exists() else need_pfs(program)
+    pfs = "" if (folder / "plan.json").exists() else find_pfs(program)
     folder.mkdir(parents=True, exist_ok=True)
     lock = lock_of(folder, csv_path)
     try:
         if not (folder / "plan.json").exists():
-            begin(folder, pfs or need_pfs(program))
+            begin(folder, pfs or find_pfs(program))
         copy_inputs(plan, plan_folder, folder, csv_path)
         add_runs(plan, plan_folder, folder, csv_path)
     except BaseException:

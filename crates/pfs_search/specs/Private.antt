@@ -1,2 +1,2 @@
 -- Definitions that no contract of a public function cites.
-pub mod Starts
+pub mod Steps

@@ -1,11 +1,12 @@
 //! One round of iterated greedy, and the random words of the next.
-ghost use Rattle.std.specs.Prelude.{◌≡◌, ℕ, ◌+◌, ◌<◌, ◌≤◌, ◌^◌, ◌++◌, length, take as front};
+ghost use Rattle.std.specs.Prelude.{◌≡◌, ℕ, ◌+◌, ◌<◌, ◌≤◌, ◌^◌, length, take as front};
 ghost use Rattle.std.specs.Prelude.{vec_len, vec_capacity, false, IsOk, OnOk, OnErr};
-ghost use Rattle.pfs_base.specs.Paths.{makespan};
 ghost use Rattle.pfs_order.specs.Sequence.{IsSequence};
-ghost use Rattle.pfs_insert.specs.Inserter.{Counts, Fits};
+ghost use Rattle.pfs_insert.specs.Inserter.{Counts};
 ghost use Rattle.pfs_search.specs.Costs.{round_cost_on};
 ghost use Rattle.pfs_search.specs.Greedy.{after_round, jobs_left, jobs_taken, stream_after, words_of};
+ghost use Rattle.pfs_search.specs.Private.Steps.{AreApart};
+ghost use Rattle.pfs_search.specs.SearcherView.{IsKeptSpan, MayPlay, StillFit};
 
 use crate::insertions::insert_all;
 use crate::kept::Kept;
@@ -17,8 +18,7 @@ use pfs_order::Seq;
 use rand_core::Rng;
 use std::alloc::Global;
 
-/// One round, in a workspace whose queue has room for all jobs. It returns an error where allocation fails in the
-/// inserter, and then `kept` is unchanged.
+/// One round. It returns an error where allocation fails in the inserter, and then `kept` is unchanged.
 #[inline(always)]
 pub(crate) fn play_round<B: Bench, I: Inserter<B>>(
     alloc: Global,
@@ -28,25 +28,18 @@ pub(crate) fn play_round<B: Bench, I: Inserter<B>>(
     words: &[u32],
     passes: u32,
 ) -> Result<(), InsertFault>
-    requires fits { Fits (B.shop bench.old) (I.sizes work.old.inserter) work.old.seq.size }
-    requires order_jobs { length kept.old.order ≡ (B.shop bench.old).jobs }
-    requires kept_span { B.Span.number kept.old.span ≡ makespan (B.shop bench.old) kept.old.order }
-    requires some { 1 ≤ length words.now }
-    requires few { length words.now ≤ (B.shop bench.old).jobs }
-    requires queue { (B.shop bench.old).jobs ≤ vec_capacity work.old.queue }
+    requires ready { MayPlay (B.shop bench.old) I.sizes work.old kept.old.order (B.Span.number kept.old.span)
+        (length words.now) passes }
     requires room { B.counted bench.old
         + round_cost_on I.cost (B.shop bench.old) (length words.now) passes < 2 ^ 64 }
     ensures order { OnOk result (kept.new.order ≡ after_round (B.shop bench.old) passes kept.old.order words.now) }
-    ensures span { B.Span.number kept.new.span ≡ makespan (B.shop bench.old) kept.new.order }
-    ensures never_rises { B.Span.number kept.new.span ≤ B.Span.number kept.old.span }
+    ensures span { IsKeptSpan (B.shop bench.old) (B.Span.number kept.old.span) kept.new.order
+        (B.Span.number kept.new.span) }
     ensures cells { Counts result (B.counted bench.old) (B.counted bench.new)
         (round_cost_on I.cost (B.shop bench.old) (length words.now) passes) }
     ensures unchanged { OnErr result (kept.new ≡ kept.old) }
     ensures succeeds { I.can_refuse ≡ false → IsOk result }
-    ensures shop { B.shop bench.new ≡ B.shop bench.old }
-    ensures still_fits { Fits (B.shop bench.new) (I.sizes work.new.inserter) work.new.seq.size }
-    ensures order_jobs { length kept.new.order ≡ (B.shop bench.new).jobs }
-    ensures same_room { vec_capacity work.old.queue ≤ vec_capacity work.new.queue }
+    ensures still { StillFit (B.shop bench.old) (B.shop bench.new) I.sizes work.new kept.new.order }
 {
     take_jobs(kept.order.seq(), &mut work.seq, &mut work.queue, words);
     let rebuilt = insert_all(alloc, &mut work.inserter, bench, &mut work.seq, &work.queue)?;
@@ -73,9 +66,8 @@ fn take_jobs(order: &Seq, seq: &mut Seq, taken: &mut Vec<usize>, words: &[u32])
     requires room { length words.now ≤ vec_capacity taken.old }
     ensures left { seq.new ≡ record { size = order.now.size; jobs = jobs_left order.now.jobs words.now } }
     ensures taken { taken.new.items ≡ jobs_taken order.now.jobs words.now }
-    ensures together { IsSequence order.now.size (taken.new.items ++ seq.new.jobs) }
-    ensures count { length seq.new.jobs + length words.now ≡ length order.now.jobs }
-    ensures count_taken { vec_len taken.new ≡ length words.now }
+    ensures apart { AreApart order.now.size (length order.now.jobs) taken.new.items seq.new.jobs }
+    ensures count { vec_len taken.new ≡ length words.now }
     ensures capacity { vec_capacity taken.old ≤ vec_capacity taken.new }
 {
     seq.copy_from(order);

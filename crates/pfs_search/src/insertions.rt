@@ -1,10 +1,10 @@
 //! Inserting jobs one after another, each at its best place.
 ghost use Rattle.std.specs.Prelude.{◌≡◌, ℕ, ◌+◌, ◌<◌, ◌≤◌, ◌^◌, ◌++◌, List, [], length, false, IsOk, IfOk, OnOk};
-ghost use Rattle.pfs_base.specs.Paths.{makespan};
 ghost use Rattle.pfs_order.specs.Sequence.{IsSequence};
 ghost use Rattle.pfs_insert.specs.Inserter.{Counts, Fits};
 ghost use Rattle.pfs_search.specs.Neh.{with_jobs};
 ghost use Rattle.pfs_search.specs.Costs.{insertions_cost};
+ghost use Rattle.pfs_search.specs.Private.Steps.{HasSpan, StillFits};
 
 use pfs_base::{Bench, Length};
 use pfs_insert::{InsertFault, Inserter};
@@ -37,13 +37,12 @@ pub(crate) fn insert_all<B: Bench, I: Inserter<B>>(
     requires room { B.counted bench.old
         + insertions_cost I.cost (B.shop bench.old).machines (length seq.old.jobs) (length jobs.now) < 2 ^ 64 }
     ensures jobs { OnOk result (seq.new.jobs ≡ with_jobs (B.shop bench.old) seq.old.jobs jobs.now) }
-    ensures count { OnOk result (length seq.new.jobs ≡ length seq.old.jobs + length jobs.now) }
-    ensures span { IfOk result (λ span. B.Span.number span ≡ makespan (B.shop bench.old) seq.new.jobs) }
+    ensures span { IfOk result (λ span. HasSpan (B.shop bench.old) seq.new.jobs (length seq.old.jobs + length jobs.now)
+        (B.Span.number span)) }
     ensures cells { Counts result (B.counted bench.old) (B.counted bench.new)
         (insertions_cost I.cost (B.shop bench.old).machines (length seq.old.jobs) (length jobs.now)) }
     ensures succeeds { I.can_refuse ≡ false → IsOk result }
-    ensures shop { B.shop bench.new ≡ B.shop bench.old }
-    ensures still_fits { Fits (B.shop bench.new) (I.sizes inserter.new) seq.new.size }
+    ensures still { StillFits (B.shop bench.old) (B.shop bench.new) (I.sizes inserter.new) seq.new.size }
 {
     let mut span = bench.zero();
     for job in jobs {

@@ -6,7 +6,7 @@ ghost use Rattle.pfs_search.specs.Neh.{neh_order};
 ghost use Rattle.pfs_search.specs.Costs.{neh_cost_on, round_cost_on};
 ghost use Rattle.pfs_search.specs.Greedy.{after_round, after_rounds, stream_after, words_of};
 ghost use Rattle.pfs_search.specs.RoundsStop.{RoundsStop};
-ghost use Rattle.pfs_search.specs.SearcherView.{AllFit};
+ghost use Rattle.pfs_search.specs.SearcherView.{AllFit, IsKeptSpan, MayPlay, StillFit};
 
 use crate::fault::SearchFault;
 use crate::greedy::{draw_words, play_round};
@@ -32,17 +32,16 @@ pub struct Searcher<I> {
 }
 
 impl<I> Model for Searcher<I> {
-    ghost use Rattle.std.specs.Prelude.{◌≡◌, ◌≤◌, vec_len, vec_capacity};
+    ghost use Rattle.std.specs.Prelude.{◌≤◌, vec_len, vec_capacity};
     ghost use Rattle.pfs_search.specs.SearcherView.{SearcherView};
 
     ghost Value = { SearcherView I };
 
-    ghost view = { λ a. record { size = a.work.seq.size; inserter = a.work.inserter } };
+    ghost view = { λ a. a.work };
 
     ghost invariant = { λ a. record {
-      queue : a.work.seq.size ≤ vec_capacity a.work.queue;
-      ranked : a.work.seq.size ≤ vec_capacity a.ranked;
-      words : a.work.seq.size ≤ vec_len a.words;
+      ranked : a.work.size ≤ vec_capacity a.ranked;
+      words : a.work.size ≤ vec_len a.words;
     } };
 }
 
@@ -103,8 +102,7 @@ impl<I> Searcher<I> {
         ensures fault { IfErr result (λ fault. fault ≡ SearchFault.Memory 0) }
         ensures unchanged { OnErr result (kept.new ≡ kept.old) }
         ensures succeeds { I.can_refuse ≡ false → IsOk result }
-        ensures shop { B.shop bench.new ≡ B.shop bench.old }
-        ensures still_fit { AllFit (B.shop bench.new) I.sizes self.new kept.new.order }
+        ensures still { StillFit (B.shop bench.old) (B.shop bench.new) I.sizes self.new kept.new.order }
     {
         let work = &mut self.work;
         rank_jobs(bench, &mut self.ranked, &mut work.queue);
@@ -134,23 +132,19 @@ impl<I> Searcher<I> {
     ) -> Result<(), SearchFault>
     where
         I: Inserter<B>,
-        requires fit { AllFit (B.shop bench.old) I.sizes self.old kept.old.order }
-        requires kept_span { B.Span.number kept.old.span ≡ makespan (B.shop bench.old) kept.old.order }
-        requires some { 1 ≤ length words.now }
-        requires few { length words.now ≤ (B.shop bench.old).jobs }
-        requires passes { passes ≤ MOST_PASSES }
+        requires ready { MayPlay (B.shop bench.old) I.sizes self.old kept.old.order (B.Span.number kept.old.span)
+            (length words.now) passes }
         requires room { B.counted bench.old
             + round_cost_on I.cost (B.shop bench.old) (length words.now) passes < 2 ^ 64 }
         ensures order { OnOk result (kept.new.order ≡ after_round (B.shop bench.old) passes kept.old.order words.now) }
-        ensures span { B.Span.number kept.new.span ≡ makespan (B.shop bench.old) kept.new.order }
-        ensures never_rises { B.Span.number kept.new.span ≤ B.Span.number kept.old.span }
+        ensures span { IsKeptSpan (B.shop bench.old) (B.Span.number kept.old.span) kept.new.order
+            (B.Span.number kept.new.span) }
         ensures cells { Counts result (B.counted bench.old) (B.counted bench.new)
             (round_cost_on I.cost (B.shop bench.old) (length words.now) passes) }
         ensures fault { IfErr result (λ fault. fault ≡ SearchFault.Memory 0) }
         ensures unchanged { OnErr result (kept.new ≡ kept.old) }
         ensures succeeds { I.can_refuse ≡ false → IsOk result }
-        ensures shop { B.shop bench.new ≡ B.shop bench.old }
-        ensures still_fit { AllFit (B.shop bench.new) I.sizes self.new kept.new.order }
+        ensures still { StillFit (B.shop bench.old) (B.shop bench.new) I.sizes self.new kept.new.order }
     {
         match play_round(alloc, &mut self.work, bench, kept, words, passes) {
             Ok(()) => Ok(()),
@@ -174,24 +168,20 @@ impl<I> Searcher<I> {
     ) -> Result<(), SearchFault>
     where
         I: Inserter<B>,
-        requires fit { AllFit (B.shop bench.old) I.sizes self.old kept.old.order }
-        requires kept_span { B.Span.number kept.old.span ≡ makespan (B.shop bench.old) kept.old.order }
-        requires some { 1 ≤ take }
-        requires few { take ≤ (B.shop bench.old).jobs }
-        requires passes { passes ≤ MOST_PASSES }
+        requires ready { MayPlay (B.shop bench.old) I.sizes self.old kept.old.order (B.Span.number kept.old.span)
+            take passes }
         requires room { B.counted bench.old + count * round_cost_on I.cost (B.shop bench.old) take passes < 2 ^ 64 }
         ensures order { OnOk result (kept.new.order ≡ after_rounds (B.shop bench.old) passes count take
             kept.old.order (words_of (count * take) (R.stream rng.old))) }
-        ensures span { B.Span.number kept.new.span ≡ makespan (B.shop bench.old) kept.new.order }
-        ensures never_rises { B.Span.number kept.new.span ≤ B.Span.number kept.old.span }
+        ensures span { IsKeptSpan (B.shop bench.old) (B.Span.number kept.old.span) kept.new.order
+            (B.Span.number kept.new.span) }
         ensures cells { Counts result (B.counted bench.old) (B.counted bench.new)
             (count * round_cost_on I.cost (B.shop bench.old) take passes) }
         ensures words { OnOk result (R.stream rng.new ≡ stream_after (count * take) (R.stream rng.old)) }
         ensures fault { IfErr result (RoundsStop (B.shop bench.old) passes count take
             kept.old.order kept.new.order (R.stream rng.old) (R.stream rng.new)) }
         ensures succeeds { I.can_refuse ≡ false → IsOk result }
-        ensures shop { B.shop bench.new ≡ B.shop bench.old }
-        ensures still_fit { AllFit (B.shop bench.new) I.sizes self.new kept.new.order }
+        ensures still { StillFit (B.shop bench.old) (B.shop bench.new) I.sizes self.new kept.new.order }
     {
         for done in 0..count {
             draw_words(rng, &mut self.words, take);

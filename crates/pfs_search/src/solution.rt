@@ -4,7 +4,7 @@ ghost use Rattle.pfs_base.specs.Paths.{makespan as makespan_of};
 ghost use Rattle.pfs_insert.specs.Insertion.{heads_tails_cost};
 ghost use Rattle.pfs_wave.specs.Served.{IsServed, lanes_of};
 ghost use Rattle.pfs_search.specs.Solution.{IsFound, IsImproved};
-ghost use Rattle.pfs_search.specs.Private.Starts.{InLimits, MayStart, IsStart};
+ghost use Rattle.pfs_search.specs.Private.Steps.{HasSpan, InLimits, MayStart};
 
 use crate::fault::SearchFault;
 use crate::kept::Kept;
@@ -197,7 +197,7 @@ fn improve_by_rows(
     first: u32,
     rounds: Rounds,
 ) -> Result<Solution, SearchFault>
-    requires start { IsStart instance.now.shop start.order start.span }
+    requires start { HasSpan instance.now.shop start.order instance.now.shop.jobs start.span }
     requires limits { InLimits instance.now.shop first rounds }
     ensures found { IfOk result (λ found.
         IsImproved instance.now.shop start.order first rounds.count rounds.take rounds.passes rounds.seed
@@ -209,7 +209,7 @@ fn improve_by_rows(
     let Ok(inserter) = HeadsTails::new(alloc, &bench) else {
         return Err(SearchFault::Memory { done: 0 });
     };
-    let improved = go_on(alloc, &mut bench, inserter, start, first, rounds)?;
+    let improved = continue_search(alloc, &mut bench, inserter, start, first, rounds)?;
     Ok(Solution {
         order: improved.order,
         makespan: bench.reveal(improved.span),
@@ -227,7 +227,7 @@ fn improve_in_width<B: Band>(
     rounds: Rounds,
 ) -> Result<Solution, SearchFault>
     requires served { IsServed instance.now.shop (lanes_of width) B.CAP }
-    requires start { IsStart instance.now.shop start.order start.span }
+    requires start { HasSpan instance.now.shop start.order instance.now.shop.jobs start.span }
     requires limits { InLimits instance.now.shop first rounds }
     ensures found { IfOk result (λ found.
         IsImproved instance.now.shop start.order first rounds.count rounds.take rounds.passes rounds.seed
@@ -259,7 +259,7 @@ fn improve_in_lanes<L: Lanes>(
     rounds: Rounds,
 ) -> Result<Solution, SearchFault>
     requires served { IsServed instance.now.shop L.WIDTH L.Band.CAP }
-    requires start { IsStart instance.now.shop start.order start.span }
+    requires start { HasSpan instance.now.shop start.order instance.now.shop.jobs start.span }
     requires limits { InLimits instance.now.shop first rounds }
     ensures found { IfOk result (λ found.
         IsImproved instance.now.shop start.order first rounds.count rounds.take rounds.passes rounds.seed
@@ -273,7 +273,7 @@ fn improve_in_lanes<L: Lanes>(
     let Ok(wavefront) = Wavefront::new(alloc, &bench) else {
         return Err(SearchFault::Memory { done: 0 });
     };
-    let shorter = go_on(alloc, &mut bench, wavefront, start, first, rounds)?;
+    let shorter = continue_search(alloc, &mut bench, wavefront, start, first, rounds)?;
     Ok(Solution {
         order: shorter.order,
         makespan: bench.reveal(shorter.span),
@@ -335,7 +335,7 @@ fn measure(alloc: Global, instance: &Instance, order: Order) -> Result<Kept<Span
 // Rounds `first` to `first + rounds.count - 1` of the search of a seed, from an order with its makespan, on a bench
 // with a count of 0.
 #[inline(always)]
-fn go_on<B: Shop, I: Inserter<B> + Drop>(
+fn continue_search<B: Shop, I: Inserter<B> + Drop>(
     alloc: Global,
     bench: &mut B,
     inserter: I,
@@ -344,7 +344,7 @@ fn go_on<B: Shop, I: Inserter<B> + Drop>(
     rounds: Rounds,
 ) -> Result<Kept<B::Span>, SearchFault>
     requires ready { MayStart (B.shop bench.old) (B.counted bench.old) (I.sizes inserter) I.cost I.can_refuse }
-    requires start { IsStart (B.shop bench.old) start.order (B.Span.number start.span) }
+    requires start { HasSpan (B.shop bench.old) start.order (B.shop bench.old).jobs (B.Span.number start.span) }
     requires limits { InLimits (B.shop bench.old) first rounds }
     ensures found { IfOk result (λ kept.
         IsImproved (B.shop bench.old) start.order first rounds.count rounds.take rounds.passes rounds.seed

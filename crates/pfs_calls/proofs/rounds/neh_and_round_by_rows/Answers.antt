@@ -16,7 +16,7 @@ pub round-requires-clause-room : goal.round-requires-clause-room
 round-requires-clause-room c =
     let bench = c.metered-bench.result in
     let after = c.neh.new.bench in
-    let same = c.neh.ensures.shop ∙ c.metered-bench.ensures.shop in
+    let same = c.neh.ensures.still.shop ∙ c.metered-bench.ensures.shop in
     let jobs = ap (λ (s : FlowShop). s.jobs) same in
     let machines = ap (λ (s : FlowShop). s.machines) same in
     let old_jobs = ap (λ (s : FlowShop). s.jobs) c.metered-bench.ensures.shop in

@@ -11,10 +11,9 @@ loop-job-preserved g c =
     let gives = c.in_ok-span.ensures in
     let counted = rw invariant.same_shop at gives.cells.counted in
     record {
-      same_shop = gives.shop ∙ invariant.same_shop;
-      fits = gives.still_fits;
+      same_shop = gives.still.shop ∙ invariant.same_shop;
+      fits = gives.still.fits;
       counted = omega (arith, invariant.counted);
-      count = gives.count ∙ invariant.count;
       order = rw (gives.jobs, invariant.same_shop, invariant.order)
           (sym (fold_more (moved shop) c.args.seq.now.jobs job));
       span = rw (← invariant.same_shop) gives.span;

@@ -1,8 +1,8 @@
 use Rattle.std.proofs.Common.{◌≡◌, ◌+◌, ◌*◌, length, fold}
-use Rattle.pfs_base.specs.Paths.{makespan}
 use Rattle.pfs_order.specs.Sequence.{all_jobs}
 use Rattle.pfs_insert.specs.Inserter.{Fits}
 use Rattle.pfs_search.specs.Greedy.{moved}
+use Rattle.pfs_search.specs.Private.Steps.{HasSpan}
 use Rattle.pfs_search.proofs.passes.make_pass.Given as goal
 
 -- the order after the jobs so far have moved
@@ -14,7 +14,6 @@ invariant-loop-job g l =
       fits : Fits (g.B.Bench.shop l.bench) (g.I.Inserter.sizes l.inserter) l.seq.size;
       counted : g.B.Bench.counted l.bench
           ≡ g.B.Bench.counted l.fn.bench + l.job * g.I.Inserter.cost shop.jobs shop.machines;
-      count : length l.seq.jobs ≡ shop.jobs;
       order : l.seq.jobs ≡ fold (moved shop) l.fn.seq.jobs (all_jobs l.job);
-      span : g.B.Span.Length.number l.span ≡ makespan shop l.seq.jobs;
+      span : HasSpan shop l.seq.jobs shop.jobs (g.B.Span.Length.number l.span);
     }

@@ -1,8 +1,8 @@
 use Rattle.std.proofs.Common.{◌≡◌, ◌+◌, ◌*◌, length}
-use Rattle.pfs_base.specs.Paths.{makespan}
 use Rattle.pfs_insert.specs.Inserter.{Fits}
 use Rattle.pfs_search.specs.Costs.{pass_cost_on}
 use Rattle.pfs_search.specs.Greedy.{after_passes}
+use Rattle.pfs_search.specs.Private.Steps.{HasSpan}
 use Rattle.pfs_search.proofs.passes.make_passes.Given as goal
 
 -- the result of the passes so far
@@ -14,7 +14,6 @@ invariant-loop-done g l =
       fits : Fits (g.B.Bench.shop l.bench) (g.I.Inserter.sizes l.inserter) l.seq.size;
       counted : g.B.Bench.counted l.bench
           ≡ g.B.Bench.counted l.fn.bench + l._done * pass_cost_on g.I.Inserter.cost shop;
-      count : length l.seq.jobs ≡ shop.jobs;
       order : l.seq.jobs ≡ after_passes shop l._done l.fn.seq.jobs;
-      span : g.B.Span.Length.number l.span ≡ makespan shop l.seq.jobs;
+      span : HasSpan shop l.seq.jobs shop.jobs (g.B.Span.Length.number l.span);
     }

@@ -1,4 +1,4 @@
-use Rattle.std.proofs.Common.{◌≡◌, ◌+◌, length, insert, ap, sym, ◌∙◌, arith}
+use Rattle.std.proofs.Common.{◌≡◌, ◌+◌, length, insert, ap, sym, ◌∙◌, arith, rules}
 use Rattle.std.proofs.lemmas.List.Edits.{length-insert, length-remove}
 use Rattle.pfs_order.specs.Sequence.{Sequence}
 use Rattle.pfs_order.proofs.Published.Sequences.{Contains-all, absent-remove}
@@ -32,14 +32,14 @@ returns-clause-jobs g c =
     ∙ sym (moved_is shop c.args.seq.now.size c.place_of-place.result job c.args.seq.now.jobs
     c.size-size.ensures.sequence found.within (sym found.job))
 
-pub returns-clause-count : goal.returns-clause-count
-returns-clause-count g c =
+pub returns-clause-span : goal.returns-clause-span
+returns-clause-span g c =
     let left = c.remove_at.new.self.jobs in
     let fewer = ap (λ (s : Sequence). length s.jobs) c.remove_at.ensures.rest in
     let gone = length-remove c.args.seq.now.jobs c.place_of-place.result c.place_of-place.ensures.within in
     let more = ap (λ (s : Sequence). length s.jobs) c.insert_at.ensures in
     let back = length-insert left c.in_ok-best.best.place c.args.job c.in_ok-best.ensures.best.within in
-    omega arith
+    record { count_is = omega (arith, c.requires.all_jobs); span_is = search rules }
 
 pub returns-clause-cells : goal.returns-clause-cells
 returns-clause-cells g c =

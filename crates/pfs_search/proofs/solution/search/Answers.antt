@@ -23,7 +23,7 @@ rounds-requires-clause-room g c =
     let rounds = c.args.rounds in
     let shop = g.B.Bench.shop c.args.bench.now in
     let then_shop = g.B.Bench.shop c.neh.new.bench in
-    let jobs = ap (λ (s : FlowShop). s.jobs) c.in_ok-neh.ensures.shop in
+    let jobs = ap (λ (s : FlowShop). s.jobs) c.in_ok-neh.ensures.still.shop in
     let few : rounds.take ≤ then_shop.jobs = omega (arith, c.requires.limits.few) in
     let short : rounds.count ≤ MOST_ROUNDS = omega (arith, c.requires.limits.count) in
     omega (
@@ -64,18 +64,18 @@ returns-clause-found g c =
     let rounds_done : RoundsDone shop rounds.count rounds.take rounds.passes stream neh.order neh_span neh_cells
     kept.order span cells =
     subst (λ s. RoundsDone s rounds.count rounds.take rounds.passes stream neh.order neh_span neh_cells
-    kept.order span cells) c.in_ok-neh.ensures.shop
+    kept.order span cells) c.in_ok-neh.ensures.still.shop
     (record {
       is_order = c.in_ok-rounds.ensures.order;
-      is_span = c.in_ok-rounds.ensures.span;
-      never_rises = c.in_ok-rounds.ensures.never_rises;
+      is_span = c.in_ok-rounds.ensures.span.span_is;
+      never_rises = c.in_ok-rounds.ensures.span.never_rises;
       counted = c.in_ok-rounds.ensures.cells.counted
           ∙ ap (λ n. neh_cells + n)
           (same_rounds (g.B.Bench.shop c.neh.new.bench) rounds.count rounds.take rounds.passes c.requires.ready.cost);
     }) in
     let all : length kept.order ≡ shop.jobs =
-    c.in_ok-rounds.ensures.still_fit.order_jobs
-    ∙ ap (λ (s : FlowShop). s.jobs) (c.in_ok-rounds.ensures.shop ∙ c.in_ok-neh.ensures.shop) in
+    c.in_ok-rounds.ensures.still.fit.order_jobs
+    ∙ ap (λ (s : FlowShop). s.jobs) (c.in_ok-rounds.ensures.still.shop ∙ c.in_ok-neh.ensures.still.shop) in
     let distinct = subst (λ n. IsSequence n kept.order) all c.len-jobs.ensures.sequence in
     found_is shop rounds.count rounds.take rounds.passes rounds.seed c.seed_from_u64-rng.result neh.order neh_span
     neh_cells kept.order span cells c.requires.limits.few

@@ -50,18 +50,18 @@ loop-done-preserved g c =
     ap (front take) c.deref.ensures.value ∙ c.draw_words.ensures.words ∙ ap (words_of take) invariant.stream in
     let long : length (front take c.deref.result.now) ≡ take = rw drawn (length-words_of take _) in
     let counted = rw (long, invariant.same_shop) at gives.cells.counted in
-    let falls = gives.never_rises in
+    let falls = gives.span.never_rises in
     record {
-      same_shop = gives.shop ∙ invariant.same_shop;
-      queue = omega (arith, gives.same_room, invariant.queue);
+      same_shop = gives.still.shop ∙ invariant.same_shop;
       ranked = invariant.ranked;
       words = omega (arith, c.draw_words.ensures.len, invariant.words);
-      fits = gives.still_fits;
+      fit = gives.still.fit;
       counted = omega (arith, invariant.counted);
-      order_jobs = gives.order_jobs;
       order = rw (gives.order, invariant.same_shop, drawn, invariant.order)
           (sym (rounds_more shop c.args.passes take done c.args.kept.now.order s));
-      span = rw (← invariant.same_shop) gives.span;
-      falls = omega (arith, invariant.falls);
+      span = record {
+        span_is = rw (← invariant.same_shop) gives.span.span_is;
+        never_rises = omega (arith, invariant.span.never_rises);
+      };
       stream = rw (c.draw_words.ensures.stream, invariant.stream) (sym (stream_group done take s));
     }

@@ -6,7 +6,7 @@ use Rattle.pfs_base.specs.FlowShop.{FlowShop}
 use Rattle.pfs_base.specs.declared.limits.TheConstants.{MOST_ROUNDS}
 use Rattle.pfs_order.specs.Sequence.{IsSequence}
 use Rattle.pfs_search.proofs.Found.{rounds_room, makespan_short, RoundsDone, improved_is, same_rounds}
-use Rattle.pfs_search.proofs.solution.go_on.Goals as goal
+use Rattle.pfs_search.proofs.solution.continue_search.Goals as goal
 
 pub rounds-requires-clause-room : goal.rounds-requires-clause-room
 rounds-requires-clause-room g c =
@@ -33,14 +33,14 @@ returns-clause-found g c =
     start.order (number start.span) (counted c.args.bench.now) kept.order (number kept.span)
     (counted c.rounds.new.bench) = record {
       is_order = c.in_ok-rounds.ensures.order;
-      is_span = c.in_ok-rounds.ensures.span;
-      never_rises = c.in_ok-rounds.ensures.never_rises;
+      is_span = c.in_ok-rounds.ensures.span.span_is;
+      never_rises = c.in_ok-rounds.ensures.span.never_rises;
       counted = c.in_ok-rounds.ensures.cells.counted
           ∙ ap (λ n. counted c.args.bench.now + n)
           (same_rounds shop rounds.count rounds.take rounds.passes c.requires.ready.cost);
     } in
     let all : length kept.order ≡ shop.jobs =
-    c.in_ok-rounds.ensures.still_fit.order_jobs ∙ ap (λ (s : FlowShop). s.jobs) c.in_ok-rounds.ensures.shop in
+    c.in_ok-rounds.ensures.still.fit.order_jobs ∙ ap (λ (s : FlowShop). s.jobs) c.in_ok-rounds.ensures.still.shop in
     let distinct = subst (λ n. IsSequence n kept.order) all c.len-jobs.ensures.sequence in
     let begun = c.seed_from_u64-rng.ensures in
     let advanced = c.advance.ensures ∙ ap (advance 64 multiplier_64 (c.args.first * rounds.take)) begun in
