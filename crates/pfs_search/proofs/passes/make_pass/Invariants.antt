@@ -1,4 +1,4 @@
-use Rattle.std.proofs.Common.{◌≡◌, ◌+◌, ◌*◌, length, fold}
+use Rattle.std.proofs.Common.{◌≡◌, ◌+◌, ◌*◌, fold}
 use Rattle.pfs_order.specs.Sequence.{all_jobs}
 use Rattle.pfs_insert.specs.Inserter.{Fits}
 use Rattle.pfs_search.specs.Greedy.{moved}

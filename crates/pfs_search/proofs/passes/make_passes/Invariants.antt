@@ -1,4 +1,4 @@
-use Rattle.std.proofs.Common.{◌≡◌, ◌+◌, ◌*◌, length}
+use Rattle.std.proofs.Common.{◌≡◌, ◌+◌, ◌*◌}
 use Rattle.pfs_insert.specs.Inserter.{Fits}
 use Rattle.pfs_search.specs.Costs.{pass_cost_on}
 use Rattle.pfs_search.specs.Greedy.{after_passes}
