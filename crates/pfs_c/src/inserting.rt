@@ -16,7 +16,7 @@ use pfs_insert::{HeadsTails, Inserter, Placed};
 use pfs_order::Seq;
 use pfs_wave::{
     Band, EightBands, FiveBands, Lanes, Long, MeteredLanes, Method, OneBand, Short, ThirteenBands,
-    ThreeBands, TwentySixBands, TwoBands, Wavefront, Width, method_for,
+    ThreeBands, TwentySixBands, TwoBands, Wavefront, Wide, Width, method_for,
 };
 use std::alloc::Global;
 
@@ -94,6 +94,12 @@ pub(crate) fn best_place(
     match method_for(instance) {
         Method::HeadsTails => best_by_rows(alloc, instance, sequence, job),
         Method::Wavefront16(width) => best_in_width::<Short>(alloc, instance, width, sequence, job),
+        Method::Wavefront32(Width::Lanes104) => {
+            best_in_lanes::<Wide<13>>(alloc, instance, sequence, job)
+        }
+        Method::Wavefront32(Width::Lanes208) => {
+            best_in_lanes::<Wide<26>>(alloc, instance, sequence, job)
+        }
         Method::Wavefront32(width) => best_in_width::<Long>(alloc, instance, width, sequence, job),
     }
 }

@@ -14,7 +14,7 @@ use pfs_insert::{HeadsTails, Inserter};
 use pfs_order::Seq;
 use pfs_wave::{
     Band, EightBands, FiveBands, Lanes, Long, MeteredLanes, Method, OneBand, Short, ThirteenBands,
-    ThreeBands, TwentySixBands, TwoBands, Wavefront, Width, method_for,
+    ThreeBands, TwentySixBands, TwoBands, Wavefront, Wide, Width, method_for,
 };
 use std::alloc::Global;
 
@@ -41,6 +41,12 @@ pub(crate) fn make_visits(
         Method::Wavefront16(width) => visit_in_width::<Short>(
             alloc, instance, width, seq, list, passes,
         ),
+        Method::Wavefront32(Width::Lanes104) => {
+            visit_in_lanes::<Wide<13>>(alloc, instance, seq, list, passes)
+        }
+        Method::Wavefront32(Width::Lanes208) => {
+            visit_in_lanes::<Wide<26>>(alloc, instance, seq, list, passes)
+        }
         Method::Wavefront32(width) => visit_in_width::<Long>(
             alloc, instance, width, seq, list, passes,
         ),

@@ -10,7 +10,7 @@ use pfs_order::Seq;
 use pfs_tests::shops::shop;
 use pfs_wave::{
     Band, EightBands, FiveBands, Lanes, Long, MeteredLanes, OneBand, Short, ThirteenBands,
-    ThreeBands, TwentySixBands, TwoBands, Wavefront, Width, is_served, method_for,
+    ThreeBands, TwentySixBands, TwoBands, Wavefront, Wide, Width, is_served, method_for,
 };
 
 /// Inserts the jobs of a shop into a sequence in the order of their numbers, each at its best place. The arguments are
@@ -22,7 +22,8 @@ pub(crate) fn wavefronts_call(rt: &HostRuntime, words: &[String]) -> Result<(), 
     let instance = shop(rt.alloc(), number(words, 0)?, number(words, 1)?, &times)?;
     println!(rt; "{:?}", method_for(&instance))?;
     insert_in_widths::<Short>(rt, &instance)?;
-    insert_in_widths::<Long>(rt, &instance)
+    insert_in_widths::<Long>(rt, &instance)?;
+    insert_in_wide_rows(rt, &instance)
 }
 
 // Inserts all jobs with each width that serves the shop.
@@ -47,6 +48,17 @@ fn insert_in_widths<B: Band>(rt: &HostRuntime, instance: &Instance) -> Result<()
     }
     if is_served(instance, Width::Lanes208, B::CAP) {
         insert_all::<TwentySixBands<B>>(rt, instance)?;
+    }
+    Ok(())
+}
+
+// Inserts all jobs with each wide row of 32-bit lanes that serves the shop.
+fn insert_in_wide_rows(rt: &HostRuntime, instance: &Instance) -> Result<(), Stop> {
+    if is_served(instance, Width::Lanes104, Long::CAP) {
+        insert_all::<Wide<13>>(rt, instance)?;
+    }
+    if is_served(instance, Width::Lanes208, Long::CAP) {
+        insert_all::<Wide<26>>(rt, instance)?;
     }
     Ok(())
 }

@@ -16,7 +16,7 @@ use pfs_insert::{HeadsTails, Inserter};
 use pfs_order::Order;
 use pfs_wave::{
     Band, EightBands, FiveBands, Lanes, Long, MeteredLanes, Method, OneBand, Short, ThirteenBands,
-    ThreeBands, TwentySixBands, TwoBands, Wavefront, Width, method_for,
+    ThreeBands, TwentySixBands, TwoBands, Wavefront, Wide, Width, method_for,
 };
 use rand_core::SeedableRng;
 use rand_pcg::Pcg32;
@@ -64,6 +64,8 @@ pub fn solve(
     match method_for(instance) {
         Method::HeadsTails => solve_by_rows(alloc, instance, rounds),
         Method::Wavefront16(width) => solve_in_width::<Short>(alloc, instance, width, rounds),
+        Method::Wavefront32(Width::Lanes104) => solve_in_lanes::<Wide<13>>(alloc, instance, rounds),
+        Method::Wavefront32(Width::Lanes208) => solve_in_lanes::<Wide<26>>(alloc, instance, rounds),
         Method::Wavefront32(width) => solve_in_width::<Long>(alloc, instance, width, rounds),
     }
 }
@@ -103,6 +105,12 @@ pub fn improve(
         Method::HeadsTails => improve_by_rows(alloc, instance, start, first, rounds),
         Method::Wavefront16(width) => improve_in_width::<Short>(
             alloc, instance, width, start, first, rounds,
+        ),
+        Method::Wavefront32(Width::Lanes104) => improve_in_lanes::<Wide<13>>(
+            alloc, instance, start, first, rounds,
+        ),
+        Method::Wavefront32(Width::Lanes208) => improve_in_lanes::<Wide<26>>(
+            alloc, instance, start, first, rounds,
         ),
         Method::Wavefront32(width) => improve_in_width::<Long>(
             alloc, instance, width, start, first, rounds,
