@@ -47,7 +47,7 @@ where
 
     ghost WIDTH = { 8 * N };
 
-    ghost wide = { λ row. row_wide ⟦<Long as Band>⟧.lanes ⟦<Long as Band>⟧.eight N row.bands row.count };
+    ghost wide = { λ row. row_wide ⟦<Long as Band>⟧.lanes (λ band. band.eight) N row.bands row.count };
 
     ghost some = { Prim.omega arith };
 
@@ -74,7 +74,7 @@ where
 
     const WIDTH: usize = 8 * N;
 
-    ghost wide = { λ row. row_wide ⟦<Long as Band>⟧.lanes ⟦<Long as Band>⟧.eight N row.bands row.count };
+    ghost wide = { λ row. row_wide ⟦<Long as Band>⟧.lanes (λ band. band.eight) N row.bands row.count };
 
     ghost some = { Prim.omega arith };
 
