@@ -24,16 +24,37 @@ def test_no_function_of_this_module_is_called(pfs: Program, module: str) -> None
     assert {name for name in called - WITHOUT_CELLS if not name.endswith("+Destruct::drop")} == set()
 
 
-@pytest.mark.parametrize("loop", ["times::fill_times", "kernels::fill_tails", "kernels::fill_sums"])
-def test_a_loop_of_a_wavefront_stays_in_registers(pfs: Program, loop: str) -> None:
-    """The program has one for each of seven widths, with lanes of 16 bits and of 32. Three of 16 bits have at most 24
-    lanes. A program without symbols can't be tested and passes."""
+def loops(pfs: Program, loop: str) -> list[str] | None:
+    """The instructions of each instance of a loop of a wavefront; None of a program without symbols, as in a
+    package."""
     words = [tool("objdump"), "--disassemble", "--no-show-raw-insn", str(pfs.path)]
     done = subprocess.run(words, capture_output=True, text=True, check=True)
     if "<pfs_" not in done.stdout:
+        return None
+    return re.findall(rf"^[0-9a-f]+ <pfs_wave::{loop}\b.*>:\n((?:.+\n)+)", done.stdout, re.MULTILINE)
+
+
+# The numbers of instances of the loops. The program has seven widths with lanes of 16 bits and with lanes of 32; two of
+# the latter are computed in blocks.
+LOOPS = {"times::fill_times": 14, "kernels::fill_tails": 12, "kernels::fill_sums": 12, "blocks::fill_tails": 2,
+         "blocks::fill_sums": 2}
+
+
+@pytest.mark.parametrize("loop", LOOPS)
+def test_a_loop_of_a_wavefront_calls_nothing(pfs: Program, loop: str) -> None:
+    """A program without symbols can't be tested and passes."""
+    functions = loops(pfs, loop)
+    if functions is None:
         return
-    functions = re.findall(rf"^[0-9a-f]+ <pfs_wave::{loop}\b.*>:\n((?:.+\n)+)", done.stdout, re.MULTILINE)
-    assert len(functions) == 14
+    assert len(functions) == LOOPS[loop]
     assert [body for body in functions if re.search(r"\tcall", body)] == []
+
+
+@pytest.mark.parametrize("loop", ["times::fill_times", "kernels::fill_tails", "kernels::fill_sums"])
+def test_a_loop_of_a_wavefront_stays_in_registers(pfs: Program, loop: str) -> None:
+    """Three widths of 16 bits have at most 24 lanes. A program without symbols can't be tested and passes."""
+    functions = loops(pfs, loop)
+    if functions is None:
+        return
     in_registers = [body for body in functions if not re.search(r"\t(?:.*xmm.*\(%r[sb]p|.*\(%r[sb]p.*xmm)", body)]
     assert len(in_registers) >= 3

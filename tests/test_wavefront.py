@@ -95,6 +95,10 @@ SHOPS: dict[str, tuple[Instance, str]] = {
 # wavefront serves.
 FEWEST_JOBS = {41: 70, 65: 119, 105: 405, 200: 111}
 
+# The same for 104 lanes of 32 bits, and the method at these sizes.
+WIDE_32 = {(415, 90): "HeadsTails", (416, 89): "HeadsTails", (416, 90): "Wavefront32(Lanes104)",
+           (416, 104): "Wavefront32(Lanes104)"}
+
 
 def longest_path(shop: Instance) -> int:
     return (shop.jobs + shop.machines - 1) * max(max(row) for row in shop.times)
@@ -107,8 +111,10 @@ def is_served(shop: Instance, width: int, most: int) -> bool:
 
 
 def is_fast(shop: Instance, width: int, most: int) -> bool:
-    """A wavefront of 32 bits is faster than heads and tails only with at most 24 lanes and two jobs for each."""
-    return most == 65_535 or width <= 24 and shop.jobs >= 2 * width
+    """A wavefront of 32 bits is faster than heads and tails with two jobs for each lane on at most 24 lanes. On 104 and
+    208 lanes it is with four jobs for each, and machines for six of seven."""
+    wide = width >= 104 and shop.jobs >= 4 * width and 7 * shop.machines >= 6 * width
+    return most == 65_535 or shop.jobs >= 2 * width and (width <= 24 or wide)
 
 
 def test_a_search_uses_the_narrowest_method_that_can_compute_it() -> None:
@@ -160,6 +166,17 @@ def test_each_method_finds_the_first_best_places(pfs_calls: Program, folder: pat
                 cells += (4 * jobs - 2) * shop.machines
                 lines.append(f"{place} {makespan} {cells}")
     assert lines_of(pfs_calls, folder, shop) == lines
+
+
+@pytest.mark.parametrize("jobs, machines", WIDE_32)
+def test_wide_lanes_of_32_bits_are_used_from_these_sizes_on(pfs_calls: Program, folder: pathlib.Path, jobs: int,
+                                                            machines: int) -> None:
+    shop = drawn(jobs, machines, 200)
+    method, *lines = lines_of(pfs_calls, folder, shop)
+    assert method == WIDE_32[jobs, machines]
+    methods = [method for method, lanes in WAVEFRONTS.items() if is_served(shop, *lanes)]
+    assert len(lines) == 2 * jobs * len(methods)
+    assert [line.split()[:2] for line in lines[::2]] == [line.split()[:2] for line in lines[1::2]]
 
 
 @pytest.mark.parametrize("most", [99, 100_000])

@@ -15,8 +15,8 @@ use pfs_base::{Instance, MOST_MACHINES};
 use pfs_insert::{HeadsTails, Inserter, Placed};
 use pfs_order::Seq;
 use pfs_wave::{
-    Band, EightBands, FiveBands, Lanes, Long, MeteredLanes, Method, OneBand, Short, ThirteenBands,
-    ThreeBands, TwentySixBands, TwoBands, Wavefront, Width, method_for,
+    EightBands, FiveBands, Lanes, MeteredLanes, Method, OneBand, Short, ThirteenBands, ThreeBands,
+    TwentySixBands, TwoBands, Wavefront, Wide, Width, method_for,
 };
 use std::alloc::Global;
 
@@ -93,8 +93,14 @@ pub(crate) fn best_place(
 {
     match method_for(instance) {
         Method::HeadsTails => best_by_rows(alloc, instance, sequence, job),
-        Method::Wavefront16(width) => best_in_width::<Short>(alloc, instance, width, sequence, job),
-        Method::Wavefront32(width) => best_in_width::<Long>(alloc, instance, width, sequence, job),
+        Method::Wavefront16(width) => {
+            best_in_width::<ThirteenBands<Short>, TwentySixBands<Short>>(
+                alloc, instance, width, sequence, job,
+            )
+        }
+        Method::Wavefront32(width) => {
+            best_in_width::<Wide<13>, Wide<26>>(alloc, instance, width, sequence, job)
+        }
     }
 }
 
@@ -129,14 +135,16 @@ fn best_by_rows(
 }
 
 // `best_place` by a wavefront of a given width.
-fn best_in_width<B: Band>(
+fn best_in_width<W: Lanes, X: Lanes<Band = W::Band>>(
     alloc: Global,
     instance: &Instance,
     width: Width,
     sequence: &Seq,
     job: usize,
 ) -> Result<Placed<u64>, CallFault>
-    requires served { IsServed instance.now.shop (lanes_of width) B.CAP }
+    requires wide { W.WIDTH ≡ 104 }
+    requires widest { X.WIDTH ≡ 208 }
+    requires served { IsServed instance.now.shop (lanes_of width) W.Band.CAP }
     requires size { sequence.now.size ≡ instance.now.shop.jobs }
     requires job { job < instance.now.shop.jobs }
     requires absent { Contains sequence.now.jobs job → ⊥ }
@@ -145,13 +153,13 @@ fn best_in_width<B: Band>(
     ensures memory { IfErr result (λ why. why ≡ CallFault.Memory) }
 {
     match width {
-        Width::Lanes8 => best_in_lanes::<OneBand<B>>(alloc, instance, sequence, job),
-        Width::Lanes16 => best_in_lanes::<TwoBands<B>>(alloc, instance, sequence, job),
-        Width::Lanes24 => best_in_lanes::<ThreeBands<B>>(alloc, instance, sequence, job),
-        Width::Lanes40 => best_in_lanes::<FiveBands<B>>(alloc, instance, sequence, job),
-        Width::Lanes64 => best_in_lanes::<EightBands<B>>(alloc, instance, sequence, job),
-        Width::Lanes104 => best_in_lanes::<ThirteenBands<B>>(alloc, instance, sequence, job),
-        Width::Lanes208 => best_in_lanes::<TwentySixBands<B>>(alloc, instance, sequence, job),
+        Width::Lanes8 => best_in_lanes::<OneBand<W::Band>>(alloc, instance, sequence, job),
+        Width::Lanes16 => best_in_lanes::<TwoBands<W::Band>>(alloc, instance, sequence, job),
+        Width::Lanes24 => best_in_lanes::<ThreeBands<W::Band>>(alloc, instance, sequence, job),
+        Width::Lanes40 => best_in_lanes::<FiveBands<W::Band>>(alloc, instance, sequence, job),
+        Width::Lanes64 => best_in_lanes::<EightBands<W::Band>>(alloc, instance, sequence, job),
+        Width::Lanes104 => best_in_lanes::<W>(alloc, instance, sequence, job),
+        Width::Lanes208 => best_in_lanes::<X>(alloc, instance, sequence, job),
     }
 }
 

@@ -13,8 +13,8 @@ use pfs_base::{Bench, Instance, Length, MOST_PASSES};
 use pfs_insert::{HeadsTails, Inserter};
 use pfs_order::Seq;
 use pfs_wave::{
-    Band, EightBands, FiveBands, Lanes, Long, MeteredLanes, Method, OneBand, Short, ThirteenBands,
-    ThreeBands, TwentySixBands, TwoBands, Wavefront, Width, method_for,
+    EightBands, FiveBands, Lanes, MeteredLanes, Method, OneBand, Short, ThirteenBands, ThreeBands,
+    TwentySixBands, TwoBands, Wavefront, Wide, Width, method_for,
 };
 use std::alloc::Global;
 
@@ -38,10 +38,12 @@ pub(crate) fn make_visits(
 {
     match method_for(instance) {
         Method::HeadsTails => visit_by_rows(alloc, instance, seq, list, passes),
-        Method::Wavefront16(width) => visit_in_width::<Short>(
-            alloc, instance, width, seq, list, passes,
-        ),
-        Method::Wavefront32(width) => visit_in_width::<Long>(
+        Method::Wavefront16(width) => {
+            visit_in_width::<ThirteenBands<Short>, TwentySixBands<Short>>(
+                alloc, instance, width, seq, list, passes,
+            )
+        }
+        Method::Wavefront32(width) => visit_in_width::<Wide<13>, Wide<26>>(
             alloc, instance, width, seq, list, passes,
         ),
     }
@@ -74,7 +76,7 @@ fn visit_by_rows(
 }
 
 // What `make_visits` does, by a wavefront of a given width.
-fn visit_in_width<B: Band>(
+fn visit_in_width<W: Lanes, X: Lanes<Band = W::Band>>(
     alloc: Global,
     instance: &Instance,
     width: Width,
@@ -82,7 +84,9 @@ fn visit_in_width<B: Band>(
     list: &[u32],
     passes: u32,
 ) -> Result<Option<u64>, CallFault>
-    requires served { IsServed instance.now.shop (lanes_of width) B.CAP }
+    requires wide { W.WIDTH ≡ 104 }
+    requires widest { X.WIDTH ≡ 208 }
+    requires served { IsServed instance.now.shop (lanes_of width) W.Band.CAP }
     requires size { seq.old.size ≡ instance.now.shop.jobs }
     requires jobs { All (λ job. job < instance.now.shop.jobs) list.now }
     requires few { length list.now ≤ instance.now.shop.jobs }
@@ -92,13 +96,13 @@ fn visit_in_width<B: Band>(
     ensures memory { IfErr result (λ why. why ≡ CallFault.Memory) }
 {
     match width {
-        Width::Lanes8 => visit_in_lanes::<OneBand<B>>(alloc, instance, seq, list, passes),
-        Width::Lanes16 => visit_in_lanes::<TwoBands<B>>(alloc, instance, seq, list, passes),
-        Width::Lanes24 => visit_in_lanes::<ThreeBands<B>>(alloc, instance, seq, list, passes),
-        Width::Lanes40 => visit_in_lanes::<FiveBands<B>>(alloc, instance, seq, list, passes),
-        Width::Lanes64 => visit_in_lanes::<EightBands<B>>(alloc, instance, seq, list, passes),
-        Width::Lanes104 => visit_in_lanes::<ThirteenBands<B>>(alloc, instance, seq, list, passes),
-        Width::Lanes208 => visit_in_lanes::<TwentySixBands<B>>(alloc, instance, seq, list, passes),
+        Width::Lanes8 => visit_in_lanes::<OneBand<W::Band>>(alloc, instance, seq, list, passes),
+        Width::Lanes16 => visit_in_lanes::<TwoBands<W::Band>>(alloc, instance, seq, list, passes),
+        Width::Lanes24 => visit_in_lanes::<ThreeBands<W::Band>>(alloc, instance, seq, list, passes),
+        Width::Lanes40 => visit_in_lanes::<FiveBands<W::Band>>(alloc, instance, seq, list, passes),
+        Width::Lanes64 => visit_in_lanes::<EightBands<W::Band>>(alloc, instance, seq, list, passes),
+        Width::Lanes104 => visit_in_lanes::<W>(alloc, instance, seq, list, passes),
+        Width::Lanes208 => visit_in_lanes::<X>(alloc, instance, seq, list, passes),
     }
 }
 
@@ -132,7 +136,7 @@ fn visit_in_lanes<L: Lanes>(
 }
 
 // The passes, by an inserter, on a bench that has counted nothing. Returns the makespan, as `make_visits` does.
-fn visit_all<B: Bench, I: Inserter<B>>(
+fn visit_all<B: Bench, I: Inserter<W::Band>>(
     alloc: Global,
     bench: &mut B,
     inserter: &mut I,
@@ -162,7 +166,7 @@ fn visit_all<B: Bench, I: Inserter<B>>(
 }
 
 // One pass. Returns the makespan, or `None` if the list is empty.
-fn visit_once<B: Bench, I: Inserter<B>>(
+fn visit_once<B: Bench, I: Inserter<W::Band>>(
     alloc: Global,
     bench: &mut B,
     inserter: &mut I,
@@ -191,7 +195,7 @@ fn visit_once<B: Bench, I: Inserter<B>>(
 }
 
 // A job leaves its place, if it has one, for its first best one. Returns the makespan.
-fn move_job<B: Bench, I: Inserter<B>>(
+fn move_job<B: Bench, I: Inserter<W::Band>>(
     alloc: Global,
     bench: &mut B,
     inserter: &mut I,

@@ -10,7 +10,7 @@ use pfs_order::Seq;
 use pfs_tests::shops::shop;
 use pfs_wave::{
     Band, EightBands, FiveBands, Lanes, Long, MeteredLanes, OneBand, Short, ThirteenBands,
-    ThreeBands, TwentySixBands, TwoBands, Wavefront, Width, is_served, method_for,
+    ThreeBands, TwentySixBands, TwoBands, Wavefront, Wide, Width, is_served, method_for,
 };
 
 /// Inserts the jobs of a shop into a sequence in the order of their numbers, each at its best place. The arguments are
@@ -22,10 +22,12 @@ pub(crate) fn wavefronts_call(rt: &HostRuntime, words: &[String]) -> Result<(), 
     let instance = shop(rt.alloc(), number(words, 0)?, number(words, 1)?, &times)?;
     println!(rt; "{:?}", method_for(&instance))?;
     insert_in_widths::<Short>(rt, &instance)?;
-    insert_in_widths::<Long>(rt, &instance)
+    insert_in_short_rows(rt, &instance)?;
+    insert_in_widths::<Long>(rt, &instance)?;
+    insert_in_long_rows(rt, &instance)
 }
 
-// Inserts all jobs with each width that serves the shop.
+// Inserts all jobs with each width of at most 64 lanes that serves the shop.
 fn insert_in_widths<B: Band>(rt: &HostRuntime, instance: &Instance) -> Result<(), Stop> {
     if is_served(instance, Width::Lanes8, B::CAP) {
         insert_all::<OneBand<B>>(rt, instance)?;
@@ -42,11 +44,27 @@ fn insert_in_widths<B: Band>(rt: &HostRuntime, instance: &Instance) -> Result<()
     if is_served(instance, Width::Lanes64, B::CAP) {
         insert_all::<EightBands<B>>(rt, instance)?;
     }
-    if is_served(instance, Width::Lanes104, B::CAP) {
-        insert_all::<ThirteenBands<B>>(rt, instance)?;
+    Ok(())
+}
+
+// Inserts all jobs with 104 and 208 lanes of 16 bits, where they serve the shop.
+fn insert_in_short_rows(rt: &HostRuntime, instance: &Instance) -> Result<(), Stop> {
+    if is_served(instance, Width::Lanes104, Short::CAP) {
+        insert_all::<ThirteenBands<Short>>(rt, instance)?;
     }
-    if is_served(instance, Width::Lanes208, B::CAP) {
-        insert_all::<TwentySixBands<B>>(rt, instance)?;
+    if is_served(instance, Width::Lanes208, Short::CAP) {
+        insert_all::<TwentySixBands<Short>>(rt, instance)?;
+    }
+    Ok(())
+}
+
+// Inserts all jobs with 104 and 208 lanes of 32 bits, where they serve the shop.
+fn insert_in_long_rows(rt: &HostRuntime, instance: &Instance) -> Result<(), Stop> {
+    if is_served(instance, Width::Lanes104, Long::CAP) {
+        insert_all::<Wide<13>>(rt, instance)?;
+    }
+    if is_served(instance, Width::Lanes208, Long::CAP) {
+        insert_all::<Wide<26>>(rt, instance)?;
     }
     Ok(())
 }

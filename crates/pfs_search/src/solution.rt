@@ -15,8 +15,8 @@ use pfs_base::{Bench, Instance, Length, MOST_PASSES, MOST_ROUNDS, Shop, Span};
 use pfs_insert::{HeadsTails, Inserter};
 use pfs_order::Order;
 use pfs_wave::{
-    Band, EightBands, FiveBands, Lanes, Long, MeteredLanes, Method, OneBand, Short, ThirteenBands,
-    ThreeBands, TwentySixBands, TwoBands, Wavefront, Width, method_for,
+    EightBands, FiveBands, Lanes, MeteredLanes, Method, OneBand, Short, ThirteenBands, ThreeBands,
+    TwentySixBands, TwoBands, Wavefront, Wide, Width, method_for,
 };
 use rand_core::SeedableRng;
 use rand_pcg::Pcg32;
@@ -63,8 +63,14 @@ pub fn solve(
     };
     match method_for(instance) {
         Method::HeadsTails => solve_by_rows(alloc, instance, rounds),
-        Method::Wavefront16(width) => solve_in_width::<Short>(alloc, instance, width, rounds),
-        Method::Wavefront32(width) => solve_in_width::<Long>(alloc, instance, width, rounds),
+        Method::Wavefront16(width) => {
+            solve_in_width::<ThirteenBands<Short>, TwentySixBands<Short>>(
+                alloc, instance, width, rounds,
+            )
+        }
+        Method::Wavefront32(width) => {
+            solve_in_width::<Wide<13>, Wide<26>>(alloc, instance, width, rounds)
+        }
     }
 }
 
@@ -101,10 +107,12 @@ pub fn improve(
     };
     match method_for(instance) {
         Method::HeadsTails => improve_by_rows(alloc, instance, start, first, rounds),
-        Method::Wavefront16(width) => improve_in_width::<Short>(
-            alloc, instance, width, start, first, rounds,
-        ),
-        Method::Wavefront32(width) => improve_in_width::<Long>(
+        Method::Wavefront16(width) => {
+            improve_in_width::<ThirteenBands<Short>, TwentySixBands<Short>>(
+                alloc, instance, width, start, first, rounds,
+            )
+        }
+        Method::Wavefront32(width) => improve_in_width::<Wide<13>, Wide<26>>(
             alloc, instance, width, start, first, rounds,
         ),
     }
@@ -135,14 +143,16 @@ fn solve_by_rows(
     })
 }
 
-// `solve` by a wavefront of a given width.
-fn solve_in_width<B: Band>(
+// `solve` by a wavefront of a given width, with the rows for 104 and 208 lanes.
+fn solve_in_width<W: Lanes, X: Lanes<Band = W::Band>>(
     alloc: Global,
     instance: &Instance,
     width: Width,
     rounds: Rounds,
 ) -> Result<Solution, SearchFault>
-    requires served { IsServed instance.now.shop (lanes_of width) B.CAP }
+    requires wide { W.WIDTH ≡ 104 }
+    requires widest { X.WIDTH ≡ 208 }
+    requires served { IsServed instance.now.shop (lanes_of width) W.Band.CAP }
     requires limits { InLimits instance.now.shop 0 rounds }
     ensures found { IfOk result (λ found.
         IsFound instance.now.shop rounds.count rounds.take rounds.passes rounds.seed
@@ -151,13 +161,13 @@ fn solve_in_width<B: Band>(
     ensures fault { IfErr result (λ fault. fault ≡ SearchFault.Memory 0) }
 {
     match width {
-        Width::Lanes8 => solve_in_lanes::<OneBand<B>>(alloc, instance, rounds),
-        Width::Lanes16 => solve_in_lanes::<TwoBands<B>>(alloc, instance, rounds),
-        Width::Lanes24 => solve_in_lanes::<ThreeBands<B>>(alloc, instance, rounds),
-        Width::Lanes40 => solve_in_lanes::<FiveBands<B>>(alloc, instance, rounds),
-        Width::Lanes64 => solve_in_lanes::<EightBands<B>>(alloc, instance, rounds),
-        Width::Lanes104 => solve_in_lanes::<ThirteenBands<B>>(alloc, instance, rounds),
-        Width::Lanes208 => solve_in_lanes::<TwentySixBands<B>>(alloc, instance, rounds),
+        Width::Lanes8 => solve_in_lanes::<OneBand<W::Band>>(alloc, instance, rounds),
+        Width::Lanes16 => solve_in_lanes::<TwoBands<W::Band>>(alloc, instance, rounds),
+        Width::Lanes24 => solve_in_lanes::<ThreeBands<W::Band>>(alloc, instance, rounds),
+        Width::Lanes40 => solve_in_lanes::<FiveBands<W::Band>>(alloc, instance, rounds),
+        Width::Lanes64 => solve_in_lanes::<EightBands<W::Band>>(alloc, instance, rounds),
+        Width::Lanes104 => solve_in_lanes::<W>(alloc, instance, rounds),
+        Width::Lanes208 => solve_in_lanes::<X>(alloc, instance, rounds),
     }
 }
 
@@ -217,8 +227,8 @@ fn improve_by_rows(
     })
 }
 
-// `improve` by a wavefront of a given width, from an order and its makespan.
-fn improve_in_width<B: Band>(
+// `improve` by a wavefront of a given width, with the rows for 104 and 208 lanes, from an order and its makespan.
+fn improve_in_width<W: Lanes, X: Lanes<Band = W::Band>>(
     alloc: Global,
     instance: &Instance,
     width: Width,
@@ -226,7 +236,9 @@ fn improve_in_width<B: Band>(
     first: u32,
     rounds: Rounds,
 ) -> Result<Solution, SearchFault>
-    requires served { IsServed instance.now.shop (lanes_of width) B.CAP }
+    requires wide { W.WIDTH ≡ 104 }
+    requires widest { X.WIDTH ≡ 208 }
+    requires served { IsServed instance.now.shop (lanes_of width) W.Band.CAP }
     requires start { HasSpan instance.now.shop start.order instance.now.shop.jobs start.span }
     requires limits { InLimits instance.now.shop first rounds }
     ensures found { IfOk result (λ found.
@@ -236,17 +248,23 @@ fn improve_in_width<B: Band>(
     ensures fault { IfErr result (λ fault. fault ≡ SearchFault.Memory 0) }
 {
     match width {
-        Width::Lanes8 => improve_in_lanes::<OneBand<B>>(alloc, instance, start, first, rounds),
-        Width::Lanes16 => improve_in_lanes::<TwoBands<B>>(alloc, instance, start, first, rounds),
-        Width::Lanes24 => improve_in_lanes::<ThreeBands<B>>(alloc, instance, start, first, rounds),
-        Width::Lanes40 => improve_in_lanes::<FiveBands<B>>(alloc, instance, start, first, rounds),
-        Width::Lanes64 => improve_in_lanes::<EightBands<B>>(alloc, instance, start, first, rounds),
-        Width::Lanes104 => improve_in_lanes::<ThirteenBands<B>>(
+        Width::Lanes8 => improve_in_lanes::<OneBand<W::Band>>(
             alloc, instance, start, first, rounds,
         ),
-        Width::Lanes208 => improve_in_lanes::<TwentySixBands<B>>(
+        Width::Lanes16 => improve_in_lanes::<TwoBands<W::Band>>(
             alloc, instance, start, first, rounds,
         ),
+        Width::Lanes24 => improve_in_lanes::<ThreeBands<W::Band>>(
+            alloc, instance, start, first, rounds,
+        ),
+        Width::Lanes40 => improve_in_lanes::<FiveBands<W::Band>>(
+            alloc, instance, start, first, rounds,
+        ),
+        Width::Lanes64 => improve_in_lanes::<EightBands<W::Band>>(
+            alloc, instance, start, first, rounds,
+        ),
+        Width::Lanes104 => improve_in_lanes::<W>(alloc, instance, start, first, rounds),
+        Width::Lanes208 => improve_in_lanes::<X>(alloc, instance, start, first, rounds),
     }
 }
 

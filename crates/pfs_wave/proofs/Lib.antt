@@ -1,5 +1,8 @@
+pub mod AllTails
 pub mod BandSteps
 pub mod BestFound
+pub mod BlockSums
+pub mod BlockTails
 pub mod CappedLeast
 pub mod EightLanes
 pub mod FilledSteps
@@ -19,3 +22,4 @@ pub mod PastRows
 pub mod TakenSteps
 pub mod VectorLemmas
 pub mod WavefrontLaws
+pub mod WideRows

@@ -3,7 +3,7 @@ ghost use Rattle.std.proofs.Common.{arith};
 
 use crate::band::Band;
 use crate::joined::Joined;
-use crate::lanes::Part;
+use crate::whole_row::Part;
 use crate::one_band::OneBand;
 
 /// Rows of 16 lanes.

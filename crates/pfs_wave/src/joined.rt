@@ -4,7 +4,10 @@ ghost use Rattle.std.proofs.Common.{arith, ◌∙◌};
 ghost use Rattle.std.proofs.lemmas.List.{length-append};
 
 use crate::band::Band;
-use crate::lanes::{Lanes, Part};
+use crate::blocks::Front;
+use crate::kernels::{fill_sums, fill_tails};
+use crate::lanes::Lanes;
+use crate::whole_row::{Part, WholeRow};
 
 /// The lanes of `a`, and after them those of `b`.
 #[derive(Drop)]
@@ -13,7 +16,7 @@ pub struct Joined<A: Part, B: Part<Band = A::Band>> {
     b: B,
 }
 
-impl<A: Part, B: Part<Band = A::Band>> Lanes for Joined<A, B> {
+impl<A: Part, B: Part<Band = A::Band>> WholeRow for Joined<A, B> {
     type Band = A::Band;
 
     ghost lanes = { λ row. A.lanes row.a ++ B.lanes row.b };
@@ -106,5 +109,60 @@ impl<A: Part, B: Part<Band = A::Band>> Lanes for Joined<A, B> {
             a: A::sums(&before.a, &inserted.a, &tails.a, carry),
             b: B::sums(&before.b, &inserted.b, &tails.b, between),
         }
+    }
+}
+
+impl<A: Part, B: Part<Band = A::Band>> Lanes for Joined<A, B> {
+    type Band = A::Band;
+
+    ghost lanes = { λ row. A.lanes row.a ++ B.lanes row.b };
+
+    ghost WIDTH = { A.WIDTH + B.WIDTH };
+
+    const WIDTH: usize = A::WIDTH + B::WIDTH;
+
+    ghost wide = { λ row.
+        Prim.omega (arith, length-append (A.lanes row.a) (B.lanes row.b), A.wide row.a, B.wide row.b) };
+
+    ghost some = { Prim.omega (arith, A.some) };
+
+    ghost few = { Prim.omega (arith, A.part, B.part) };
+
+    ghost whole = { Prim.omega (arith, A.whole, B.whole) };
+
+    #[inline(always)]
+    fn none() -> Joined<A, B> {
+        WholeRow::none()
+    }
+
+    #[inline(always)]
+    fn again(&self) -> Joined<A, B> {
+        WholeRow::again(self)
+    }
+
+    #[inline(always)]
+    fn band(&self, band: usize) -> A::Band {
+        WholeRow::band(self, band)
+    }
+
+    #[inline(always)]
+    fn put_band(&mut self, band: usize, values: A::Band) {
+        WholeRow::put_band(self, band, values);
+    }
+
+    #[inline(always)]
+    fn fill_tails(times: &[Joined<A, B>], tails: &mut [Joined<A, B>], _work: &mut [A::Band]) {
+        fill_tails(times, tails);
+    }
+
+    #[inline(always)]
+    fn fill_sums(
+        times: &[Joined<A, B>],
+        tails: &[Joined<A, B>],
+        job: &Joined<A, B>,
+        sums: &mut [<A::Band as Band>::Number],
+        _work: &mut [Front<A::Band>],
+    ) {
+        fill_sums(times, tails, job, sums);
     }
 }

@@ -1,14 +1,14 @@
-//! Loops over the steps of a wavefront, one row of lanes for each step.
+//! Loops over the steps of a wavefront, one whole row of lanes for each step.
 ghost use Rattle.std.specs.Prelude.{◌≡◌, ℕ, ◌+◌, ◌-◌, ◌^◌, ◌<◌, [], length, map};
 ghost use Rattle.std.specs.List.{slice_index_or};
 ghost use Rattle.pfs_wave.specs.Lanes.{rows_of, tails_at, sums_at};
 
 use crate::band::Band;
-use crate::lanes::Lanes;
+use crate::whole_row::WholeRow;
 
 /// Fills the tails of all steps, from the last step to the first.
 #[inline(never)]
-pub fn fill_tails<L: Lanes>(times: &[L], tails: &mut [L])
+pub fn fill_tails<L: WholeRow>(times: &[L], tails: &mut [L])
     requires small { length times.now < 2 ^ 32 }
     requires steps { length tails.old ≡ length times.now }
     ensures steps { length tails.new ≡ length times.now }
@@ -27,7 +27,7 @@ pub fn fill_tails<L: Lanes>(times: &[L], tails: &mut [L])
 
 /// Computes the heads, the inserted rows and the sums of all steps, and keeps the last sum of each step.
 #[inline(never)]
-pub fn fill_sums<L: Lanes>(
+pub fn fill_sums<L: WholeRow>(
     times: &[L],
     tails: &[L],
     job: &L,

@@ -1,11 +1,13 @@
-//! Rows of lanes.
-ghost use Rattle.std.specs.Prelude.{◌≡◌, ℕ, ◌+◌, ◌-◌, ◌*◌, ◌%◌, ◌≤◌, List, ◌++◌, length, take, drop};
+//! Rows of lanes, and the two passes of an insertion over them.
+ghost use Rattle.std.specs.Prelude.{◌≡◌, ℕ, ◌+◌, ◌-◌, ◌*◌, ◌%◌, ◌≤◌, ◌<◌, ◌^◌, List, ◌++◌, length, map, take, drop};
 ghost use Rattle.std.specs.List.{slice_index_or};
-ghost use Rattle.pfs_wave.specs.Lanes.{zeros, tails_step, heads_step, sums_step};
+ghost use Rattle.pfs_wave.specs.Lanes.{zeros, rows_of, tails_at, sums_at};
 
 use crate::band::Band;
+use crate::blocks::Front;
 
-/// A row of lanes, in bands of eight. Sums stop at the greatest value of a lane.
+/// A row of lanes, in bands of eight, and the two passes of an insertion over one such row for each step. Sums stop at
+/// the greatest value of a lane.
 pub trait Lanes: Drop {
     /// Eight lanes.
     type Band: Band;
@@ -37,28 +39,35 @@ pub trait Lanes: Drop {
         ensures { lanes self.new
             ≡ take (8 * band) (lanes self.old) ++ (Self.Band.lanes values ++ drop (8 * band + 8) (lanes self.old)) };
 
-    /// The value of the last lane.
-    fn last(&self) -> <Self::Band as Band>::Number
-        ensures { Self.Band.number result ≡ slice_index_or (lanes self.now) (WIDTH - 1) 0 };
+    /// Fills the tails of all steps, from the last step to the first. Rows of bands overwrite `work`.
+    fn fill_tails(times: &[Self], tails: &mut [Self], work: &mut [Self::Band])
+        requires small { length times.now < 2 ^ 32 }
+        requires steps { length tails.old ≡ length times.now }
+        requires work { 8 * length work.old ≡ 256 + WIDTH }
+        ensures steps { length tails.new ≡ length times.now }
+        ensures work { length work.new ≡ length work.old }
+        ensures tails { (step : ℕ) → step < length times.now → rows_of (map lanes tails.new) step
+            ≡ tails_at Self.Band.CAP (rows_of (map lanes times.now)) WIDTH (length times.now)
+            (length times.now - step) };
 
-    /// The tails of a step from those of the step after it. The first lane of `carry` is the lane after the last one.
-    fn tails(after: &Self, times: &Self, carry: Self::Band) -> Self
-        ensures { lanes result ≡ tails_step Self.Band.CAP (slice_index_or (Self.Band.lanes carry) 0 0)
-            (lanes after.now) (lanes times.now) };
-
-    /// The heads of a step, or the inserted rows: in each lane the greater of the lane before it in `before` (for the
-    /// first lane, the last lane of `carry`) and the same lane in `above`, plus the time of the lane.
-    fn heads(before: &Self, above: &Self, times: &Self, carry: Self::Band) -> Self
-        ensures { lanes result
-            ≡ heads_step Self.Band.CAP (slice_index_or (Self.Band.lanes carry) 7 0) (lanes before.now)
-            (lanes above.now) (lanes times.now) };
-
-    /// The sums of a step from those of the step before it, the inserted rows and the tails. The last lane of `carry`
-    /// is the lane before the first one.
-    fn sums(before: &Self, inserted: &Self, tails: &Self, carry: Self::Band) -> Self
-        ensures { lanes result
-            ≡ sums_step Self.Band.CAP (slice_index_or (Self.Band.lanes carry) 7 0) (lanes before.now)
-            (lanes inserted.now) (lanes tails.now) };
+    /// Computes the heads, the inserted rows and the sums of all steps, and keeps the last sum of each step. Rows of
+    /// bands overwrite `work`.
+    fn fill_sums(
+        times: &[Self],
+        tails: &[Self],
+        job: &Self,
+        sums: &mut [<Self::Band as Band>::Number],
+        work: &mut [Front<Self::Band>],
+    )
+        requires small { length times.now < 2 ^ 32 }
+        requires tails { length tails.now ≡ length times.now }
+        requires sums { length sums.old ≡ length times.now }
+        requires work { 8 * length work.old ≡ 256 + WIDTH }
+        ensures steps { length sums.new ≡ length times.now }
+        ensures work { length work.new ≡ length work.old }
+        ensures sums { (step : ℕ) → step < length times.now → slice_index_or (map Self.Band.number sums.new) step 0
+            ≡ slice_index_or (sums_at Self.Band.CAP (rows_of (map lanes times.now)) (rows_of (map lanes tails.now))
+            (lanes job.now) WIDTH (step + 1)) (WIDTH - 1) 0 };
 
     ghost wide: { (row : Self) → length (lanes row) ≡ WIDTH };
 
@@ -67,9 +76,4 @@ pub trait Lanes: Drop {
     ghost few: { WIDTH ≤ 208 };
 
     ghost whole: { WIDTH % 8 ≡ 0 };
-}
-
-/// A row of at most 104 lanes, which can be half of a wider one.
-pub trait Part: Lanes {
-    ghost part: { Self.WIDTH ≤ 104 };
 }

@@ -115,14 +115,16 @@ impl<'a, L: Lanes> LaneBench for MeteredLanes<'a, L> {
         let cells = seq.len() as u64 * self.bench.machines() as u64;
         self.bench.count(cells);
         self.skewed.hold(seq.as_slice());
-        self.skewed.fill_tails(&mut tables.tails);
+        self.skewed.fill_tails(&mut tables.tails, &mut tables.bands);
     }
 
     #[inline(always)]
     fn best_place(&mut self, seq: &Seq, job: usize, tables: &mut Tables<L>) -> Placed<Span> {
         let cells = (3 * seq.len() as u64 + 2) * self.bench.machines() as u64;
         self.bench.count(cells);
-        let found = self.skewed.best_place(job, &tables.tails, &mut tables.sums);
+        let found = self
+            .skewed
+            .best_place(job, &tables.tails, &mut tables.sums, &mut tables.fronts);
         Placed {
             place: found.place,
             span: self.bench.length(u64::from(found.sum)),

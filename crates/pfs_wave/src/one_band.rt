@@ -3,7 +3,10 @@ ghost use Rattle.std.specs.Prelude.{◌≡◌, ℕ, ◌+◌, ◌-◌, ◌*◌, �
 ghost use Rattle.std.proofs.Common.{arith, refl};
 
 use crate::band::Band;
+use crate::blocks::Front;
+use crate::kernels::{fill_sums, fill_tails};
 use crate::lanes::Lanes;
+use crate::whole_row::WholeRow;
 
 /// Eight lanes, in one band.
 #[derive(Drop)]
@@ -11,7 +14,7 @@ pub struct OneBand<B: Band> {
     one: B,
 }
 
-impl<B: Band> Lanes for OneBand<B> {
+impl<B: Band> WholeRow for OneBand<B> {
     type Band = B;
 
     ghost lanes = { λ row. B.lanes row.one };
@@ -79,5 +82,59 @@ impl<B: Band> Lanes for OneBand<B> {
         OneBand {
             one: before.one.up(carry).greater(inserted.one.sum(tails.one)),
         }
+    }
+}
+
+impl<B: Band> Lanes for OneBand<B> {
+    type Band = B;
+
+    ghost lanes = { λ row. B.lanes row.one };
+
+    ghost WIDTH = { 8 };
+
+    const WIDTH: usize = 8;
+
+    ghost wide = { λ row. B.eight row.one };
+
+    ghost some = { Prim.omega arith };
+
+    ghost few = { Prim.omega arith };
+
+    ghost whole = { refl };
+
+    #[inline(always)]
+    fn none() -> OneBand<B> {
+        WholeRow::none()
+    }
+
+    #[inline(always)]
+    fn again(&self) -> OneBand<B> {
+        WholeRow::again(self)
+    }
+
+    #[inline(always)]
+    fn band(&self, band: usize) -> B {
+        WholeRow::band(self, band)
+    }
+
+    #[inline(always)]
+    fn put_band(&mut self, band: usize, values: B) {
+        WholeRow::put_band(self, band, values);
+    }
+
+    #[inline(always)]
+    fn fill_tails(times: &[OneBand<B>], tails: &mut [OneBand<B>], _work: &mut [B]) {
+        fill_tails(times, tails);
+    }
+
+    #[inline(always)]
+    fn fill_sums(
+        times: &[OneBand<B>],
+        tails: &[OneBand<B>],
+        job: &OneBand<B>,
+        sums: &mut [B::Number],
+        _work: &mut [Front<B>],
+    ) {
+        fill_sums(times, tails, job, sums);
     }
 }

@@ -1,7 +1,7 @@
 //! Which method serves a shop.
 ghost use Rattle.std.specs.Prelude.{◌≡◌, ◌≤◌, ◌+◌, ◌*◌, ◌<◌, ◌↔◌, IsTrue};
 ghost use Rattle.pfs_base.specs.Paths.{greatest};
-ghost use Rattle.pfs_wave.specs.Served.{IsServed, lanes_of};
+ghost use Rattle.pfs_wave.specs.Served.{IsFastLong, IsServed, lanes_of};
 ghost use Rattle.pfs_wave.specs.declared.served.Width.{Width};
 ghost use Rattle.pfs_wave.specs.declared.served.Width.TheVariants.{Lanes208};
 ghost use Rattle.pfs_wave.specs.declared.served.Method.TheVariants.{HeadsTails, Wavefront16, Wavefront32};
@@ -69,13 +69,12 @@ pub fn is_served(instance: &Instance, width: Width, cap: u32) -> bool
         && operations * u64::from(longest_time(instance)) < u64::from(cap)
 }
 
-/// The narrowest wavefront of 16 bits that serves an instance; or one of 32 bits where none of 16 does, if it has at
-/// most 24 lanes and there are two jobs for each lane; or heads and tails. Other wavefronts of 32 bits are slower than
-/// heads and tails.
+/// The narrowest wavefront of 16 bits that serves an instance; or that of 32 bits where none of 16 does, if it is faster
+/// than heads and tails by rows (`IsFastLong`); or heads and tails.
 pub fn method_for(instance: &Instance) -> Method
     ensures heads_tails { (result ≡ HeadsTails)
         ↔ (((width : Width) → ¬ IsServed instance.now.shop (lanes_of width) 65535)
-        × ((width : Width) → lanes_of width ≤ 24 → 2 * lanes_of width ≤ instance.now.shop.jobs
+        × ((width : Width) → IsFastLong instance.now.shop (lanes_of width)
         → ¬ IsServed instance.now.shop (lanes_of width) 2147483647)) }
     ensures short { (width : Width) → result ≡ Wavefront16 width
         → IsServed instance.now.shop (lanes_of width) 65535 }
@@ -85,26 +84,30 @@ pub fn method_for(instance: &Instance) -> Method
         → IsServed instance.now.shop (lanes_of width) 2147483647 }
     ensures narrowest_long { (width other : Width) → result ≡ Wavefront32 width
         → IsServed instance.now.shop (lanes_of other) 2147483647 → lanes_of width ≤ lanes_of other }
-    ensures few_lanes { (width : Width) → result ≡ Wavefront32 width → lanes_of width ≤ 24 }
-    ensures many_jobs { (width : Width) → result ≡ Wavefront32 width → 2 * lanes_of width ≤ instance.now.shop.jobs }
+    ensures fast { (width : Width) → result ≡ Wavefront32 width
+        → IsFastLong instance.now.shop (lanes_of width) }
     ensures too_long { (width other : Width) → result ≡ Wavefront32 width
         → ¬ IsServed instance.now.shop (lanes_of other) 65535 }
 {
     let width = width_for(instance.machines());
     if is_served(instance, width, Short::CAP) {
         Method::Wavefront16(width)
-    } else if is_fast(instance, width) && is_served(instance, width, Long::CAP) {
+    } else if is_fast_long(instance, width) && is_served(instance, width, Long::CAP) {
         Method::Wavefront32(width)
     } else {
         Method::HeadsTails
     }
 }
 
-// Whether a wavefront of 32 bits is faster than heads and tails.
-fn is_fast(instance: &Instance, width: Width) -> bool
-    ensures { IsTrue result ↔ ((lanes_of width ≤ 24) × (2 * lanes_of width ≤ instance.now.shop.jobs)) }
+// Whether a wavefront of 32 bits is faster than heads and tails by rows.
+fn is_fast_long(instance: &Instance, width: Width) -> bool
+    ensures { IsTrue result ↔ IsFastLong instance.now.shop (lanes_of width) }
 {
-    width.lanes() <= 24 && 2 * width.lanes() <= instance.jobs()
+    let jobs = instance.jobs();
+    let lanes = width.lanes();
+    2 * lanes <= jobs
+        && (lanes <= 24
+            || (104 <= lanes && 4 * lanes <= jobs && 6 * lanes <= 7 * instance.machines()))
 }
 
 // The least width with a lane for each machine.

@@ -1,5 +1,5 @@
 //! The skewed times of a sequence, kept for the next one.
-ghost use Rattle.std.specs.Prelude.{ℕ, ◌^◌, ◌≡◌, ◌+◌, ◌-◌, ◌<◌, ◌≤◌, length, map, take, IfOk, []};
+ghost use Rattle.std.specs.Prelude.{ℕ, ◌^◌, ◌≡◌, ◌+◌, ◌*◌, ◌-◌, ◌<◌, ◌≤◌, length, map, take, IfOk, []};
 ghost use Rattle.std.specs.List.{All};
 ghost use Rattle.pfs_base.specs.FlowShop.{FlowShop};
 ghost use Rattle.pfs_wave.specs.Lanes.{rows_of};
@@ -9,6 +9,7 @@ ghost use Rattle.pfs_wave.specs.Wavefront.{AreSkewed, FitsLanes, HasRows, HoldTa
 ghost use Rattle.pfs_wave.specs.Private.HeldRows.{HeldTimes, IsHolding};
 
 use crate::band::Band;
+use crate::blocks::Front;
 use crate::changes::{kept_rows, write_rows};
 use crate::lanes::Lanes;
 use crate::least::Found;
@@ -97,13 +98,15 @@ impl<L: Lanes> SkewedTimes<L> {
 
     /// Fills the tails of the sequence.
     #[inline(always)]
-    pub fn fill_tails(&self, tails: &mut [L])
-        requires { length self.now.jobs + L.WIDTH ≤ length tails.old }
+    pub fn fill_tails(&self, tails: &mut [L], work: &mut [L::Band])
+        requires tails { length self.now.jobs + L.WIDTH ≤ length tails.old }
+        requires work { 8 * length work.old ≡ 256 + L.WIDTH }
         ensures length { length tails.new ≡ length tails.old }
+        ensures work { length work.new ≡ length work.old }
         ensures tails { (shop : FlowShop) → FitsLanes shop L.WIDTH → HasRows shop L.WIDTH self.now.rows
             → HoldTails L.Band.CAP shop self.now.jobs L.WIDTH (rows_of (map L.lanes tails.new)) }
     {
-        fill_front(self.times(), tails);
+        fill_front(self.times(), tails, work);
     }
 
     /// The best place of a job in the sequence, and the makespan with the job there.
@@ -113,18 +116,21 @@ impl<L: Lanes> SkewedTimes<L> {
         job: usize,
         tails: &[L],
         sums: &mut [<L::Band as Band>::Number],
+        work: &mut [Front<L::Band>],
     ) -> Found
         requires job { job < length self.now.rows }
         requires tails { length self.now.jobs + L.WIDTH ≤ length tails.now }
         requires sums { length self.now.jobs + L.WIDTH ≤ length sums.old }
+        requires work { 8 * length work.old ≡ 256 + L.WIDTH }
         ensures length { length sums.new ≡ length sums.old }
+        ensures work { length work.new ≡ length work.old }
         ensures best { (shop : FlowShop) → FitsLanes shop L.WIDTH → HasRows shop L.WIDTH self.now.rows
             → job < shop.jobs
             → HoldTails L.Band.CAP shop self.now.jobs L.WIDTH (rows_of (map L.lanes tails.now))
             → ((place : ℕ) → place ≤ length self.now.jobs → makespan_with shop self.now.jobs job place < L.Band.CAP)
             → IsBestPlace shop self.now.jobs job result.place result.sum }
     {
-        best_place(self.times(), tails, &self.rows[job], sums)
+        best_place(self.times(), tails, &self.rows[job], sums, work)
     }
 }
 

@@ -4,6 +4,7 @@ ghost use Rattle.pfs_wave.specs.Lanes.{zeros};
 ghost use Rattle.pfs_wave.specs.Tables.{WaveTables};
 
 use crate::band::Band;
+use crate::blocks::{BLOCK, Front};
 use crate::lanes::Lanes;
 use pfs_base::MOST_JOBS;
 use std::alloc::{AllocError, Global};
@@ -16,10 +17,13 @@ pub struct Tables<L: Lanes> {
     pub(crate) jobs: usize,
     pub(crate) tails: Vec<L>,
     pub(crate) sums: Vec<<L::Band as Band>::Number>,
+    // Room for the passes over wide rows.
+    pub(crate) bands: Vec<L::Band>,
+    pub(crate) fronts: Vec<Front<L::Band>>,
 }
 
 impl<L: Lanes> Model for Tables<L> {
-    ghost use Rattle.std.specs.Prelude.{◌≡◌, ◌+◌, ◌≤◌, length, map};
+    ghost use Rattle.std.specs.Prelude.{◌≡◌, ◌+◌, ◌*◌, ◌≤◌, length, map};
     ghost use Rattle.pfs_base.specs.declared.limits.TheConstants.{MOST_JOBS};
     ghost use Rattle.pfs_wave.specs.Tables.{WaveTables};
 
@@ -34,11 +38,13 @@ impl<L: Lanes> Model for Tables<L> {
       few : a.jobs ≤ MOST_JOBS;
       tails : length a.tails.items ≡ a.jobs + L.WIDTH;
       sums : length a.sums.items ≡ a.jobs + L.WIDTH;
+      bands : 8 * length a.bands.items ≡ 256 + L.WIDTH;
+      fronts : 8 * length a.fronts.items ≡ 256 + L.WIDTH;
     } };
 }
 
 impl<L: Lanes> Tables<L> {
-    /// Tables of zeros for shops of this number of jobs. It reserves two vectors, and returns `AllocError` where that
+    /// Tables of zeros for shops of this number of jobs. It reserves four vectors, and returns `AllocError` where that
     /// fails.
     pub fn new(alloc: Global, jobs: usize) -> Result<Tables<L>, AllocError>
         requires { jobs ≤ MOST_JOBS }
@@ -49,7 +55,20 @@ impl<L: Lanes> Tables<L> {
         let mut sums = Vec::new(alloc);
         sums.reserve_exact(steps)?;
         sums.resize(steps, L::Band::nothing())?;
-        Ok(Tables { jobs, tails, sums })
+        let room = BLOCK + L::WIDTH / 8;
+        let mut bands = Vec::new(alloc);
+        bands.reserve_exact(room)?;
+        bands.resize(room, L::Band::zeros())?;
+        let mut fronts = Vec::new(alloc);
+        fronts.reserve_exact(room)?;
+        fronts.resize(room, Front::none())?;
+        Ok(Tables {
+            jobs,
+            tails,
+            sums,
+            bands,
+            fronts,
+        })
     }
 }
 

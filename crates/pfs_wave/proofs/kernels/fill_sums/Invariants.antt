@@ -4,6 +4,6 @@ use Rattle.pfs_wave.proofs.kernels.fill_sums.Given as goal
 
 abbrev pub invariant-loop-step : goal.invariant-loop-step
 invariant-loop-step g l =
-    let lanes = g.L.Lanes.lanes in
-    IsSummed g.L.Band.Band.CAP g.L.Lanes.WIDTH (map lanes l.times) (map lanes l.tails) (lanes l.job)
+    let lanes = g.L.WholeRow.lanes in
+    IsSummed g.L.Band.Band.CAP g.L.WholeRow.WIDTH (map lanes l.times) (map lanes l.tails) (lanes l.job)
     (map g.L.Band.Band.number l.sums) (lanes l.head) (lanes l.inserted) (lanes l.sum) l.step

@@ -4,5 +4,5 @@ use Rattle.pfs_wave.proofs.kernels.fill_tails.Given as goal
 
 abbrev pub invariant-loop-left : goal.invariant-loop-left
 invariant-loop-left g l =
-    let lanes = g.L.Lanes.lanes in
-    IsFilled g.L.Band.Band.CAP g.L.Lanes.WIDTH (map lanes l.times) (map lanes l.tails) (lanes l.after) l.left
+    let lanes = g.L.WholeRow.lanes in
+    IsFilled g.L.Band.Band.CAP g.L.WholeRow.WIDTH (map lanes l.times) (map lanes l.tails) (lanes l.after) l.left

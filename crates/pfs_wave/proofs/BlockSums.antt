@@ -1,0 +1,373 @@
+-- A block of heads, inserted rows and sums, one band after the other.
+use Rattle.std.proofs.Common.{inl, inr, ◌≡◌, ℕ, zero, suc, ◌+◌, ◌-◌, ◌*◌, ◌<◌, ◌≤◌, List, [], ◌∷◌, max, length}
+use Rattle.std.proofs.Common.{take, drop, map, get_or, refl, ap, ◌∙◌, sym, arith, add-one, slice_set, subst}
+use Rattle.std.specs.Simd.Lanes.{zip2}
+use Rattle.std.proofs.lemmas.Bool.{cases_lt}
+use Rattle.std.proofs.lemmas.List.{get_or-set_same, get_or-set_other, length-set, length-map, map-set, get_or-take, get_or-drop}
+use Rattle.std.proofs.lemmas.List.{take-map, drop-map, map-append, length-take-le, length-drop, get_or_append_left}
+use Rattle.std.proofs.lemmas.List.{get_or-append_right, take-replicate, drop-replicate}
+use Rattle.std.proofs.lemmas.Slice.{take-put_mid}
+use borrow.Rule.Slice.PartMut.{put_mid}
+use Rattle.pfs_wave.specs.Lanes.{rows_of, capped_add, heads_step, sums_step, zeros}
+use Rattle.pfs_wave.specs.Private.SkewedBand.{eight_from}
+use Rattle.pfs_wave.specs.Private.Blocks.{WavePass, AreWide, IsStepBlock, IsBandAfter, IsCarry, AreCarries, heads_after, inserted_after}
+use Rattle.pfs_wave.specs.Private.Blocks.{sums_after}
+use Rattle.pfs_wave.specs.declared.blocks.Front.{Front}
+use Rattle.pfs_wave.proofs.WavefrontLaws.{heads_next, heads_first, inserted_next, inserted_first, sums_next, sums_first}
+use Rattle.pfs_wave.proofs.Steps.{length-zeros, length-heads_step, length-sums_step}
+
+module _ (f : ℕ → ℕ → ℕ) where
+  drop-zip : (n : ℕ) (a b : List ℕ) → drop n (zip2 f a b) ≡ zip2 f (drop n a) (drop n b)
+  drop-zip zero a b = refl
+  drop-zip (suc n) [] b = refl
+  drop-zip (suc n) (x ∷ a) [] = zip-none (drop n a)
+    where
+      zip-none : (c : List ℕ) → [] ≡ zip2 f c []
+      zip-none [] = refl
+      zip-none (y ∷ c) = refl
+  drop-zip (suc n) (x ∷ a) (y ∷ b) = drop-zip n a b
+
+  -- the first lanes of the second list take no more lanes of the first
+  take-zip : (n m : ℕ) (a b : List ℕ) → n ≤ m → take n (zip2 f a b) ≡ zip2 f (take m a) (take n b)
+  take-zip zero m a b le = none (take m a)
+    where
+      none : (c : List ℕ) → [] ≡ zip2 f c []
+      none [] = refl
+      none (y ∷ c) = refl
+  take-zip (suc n) zero a b le = absurd (omega arith)
+  take-zip (suc n) (suc m) [] b le = refl
+  take-zip (suc n) (suc m) (x ∷ a) [] le = refl
+  take-zip (suc n) (suc m) (x ∷ a) (y ∷ b) le = ap (λ l. f x y ∷ l) (take-zip n m a b (omega arith))
+
+-- the lanes from a lane on, after the lane before it
+drop_before : (first : ℕ) (row : List ℕ) → first ≤ length row
+    → drop first (0 ∷ row) ≡ get_or (0 ∷ row) first 0 ∷ drop first row
+drop_before zero row le = refl
+drop_before (suc first) [] le = absurd (omega arith)
+drop_before (suc first) (x ∷ row) le = rest first x row (omega arith)
+  where
+    rest : (n : ℕ) (y : ℕ) (l : List ℕ) → n ≤ length l → drop n (y ∷ l) ≡ get_or (y ∷ l) n 0 ∷ drop n l
+    rest zero y l le = refl
+    rest (suc n) y [] le = absurd (omega arith)
+    rest (suc n) y (z ∷ l) le = rest n z l (omega arith)
+
+-- one band of a step: the same step on the band's lanes
+module _ (cap first : ℕ) (before : List ℕ) (le : first ≤ length before) where
+  max_band : (above : List ℕ) → eight_from first (zip2 max (0 ∷ before) above)
+      ≡ zip2 max (get_or (0 ∷ before) first 0 ∷ eight_from first before) (eight_from first above)
+  max_band above =
+      ap (take 8) (drop-zip max first (0 ∷ before) above ∙ ap (λ l. zip2 max l (drop first above)) (drop_before first before le))
+      ∙ take-zip max 8 9 (get_or (0 ∷ before) first 0 ∷ drop first before) (drop first above) (omega arith)
+
+  pub heads_band : (above times : List ℕ) → eight_from first (heads_step cap 0 before above times)
+      ≡ heads_step cap (get_or (0 ∷ before) first 0) (eight_from first before) (eight_from first above)
+      (eight_from first times)
+  heads_band above times =
+      let most = zip2 max (0 ∷ before) above in
+      ap (take 8) (drop-zip (capped_add cap) first most times)
+      ∙ take-zip (capped_add cap) 8 8 (drop first most) (drop first times) (omega arith)
+      ∙ ap (λ l. zip2 (capped_add cap) l (eight_from first times)) (max_band above)
+
+  pub sums_band : (inserted tail : List ℕ) → eight_from first (sums_step cap 0 before inserted tail)
+      ≡ sums_step cap (get_or (0 ∷ before) first 0) (eight_from first before) (eight_from first inserted)
+      (eight_from first tail)
+  sums_band inserted tail =
+      max_band (zip2 (capped_add cap) inserted tail)
+      ∙ ap (λ l. zip2 max (get_or (0 ∷ before) first 0 ∷ eight_from first before) l)
+      (ap (take 8) (drop-zip (capped_add cap) first inserted tail)
+      ∙ take-zip (capped_add cap) 8 8 (drop first inserted) (drop first tail) (omega arith))
+
+-- a list of numbers that gets one more value
+pub set_more : {N : Type 0} (number : N → ℕ) (sums : List N) (at : ℕ) (new : N) (value : ℕ → ℕ) → at < length sums
+    → ((step : ℕ) → step < at → get_or (map number sums) step 0 ≡ value step) → number new ≡ value at
+    → (step : ℕ) → step < at + 1 → get_or (map number (slice_set sums at new)) step 0 ≡ value step
+set_more number sums at new value inside so_far is step lt =
+    rw (map-set number sums at new) (elim (cases_lt step at) [
+      | inl earlier ↦ get_or-set_other (map number sums) at step (number new) 0 (omega arith) ∙ so_far step earlier
+      | inr later ↦
+          let e : step ≡ at = omega arith in
+          rw e (get_or-set_same (map number sums) at (number new) 0 (omega (arith, length-map sums number)) ∙ is)
+    ])
+
+-- a lane of a band, and the lane before the next band
+last_lane : (first : ℕ) (row : List ℕ) → get_or (eight_from first row) 7 0 ≡ get_or (0 ∷ row) (first + 8) 0
+last_lane first row =
+    get_or-take 8 (drop first row) 7 0 (omega arith) ∙ get_or-drop first row 7 0
+    ∙ ap (λ n. get_or (0 ∷ row) n 0) next
+  where
+    next : suc (first + 7) ≡ first + 8
+    next = omega arith
+
+-- the rows of a pass have all lanes
+module _ (cap width : ℕ) (pass : WavePass) (wide : AreWide width pass) where
+  heads_wide : (step : ℕ) → step ≤ pass.steps → length (heads_after cap width pass step) ≡ width
+  heads_wide zero le = ap length (heads_first cap pass.times width) ∙ length-zeros width
+  heads_wide (suc step) le =
+      let before = heads_wide step (omega arith) in
+      ap length (heads_next cap pass.times width step)
+      ∙ length-heads_step cap width (heads_after cap width pass step) (heads_after cap width pass step)
+      (pass.times step) before before (wide.times step (omega arith))
+
+  inserted_wide : (step : ℕ) → step ≤ pass.steps → length (inserted_after cap width pass step) ≡ width
+  inserted_wide zero le = ap length (inserted_first cap pass.times width pass.job) ∙ length-zeros width
+  inserted_wide (suc step) le =
+      ap length (inserted_next cap pass.times width pass.job step)
+      ∙ length-heads_step cap width (inserted_after cap width pass step) (heads_after cap width pass step)
+      pass.job (inserted_wide step (omega arith)) (heads_wide step (omega arith)) wide.job
+
+  sums_wide : (step : ℕ) → step ≤ pass.steps → length (sums_after cap width pass step) ≡ width
+  sums_wide zero le = ap length (sums_first cap pass.times width pass.tails pass.job) ∙ length-zeros width
+  sums_wide (suc step) le =
+      ap length (sums_next cap pass.times width pass.tails pass.job step)
+      ∙ length-sums_step cap width (sums_after cap width pass step) (inserted_after cap width pass (suc step))
+      (pass.tails step) (sums_wide step (omega arith)) (inserted_wide (suc step) le) (wide.tails step (omega arith))
+
+  module _ {B N : Type 0} (lanes : B → List ℕ) (first : ℕ) (fits : first + 8 ≤ width) where
+    -- the front of one band is what the next band takes from it
+    pub carry_of : (step : ℕ) (front : Front B N) → IsBandAfter lanes cap width pass first step front
+        → IsCarry lanes cap width pass (first + 8) step front
+    carry_of step front is = record {
+      head = ap (λ l. get_or l 7 0) is.head ∙ last_lane first (heads_after cap width pass step);
+      inserted = ap (λ l. get_or l 7 0) is.inserted ∙ last_lane first (inserted_after cap width pass step);
+      sum = ap (λ l. get_or l 7 0) is.sum ∙ last_lane first (sums_after cap width pass step);
+    }
+
+    -- one more step of a band
+    pub front_more : (step : ℕ) (front carry new : Front B N) (times tails job : B) → step < pass.steps
+        → IsBandAfter lanes cap width pass first step front → IsCarry lanes cap width pass first step carry
+        → lanes times ≡ eight_from first (pass.times step) → lanes tails ≡ eight_from first (pass.tails step)
+        → lanes job ≡ eight_from first pass.job
+        → lanes new.head ≡ heads_step cap (get_or (lanes carry.head) 7 0) (lanes front.head) (lanes front.head)
+        (lanes times)
+        → lanes new.inserted ≡ heads_step cap (get_or (lanes carry.inserted) 7 0) (lanes front.inserted)
+        (lanes front.head) (lanes job)
+        → lanes new.sum ≡ sums_step cap (get_or (lanes carry.sum) 7 0) (lanes front.sum) (lanes new.inserted)
+        (lanes tails)
+        → IsBandAfter lanes cap width pass first (step + 1) new
+    front_more step front carry new times tails job lt is carried times_are tails_are job_is head_is inserted_is sum_is =
+        let heads = heads_after cap width pass step in
+        let inserted = inserted_after cap width pass step in
+        let sums = sums_after cap width pass step in
+        let next : lanes new.inserted ≡ eight_from first (inserted_after cap width pass (suc step)) =
+        rw (carried.inserted, is.inserted, is.head, job_is) at inserted_is
+        ∙ sym (heads_band cap first inserted (omega (arith, inserted_wide step (omega arith))) heads pass.job)
+        ∙ ap (eight_from first) (sym (inserted_next cap pass.times width pass.job step)) in
+        record {
+          head = rw add-one (rw (carried.head, is.head, times_are) at head_is
+              ∙ sym (heads_band cap first heads (omega (arith, heads_wide step (omega arith))) heads (pass.times step))
+              ∙ ap (eight_from first) (sym (heads_next cap pass.times width step)));
+          inserted = rw add-one next;
+          sum = rw add-one (rw (carried.sum, is.sum, next, tails_are) at sum_is
+              ∙ sym (sums_band cap first sums (omega (arith, sums_wide step (omega arith)))
+              (inserted_after cap width pass (suc step)) (pass.tails step))
+              ∙ ap (eight_from first) (sym (sums_next cap pass.times width pass.tails pass.job step)));
+        }
+
+-- a band of a block after some of its steps: `carries` has the front of this band before each of these steps, and that
+-- of the band before for the other steps
+pub record IsBandSoFar {B N : Type 0} (lanes : B → List ℕ) (cap width : ℕ) (pass : WavePass) (first at count done : ℕ)
+    (now : Front B N) (carries : List (Front B N)) : Type 0 where
+  pub front : IsBandAfter lanes cap width pass first (at + done) now
+  pub carried : AreCarries lanes cap width pass (first + 8) at done carries
+  pub rest : (step : ℕ) (other : Front B N) → done ≤ step → step < count
+      → IsCarry lanes cap width pass first (at + step) (get_or carries step other)
+
+module _ {B N : Type 0} (lanes : B → List ℕ) (cap width : ℕ) (pass : WavePass) (wide : AreWide width pass)
+    (first at count : ℕ) (fits : first + 8 ≤ width) where
+  pub band_none : (front : Front B N) (carries : List (Front B N)) → IsBandAfter lanes cap width pass first at front
+      → AreCarries lanes cap width pass first at count carries
+      → IsBandSoFar lanes cap width pass first at count 0 front carries
+  band_none front carries is are = record {
+    front = subst (λ n. IsBandAfter lanes cap width pass first n front) here is;
+    carried = λ step other lt. absurd (omega arith);
+    rest = λ step other le lt. are step other lt;
+  }
+    where
+      here : at ≡ at + 0
+      here = omega arith
+
+  pub band_more : (done : ℕ) (now new : Front B N) (carries : List (Front B N))
+      → IsBandSoFar lanes cap width pass first at count done now carries → done < count → count ≤ length carries
+      → IsBandAfter lanes cap width pass first (at + (done + 1)) new
+      → IsBandSoFar lanes cap width pass first at count (done + 1) new (slice_set carries done now)
+  band_more done now new carries so_far lt room is = record {
+    front = is;
+    carried = λ step other less.
+        elim (cases_lt step done) [
+          | inl earlier ↦
+              rw (get_or-set_other carries done step now other (omega arith)) (so_far.carried step other earlier)
+          | inr later ↦
+              let e : step ≡ done = omega arith in
+              rw (e, get_or-set_same carries done now other (omega arith))
+              (carry_of cap width pass wide lanes first fits (at + done) now so_far.front)
+        ];
+    rest = λ step other le less.
+        rw (get_or-set_other carries done step now other (omega arith)) (so_far.rest step other (omega arith) less);
+  }
+
+-- fronts of zeros
+abbrev pub AreZeros : {B N : Type 0} → (B → List ℕ) → ℕ → List (Front B N) → Type 0
+AreZeros {B} {N} lanes count carries =
+    (step : ℕ) (other : Front B N) → step < count
+    → (lanes (get_or carries step other).head ≡ zeros 8) × (lanes (get_or carries step other).inserted ≡ zeros 8)
+    × (lanes (get_or carries step other).sum ≡ zeros 8)
+
+-- a block after some of its bands
+pub record AreSoFar {B N : Type 0} (lanes : B → List ℕ) (cap width : ℕ) (pass : WavePass) (at count bands : ℕ)
+    (fronts carries : List (Front B N)) : Type 0 where
+  pub done : (band : ℕ) (other : Front B N) → band < bands
+      → IsBandAfter lanes cap width pass (8 * band) (at + count) (get_or fronts band other)
+  pub rest : (band : ℕ) (other : Front B N) → bands ≤ band → band < length fronts
+      → IsBandAfter lanes cap width pass (8 * band) at (get_or fronts band other)
+  pub carried : AreCarries lanes cap width pass (8 * bands) at count carries
+
+module _ {B N : Type 0} (lanes : B → List ℕ) where
+  pub zeros_more : (count : ℕ) (new : Front B N) (carries : List (Front B N)) → AreZeros lanes count carries
+      → count < length carries → lanes new.head ≡ zeros 8 → lanes new.inserted ≡ zeros 8 → lanes new.sum ≡ zeros 8
+      → AreZeros lanes (count + 1) (slice_set carries count new)
+  zeros_more count new carries so_far room head inserted sum step other lt =
+      elim (cases_lt step count) [
+        | inl earlier ↦
+            rw (get_or-set_other carries count step new other (omega arith)) (so_far step other earlier)
+        | inr later ↦
+            let e : step ≡ count = omega arith in
+            rw (e, get_or-set_same carries count new other room) (head, inserted, sum)
+      ]
+
+  module _ (cap width : ℕ) (pass : WavePass) (at count : ℕ) where
+    pub bands_none : (fronts carries : List (Front B N))
+        → ((band : ℕ) (other : Front B N) → band < length fronts
+        → IsBandAfter lanes cap width pass (8 * band) at (get_or fronts band other))
+        → AreZeros lanes count carries → AreSoFar lanes cap width pass at count 0 fronts carries
+    bands_none fronts carries are none = record {
+      done = λ band other lt. absurd (omega arith);
+      rest = λ band other le lt. are band other lt;
+      carried = λ step other lt.
+          let is = none step other lt in
+          record {
+            head = ap (λ l. get_or l 7 0) is.0;
+            inserted = ap (λ l. get_or l 7 0) is.1;
+            sum = ap (λ l. get_or l 7 0) is.2;
+          };
+    }
+
+    pub bands_more : (band : ℕ) (new : Front B N) (fronts carries others : List (Front B N))
+        → AreSoFar lanes cap width pass at count band fronts carries → band < length fronts
+        → IsBandAfter lanes cap width pass (8 * band) (at + count) new
+        → AreCarries lanes cap width pass (8 * band + 8) at count others
+        → AreSoFar lanes cap width pass at count (band + 1) (slice_set fronts band new) others
+    bands_more band new fronts carries others so_far lt is are =
+        let long = length-set fronts band new in
+        let next : 8 * band + 8 ≡ 8 * (band + 1) = omega arith in
+        record {
+          done = λ part other less.
+              elim (cases_lt part band) [
+                | inl earlier ↦
+                    rw (get_or-set_other fronts band part new other (omega arith)) (so_far.done part other earlier)
+                | inr later ↦
+                    let e : part ≡ band = omega arith in
+                    rw (e, get_or-set_same fronts band new other lt) is
+              ];
+          rest = λ part other le less.
+              rw (get_or-set_other fronts band part new other (omega arith))
+              (so_far.rest part other (omega arith) (omega arith));
+          carried = subst (λ n. AreCarries lanes cap width pass n at count others) next are;
+        }
+
+-- the pass over tables of these times and tails
+abbrev pub whole_pass : List (List ℕ) → List (List ℕ) → List ℕ → WavePass
+whole_pass times tails job = record {
+  steps = length times;
+  times = rows_of times;
+  tails = rows_of tails;
+  job = job;
+}
+
+-- numbers written over a part of a list
+pub put_part : {N : Type 0} (number : N → ℕ) (a k n : ℕ) (xs ys : List N) (value : ℕ → ℕ) → a ≤ length xs
+    → n ≡ a + length ys → ((step : ℕ) → step < a → get_or (map number xs) step 0 ≡ value step)
+    → ((step : ℕ) → step < length ys → get_or (map number ys) step 0 ≡ value (a + step))
+    → (step : ℕ) → step < n → get_or (map number (put_mid a k xs ys)) step 0 ≡ value step
+put_part number a k n xs ys value inside is before after step lt =
+    let front = map number (take a xs) in
+    let front_long : length front ≡ a = length-map (take a xs) number ∙ length-take-le a xs inside in
+    let ys_long = length-map ys number in
+    sym (get_or-take n (map number (put_mid a k xs ys)) step 0 lt)
+    ∙ ap (λ l. get_or l step 0) (take-map number n (put_mid a k xs ys)
+    ∙ ap (map number) (take-put_mid a k xs ys n is inside) ∙ map-append number (take a xs) ys)
+    ∙ elim (cases_lt step a) [
+      | inl low ↦
+          get_or_append_left front (map number ys) 0 step (omega arith)
+          ∙ ap (λ l. get_or l step 0) (sym (take-map number a xs)) ∙ get_or-take a (map number xs) step 0 low
+          ∙ before step low
+      | inr high ↦
+          let there : a + (step - a) ≡ step = omega arith in
+          get_or-append_right front (map number ys) a step 0 front_long (omega arith)
+          ∙ after (step - a) (omega arith) ∙ ap value there
+    ]
+
+-- the rows of a block
+pub part_rows : {X : Type 0} (lanes : X → List ℕ) (a k : ℕ) (rows : List X) (step : ℕ) → step < k
+    → get_or (map lanes (take k (drop a rows))) step [] ≡ rows_of (map lanes rows) (a + step)
+part_rows lanes a k rows step lt =
+    ap (λ l. get_or l step []) (sym (take-map lanes k (drop a rows)) ∙ ap (take k) (sym (drop-map lanes a rows)))
+    ∙ get_or-take k (drop a (map lanes rows)) step [] lt ∙ get_or-drop a (map lanes rows) step []
+
+module _ {X : Type 0} (lanes : X → List ℕ) (width : ℕ) (wide : (row : X) → length (lanes row) ≡ width) where
+  pub rows_wide : (rows : List X) (step : ℕ) → step < length (map lanes rows)
+      → length (get_or (map lanes rows) step []) ≡ width
+  rows_wide [] step lt = absurd (omega arith)
+  rows_wide (row ∷ rows) zero lt = wide row
+  rows_wide (row ∷ rows) (suc step) lt = rows_wide rows step (omega arith)
+
+  module _ (times tails : List X) (job : X) (same : length tails ≡ length times) where
+    pub pass_wide : AreWide width (whole_pass (map lanes times) (map lanes tails) (lanes job))
+    pass_wide = record {
+      times = rows_wide times;
+      tails = λ step lt. rows_wide tails step (omega (arith, same, length-map times lanes, length-map tails lanes));
+      job = wide job;
+    }
+
+    pub part_block : (a k : ℕ) → a + k ≤ length times
+        → IsStepBlock width (whole_pass (map lanes times) (map lanes tails) (lanes job)) a
+        (map lanes (take k (drop a times))) (map lanes (take k (drop a tails)))
+    part_block a k inside =
+        let times_long = length-map (take k (drop a times)) lanes in
+        let tails_long = length-map (take k (drop a tails)) lanes in
+        let times_part = length-take-le k (drop a times) (omega (arith, length-drop a times)) in
+        let tails_part = length-take-le k (drop a tails) (omega (arith, length-drop a tails)) in
+        record {
+          wide = pass_wide;
+          inside = omega (arith, times_long, times_part, length-map times lanes);
+          times_are = λ step lt. part_rows lanes a k times step (omega arith);
+          tails_are = λ step lt. part_rows lanes a k tails step (omega arith);
+        }
+
+pub eight_zeros : (width first : ℕ) → first + 8 ≤ width → eight_from first (zeros width) ≡ zeros 8
+eight_zeros width first fits =
+    ap (take 8) (drop-replicate first width 0) ∙ take-replicate 8 (width - first) 0 (omega arith)
+
+-- before the first step all lanes are 0
+pub front_zero : {B N : Type 0} (lanes : B → List ℕ) (cap width : ℕ) (pass : WavePass) (first : ℕ) (front : Front B N)
+    → first + 8 ≤ width → lanes front.head ≡ zeros 8 → lanes front.inserted ≡ zeros 8 → lanes front.sum ≡ zeros 8
+    → IsBandAfter lanes cap width pass first 0 front
+front_zero lanes cap width pass first front fits head inserted sum =
+    let none = sym (eight_zeros width first fits) in
+    record {
+      head = head ∙ none ∙ ap (eight_from first) (sym (heads_first cap pass.times width));
+      inserted = inserted ∙ none ∙ ap (eight_from first) (sym (inserted_first cap pass.times width pass.job));
+      sum = sum ∙ none ∙ ap (eight_from first) (sym (sums_first cap pass.times width pass.tails pass.job));
+    }
+
+pub lane_last : (row : List ℕ) (width : ℕ) → 1 ≤ width → get_or (0 ∷ row) width 0 ≡ get_or row (width - 1) 0
+lane_last row zero some = absurd (omega arith)
+lane_last row (suc width) some = ap (λ n. get_or row n 0) {x = width} (omega arith)
+
+-- the last sums of a block, from the fronts before each of its steps and the last front after it
+pub block_sums : {B N : Type 0} (lanes : B → List ℕ) (cap width : ℕ) (pass : WavePass) → AreWide width pass
+    → (at count last : ℕ) (front : Front B N) → 8 * last + 8 ≡ width
+    → IsBandAfter lanes cap width pass (8 * last) (at + count) front → at + count ≤ pass.steps
+    → get_or (lanes front.sum) 7 0 ≡ get_or (0 ∷ sums_after cap width pass (at + count)) width 0
+block_sums lanes cap width pass wide at count last front all is inside =
+    (carry_of cap width pass wide lanes (8 * last) (omega arith) (at + count) front is).sum
+    ∙ ap (λ n. get_or (0 ∷ sums_after cap width pass (at + count)) n 0) all

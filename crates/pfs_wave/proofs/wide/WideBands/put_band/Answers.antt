@@ -1,0 +1,11 @@
+use Rattle.std.proofs.Common.{◌<◌, length, arith}
+use Rattle.pfs_wave.specs.declared.long.Long.{Long}
+use Rattle.pfs_wave.proofs.WideRows.{put_at}
+use Rattle.pfs_wave.proofs.wide.WideBands.put_band.Goals as goal
+
+pub returns : goal.returns
+returns g c =
+    let count = c.args.self.now.count in
+    let fits = c.requires in
+    let inside : c.args.band < length c.args.self.now.bands = omega arith in
+    put_at (λ (b : Long). b.values) (λ b. b.eight) c.args.self.now.bands c.args.band c.args.values inside
