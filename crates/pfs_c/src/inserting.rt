@@ -134,7 +134,7 @@ fn best_by_rows(
     })
 }
 
-// `best_place` by a wavefront of a given width.
+// `best_place` by a wavefront of a given width, with the rows for 104 and 208 lanes.
 fn best_in_width<W: Lanes, X: Lanes<Band = W::Band>>(
     alloc: Global,
     instance: &Instance,

@@ -75,7 +75,7 @@ fn visit_by_rows(
     }
 }
 
-// What `make_visits` does, by a wavefront of a given width.
+// What `make_visits` does, by a wavefront of a given width, with the rows for 104 and 208 lanes.
 fn visit_in_width<W: Lanes, X: Lanes<Band = W::Band>>(
     alloc: Global,
     instance: &Instance,
@@ -136,7 +136,7 @@ fn visit_in_lanes<L: Lanes>(
 }
 
 // The passes, by an inserter, on a bench that has counted nothing. Returns the makespan, as `make_visits` does.
-fn visit_all<B: Bench, I: Inserter<W::Band>>(
+fn visit_all<B: Bench, I: Inserter<B>>(
     alloc: Global,
     bench: &mut B,
     inserter: &mut I,
@@ -166,7 +166,7 @@ fn visit_all<B: Bench, I: Inserter<W::Band>>(
 }
 
 // One pass. Returns the makespan, or `None` if the list is empty.
-fn visit_once<B: Bench, I: Inserter<W::Band>>(
+fn visit_once<B: Bench, I: Inserter<B>>(
     alloc: Global,
     bench: &mut B,
     inserter: &mut I,
@@ -195,7 +195,7 @@ fn visit_once<B: Bench, I: Inserter<W::Band>>(
 }
 
 // A job leaves its place, if it has one, for its first best one. Returns the makespan.
-fn move_job<B: Bench, I: Inserter<W::Band>>(
+fn move_job<B: Bench, I: Inserter<B>>(
     alloc: Global,
     bench: &mut B,
     inserter: &mut I,
