@@ -3,8 +3,8 @@ ghost use Rattle.std.proofs.Common.{arith};
 
 use crate::band::Band;
 use crate::joined::Joined;
-use crate::whole_row::Part;
 use crate::one_band::OneBand;
+use crate::whole_row::Part;
 
 /// Rows of 16 lanes.
 pub type TwoBands<B> = Joined<OneBand<B>, OneBand<B>>;
