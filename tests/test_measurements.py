@@ -150,6 +150,25 @@ def test_a_time_is_that_of_one_run(script: Any, folder: pathlib.Path) -> None:
 
 
 @run
+@pytest.mark.parametrize("words", ["searches", "search 0", "reader search", "--turns 3"])
+def test_invalid_arguments_are_rejected_before_files_are_made(script: Any, folder: pathlib.Path, words: str,
+                                                              monkeypatch: pytest.MonkeyPatch) -> None:
+    monkeypatch.setattr(script, "FOLDER", folder / "files")
+    monkeypatch.setattr(sys, "argv", ["bench/run", *words.split()])
+    with pytest.raises(SystemExit) as ended, contextlib.redirect_stderr(io.StringIO()) as errors:
+        script.main()
+    assert ended.value.code == 2 and errors.getvalue() == "usage: bench/run [reader|search|library] [TURNS]\n"
+    assert not (folder / "files").exists()
+
+
+@run
+def test_help_is_the_usage(script: Any, monkeypatch: pytest.MonkeyPatch, capsys: pytest.CaptureFixture[str]) -> None:
+    monkeypatch.setattr(sys, "argv", ["bench/run", "--help"])
+    script.main()
+    assert "\nusage: bench/run [reader|search|library] [TURNS] " in capsys.readouterr().out
+
+
+@run
 def test_a_compiler_that_is_missing_is_skipped(script: Any, folder: pathlib.Path, monkeypatch: pytest.MonkeyPatch,
                                                capsys: pytest.CaptureFixture[str]) -> None:
     calls: list[list[Any]] = []
