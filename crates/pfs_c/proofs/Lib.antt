@@ -1,7 +1,9 @@
 pub mod Returning
 pub mod BestPlaces
 pub mod Gathered
+pub mod Holding
 pub mod Jobs
+pub mod LooseValues
 pub mod ManyLemmas
 pub mod MemoryLemmas
 pub mod RandomWords

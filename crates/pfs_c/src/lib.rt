@@ -6,13 +6,17 @@
 
 mod building;
 mod given;
+mod handle;
 mod heads;
 mod inserting;
+mod kept;
 pub mod laws;
+mod loose;
 mod many;
 mod moving;
 mod numbers;
 mod places;
+mod preparing;
 mod random;
 mod rows;
 mod searching;
