@@ -14,11 +14,12 @@
  * PFS_OK, every output is unchanged, except the sizes that it sets with PFS_ROOM and the place of a file's fault.
  *
  * A pointer may be NULL only if the length that belongs to it is 0, as that of an empty std::vector is. No output may
- * overlap another argument, and no list may change during a call. Nothing is kept between calls: any number of threads
- * may call the library at once, also on the same lists. Memory comes from malloc and is freed before the call returns;
- * if an allocation fails, the function returns PFS_MEMORY. No function may be called from a signal handler.
+ * overlap another argument, and no list may change during a call. Only a prepared instance is kept between calls: any
+ * number of threads may call the library at once, also on the same lists, but not with the same handle. Memory comes
+ * from malloc and is freed before the call returns, except for that of a prepared instance; if an allocation fails, the
+ * function returns PFS_MEMORY. No function may be called from a signal handler.
  *
- * Versions of libpfs.so.0 stay compatible: functions, numbers and struct pfs_notes keep their meaning and their layout.
+ * Versions of libpfs.so.0 stay compatible: functions, numbers and structs keep their meaning and their layout.
  * Later versions may add functions and numbers. A program that needs an added one compares PFS_VERSION_NUMBER.
  *
  * For every input, what each function does with its arguments is proved, except for pfs_version and pfs_message: the
@@ -87,6 +88,7 @@ extern "C" {
 #define PFS_BLOCK 12    /**< the number of the block is not 1 to PFS_MOST_BLOCKS */
 #define PFS_MAKESPAN 13 /**< the makespan is greater than PFS_MOST_MAKESPAN */
 #define PFS_ROOM 14     /**< too little room for the result; the outputs say how much it needs */
+#define PFS_NOT_PREPARED 15 /**< the handle holds no prepared instance */
 /** @} */
 
 /** @name Faults of instance files, and what place is then.
@@ -274,6 +276,55 @@ int pfs_rounds(const uint32_t *times, size_t times_length, size_t jobs, size_t m
  */
 int pfs_insert(const uint32_t *times, size_t times_length, size_t jobs, size_t machines, const uint32_t *sequence,
                size_t sequence_length, uint32_t job, size_t *place, uint64_t *makespan) PFS_CHECKED;
+
+/** @brief A handle: it holds a prepared instance, or none.
+ *
+ * Set `at` to NULL before the first call: struct pfs_prepared prepared = {NULL}. Afterwards only the library changes it.
+ * A handle may be moved in memory, but of a handle and its copy only one may be used.
+ */
+struct pfs_prepared {
+    void *at; /**< the library's, or NULL if the handle holds no instance */
+};
+
+/** @brief Prepares an instance for many calls of pfs_insert_prepared.
+ *
+ * It keeps a copy of the times and the tables of an insertion, so a later call neither validates nor copies the times.
+ * An instance that the handle held before is released. pfs_release frees the memory.
+ *
+ * @param[in] times processing times, job by job
+ * @param[in] times_length number of times, which is jobs * machines
+ * @param[in] jobs number of jobs
+ * @param[in] machines number of machines
+ * @param[in,out] prepared the handle; if the function does not return PFS_OK, it holds what it held before
+ * @return PFS_OK, or the first of PFS_SIZE (jobs, machines), PFS_LENGTH (times_length), PFS_TIME (times), PFS_MEMORY
+ */
+int pfs_prepare(const uint32_t *times, size_t times_length, size_t jobs, size_t machines,
+                struct pfs_prepared *prepared) PFS_CHECKED;
+
+/** @brief Finds the best place of a job in a sequence of other jobs of a prepared instance, as pfs_insert does.
+ *
+ * After each call the handle holds the same instance. If a wavefront serves the instance (docs/SEARCH.md), the function
+ * allocates nothing. It is fastest if the sequence differs only in few places from that of the call before.
+ *
+ * @param[in,out] prepared the handle
+ * @param[in] sequence distinct jobs, without the job to insert
+ * @param[in] sequence_length number of jobs in the sequence
+ * @param[in] job the job to insert
+ * @param[out] place the best place, from 0 to sequence_length
+ * @param[out] makespan makespan with the job at this place
+ * @return PFS_OK, or the first of PFS_NOT_PREPARED (prepared), PFS_JOB or PFS_REPEATED (the jobs of the sequence from
+ *     the left), PFS_JOB or PFS_REPEATED (job), PFS_MEMORY
+ */
+int pfs_insert_prepared(struct pfs_prepared *prepared, const uint32_t *sequence, size_t sequence_length, uint32_t job,
+                        size_t *place, uint64_t *makespan) PFS_CHECKED;
+
+/** @brief Releases a prepared instance.
+ *
+ * Its memory is freed, and the handle holds none. A handle that holds none may be released too.
+ *
+ * @param[in,out] prepared the handle
+ */
+void pfs_release(struct pfs_prepared *prepared);
 
 /** @brief Computes the makespan with a job at each place of a sequence of other jobs.
  *
