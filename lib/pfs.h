@@ -73,21 +73,21 @@ extern "C" {
 /** @name Numbers that functions return.
  * @{
  */
-#define PFS_OK 0        /**< the call succeeded */
-#define PFS_MEMORY 1    /**< an allocation failed */
-#define PFS_SIZE 2      /**< not 1 to PFS_MOST_JOBS jobs, or not 1 to PFS_MOST_MACHINES machines */
-#define PFS_LENGTH 3    /**< a list does not have the length that the sizes require */
-#define PFS_TIME 4      /**< a time is greater than PFS_LONGEST_TIME */
-#define PFS_JOB 5       /**< a job is not below the number of jobs, or a job of a list is not in the sequence */
-#define PFS_REPEATED 6  /**< a job occurs twice, or the job to insert is in the sequence already */
-#define PFS_TAKE 7      /**< the destruction size is not 1 to the number of jobs */
-#define PFS_PASSES 8    /**< more than PFS_MOST_PASSES passes */
-#define PFS_ROUNDS 9    /**< first + count is greater than PFS_MOST_ROUNDS */
-#define PFS_SEED 10     /**< the seed is not 1 to 2147483646, the seeds of Taillard's generator */
-#define PFS_LAYOUT 11   /**< neither PFS_TAILLARD nor PFS_ORLIB */
-#define PFS_BLOCK 12    /**< the number of the block is not 1 to PFS_MOST_BLOCKS */
-#define PFS_MAKESPAN 13 /**< the makespan is greater than PFS_MOST_MAKESPAN */
-#define PFS_ROOM 14     /**< too little room for the result; the outputs say how much it needs */
+#define PFS_OK 0            /**< the call succeeded */
+#define PFS_MEMORY 1        /**< an allocation failed */
+#define PFS_SIZE 2          /**< not 1 to PFS_MOST_JOBS jobs, or not 1 to PFS_MOST_MACHINES machines */
+#define PFS_LENGTH 3        /**< a list does not have the length that the sizes require */
+#define PFS_TIME 4          /**< a time is greater than PFS_LONGEST_TIME */
+#define PFS_JOB 5           /**< a job is not below the number of jobs, or a job of a list is not in the sequence */
+#define PFS_REPEATED 6      /**< a job occurs twice, or the job to insert is in the sequence already */
+#define PFS_TAKE 7          /**< the destruction size is not 1 to the number of jobs */
+#define PFS_PASSES 8        /**< more than PFS_MOST_PASSES passes */
+#define PFS_ROUNDS 9        /**< first + count is greater than PFS_MOST_ROUNDS */
+#define PFS_SEED 10         /**< the seed is not 1 to 2147483646, the seeds of Taillard's generator */
+#define PFS_LAYOUT 11       /**< neither PFS_TAILLARD nor PFS_ORLIB */
+#define PFS_BLOCK 12        /**< the number of the block is not 1 to PFS_MOST_BLOCKS */
+#define PFS_MAKESPAN 13     /**< the makespan is greater than PFS_MOST_MAKESPAN */
+#define PFS_ROOM 14         /**< too little room for the result; the outputs say how much it needs */
 #define PFS_NOT_PREPARED 15 /**< the handle holds no prepared instance */
 /** @} */
 

@@ -23,11 +23,11 @@ CALLS = SUPPORT / "library_calls.c"
 # Each function that is proved, and whether a call of it allocates memory.
 FUNCTIONS = {
     "makespan": True, "makespans": False, "bound": False, "table": True, "neh": True, "rounds": True, "insert": True,
-    "insertions": True, "heads_tails": False, "construct": True, "local_search": True, "random": False,
+    "prepare": True, "insert_prepared": True, "release": False, "insertions": True, "heads_tails": False, "construct": True, "local_search": True, "random": False,
     "generate": False, "read": False, "write": False, "read_order": False, "write_order": False,
 }
 # Calls on a larger instance, which use other tables.
-LARGE = ["insert_lanes", "insert_rows", "construct_lanes", "local_search_lanes"]
+LARGE = ["insert_lanes", "insert_rows", "prepare_lanes", "construct_lanes", "local_search_lanes"]
 TEXTS = {"pfs_message", "pfs_version"}
 NAMES = {f"pfs_{name}" for name in FUNCTIONS} | TEXTS
 ALL_CALLS = Ran(b"325 calls, 0 failures\n", b"", 0)
@@ -120,7 +120,7 @@ def test_a_compiler_warns_if_a_program_ignores_the_number(folder: pathlib.Path, 
 MEANT = {
     0: "done", 1: "memory", 2: "number of jobs or of machines", 3: "list", 4: "^a time is greater",
     5: "^a job isn't below", 6: "^a job occurs twice", 7: "destruction size", 8: "passes", 9: "rounds", 10: "seed",
-    11: "layout", 12: "block isn't from 1", 13: "makespan", 14: "room", 20: "ends before the block",
+    11: "layout", 12: "block isn't from 1", 13: "makespan", 14: "room", 15: "^the handle holds no", 20: "ends before the block",
     21: "too few or too many", 22: "number of a size line is out", 23: "and a word", 24: "time of the file is greater",
     25: "machine number", 26: "follows the last time", 27: "ends inside a block", 28: "doesn't end within",
     30: "not an order file", 31: "0 or greater than the number of jobs", 32: "job of the order file occurs twice",
@@ -180,7 +180,7 @@ MANUAL = HEADER.parent.parent / "share" / "pfs.3"
 def test_the_manual_page_declares_what_the_header_does() -> None:
     code = re.sub(r"/\*.*?\*/", "", HEADER.read_text(), flags=re.DOTALL)
     declared = {name: re.sub(r"\s+", " ", parameters).split(", ") for name, parameters
-                in re.findall(r"^(?:int|const char \*)\s*(pfs_\w+)\(([^)]*)\)", code, re.MULTILINE)}
+                in re.findall(r"^(?:int|void|const char \*)\s*(pfs_\w+)\(([^)]*)\)", code, re.MULTILINE)}
     got = {name: re.findall(r'^\.Fa "(.*)"$', parameters, re.MULTILINE) for name, parameters
             in re.findall(r"^\.Fo (\w+)\n(.*?)^\.Fc$", MANUAL.read_text(), re.MULTILINE | re.DOTALL)}
     assert got == declared and got.keys() == NAMES

@@ -103,6 +103,14 @@ static int insert_on(const uint32_t *shop, size_t length, size_t jobs, size_t ma
     return pfs_insert(shop, length, jobs, machines, OUTSIDE, 3, 9, &out.place, &out.makespan);
 }
 
+static struct pfs_prepared prepared = {NULL};
+
+static int prepare_on(const uint32_t *shop, size_t length, size_t jobs, size_t machines) {
+    void *before = prepared.at;
+    int returned = pfs_prepare(shop, length, jobs, machines, &prepared);
+    return prepared.at == before ? returned : -1;
+}
+
 static int insertions_on(const uint32_t *shop, size_t length, size_t jobs, size_t machines) {
     return pfs_insertions(shop, length, jobs, machines, OUTSIDE, 3, 9, out.makespans, 4);
 }
@@ -269,6 +277,37 @@ static void rounds(void) {
     CALL(PFS_OK, right_rounds(NUMBERED, 0, 1, 1, 1, BEST, 10, 20 + 60));
     CALL(PFS_OK, right_rounds(NUMBERED, 0, 1, 2, 0, BEST, 10, 32));
     CALL(PFS_OK, right_rounds(BEST, PFS_MOST_ROUNDS - 1, 1, 3, 100, BEST, 10, 36 + 100 * 60));
+}
+
+static int insert_prepared(const uint32_t *sequence, size_t length, uint32_t job) {
+    return pfs_insert_prepared(&prepared, sequence, length, job, &out.place, &out.makespan);
+}
+
+static void preparations(void) {
+    wrong_shops(prepare_on);
+    CALL(PFS_NOT_PREPARED, insert_prepared(OUTSIDE, 3, 9));
+    pfs_release(&prepared);
+    CALL(PFS_OK, pfs_prepare((uint32_t[]){1, 1, 1}, 3, 3, 1, &prepared));
+    due.place = 0;
+    due.makespan = 3;
+    CALL(PFS_OK, insert_prepared(BEST, 2, 2));
+    CALL(PFS_OK, pfs_prepare(times, 6, 3, 2, &prepared));
+    wrong_shops(prepare_on);
+    CALL(PFS_JOB, insert_prepared(OUTSIDE, 3, 9));
+    CALL(PFS_REPEATED, insert_prepared(TWICE, 3, 9));
+    CALL(PFS_JOB, insert_prepared(BEST, 2, 3));
+    CALL(PFS_JOB, insert_prepared(BEST, 3, 3));
+    CALL(PFS_REPEATED, insert_prepared(BEST, 2, 0));
+    CALL(PFS_REPEATED, insert_prepared(BEST, 3, 2));
+    due.place = 2;
+    due.makespan = 10;
+    CALL(PFS_OK, insert_prepared(BEST, 2, 2));
+    due.place = 0;
+    due.makespan = 5;
+    CALL(PFS_OK, insert_prepared(NULL, 0, 0));
+    pfs_release(&prepared);
+    CALL(PFS_NOT_PREPARED, insert_prepared(BEST, 2, 2));
+    pfs_release(&prepared);
 }
 
 static void insertions(void) {
@@ -465,8 +504,8 @@ static int read_text(const char *text, uint32_t layout, size_t block, size_t roo
     if (bytes == NULL)
         exit(2);
     memcpy(bytes, text, length);
-    int answer = pfs_read(bytes, length, layout, block, &out.jobs, &out.machines, &out.notes, out.list, room,
-                          &out.fault);
+    int answer =
+        pfs_read(bytes, length, layout, block, &out.jobs, &out.machines, &out.notes, out.list, room, &out.fault);
     free(bytes);
     return answer;
 }
@@ -706,12 +745,20 @@ static int call_on_large(const char *name) {
     due.makespan = 2 + machines;
     if (strcmp(name, "insert_rows") == 0 || strcmp(name, "insert_lanes") == 0)
         return due.place = 0, pfs_insert(ones, LARGE, jobs, machines, NUMBERED, 2, 2, &out.place, &out.makespan);
+    if (strcmp(name, "prepare_lanes") == 0) {
+        int returned = pfs_prepare(ones, LARGE, jobs, machines, &prepared);
+        due.place = 0;
+        if (returned == PFS_OK)
+            returned = insert_prepared(NUMBERED, 2, 2);
+        pfs_release(&prepared);
+        return returned;
+    }
     if (strcmp(name, "construct_lanes") == 0)
-        return due_list((uint32_t[]){2, 0, 1}, 3), pfs_construct(ones, LARGE, jobs, machines, NUMBERED, 2, NUMBERED + 2,
-                                                                 1, out.list, 3, &out.makespan);
+        return due_list((uint32_t[]){2, 0, 1}, 3),
+               pfs_construct(ones, LARGE, jobs, machines, NUMBERED, 2, NUMBERED + 2, 1, out.list, 3, &out.makespan);
     if (strcmp(name, "local_search_lanes") == 0)
-        return due_list(BEST, 3), pfs_local_search(ones, LARGE, jobs, machines, NUMBERED, 3, BEST, 1, 1, out.list, 3,
-                                                   &out.makespan);
+        return due_list(BEST, 3),
+               pfs_local_search(ones, LARGE, jobs, machines, NUMBERED, 3, BEST, 1, 1, out.list, 3, &out.makespan);
     exit(3);
 }
 
@@ -723,6 +770,23 @@ static int call_on_shop(const char *name) {
         return due.bound = 10, pfs_bound(times, 6, 3, 2, &out.bound);
     if (strcmp(name, "insert") == 0)
         return due.place = 2, due.makespan = 10, pfs_insert(times, 6, 3, 2, BEST, 2, 2, &out.place, &out.makespan);
+    if (strcmp(name, "prepare") == 0) {
+        int returned = pfs_prepare(times, 6, 3, 2, &prepared);
+        if (returned == PFS_OK)
+            pfs_release(&prepared);
+        return returned;
+    }
+    if (strcmp(name, "insert_prepared") == 0) {
+        int returned = pfs_prepare(times, 6, 3, 2, &prepared);
+        due.place = 2;
+        due.makespan = 10;
+        if (returned == PFS_OK)
+            returned = insert_prepared(BEST, 2, 2);
+        pfs_release(&prepared);
+        return returned;
+    }
+    if (strcmp(name, "release") == 0)
+        return pfs_release(&prepared), PFS_OK;
     if (strcmp(name, "insertions") == 0)
         return due_makespans((uint64_t[]){13, 11, 10}, 3), all_places(BEST, 2, 2);
     if (strcmp(name, "heads_tails") == 0)
@@ -794,10 +858,10 @@ int main(int count, char **words) {
     long_times[0] = PFS_LONGEST_TIME + 1;
     fresh();
     if (strcmp(word, "all") == 0) {
-        void (*const parts[])(void) = {makespans, many_makespans, bounds, tables, nehs, rounds, insertions,
-                                       all_insertions, heads_and_tails, constructions,
-                                       local_searches, random_words, no_lists, drawings, readings, writings,
-                                       order_readings, order_writings, numbers};
+        void (*const parts[])(void) = {makespans,     many_makespans, bounds,         tables,         nehs,
+                                       rounds,        insertions,     preparations,   all_insertions, heads_and_tails,
+                                       constructions, local_searches, random_words,   no_lists,       drawings,
+                                       readings,      writings,       order_readings, order_writings, numbers};
         for (size_t part = 0; part < COUNT(parts); ++part)
             parts[part]();
     } else if (strcmp(word, "long") == 0) {
