@@ -279,7 +279,8 @@ int pfs_insert(const uint32_t *times, size_t times_length, size_t jobs, size_t m
 
 /** @brief A handle: it holds a prepared instance, or none.
  *
- * Set `at` to NULL before the first call: struct pfs_prepared prepared = {NULL}. Afterwards only the library changes it.
+ * Set `at` to NULL before the first call: struct pfs_prepared prepared = {NULL}. After that only the library changes
+ * it.
  * A handle may be moved in memory, but of a handle and its copy only one may be used.
  */
 struct pfs_prepared {

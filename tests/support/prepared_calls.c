@@ -1,5 +1,4 @@
-/* Compares pfs_insert_prepared with pfs_insert on random instances of many sizes, in each sequence of a random walk, and
- * pfs_rounds with the same rounds over a handle.
+/* Compares pfs_insert_prepared with pfs_insert on random instances of many sizes, in each sequence of a random walk.
  *
  * usage: prepared_calls COUNT SEED     COUNT instances; prints the number of insertions
  *        prepared_calls threads COUNT  the same in four threads at once, each with a handle of its own */
