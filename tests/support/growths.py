@@ -1,4 +1,4 @@
-"""Lets memory allocations of a program fail, or counts them, by the preloaded library `refuse.c`."""
+"""Makes memory allocations of a program fail, or counts them, by a preloaded library (refuse.c)."""
 import os
 import pathlib
 import subprocess
