@@ -15,8 +15,9 @@ from support.second_program import Instance
 WAVEFRONTS = {f"Wavefront{bits}(Lanes{width})": (width, most) for bits, most in ((16, 65_535), (32, 2**31 - 1))
               for width in (8, 16, 24, 40, 64, 104, 208)}
 
-OPTIONS = {b"--take": 3, b"--rounds": 3, b"--seed": 1, b"--passes": 1, b"--cells": True}
-SOLVE = "solve --layout taillard --take 3 --rounds 3 --seed 1 --passes 1 --cells shop"
+# The most cubes of jobs on all machines of a shop whose search has three rounds. The second program takes seconds for
+# three rounds of a larger one, so its search has one. A round inserts each job, so it uses all tables again and again.
+MOST_CUBES = 1_000_000
 
 
 def shop_of(jobs: int, machines: int, times: list[int]) -> Instance:
@@ -146,10 +147,18 @@ def lines_of(pfs_calls: Program, folder: pathlib.Path, shop: Instance) -> list[s
     return lines
 
 
-# The second program takes about half a microsecond for each cube of the jobs on each machine.
+def cubes_of(shop: Instance) -> int:
+    return shop.jobs**3 * shop.machines
+
+
+def rounds_of(shop: Instance) -> int:
+    """The rounds of a search of this shop."""
+    return 3 if cubes_of(shop) <= MOST_CUBES else 1
+
+
+# The second program takes about a tenth of a microsecond for each cube of the jobs on each machine.
 each_shop = pytest.mark.parametrize("name", [
-    pytest.param(name, marks=pytest.mark.seconds(shop.jobs**3 * shop.machines // 2_000_000))
-    for name, (shop, _) in SHOPS.items()])
+    pytest.param(name, marks=pytest.mark.seconds(cubes_of(shop) // 5_000_000)) for name, (shop, _) in SHOPS.items()])
 
 
 @each_shop
@@ -198,6 +207,9 @@ def test_a_wide_wavefront_finds_what_heads_and_tails_do(pfs_calls: Program, fold
 @each_shop
 def test_solve_prints_what_the_second_program_does(pfs: Program, folder: pathlib.Path, name: str) -> None:
     shop, _ = SHOPS[name]
+    rounds = rounds_of(shop)
     (folder / "shop").write_bytes(second_program.canonical(shop, b"taillard"))
-    expected = second_program.solved(shop, OPTIONS).decode().splitlines()
-    assert pfs.run(SOLVE, folder) == printed(*expected)
+    options = {b"--take": 3, b"--rounds": rounds, b"--seed": 1, b"--passes": 1, b"--cells": True}
+    expected = second_program.solved(shop, options).decode().splitlines()
+    line = f"solve --layout taillard --take 3 --rounds {rounds} --seed 1 --passes 1 --cells shop"
+    assert pfs.run(line, folder) == printed(*expected)

@@ -272,11 +272,13 @@ def read_order(text: Contents) -> tuple[list[int], int | None, int]:
     if len(parts) != 4 or not can_be_completed(text):
         raise refused(b"order file syntax at %d", longest_front(text))
     jobs = [int(job) for job in parts[1].split(b" ")]
-    for place, job in enumerate(jobs):
+    seen = set[int]()
+    for place, job in enumerate(jobs, 1):
         if not 1 <= job <= len(jobs):
-            raise refused(b"order file job out of range at place %d", place + 1)
-        if job in jobs[:place]:
-            raise refused(b"order file job repeated at place %d", place + 1)
+            raise refused(b"order file job out of range at place %d", place)
+        if job in seen:
+            raise refused(b"order file job repeated at place %d", place)
+        seen.add(job)
     _, *machines = first_line(parts[0])
     return jobs, machines[0] if machines else None, int(parts[2].removeprefix(b"makespan "))
 
