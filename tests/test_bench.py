@@ -8,6 +8,7 @@ import shutil
 import subprocess
 
 import pytest
+from support.unproved import unhinted
 
 pytestmark = [pytest.mark.long, pytest.mark.seconds(20), pytest.mark.xdist_group("bench")]
 # The crates that the functions use.
@@ -104,8 +105,8 @@ def errors(top: pathlib.Path, tmp_path_factory: pytest.TempPathFactory) -> dict[
     (crate / "src" / "lib.rt").write_text(ROOT % "".join(f"pub mod {name};\n" for name in modules))
     for name, text in modules.items():
         (crate / "src" / f"{name}.rt").write_text(text)
-    done = subprocess.run(["rt", "try", "--test"], cwd=crate, stdin=subprocess.DEVNULL, stdout=subprocess.PIPE,
-                          stderr=subprocess.STDOUT, text=True, timeout=MOST_SECONDS)
+    done = subprocess.run(["rt", "try", "--test"], cwd=crate, env=unhinted(folder), stdin=subprocess.DEVNULL,
+                          stdout=subprocess.PIPE, stderr=subprocess.STDOUT, text=True, timeout=MOST_SECONDS)
     found: dict[str, list[str]] = {name: [] for name in ("lib", *modules)}
     for module, error in re.findall(r"^src/(\w+)\.rt:[0-9:]* (error\[.*?)(?=: help: |$)", done.stdout, re.MULTILINE):
         found[module].append(error)
