@@ -7,7 +7,7 @@ from urllib.parse import unquote, urlsplit
 
 import pytest
 from support.needs import tool
-from support.tools import require_debian_module, output_of, run_tool
+from support.tools import output_of, require_debian_module, run_tool, with_path, write_script
 
 TOP = pathlib.Path(__file__).resolve().parent.parent
 PAGES = sorted(str(page.relative_to(TOP).with_suffix("")) for pattern in ("*.md", "*/*.md", "docs/*/*.md")
@@ -106,16 +106,30 @@ def test_the_definitions_are_in_the_site(site: pathlib.Path) -> None:
     assert ">best_place<" in (site / "docs" / "REACHED.html").read_text()
 
 
-def test_the_site_is_made_again_and_replaces_nothing_else(top: pathlib.Path, folder: pathlib.Path,
-                                                          site: pathlib.Path) -> None:
-    (folder / "kept").write_text("mine\n")
-    got = run_tool([top / "tools" / "site" / "build", folder], top)
-    assert (got.status, got.stderr) == (1, f"site/build: {folder} holds something else than a site\n")
-    assert [path.name for path in folder.iterdir()] == ["kept"]
-    before = (site / "index.html").read_bytes()
-    (site / "old.html").touch()
-    output_of([top / "tools" / "site" / "build", site], top)
-    assert (site / "index.html").read_bytes() == before and not (site / "old.html").exists()
+# In the place of Sphinx, which takes long: the pages of a site by their names, and the list of its names.
+SPHINX = """import pathlib, sys
+pages, folder = map(pathlib.Path, sys.argv[-2:])
+for page in sorted(pages.glob("*.md")):
+    (folder / page.with_suffix(".html").name).touch()
+(folder / "objects.inv").touch()
+"""
+
+
+def test_the_site_is_made_again_and_replaces_nothing_else(top: pathlib.Path, folder: pathlib.Path) -> None:
+    for name in ("bin", "other", "made"):
+        (folder / name).mkdir()
+    (folder / "sphinx.py").write_text(SPHINX)
+    write_script(folder / "bin" / "doxygen", "#!/bin/sh\n")
+    env = with_path(folder / "bin") | {"PYTHONPATH": str(folder)}
+    (folder / "other" / "kept").write_text("mine\n")
+    got = run_tool([top / "tools" / "site" / "build", folder / "other"], top, env=env)
+    assert (got.status, got.stderr) == (1, f"site/build: {folder}/other holds something else than a site\n")
+    assert [path.name for path in (folder / "other").iterdir()] == ["kept"]
+    for old in ("", "old.html"):
+        (folder / "made" / old).touch()
+        output_of([top / "tools" / "site" / "build", folder / "made"], top, env=env)
+        names = {path.name for path in (folder / "made").iterdir()}
+        assert {"README.html", "objects.inv"} <= names and "old.html" not in names
 
 
 @pytest.mark.parametrize(("link", "is_broken"), [
