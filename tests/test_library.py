@@ -250,12 +250,17 @@ def test_the_sanitizers_find_nothing_in_any_call(libpfs: Library, folder: pathli
     assert program.run("threads", folder).status == 0
 
 
-@pytest.mark.seconds(15)
-@pytest.mark.parametrize("word", ["all", "threads", *FUNCTIONS, *LARGE])
-def test_valgrind_finds_nothing_in_any_call(calls: Program, folder: pathlib.Path, word: str) -> None:
+@pytest.mark.seconds(3)
+@pytest.mark.parametrize(("words", "printed"), [
+    (["all"], ALL_CALLS.stdout), (["threads"], LONG_CALLS.stdout),
+    ([*FUNCTIONS, *LARGE], b"right\nright\n" * len([*FUNCTIONS, *LARGE]))], ids=["all", "threads", "each function"])
+def test_valgrind_finds_nothing_in_any_call(calls: Program, folder: pathlib.Path, words: list[str],
+                                            printed: bytes) -> None:
+    """One start of valgrind takes longer than the calls of a function. It reports with each error in which call it
+    is."""
     valgrind = ["-q", "--error-exitcode=9", "--leak-check=full", "--show-leak-kinds=all", "--errors-for-leak-kinds=all"]
-    ran = Program(pathlib.Path(tool("valgrind"))).run([*valgrind, str(calls.path), word], folder)
-    assert (ran.stderr, ran.status) == (b"", 0), f"the calls say {ran.stdout.decode()}"
+    ran = Program(pathlib.Path(tool("valgrind"))).run([*valgrind, str(calls.path), *words], folder)
+    assert ran == Ran(printed, b"", 0)
 
 
 def test_four_threads_at_once_have_the_same_results(calls: Program, folder: pathlib.Path) -> None:

@@ -5,7 +5,8 @@
  * usage: library_calls all      every call; prints the number of calls
  *        library_calls long     calls on files that are too long
  *        library_calls threads  the same instance in four threads at once
- *        library_calls NAME     a valid call, twice; prints for each `right`, or `memory` if an allocation failed */
+ *        library_calls NAME..   a valid call of each, twice; prints for each call `right`, or `memory` if an allocation
+ *                               failed */
 #define _POSIX_C_SOURCE 200809L
 #include <limits.h>
 #include <pthread.h>
@@ -787,7 +788,7 @@ static void tell(const char *name) {
 
 int main(int count, char **words) {
     static char buffer[BUFSIZ];
-    const char *word = count == 2 ? words[1] : "";
+    const char *word = count > 1 ? words[1] : "";
     setvbuf(stdout, buffer, _IOFBF, sizeof buffer);
     times = copied(TIMES, 6);
     long_times = copied(TIMES, 6);
@@ -805,8 +806,12 @@ int main(int count, char **words) {
     } else if (strcmp(word, "threads") == 0) {
         threads();
     } else {
-        tell(word);
-        tell(word);
+        if (count == 1)
+            fail("no word", 0);
+        for (int at = 1; at < count; ++at) {
+            tell(words[at]);
+            tell(words[at]);
+        }
     }
     if (memcmp(times, TIMES, sizeof TIMES) != 0)
         fail("times were changed", 0);
