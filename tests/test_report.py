@@ -630,13 +630,16 @@ def test_rounds_have_a_logarithmic_scale(report: Reported, folder: pathlib.Path)
 
 @pytest.mark.seconds(6)
 @pytest.mark.parametrize("ending", ["svg", "pdf"])
-def test_a_report_made_again_has_the_same_bytes(ending: str, top: pathlib.Path, matplotlib: None,
+def test_a_report_made_again_has_the_same_bytes(ending: str, top: pathlib.Path, script: Reported,
                                                 folder: pathlib.Path) -> None:
-    """The second report is made more than a second later, by a process whose sets and hashes differ."""
+    """The second report is made more than a second later, as a user does it, by a process whose sets and hashes
+    differ."""
     (folder / "out.csv").write_text(REPORTED)
+    words = ["--format", ending, "out.csv", "report"]
     made = []
-    for pause in (1.1, 0):
-        got = run_tool([top / "experiments" / "report", "--format", ending, "out.csv", "report"], folder)
+    for run, pause in ((lambda: script(*words), 1.1),
+                       (lambda: run_tool([top / "experiments" / "report", *words], folder), 0)):
+        got = run()
         assert got.status == 0, got
         made.append({path.name: path.read_bytes() for path in (folder / "report").iterdir()})
         time.sleep(pause)
