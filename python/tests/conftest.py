@@ -14,6 +14,8 @@ SOURCES = TOP / "python" / "src"
 # Examples are the same in each run, and none is too slow for a machine that runs other programs too.
 settings.register_profile("pfs", deadline=None, derandomize=True, max_examples=60, database=None,
                           suppress_health_check=[HealthCheck.function_scoped_fixture, HealthCheck.too_slow])
+# For runs that repeat tests under other conditions, where each example makes the same calls.
+settings.register_profile("few", settings.get_profile("pfs"), max_examples=15)
 settings.load_profile("pfs")
 
 

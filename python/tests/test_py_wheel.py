@@ -3,6 +3,7 @@ there."""
 import email
 import hashlib
 import importlib
+import importlib.util
 import os
 import pathlib
 import re
@@ -136,7 +137,9 @@ def test_a_wheel_in_a_clean_environment(wheel: pathlib.Path, tmp_path: pathlib.P
     out."""
     if sys.prefix != sys.base_prefix:
         pytest.skip("an environment inside another one has no packages of the system")
-    run([sys.executable, "-m", "venv", "--system-site-packages", tmp_path / "clean"], tmp_path)
+    # Installing pip there too takes seconds.
+    pip = ["--without-pip"] if importlib.util.find_spec("pip") else []
+    run([sys.executable, "-m", "venv", "--system-site-packages", *pip, tmp_path / "clean"], tmp_path)
     python = tmp_path / "clean" / "bin" / "python3"
     run([python, "-m", "pip", "--disable-pip-version-check", "install", "-q", "--no-index", wheel], tmp_path)
     got = run([python, "-c", "import pfs, pfs._library; print(pfs.__file__, pfs._library.PATH, sep='\\n')"], tmp_path)
@@ -152,6 +155,7 @@ def test_a_wheel_in_a_clean_environment(wheel: pathlib.Path, tmp_path: pathlib.P
         f"import pfs\n\n\ndef test_it() -> None:\n    assert pfs.__file__.startswith({str(tmp_path / 'clean')!r})\n")
     names = ["where", "values", "validate", "solve"]
     got = run([python, "-m", "pytest", "-q", "-p", "no:cacheprovider", "-W", "ignore::pytest.PytestUnknownMarkWarning",
-                f"--rootdir={tmp_path}", f"--pfs={program}", *(f"tests/test_py_{name}.py" for name in names),
-                "-k", "not thread and not signal", "-m", "not seconds"], tmp_path)
+                f"--rootdir={tmp_path}", f"--pfs={program}", "--hypothesis-profile=few",
+                *(f"tests/test_py_{name}.py" for name in names), "-k", "not thread and not signal", "-m",
+                "not seconds"], tmp_path)
     assert " passed" in got and "failed" not in got
