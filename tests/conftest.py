@@ -106,6 +106,15 @@ def folder(tmp_path: pathlib.Path) -> pathlib.Path:
     return tmp_path
 
 
+@pytest.fixture(scope="session")
+def worked_once(tmp_path_factory: pytest.TempPathFactory) -> pathlib.Path:
+    """The same as `worked`, for tests that write nothing into their folder. Writing the files takes as long as a run of
+    the program."""
+    made = tmp_path_factory.mktemp("worked")
+    make_files(made)
+    return made
+
+
 @pytest.fixture
 def worked(tmp_path: pathlib.Path) -> Iterator[pathlib.Path]:
     """A folder with the worked files, and the folder `folder` in it."""

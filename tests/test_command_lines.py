@@ -4,7 +4,7 @@ import pathlib
 import subprocess
 
 import pytest
-from support.files import THREE_JOBS, USAGE, make_files
+from support.files import THREE_JOBS, USAGE
 from support.lines import ANSWERS, PRINTING, refused, unwritten
 from support.needs import tool
 from support.program import Program, Ran
@@ -35,22 +35,14 @@ def run_into_file(pfs: Program, line: str, worked: pathlib.Path, file: pathlib.P
     return ran._replace(stdout=file.read_bytes())
 
 
-@pytest.fixture(scope="module")
-def worked_once(tmp_path_factory: pytest.TempPathFactory) -> pathlib.Path:
-    """The worked files, for tests that don't write into their folder."""
-    made = tmp_path_factory.mktemp("worked")
-    make_files(made)
-    return made
-
-
 @pytest.mark.quick
 @pytest.mark.parametrize("line", ANSWERS)
-def test_a_line_has_its_output_errors_and_status(pfs: Program, worked: pathlib.Path, line: str) -> None:
-    assert pfs.run(line, worked) == ANSWERS[line]
+def test_a_line_has_its_output_errors_and_status(pfs: Program, worked_once: pathlib.Path, line: str) -> None:
+    assert pfs.run(line, worked_once) == ANSWERS[line]
 
 
-def test_an_argument_that_is_not_utf_8_is_rejected(pfs: Program, worked: pathlib.Path) -> None:
-    assert pfs.run(["value", "--layout", "taillard", b"three\xff"], worked) == Ran(b"", USAGE, 3)
+def test_an_argument_that_is_not_utf_8_is_rejected(pfs: Program, worked_once: pathlib.Path) -> None:
+    assert pfs.run(["value", "--layout", "taillard", b"three\xff"], worked_once) == Ran(b"", USAGE, 3)
 
 
 def test_without_arguments_standard_input_is_evaluated(pfs: Program, folder: pathlib.Path) -> None:
@@ -62,9 +54,9 @@ def test_without_arguments_an_empty_input_is_rejected(pfs: Program, folder: path
 
 
 @pytest.mark.parametrize("line", PRINTING)
-def test_a_full_output_is_a_failed_write(pfs: Program, worked: pathlib.Path, line: str) -> None:
+def test_a_full_output_is_a_failed_write(pfs: Program, worked_once: pathlib.Path, line: str) -> None:
     with open("/dev/full", "wb") as full:
-        assert pfs.run(line, worked, stdout=full) == unwritten(0)
+        assert pfs.run(line, worked_once, stdout=full) == unwritten(0)
 
 
 @pytest.mark.parametrize(("line", "most"), CUT, ids=[f"{line}, {most} bytes" for line, most in CUT])
@@ -76,19 +68,19 @@ def test_a_failed_write_reports_the_bytes_written(pfs: Program, worked_once: pat
 
 
 @pytest.mark.parametrize("line", PRINTING)
-def test_a_file_with_just_enough_room_gets_the_whole_text(pfs: Program, worked: pathlib.Path, folder: pathlib.Path,
+def test_a_file_with_just_enough_room_gets_the_whole_text(pfs: Program, worked_once: pathlib.Path, folder: pathlib.Path,
                                                           line: str) -> None:
-    assert run_into_file(pfs, line, worked, folder / "output", len(ANSWERS[line].stdout)) == ANSWERS[line]
+    assert run_into_file(pfs, line, worked_once, folder / "output", len(ANSWERS[line].stdout)) == ANSWERS[line]
 
 
 @pytest.mark.parametrize("line", [line for line in ANSWERS if line not in PRINTING])
-def test_the_status_is_the_same_if_standard_error_is_full(pfs: Program, worked: pathlib.Path, line: str) -> None:
+def test_the_status_is_the_same_if_standard_error_is_full(pfs: Program, worked_once: pathlib.Path, line: str) -> None:
     with open("/dev/full", "wb") as full:
-        ran = pfs.run(line, worked, stdout=subprocess.DEVNULL, stderr=full)
+        ran = pfs.run(line, worked_once, stdout=subprocess.DEVNULL, stderr=full)
     assert ran.status == ANSWERS[line].status
 
 
 @pytest.mark.parametrize("line", PRINTING)
-def test_status_4_if_both_outputs_are_full(pfs: Program, worked: pathlib.Path, line: str) -> None:
+def test_status_4_if_both_outputs_are_full(pfs: Program, worked_once: pathlib.Path, line: str) -> None:
     with open("/dev/full", "wb") as full:
-        assert pfs.run(line, worked, stdout=full, stderr=full).status == 4
+        assert pfs.run(line, worked_once, stdout=full, stderr=full).status == 4

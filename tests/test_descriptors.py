@@ -47,7 +47,7 @@ def run_without(streams: list[str], pfs: Program, words: Words, folder: pathlib.
 
 @pytest.mark.parametrize("streams", CLOSED, ids=" ".join)
 @pytest.mark.parametrize("line", LINES)
-def test_files_are_not_confused_with_closed_streams(pfs: Program, worked: pathlib.Path, line: str,
+def test_files_are_not_confused_with_closed_streams(pfs: Program, worked_once: pathlib.Path, line: str,
                                                     streams: list[str]) -> None:
     """The files that are opened then take the numbers of the streams, and aren't written to."""
     answer = ANSWERS[line]
@@ -55,8 +55,8 @@ def test_files_are_not_confused_with_closed_streams(pfs: Program, worked: pathli
         answer = unwritten(0)
     if "stderr" in streams:
         answer = answer._replace(stderr=b"")
-    assert run_without(streams, pfs, line, worked) == answer
-    assert {name: (worked / name).read_bytes() for name in FILES} == FILES
+    assert run_without(streams, pfs, line, worked_once) == answer
+    assert {name: (worked_once / name).read_bytes() for name in FILES} == FILES
 
 
 def test_without_arguments_a_closed_input_is_a_failed_read(pfs: Program, folder: pathlib.Path) -> None:
