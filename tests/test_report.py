@@ -636,14 +636,15 @@ def test_a_report_made_again_has_the_same_bytes(ending: str, top: pathlib.Path, 
     differ."""
     (folder / "out.csv").write_text(REPORTED)
     words = ["--format", ending, "out.csv", "report"]
-    made = []
-    for run, pause in ((lambda: script(*words), 1.1),
-                       (lambda: run_tool([top / "experiments" / "report", *words], folder), 0)):
-        got = run()
+
+    def files_of(got: Done) -> dict[str, bytes]:
         assert got.status == 0, got
-        made.append({path.name: path.read_bytes() for path in (folder / "report").iterdir()})
-        time.sleep(pause)
-    assert [name for name in made[0] if made[0][name] != made[1][name]] == [], "files that differ"
+        return {path.name: path.read_bytes() for path in (folder / "report").iterdir()}
+
+    first = files_of(script(*words))
+    time.sleep(1.1)
+    second = files_of(run_tool([top / "experiments" / "report", *words], folder))
+    assert [name for name in first if first[name] != second[name]] == [], "files that differ"
 
 
 @of_reported
