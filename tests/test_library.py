@@ -227,6 +227,10 @@ def test_the_library_needs_only_the_c_library(libpfs: Library) -> None:
 
 # Each function on each invalid argument
 
+# so that the program that calls each function is compiled once
+OF_CALLS = pytest.mark.xdist_group("library calls")
+
+
 @pytest.fixture(scope="session")
 def calls(libpfs: Library, tmp_path_factory: pytest.TempPathFactory) -> Program:
     """The program that calls each function."""
@@ -250,6 +254,7 @@ def test_the_sanitizers_find_nothing_in_any_call(libpfs: Library, folder: pathli
     assert program.run("threads", folder).status == 0
 
 
+@OF_CALLS
 @pytest.mark.seconds(3)
 @pytest.mark.parametrize(("words", "printed"), [
     (["all"], ALL_CALLS.stdout), (["threads"], LONG_CALLS.stdout),
@@ -263,6 +268,7 @@ def test_valgrind_finds_nothing_in_any_call(calls: Program, folder: pathlib.Path
     assert ran == Ran(printed, b"", 0)
 
 
+@OF_CALLS
 def test_four_threads_at_once_have_the_same_results(calls: Program, folder: pathlib.Path) -> None:
     for _ in range(20):
         assert calls.run("threads", folder) == Ran(b"4 calls, 0 failures\n", b"", 0)
@@ -274,6 +280,7 @@ def shim(tmp_path_factory: pytest.TempPathFactory) -> Shim:
     return Shim(tmp_path_factory.mktemp("shim"))
 
 
+@OF_CALLS
 @pytest.mark.parametrize("name", [*FUNCTIONS, *LARGE])
 def test_a_failed_allocation_leaves_every_output_unchanged(calls: Program, shim: Shim, folder: pathlib.Path,
                                                            name: str) -> None:

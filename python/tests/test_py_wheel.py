@@ -22,6 +22,9 @@ VERSION = (TOP / "VERSION").read_text().strip()
 LICENSES = ["LICENSE-APACHE", "LICENSE-MIT"]
 WHEEL = f"pfs-{VERSION}-py3-none-linux_x86_64.whl"
 
+# so that the wheel is made once
+pytestmark = pytest.mark.xdist_group("wheel")
+
 
 def test_charts_of_a_checkout_are_drawn_by_the_tools_module() -> None:
     if pathlib.Path(_library.__file__).is_relative_to(HERE):
