@@ -1,6 +1,7 @@
 """Plans of experiments, the CSV that must come of them, and programs in the place of pfs that wait or fail."""
 import csv
 import fcntl
+import hashlib
 import itertools
 import os
 import pathlib
@@ -188,16 +189,24 @@ Finished = Callable[[str], pathlib.Path]
 
 
 @pytest.fixture(scope="session")
-def finished(top: pathlib.Path, pfs: Program, tmp_path_factory: pytest.TempPathFactory) -> Finished:
-    """Makes the runs of a plan with this text once, and returns the folder."""
-    folders: dict[str, pathlib.Path] = {}
+def finished(top: pathlib.Path, pfs: Program, pytestconfig: pytest.Config,
+             tmp_path_factory: pytest.TempPathFactory) -> Finished:
+    """Makes the runs of a plan with this text once for all processes of a run of pytest (-n), and returns the
+    folder."""
+    own = tmp_path_factory.getbasetemp()
+    shared = own.parent if hasattr(pytestconfig, "workerinput") else own
 
     def finish(text: str) -> pathlib.Path:
-        if text not in folders:
-            folders[text] = tmp_path_factory.mktemp("finished")
-            done = planned(top, pfs, folders[text], text).run()
-            assert (done.status, done.stdout) == (0, ""), done
-        return folders[text]
+        place = shared / f"finished-{hashlib.sha256(text.encode()).hexdigest()[:8]}"
+        with open(place.with_suffix(".lock"), "w") as lock:
+            fcntl.flock(lock, fcntl.LOCK_EX)
+            if not place.exists():
+                # It gets its name when all is made.
+                folder = tmp_path_factory.mktemp("finished")
+                done = planned(top, pfs, folder, text).run()
+                assert (done.status, done.stdout) == (0, ""), done
+                folder.rename(place)
+        return place
     return finish
 
 
