@@ -89,7 +89,7 @@ SCRIPT = """
 import os, pickle, signal, sys, threading, pfs
 shops = [pfs.generate(60, 10, seed) for seed in (1, 2, 3)]
 found = pickle.load(open("found", "rb")) if os.path.exists("found") else None
-words = {"rounds": 300_000} if sys.argv[1] == "rounds" else {"time_limit": 60.0, "target": 0}
+words = {"rounds": 150_000} if sys.argv[1] == "rounds" else {"time_limit": 60.0, "target": 0}
 begun = lambda done, total: None
 threading.Timer(float(sys.argv[2]), os.killpg, (0, signal.SIGINT)).start()
 try:
@@ -124,7 +124,7 @@ def test_after_ctrl_c_the_searches_continue(tmp_path: pathlib.Path) -> None:
     assert times > 0, "nothing was interrupted"
     with open(tmp_path / "found", "rb") as file:
         found = pickle.load(file)
-    assert found == {(place, seed): pfs.generate(60, 10, place + 1).solve(300_000, seed=seed)
+    assert found == {(place, seed): pfs.generate(60, 10, place + 1).solve(150_000, seed=seed)
                      for place in range(3) for seed in (1, 2)}
 
 

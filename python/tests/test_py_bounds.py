@@ -13,6 +13,8 @@ import pytest
 from pfs import _library
 
 TOP = pathlib.Path(__file__).resolve().parents[2]
+# so that the library that touches all memory is compiled once
+pytestmark = pytest.mark.xdist_group("sanitizers")
 FLAGS = "-g -O1 -fPIC -shared -fsanitize=address,undefined -fno-sanitize-recover=all".split()
 
 HEAD = r"""
@@ -81,7 +83,8 @@ def ran(words: list[str], touching: dict[str, str]) -> subprocess.CompletedProce
 
 @pytest.mark.seconds(40)
 def test_bad_input_under_the_sanitizers(touching: dict[str, str]) -> None:
-    words = ["-m", "pytest", "-q", "-s", "-p", "no:cacheprovider", "-p", "no:xdist", "-x", "-o", "addopts="]
+    words = ["-m", "pytest", "-q", "-s", "-p", "no:cacheprovider", "-p", "no:xdist", "-x", "-o", "addopts=",
+             "--hypothesis-profile=few"]
     done = ran([*words, "tests/test_py_validate.py", "tests/test_py_values.py"], touching)
     assert done.returncode == 0, done.stdout + done.stderr
 

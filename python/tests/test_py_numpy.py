@@ -16,7 +16,7 @@ def test_the_rules_of_numpy_2() -> None:
     if np.lib.NumpyVersion(np.__version__) >= "2.0.0":
         pytest.skip("this is NumPy 2")
     words = ["-m", "pytest", "-q", "-p", "no:cacheprovider", "-p", "no:xdist", "-x", "-o", "addopts=",
-             "tests/test_py_validate.py", "tests/test_py_values.py"]
+             "--hypothesis-profile=few", "tests/test_py_validate.py", "tests/test_py_values.py"]
     env = os.environ | {"NPY_PROMOTION_STATE": "weak", "PYTHONDONTWRITEBYTECODE": "1"}
     done = subprocess.run([sys.executable, *words], cwd=HERE.parent, env=env, capture_output=True, text=True,
                           timeout=500)
