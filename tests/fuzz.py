@@ -338,8 +338,10 @@ def near_the_limit(random: Random, text: bytes) -> bytes:
     missing = MOST_BYTES - len(text) + random.choice([-1, 0, 1, 1, 2])
     place = random.choice([0] + [match.end() for match in re.finditer(rb"\n", text)])
     filler = random.choice([b" ", b"x", b"0", b"x" * 99_999 + b"\n"])
-    filler = (filler * (missing // len(filler) + 1))[:missing]
-    return text[:place] + (filler if filler[:1] == b"0" else filler[:-1] + b"\n") + text[place:]
+    last = b"" if filler == b"0" else b"\n"
+    many, rest = divmod(missing - len(last), len(filler))
+    # Each operation copies 64 MiB.
+    return b"".join([text[:place], filler * many, filler[:rest], last, text[place:]])
 
 
 # Random command lines

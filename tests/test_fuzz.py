@@ -11,7 +11,7 @@ import pytest
 from support.program import Program, Ran
 
 SHARES = 6
-SECONDS = 5
+SECONDS = 4.5
 FUZZ = pathlib.Path(fuzz.__file__)
 
 
