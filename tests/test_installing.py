@@ -172,7 +172,9 @@ def test_what_is_no_script_of_experiments_is_refused(words: str, installed: Inst
     assert (got.status, got.stdout, got.stderr.count("\n")) == (2, "", 1)
 
 
+# In one place only: it takes seconds, and the tests above find the scripts and the program in each.
 @pytest.mark.usefixtures("matplotlib")
+@pytest.mark.parametrize("installed", PREFIXES[-1:], indirect=True)
 def test_the_installed_experiments_run_and_report(installed: Installed, folder: pathlib.Path) -> None:
     """The way of the manual page, with a smaller plan."""
     tool("parallel")
