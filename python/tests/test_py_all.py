@@ -73,11 +73,18 @@ def test_what_progress_raises_has_what_was_found() -> None:
     assert len(found) >= 2 and found[0, 1] == SHOPS[0].solve(5, seed=1)
 
 
+def children() -> set[int]:
+    """The processes that this one has started."""
+    return set(map(int, pathlib.Path(f"/proc/self/task/{os.getpid()}/children").read_text().split()))
+
+
 def test_a_process_that_is_killed_loses_no_other_search() -> None:
+    # Other tests may have started servers.
+    before = children()
+
     def kill(done: int, total: int) -> None:
-        children = pathlib.Path(f"/proc/self/task/{os.getpid()}/children").read_text().split()
-        for child in children:
-            os.kill(int(child), signal.SIGKILL)
+        for child in children() - before:
+            os.kill(child, signal.SIGKILL)
 
     shops = [pfs.generate(6, 2, 1), pfs.generate(300, 20, 1)]
     with pytest.raises(RuntimeError) as stop:
