@@ -1079,9 +1079,11 @@ def number_of(got: str) -> str:
 
 @pytest.fixture(scope="module")
 def made_on_slurm(slurm: Cluster, top: pathlib.Path, pfs: Program,
-                  tmp_path_factory: pytest.TempPathFactory) -> tuple[Experiment, Done]:
+                  tmp_path_factory: pytest.TempPathFactory) -> tuple[Experiment, Done, dict[str, int]]:
+    """An experiment, what it printed, and how often each run's search was started. A test makes two runs again."""
     experiment = planned(top, pfs, tmp_path_factory.mktemp("on_slurm"))
-    return experiment, submit(experiment, slurm)
+    done = submit(experiment, slurm)
+    return experiment, done, experiment.searches()
 
 
 def submit(experiment: Experiment, slurm: Cluster) -> Done:
@@ -1091,28 +1093,28 @@ def submit(experiment: Experiment, slurm: Cluster) -> Done:
 
 
 @on_slurm
-def test_on_slurm_the_csv_is_the_same(made_on_slurm: tuple[Experiment, Done]) -> None:
-    experiment, got = made_on_slurm
+def test_on_slurm_the_csv_is_the_same(made_on_slurm: tuple[Experiment, Done, dict[str, int]]) -> None:
+    experiment, got, _ = made_on_slurm
     assert (got.status, got.stderr.splitlines()[-1]) == (0, TWELVE.removesuffix("\n"))
     assert experiment.rows() == experiment.wanted()
 
 
 @on_slurm
-def test_on_slurm_each_run_is_made_by_one_task(made_on_slurm: tuple[Experiment, Done]) -> None:
-    assert set(made_on_slurm[0].searches().values()) == {1}, "how often each run was made"
+def test_on_slurm_each_run_is_made_by_one_task(made_on_slurm: tuple[Experiment, Done, dict[str, int]]) -> None:
+    assert set(made_on_slurm[2].values()) == {1}, "how often each run was made"
 
 
 @on_slurm
-def test_on_slurm_the_runs_are_one_array_of_that_many_tasks(made_on_slurm: tuple[Experiment, Done],
+def test_on_slurm_the_runs_are_one_array_of_that_many_tasks(made_on_slurm: tuple[Experiment, Done, dict[str, int]],
                                                           slurm: Cluster) -> None:
     number = number_of(made_on_slurm[1].stderr)
     assert slurm.tells("scontrol", "-o", "show", "job", number).count(f"ArrayJobId={number} ") == 4
 
 
 @on_slurm
-def test_on_slurm_runs_whose_results_are_gone_are_made_again_and_no_others(made_on_slurm: tuple[Experiment, Done],
-                                                                           slurm: Cluster) -> None:
-    experiment, _ = made_on_slurm
+def test_on_slurm_runs_whose_results_are_gone_are_made_again_and_no_others(
+        made_on_slurm: tuple[Experiment, Done, dict[str, int]], slurm: Cluster) -> None:
+    experiment, *_ = made_on_slurm
     results = experiment.runs / "results"
     before = {path.name: path.stat().st_mtime_ns for path in results.iterdir()}
     wanted = experiment.rows()

@@ -4,7 +4,6 @@ equal time, on Taillard's instances. Prints the RPD of both, and draws the RPD o
 
 usage: ruiz_stuetzle.py FACTOR PICTURE NUMBER.. (30 search.png 51 52: n (m/2) 30 milliseconds, ta051 and ta052)"""
 import math
-import random
 import sys
 import time
 
@@ -17,29 +16,30 @@ import pfs
 TAKE, TEMPERATURE = 4, 0.4
 
 
-def local_search(shop: pfs.Instance, found: pfs.Sequence, chance: random.Random) -> pfs.Sequence:
+def local_search(shop: pfs.Instance, found: pfs.Sequence, chance: np.random.Generator) -> pfs.Sequence:
     """Insert each job, in random order, at its best place, until the makespan doesn't decrease any more."""
     while True:
         before = found.makespan
-        found = shop.local_search(found.jobs, chance.sample(range(shop.jobs), shop.jobs))
+        found = shop.local_search(found.jobs, chance.permutation(shop.jobs))
         if found.makespan == before:
             return found
 
 
-def destruct_and_construct(shop: pfs.Instance, order: npt.NDArray[np.int64], chance: random.Random) -> pfs.Sequence:
+def destruct_and_construct(shop: pfs.Instance, order: npt.NDArray[np.int64],
+                           chance: np.random.Generator) -> pfs.Sequence:
     """Remove some random jobs, and insert each at its best place."""
-    removed = chance.sample(range(shop.jobs), min(TAKE, shop.jobs))
-    return shop.insert_all(order[~np.isin(order, removed)], removed)
+    places = chance.permutation(shop.jobs)
+    return shop.insert_all(order[np.sort(places[TAKE:])], order[places[:TAKE]])
 
 
 def iterated_greedy(shop: pfs.Instance, seconds: float, seed: int) -> list[tuple[float, int]]:
     """Search, and return the seconds and the makespan of each improvement."""
-    begun, chance = time.perf_counter(), random.Random(seed)
+    begun, chance, bound = time.perf_counter(), np.random.default_rng(seed), shop.bound()
     temperature = TEMPERATURE * float(shop.times.mean()) / 10
     first = shop.neh()
     now = best = local_search(shop, pfs.Sequence(first.order, first.makespan), chance)
     history = [(time.perf_counter() - begun, best.makespan)]
-    while time.perf_counter() - begun < seconds and best.makespan > shop.bound():
+    while time.perf_counter() - begun < seconds and best.makespan > bound:
         found = local_search(shop, destruct_and_construct(shop, now.jobs, chance), chance)
         more = found.makespan - now.makespan
         if more < 0 or chance.random() < math.exp(-more / temperature):
