@@ -1,0 +1,117 @@
+//! Insertions by a wavefront whose memory is kept from one to the next.
+ghost use Rattle.std.specs.Prelude.{◌≡◌, ◌+◌, ◌<◌, ◌≤◌, length, take, IfOk};
+ghost use Rattle.std.specs.List.{All};
+ghost use Rattle.pfs_base.specs.FlowShop.{FlowShop};
+ghost use Rattle.pfs_insert.specs.Inserter.{IsBestPlace};
+ghost use Rattle.pfs_wave.specs.Served.{IsServed};
+ghost use Rattle.pfs_wave.specs.Wavefront.{HasRows};
+
+use crate::band::Band;
+use crate::lanes::Lanes;
+use crate::skewed::SkewedTimes;
+use crate::tables::Tables;
+use pfs_base::Instance;
+use pfs_insert::Placed;
+use std::alloc::{AllocError, Global};
+use std::marker::Model;
+
+/// An instance that a wavefront serves, with its times in lanes and the tables of an insertion.
+#[derive(Drop)]
+pub struct PreparedLanes<L: Lanes> {
+    instance: Instance,
+    skewed: SkewedTimes<L>,
+    tables: Tables<L>,
+    // The jobs of a sequence, as `SkewedTimes` takes them.
+    sequence: Vec<usize>,
+}
+
+impl<L: Lanes> Model for PreparedLanes<L> {
+    ghost use Rattle.std.specs.Prelude.{◌≡◌, length};
+    ghost use Rattle.pfs_base.specs.FlowShop.{FlowShop};
+    ghost use Rattle.pfs_wave.specs.Served.{IsServed};
+    ghost use Rattle.pfs_wave.specs.Wavefront.{HasRows};
+
+    ghost Value = { FlowShop };
+
+    ghost view = { λ a. a.instance.shop };
+
+    ghost invariant = { λ a. record {
+      served : IsServed a.instance.shop L.WIDTH L.Band.CAP;
+      rows : HasRows a.instance.shop L.WIDTH a.skewed.rows;
+      tables : a.tables.jobs ≡ a.instance.shop.jobs;
+      room : length a.sequence.items ≡ a.instance.shop.jobs;
+    } };
+}
+
+impl<L: Lanes> PreparedLanes<L> {
+    /// Prepares an instance. It reserves all memory of an insertion, and returns `AllocError` where that fails.
+    pub fn new(alloc: Global, instance: Instance) -> Result<PreparedLanes<L>, AllocError>
+        requires { IsServed instance.shop L.WIDTH L.Band.CAP }
+        ensures { IfOk result (λ made. made ≡ instance.shop) }
+    {
+        let jobs = instance.jobs();
+        let skewed = SkewedTimes::new(alloc, &instance)?;
+        let tables = Tables::new(alloc, jobs)?;
+        let mut sequence = Vec::new(alloc);
+        sequence.reserve_exact(jobs)?;
+        sequence.resize(jobs, 0)?;
+        Ok(PreparedLanes {
+            instance,
+            skewed,
+            tables,
+            sequence,
+        })
+    }
+
+    /// The best place for a job in a sequence of fewer than all jobs, and the makespan with the job there. It allocates
+    /// nothing.
+    pub fn best(&mut self, sequence: &[u32], job: usize) -> Placed<u64>
+        requires jobs { All (λ other. other < self.old.jobs) sequence.now }
+        requires few { length sequence.now < self.old.jobs }
+        requires job { job < self.old.jobs }
+        ensures best { IsBestPlace self.old sequence.now job result.place result.span }
+        ensures shop { self.new ≡ self.old }
+    {
+        copy_jobs(sequence, &mut self.sequence);
+        let jobs = &self.sequence[..sequence.len()];
+        best_in_tables(&mut self.skewed, &mut self.tables, jobs, job)
+    }
+}
+
+// Copies jobs into the front of a list.
+fn copy_jobs(jobs: &[u32], list: &mut [usize])
+    requires { length jobs.now ≤ length list.old }
+    ensures length { length list.new ≡ length list.old }
+    ensures front { take (length jobs.now) list.new ≡ jobs.now }
+{
+    for place in 0..jobs.len() {
+        list[place] = jobs[place] as usize;
+    }
+}
+
+// The best place for a job in a sequence, and the makespan with the job there.
+#[inline(always)]
+fn best_in_tables<L: Lanes>(
+    skewed: &mut SkewedTimes<L>,
+    tables: &mut Tables<L>,
+    sequence: &[usize],
+    job: usize,
+) -> Placed<u64>
+    requires jobs { All (λ other. other + 1 < length skewed.old.rows) sequence.now }
+    requires few { length sequence.now ≤ tables.old.jobs }
+    requires tables { tables.old.jobs < length skewed.old.rows }
+    requires job { job < length skewed.old.rows }
+    ensures best { (shop : FlowShop) → IsServed shop L.WIDTH L.Band.CAP → HasRows shop L.WIDTH skewed.old.rows
+        → length sequence.now < shop.jobs → job < shop.jobs
+        → IsBestPlace shop sequence.now job result.place result.span }
+    ensures rows { skewed.new.rows ≡ skewed.old.rows }
+    ensures tables { tables.new.jobs ≡ tables.old.jobs }
+{
+    skewed.hold(sequence);
+    skewed.fill_tails(&mut tables.tails, &mut tables.bands);
+    let found = skewed.best_place(job, &tables.tails, &mut tables.sums, &mut tables.fronts);
+    Placed {
+        place: found.place,
+        span: u64::from(found.sum),
+    }
+}
