@@ -20,6 +20,7 @@ fault_number faults.Layout = numbers.PFS_LAYOUT
 fault_number faults.Block = numbers.PFS_BLOCK
 fault_number faults.Makespan = numbers.PFS_MAKESPAN
 fault_number faults.Room = numbers.PFS_ROOM
+fault_number faults.NotPrepared = numbers.PFS_NOT_PREPARED
 fault_number faults.NoBlock = numbers.PFS_NO_BLOCK
 fault_number faults.SizeCount = numbers.PFS_SIZE_COUNT
 fault_number faults.SizeRange = numbers.PFS_SIZE_RANGE

@@ -8,7 +8,7 @@ use Rattle.pfs_base.specs.Lists.{below, first_some}
 use Rattle.pfs_base.specs.declared.limits.TheConstants.{MOST_JOBS, MOST_MACHINES, LONGEST_TIME}
 use Rattle.pfs_layout.specs.Generator.{prime}
 use Rattle.pfs_c.specs.declared.numbers.CallFault.{CallFault}
-use Rattle.pfs_c.specs.declared.numbers.CallFault.TheVariants.{Size, Length, Time, Job, Repeated, Seed}
+use Rattle.pfs_c.specs.declared.numbers.CallFault.TheVariants.{Size, Length, Time, Job, Repeated, Seed, NotPrepared}
 
 -- the flow shop that C passes, with its processing times job by job
 abbrev pub shop_of : List ℕ → ℕ → ℕ → FlowShop
@@ -67,6 +67,16 @@ table_fault times jobs machines order starts ends = first_some (sizes_fault jobs
 abbrev pub insert_fault : List ℕ → ℕ → ℕ → List ℕ → ℕ → Option CallFault
 insert_fault times jobs machines sequence job = first_some
     (shop_fault times jobs machines ∷ jobs_fault jobs sequence ∷ job_fault jobs sequence job ∷ [])
+
+-- the same without the faults of the shop
+abbrev pub insertion_fault : FlowShop → List ℕ → ℕ → Option CallFault
+insertion_fault shop sequence job =
+    first_some (jobs_fault shop.jobs sequence ∷ job_fault shop.jobs sequence job ∷ [])
+
+-- those of an insertion into the shop of a handle, or `NotPrepared` if the handle holds none
+abbrev pub prepared_fault : Option FlowShop → List ℕ → ℕ → Option CallFault
+prepared_fault None sequence job = Some NotPrepared
+prepared_fault (Some shop) sequence job = insertion_fault shop sequence job
 
 abbrev pub seed_fault : ℕ → Option CallFault
 seed_fault seed = unless (nat_lt 0 seed && nat_lt seed prime) Seed

@@ -104,8 +104,8 @@ pub(crate) fn best_place(
     }
 }
 
-// `best_place` by `HeadsTails`.
-fn best_by_rows(
+/// `best_place` by `HeadsTails`.
+pub(crate) fn best_by_rows(
     alloc: Global,
     instance: &Instance,
     sequence: &Seq,

@@ -8,6 +8,7 @@ mod building;
 mod given;
 mod heads;
 mod inserting;
+mod kept;
 pub mod laws;
 mod many;
 mod moving;

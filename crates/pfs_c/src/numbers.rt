@@ -47,6 +47,9 @@ pub const PFS_MAKESPAN: i32 = 13;
 /// The output has too little room for the result.
 pub const PFS_ROOM: i32 = 14;
 
+/// The handle holds no prepared instance.
+pub const PFS_NOT_PREPARED: i32 = 15;
+
 /// The file ends before the block.
 pub const PFS_NO_BLOCK: i32 = 20;
 
@@ -103,6 +106,7 @@ pub fn numbers()
     ensures block { PFS_BLOCK ≡ pos 12 }
     ensures makespan { PFS_MAKESPAN ≡ pos 13 }
     ensures room { PFS_ROOM ≡ pos 14 }
+    ensures not_prepared { PFS_NOT_PREPARED ≡ pos 15 }
     ensures no_block { PFS_NO_BLOCK ≡ pos 20 }
     ensures size_count { PFS_SIZE_COUNT ≡ pos 21 }
     ensures size_range { PFS_SIZE_RANGE ≡ pos 22 }
@@ -135,6 +139,7 @@ pub(crate) enum CallFault {
     Block = PFS_BLOCK as isize,
     Makespan = PFS_MAKESPAN as isize,
     Room = PFS_ROOM as isize,
+    NotPrepared = PFS_NOT_PREPARED as isize,
     NoBlock = PFS_NO_BLOCK as isize,
     SizeCount = PFS_SIZE_COUNT as isize,
     SizeRange = PFS_SIZE_RANGE as isize,
