@@ -130,6 +130,8 @@ jobs_marked size jobs marks is_repeated place h small all job = elim (cases_lt j
       )
 ]
 
+pub ruleset one_mark = (marked_start, one_more_marked, jobs_distinct, jobs_marked)
+
 -- ---- a sequence and one more job
 
 -- if the job has no mark, they are a sequence

@@ -111,7 +111,7 @@ fn validate_few_jobs(size: usize, jobs: &[u32]) -> Result<(), CallFault>
     requires { size ≤ FEW_JOBS }
     ensures { Validates result (jobs_fault size jobs.now) }
 {
-    // The first fault is searched only in a list that has one.
+    // Only a list that has a fault is searched for the first one.
     if is_sequence(size, jobs, &mut [false; FEW_JOBS]) {
         return Ok(());
     }
@@ -164,7 +164,7 @@ pub(crate) fn validate_insertion(size: usize, sequence: &[u32], job: u32) -> Res
     validate_job(size, sequence, job)
 }
 
-// Whether the job and those of the sequence are distinct and below the size, which is small.
+// Whether the job and the jobs of the sequence are distinct and below the size, which is at most `FEW_JOBS`.
 fn is_insertion(size: usize, sequence: &[u32], job: u32) -> bool
     requires { size ≤ FEW_JOBS }
     ensures { IsTrue result ↔ IsSequence size (job ∷ sequence.now) }
@@ -173,7 +173,8 @@ fn is_insertion(size: usize, sequence: &[u32], job: u32) -> bool
     (job as usize) < size && is_sequence(size, sequence, &mut marks) && !marks[job as usize]
 }
 
-// Whether the jobs are distinct and below the size, which is small. If so, they are marked. No job is marked before.
+// Whether the jobs are distinct and below the size, which is at most `FEW_JOBS`. If so, they are marked. No job is
+// marked before.
 fn is_sequence(size: usize, jobs: &[u32], marks: &mut [bool; FEW_JOBS]) -> bool
     requires few { size ≤ FEW_JOBS }
     requires none { All (λ mark. mark ≡ false) marks.old }
@@ -184,6 +185,7 @@ fn is_sequence(size: usize, jobs: &[u32], marks: &mut [bool; FEW_JOBS]) -> bool
 }
 
 // Whether each job is below the size. All are compared, since a loop that may end early is not vectorized.
+#[tactic(auto, using(crate::proofs::Marks::small_more, crate::proofs::Marks::small_all))]
 fn are_below(size: u32, jobs: &[u32]) -> bool
     ensures { IsTrue result ↔ All (λ job. job < size) jobs.now }
 {
@@ -194,7 +196,9 @@ fn are_below(size: u32, jobs: &[u32]) -> bool
     is_below
 }
 
-// Whether the jobs are distinct. They are marked; no job is marked before. The loop has no branch for a repeated job.
+// Whether the jobs are distinct. They are marked; no job is marked before. A repeated job does not end the loop, so each
+// job is marked without a branch.
+#[tactic(auto, using(crate::proofs::Marks::one_mark))]
 fn are_distinct(jobs: &[u32], marks: &mut [bool; FEW_JOBS]) -> bool
     requires small { All (λ job. job < FEW_JOBS) jobs.now }
     requires none { All (λ mark. mark ≡ false) marks.old }
