@@ -291,6 +291,31 @@ static void insertions(void) {
     CALL(PFS_OK, pfs_insert((uint32_t[]){1, 1, 1}, 3, 3, 1, BEST, 2, 2, &out.place, &out.makespan));
 }
 
+/* Sequences of all jobs but the last one, which is inserted. The job at each place in turn is invalid. Up to 512 jobs,
+ * sequences are validated by other loops than above, several jobs at a time. */
+static void long_sequences(void) {
+    static uint32_t ones[513], sequence[513];
+    for (uint32_t size = 512; size <= 513; ++size) {
+        uint32_t last = size - 1;
+        for (uint32_t place = 0; place < size; ++place)
+            ones[place] = 1, sequence[place] = place;
+        due.place = 0;
+        due.makespan = size;
+        CALL(PFS_OK, pfs_insert(ones, size, size, 1, sequence, last, last, &out.place, &out.makespan));
+        for (uint32_t place = 0; place < last; ++place) {
+            sequence[place] = place % 2 == 0 ? size : UINT32_MAX;
+            CALL(PFS_JOB, pfs_makespan(ones, size, size, 1, sequence, last, &out.makespan));
+            CALL(PFS_JOB, pfs_insert(ones, size, size, 1, sequence, last, last, &out.place, &out.makespan));
+            sequence[place] = (place + 1) % last;
+            CALL(PFS_REPEATED, pfs_makespan(ones, size, size, 1, sequence, last, &out.makespan));
+            CALL(PFS_REPEATED, pfs_insert(ones, size, size, 1, sequence, last, last, &out.place, &out.makespan));
+            sequence[place] = last;
+            CALL(PFS_REPEATED, pfs_insert(ones, size, size, 1, sequence, last, last, &out.place, &out.makespan));
+            sequence[place] = place;
+        }
+    }
+}
+
 static int all_places(const uint32_t *sequence, size_t length, uint32_t job) {
     return pfs_insertions(times, 6, 3, 2, sequence, length, job, out.makespans, length + 1);
 }
@@ -796,7 +821,7 @@ int main(int count, char **words) {
     fresh();
     if (strcmp(word, "all") == 0) {
         void (*const parts[])(void) = {makespans, many_makespans, bounds, tables, nehs, rounds, insertions,
-                                       all_insertions, heads_and_tails, constructions,
+                                       all_insertions, long_sequences, heads_and_tails, constructions,
                                        local_searches, random_words, no_lists, drawings, readings, writings,
                                        order_readings, order_writings, numbers};
         for (size_t part = 0; part < COUNT(parts); ++part)

@@ -1,12 +1,12 @@
 -- Lists of jobs that are validated from the left.
 use Rattle.std.proofs.Common.{◌≡◌, ◌↔◌, ℕ, zero, suc, ◌+◌, ◌<◌, ◌≤◌, refl, Bool, true, false, List, [], ◌∷◌}
-use Rattle.std.proofs.Common.{length, take, map, get_or, set, nat_eq, nat_lt, All, Contains, insert, sym, ◌∙◌, inl, inr}
+use Rattle.std.proofs.Common.{length, take, map, get_or, set, nat_eq, nat_lt, All, Contains, sym, ◌∙◌, inl, inr}
 use Rattle.std.proofs.Common.{arith, Option, Some, None, add-zero, add-one, zero-add, ◌||◌, length-set, Result, IsOk}
 use Rattle.std.specs.List.{list_any, range_with_len}
 use Rattle.std.specs.Cmp.{nat_eq_equiv}
 use Rattle.std.proofs.lemmas.Bool.{cases_Bool, ne_eqb, eqb-true, eqb-false}
 use Rattle.std.proofs.lemmas.Bool.Decides.{nat_tests}
-use Rattle.std.proofs.lemmas.List.{get_or_default, get_or-set_other, take_more, take_all, length-take-le}
+use Rattle.std.proofs.lemmas.List.{get_or_default, get_or-set_other, take_more, take_all}
 use Rattle.std.proofs.lemmas.Grind.{get_or-set_at}
 use Rattle.std.proofs.lemmas.List.Edits.{insert_end}
 use Rattle.std.proofs.lemmas.List.Elements.{All-tail}
@@ -82,7 +82,7 @@ pub job_twice : (size job : ℕ) (others : List ℕ) → job < size → list_any
     → job_fault size others job ≡ Some Repeated
 job_twice size job others small found = let test : nat_lt job size ≡ true = grind (arith, nat_tests) in rw (test, found)
 
-job_right : (size job : ℕ) (others : List ℕ) → job < size → list_any (nat_eq job) others ≡ false
+pub job_right : (size job : ℕ) (others : List ℕ) → job < size → list_any (nat_eq job) others ≡ false
     → job_fault size others job ≡ None
 job_right size job others small none = let test : nat_lt job size ≡ true = grind (arith, nat_tests) in rw (test, none)
 
@@ -100,10 +100,15 @@ job_absent size job others h among =
 
 -- ---- the jobs before a place were validated and marked
 
+-- the marked jobs are those before the place
+abbrev pub AreMarked : List ℕ → List Bool → ℕ → Type 0
+AreMarked jobs marks place =
+    (job : ℕ) (d : Bool) → job < length marks → get_or marks job d ≡ list_any (nat_eq job) (take place jobs)
+
 pub record AreValid (size : ℕ) (jobs : List ℕ) (marks : List Bool) (place : ℕ) : Type 0 where
   pub enough : size ≤ length marks
   pub right : (k : ℕ) → k < place → place_fault size jobs k ≡ None
-  pub marked : (job : ℕ) (d : Bool) → job < length marks → get_or marks job d ≡ list_any (nat_eq job) (take place jobs)
+  pub marked : AreMarked jobs marks place
 
 pub valid_start : (size : ℕ) (jobs : List ℕ) (marks : List Bool) → size ≤ length marks
     → All (λ mark. mark ≡ false) marks → AreValid size jobs marks 0
@@ -138,6 +143,22 @@ or_false true = refl
 or_false false = refl
 
 -- the same after one more job, which is marked
+
+pub marked_more : (jobs : List ℕ) (marks : List Bool) (place : ℕ) → AreMarked jobs marks place → place < length jobs
+    → get_or jobs place 0 < length marks → AreMarked jobs (set marks (get_or jobs place 0) true) (place + 1)
+marked_more jobs marks place h within small =
+    let job = get_or jobs place 0 in
+    let long : length (set marks job true) ≡ length marks = length-set marks job true in
+    let more : (other : ℕ) → list_any (nat_eq other) (take (place + 1) jobs)
+    ≡ (list_any (nat_eq other) (take place jobs) || (nat_eq other job || false)) =
+    λ other. rw (take_more jobs place 0 within) (list_any-append (nat_eq other) (take place jobs) (job ∷ [])) in
+    λ other e lt. elim (cases_Bool (nat_eq other job)) [
+      | inl same ↦ rw (more other, same, or_true (list_any (nat_eq other) (take place jobs)))
+          (get_or-set_at marks job other true e (eqb-true other job same) (omega arith))
+      | inr apart ↦ rw (more other, apart, or_false (list_any (nat_eq other) (take place jobs)))
+          (get_or-set_other marks job other true e (eqb-false other job apart) ∙ h other e (omega (arith, long)))
+    ]
+
 pub valid_more : (size : ℕ) (jobs : List ℕ) (marks : List Bool) (place : ℕ) (d : Bool)
     → AreValid size jobs marks place → place < length jobs → get_or jobs place 0 < size
     → get_or marks (get_or jobs place 0) d ≡ false
@@ -148,22 +169,13 @@ valid_more size jobs marks place d h within small mark =
     let long : length (set marks job true) ≡ length marks = length-set marks job true in
     let is = h.marked job d (omega arith) in
     let right = job_right size job (take place jobs) small (sym is ∙ mark) in
-    let more : (other : ℕ) → list_any (nat_eq other) (take (place + 1) jobs)
-    ≡ (list_any (nat_eq other) (take place jobs) || (nat_eq other job || false)) =
-    λ other. rw (take_more jobs place 0 within) (list_any-append (nat_eq other) (take place jobs) (job ∷ [])) in
     record {
       enough = rw long enough;
       right = λ k lt. elim (cases_Bool (nat_eq k place)) [
         | inl same ↦ rw (eqb-true k place same) right
         | inr other ↦ h.right k (let apart = eqb-false k place other in omega arith)
       ];
-      marked = λ other e lt. elim (cases_Bool (nat_eq other job)) [
-        | inl same ↦ rw (more other, same, or_true (list_any (nat_eq other) (take place jobs)))
-            (get_or-set_at marks job other true e (eqb-true other job same) (omega arith))
-        | inr apart ↦ rw (more other, apart, or_false (list_any (nat_eq other) (take place jobs)))
-            (get_or-set_other marks job other true e (eqb-false other job apart)
-            ∙ h.marked other e (omega (arith, long)))
-      ];
+      marked = marked_more jobs marks place h.marked within (omega arith);
     }
 
 pub valid_all : (size : ℕ) (jobs : List ℕ) (marks : List Bool) (place : ℕ) → AreValid size jobs marks place
@@ -190,14 +202,14 @@ pub sequence_of_right : (size : ℕ) (jobs : List ℕ) → jobs_fault size jobs 
 sequence_of_right size jobs h =
     rw (take_all (length jobs) jobs (omega arith)) at (sequence_to size jobs (length jobs) h (omega arith))
 
-IsSequence-rest : (size job : ℕ) (jobs : List ℕ) → IsSequence size (job ∷ jobs) → IsSequence size jobs
+pub IsSequence-rest : (size job : ℕ) (jobs : List ℕ) → IsSequence size (job ∷ jobs) → IsSequence size jobs
 IsSequence-rest size job jobs h = record {
   in_range = All-tail (λ j. j < size) job jobs h.in_range;
   distinct = IsDistinct-tail nat_eq job jobs h.distinct;
 }
 
 -- the job at a place is in range and at no earlier place
-absent_before : (size : ℕ) (jobs : List ℕ) (place : ℕ) → IsSequence size jobs → place < length jobs
+pub absent_before : (size : ℕ) (jobs : List ℕ) (place : ℕ) → IsSequence size jobs → place < length jobs
     → list_any (nat_eq (get_or jobs place 0)) (take place jobs) ≡ false
 absent_before size [] place h within = absurd (omega arith)
 absent_before size (first ∷ rest) zero h within = refl

@@ -3,6 +3,7 @@ pub mod BestPlaces
 pub mod Gathered
 pub mod Jobs
 pub mod ManyLemmas
+pub mod Marks
 pub mod MemoryLemmas
 pub mod RandomWords
 pub mod Rooms

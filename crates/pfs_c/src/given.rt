@@ -1,7 +1,10 @@
 //! Arguments from C: they are validated and copied into the types of the crates below.
-ghost use Rattle.std.specs.Prelude.{◌≡◌, ◌≤◌, ◌<◌, ◌*◌, ◌↔◌, length, false, All, Contains, IsOk, IfOk, IfErr};
+ghost use Rattle.std.specs.Prelude.{◌≡◌, ℕ, ◌≤◌, ◌<◌, ◌*◌, ◌↔◌, [], ◌∷◌, length, false, All, Contains};
+ghost use Rattle.std.specs.Prelude.{IsOk, IsTrue, IfOk, IfErr, nat_eq, slice_index_or};
+ghost use Rattle.std.specs.List.{IsDistinct};
 ghost use Rattle.pfs_base.specs.FlowShop.{AreSizes, IsWithin};
 ghost use Rattle.pfs_base.specs.Limits.{limits};
+ghost use Rattle.pfs_base.specs.Lists.{first_some};
 ghost use Rattle.pfs_order.specs.Sequence.{IsSequence};
 ghost use Rattle.pfs_c.specs.Validation.{shop_of, sizes_fault, length_fault, times_fault, shop_fault};
 ghost use Rattle.pfs_c.specs.Validation.{jobs_fault, job_fault};
@@ -89,8 +92,7 @@ pub(crate) fn validate_shop(times: &[u32], jobs: usize, machines: usize) -> Resu
 }
 
 /// Validates a list of jobs from the left. For the first invalid place it returns `Job` if the job there is not below
-/// the size, and `Repeated` if the job is also at an earlier place. It allocates nothing and reads each job at most
-/// once.
+/// the size, and `Repeated` if the job is also at an earlier place. It allocates nothing.
 pub(crate) fn validate_jobs(size: usize, jobs: &[u32]) -> Result<(), CallFault>
     requires { size ≤ MOST_JOBS }
     ensures validated { Validates result (jobs_fault size jobs.now) }
@@ -109,6 +111,10 @@ fn validate_few_jobs(size: usize, jobs: &[u32]) -> Result<(), CallFault>
     requires { size ≤ FEW_JOBS }
     ensures { Validates result (jobs_fault size jobs.now) }
 {
+    // Only a list that has a fault is searched for the first one.
+    if is_sequence(size, jobs, &mut [false; FEW_JOBS]) {
+        return Ok(());
+    }
     validate_with_marks(size, jobs, &mut [false; FEW_JOBS])
 }
 
@@ -140,9 +146,76 @@ fn validate_with_marks(size: usize, jobs: &[u32], marks: &mut [bool]) -> Result<
     Ok(())
 }
 
-/// Validates a job to insert into a sequence. Returns `Job` if it is not below the size, else `Repeated` if it is in
-/// the sequence already. The time is linear in the length of the sequence.
-pub(crate) fn validate_job(size: usize, sequence: &[u32], job: u32) -> Result<(), CallFault>
+/// Validates a sequence from the left, and then a job to insert into it. For the first of these jobs that is invalid it
+/// returns `Job` if that job is not below the size, and `Repeated` if it is equal to an earlier one. It allocates
+/// nothing.
+pub(crate) fn validate_insertion(size: usize, sequence: &[u32], job: u32) -> Result<(), CallFault>
+    requires { size ≤ MOST_JOBS }
+    ensures validated { Validates result
+        (first_some (jobs_fault size sequence.now ∷ job_fault size sequence.now job ∷ [])) }
+    ensures sequence { IfOk result (λ done. IsSequence size sequence.now) }
+    ensures in_range { IfOk result (λ done. job < size) }
+    ensures absent { IfOk result (λ done. Contains sequence.now job → ⊥) }
+{
+    if size <= FEW_JOBS && is_insertion(size, sequence, job) {
+        return Ok(());
+    }
+    validate_jobs(size, sequence)?;
+    validate_job(size, sequence, job)
+}
+
+// Whether the job and the jobs of the sequence are distinct and below the size, which is at most `FEW_JOBS`.
+fn is_insertion(size: usize, sequence: &[u32], job: u32) -> bool
+    requires { size ≤ FEW_JOBS }
+    ensures { IsTrue result ↔ IsSequence size (job ∷ sequence.now) }
+{
+    let mut marks = [false; FEW_JOBS];
+    (job as usize) < size && is_sequence(size, sequence, &mut marks) && !marks[job as usize]
+}
+
+// Whether the jobs are distinct and below the size, which is at most `FEW_JOBS`. If so, they are marked. No job is
+// marked before.
+fn is_sequence(size: usize, jobs: &[u32], marks: &mut [bool; FEW_JOBS]) -> bool
+    requires few { size ≤ FEW_JOBS }
+    requires none { All (λ mark. mark ≡ false) marks.old }
+    ensures sequence { IsTrue result ↔ IsSequence size jobs.now }
+    ensures marked { IsTrue result → (job : ℕ) → IsTrue (slice_index_or marks.new job false) ↔ Contains jobs.now job }
+{
+    are_below(size as u32, jobs) && are_distinct(jobs, marks)
+}
+
+// Whether each job is below the size. All are compared, since a loop that may end early is not vectorized.
+#[tactic(auto, using(crate::proofs::Marks::small_more, crate::proofs::Marks::small_all))]
+fn are_below(size: u32, jobs: &[u32]) -> bool
+    ensures { IsTrue result ↔ All (λ job. job < size) jobs.now }
+{
+    let mut is_below = true;
+    for job in jobs {
+        is_below &= *job < size;
+    }
+    is_below
+}
+
+// Whether the jobs are distinct. They are marked; no job is marked before. A repeated job does not end the loop, so each
+// job is marked without a branch.
+#[tactic(auto, using(crate::proofs::Marks::one_mark))]
+fn are_distinct(jobs: &[u32], marks: &mut [bool; FEW_JOBS]) -> bool
+    requires small { All (λ job. job < FEW_JOBS) jobs.now }
+    requires none { All (λ mark. mark ≡ false) marks.old }
+    ensures distinct { IsTrue result ↔ IsDistinct nat_eq jobs.now }
+    ensures marked { (job : ℕ) → IsTrue (slice_index_or marks.new job false) ↔ Contains jobs.now job }
+{
+    let mut is_repeated = false;
+    for job in jobs {
+        is_repeated |= marks[*job as usize];
+        marks[*job as usize] = true;
+    }
+    !is_repeated
+}
+
+// Validates a job to insert into a sequence. Returns `Job` if it is not below the size, else `Repeated` if it is in
+// the sequence already. The time is linear in the length of the sequence.
+fn validate_job(size: usize, sequence: &[u32], job: u32) -> Result<(), CallFault>
     ensures validated { Validates result (job_fault size sequence.now job) }
     ensures in_range { IfOk result (λ done. job < size) }
     ensures absent { IfOk result (λ done. Contains sequence.now job → ⊥) }

@@ -9,7 +9,7 @@ ghost use Rattle.pfs_c.specs.Numbers.{Returns};
 ghost use Rattle.pfs_c.specs.Private.Outcomes.{Validates};
 ghost use Rattle.pfs_c.specs.Private.Rows.{TailsFrom};
 
-use crate::given::{validate_job, validate_jobs, validate_length, validate_sizes, validate_times};
+use crate::given::{validate_insertion, validate_length, validate_sizes, validate_times};
 use crate::numbers::{CallFault, PFS_OK};
 use crate::rows::{add_head, add_tail, span_with};
 use pfs_base::MOST_MACHINES;
@@ -70,8 +70,7 @@ fn validate_insertions(
     validate_length(times.len(), jobs * machines)?;
     validate_length(room, sequence.len() + 1)?;
     validate_times(times)?;
-    validate_jobs(jobs, sequence)?;
-    validate_job(jobs, sequence, job)
+    validate_insertion(jobs, sequence, job)
 }
 
 /// Returns the tails of a sequence, a row for each place, with a row of zeros after them. It allocates once, and

@@ -12,8 +12,8 @@ ghost use Rattle.pfs_c.specs.Private.Outcomes.{Validates, Rejects};
 ghost use Rattle.pfs_c.specs.Tables.{EndAfterTimes, table_entry};
 
 use crate::given::{
-    NO_NOTES, instance_of, order_of, sequence_of, validate_job, validate_jobs, validate_length,
-    validate_shop, validate_sizes, validate_times,
+    NO_NOTES, instance_of, order_of, sequence_of, validate_insertion, validate_jobs,
+    validate_length, validate_shop, validate_sizes, validate_times,
 };
 use crate::inserting::{best_on_times, best_place};
 use crate::numbers::{CallFault, PFS_OK};
@@ -216,8 +216,7 @@ fn best_of(
         IsBestPlace (shop_of times.now jobs machines) sequence.now job best.place best.span) }
 {
     validate_shop(times, jobs, machines)?;
-    validate_jobs(jobs, sequence)?;
-    validate_job(jobs, sequence, job)?;
+    validate_insertion(jobs, sequence, job)?;
     if jobs * machines <= FEW_TIMES {
         return best_on_times(alloc, times, jobs, machines, sequence, job as usize);
     }
