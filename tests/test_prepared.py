@@ -10,7 +10,7 @@ from support.program import Program, Ran
 
 CALLS = SUPPORT / "prepared_calls.c"
 # Instances, the calls on each of them, and the threads.
-INSTANCES = 500
+INSTANCES = 2_000
 STEPS = 40
 THREADS = 4
 # Valgrind makes a program about 30 times slower.
@@ -43,7 +43,7 @@ def test_threads_with_a_handle_each_have_the_same_results(prepared_calls: Progra
 def test_the_sanitizers_find_nothing_in_prepared_calls(libpfs: Library, folder: pathlib.Path) -> None:
     checks = ["-fsanitize=address,undefined", "-fno-sanitize-recover=all"]
     program = compiled(folder / "calls", [CALLS], libpfs, *checks, is_static=True)
-    assert program.run([str(INSTANCES), "2"], folder) == all_the_same(INSTANCES)
+    assert program.run([str(INSTANCES // 4), "2"], folder) == all_the_same(INSTANCES // 4)
 
 
 def test_valgrind_finds_nothing_in_prepared_calls(prepared_calls: Program, folder: pathlib.Path) -> None:
