@@ -63,7 +63,7 @@ static int make_round(struct pfs_prepared *prepared, size_t jobs, uint64_t round
     return PFS_OK;
 }
 
-/* Improves the order in these rounds, and its makespan. Whatever fails, the handle is released. */
+/* Improves the order in these rounds, and its makespan. If a call fails, the handle is released too. */
 static int search(size_t jobs, size_t machines, uint64_t rounds, uint64_t seed, uint64_t *makespan) {
     struct pfs_prepared prepared = {NULL};
     int number = pfs_prepare(times, jobs * machines, jobs, machines, &prepared);

@@ -164,7 +164,7 @@ def test_an_own_search(built: pathlib.Path, pfs: Program, folder: pathlib.Path, 
 
 
 def test_an_own_search_reports_failed_allocations(built: pathlib.Path, shop: pathlib.Path) -> None:
-    """Whichever fails. Without memory for a buffer, the C library reads and writes files without one."""
+    """Each in turn. Without memory for a buffer, the C library reads and writes files without one."""
     shim, program, words = Shim(shop), Program(built / "own_search"), ["shop", "3", "7"]
     right = program.run(words, shop)
     failed = set[bytes]()

@@ -2,7 +2,7 @@
  * after faults. All instances are prepared in the same handle, most of them while it holds the one before.
  *
  * usage: prepared_calls COUNT SEED     COUNT instances; prints the number of calls
- *        prepared_calls threads COUNT  the same in four threads at once, each with a handle of its own */
+ *        prepared_calls threads COUNT  the same in four threads at once, with a handle for each */
 #define _POSIX_C_SOURCE 200809L
 #include <inttypes.h>
 #include <pthread.h>
