@@ -7,10 +7,11 @@
  *        library makespans COUNT FILE FORM  computes the makespans of the same 1,000 orders COUNT times, by `one` call
  *                                           of pfs_makespans or by `many` calls of pfs_makespan; prints their sum
  *        library own ROUNDS FILE FORM       NEH and ROUNDS rounds with seed 1, made of other functions. Each round
- *                                           inserts its jobs by calls of pfs_insert (`insert`) or by one of
- *                                           pfs_construct (`construct`); with `local` a call of pfs_local_search
- *                                           follows. The forms `rounds` and `passes` make the same rounds by one call
- *                                           of pfs_rounds. Prints the makespan and a sum of the order */
+ *                                           inserts its jobs by calls of pfs_insert (`insert`), by calls of
+ *                                           pfs_insert_prepared (`prepared`) or by one call of pfs_construct
+ *                                           (`construct`); with `local` a call of pfs_local_search follows. The forms
+ *                                           `rounds` and `passes` make the same rounds by one call of pfs_rounds.
+ *                                           Prints the makespan and a sum of the order */
 #include <inttypes.h>
 #include <stdio.h>
 #include <stdlib.h>
@@ -105,14 +106,23 @@ static void makespans(uint64_t count, int in_one_call) {
 
 enum { TAKE = 4 };
 
+/* Holds the instance in the form `prepared`, otherwise nothing. */
+static struct pfs_prepared prepared = {NULL};
+
+static int insert_one(const uint32_t *sequence, size_t length, uint32_t job, size_t *place, uint64_t *makespan) {
+    if (prepared.at != NULL)
+        return pfs_insert_prepared(&prepared, sequence, length, job, place, makespan);
+    return pfs_insert(times, jobs * machines, jobs, machines, sequence, length, job, place, makespan);
+}
+
 /* Inserts the removed jobs into the sequence, and returns the makespan. */
 static uint64_t reinsert(const char *form, uint32_t *sequence, size_t length, const uint32_t *removed, size_t take) {
     static uint32_t found[PFS_MOST_JOBS], all[PFS_MOST_JOBS];
     uint64_t makespan = 0;
     size_t place, size = jobs * machines;
-    if (strcmp(form, "insert") == 0) {
+    if (strcmp(form, "insert") == 0 || strcmp(form, "prepared") == 0) {
         for (size_t index = 0; index < take; ++index, ++length) {
-            check(pfs_insert(times, size, jobs, machines, sequence, length, removed[index], &place, &makespan));
+            check(insert_one(sequence, length, removed[index], &place, &makespan));
             memmove(sequence + place + 1, sequence + place, (length - place) * sizeof *sequence);
             sequence[place] = removed[index];
         }
@@ -155,11 +165,14 @@ static void own(const char *form, uint32_t rounds) {
     uint64_t makespan, cells, sum = 0;
     uint32_t passes = strcmp(form, "passes") == 0;
     check(pfs_neh(times, jobs * machines, jobs, machines, order, jobs, &makespan, &cells));
+    if (strcmp(form, "prepared") == 0)
+        check(pfs_prepare(times, jobs * machines, jobs, machines, &prepared));
     if (passes || strcmp(form, "rounds") == 0)
         check(pfs_rounds(times, jobs * machines, jobs, machines, order, jobs, 0, rounds, jobs < TAKE ? jobs : TAKE,
                          passes, 1, &makespan, &cells));
     else
         makespan = own_rounds(form, rounds, makespan);
+    pfs_release(&prepared);
     for (size_t place = 0; place < jobs; ++place)
         sum = sum * 31 + order[place];
     printf("makespan %" PRIu64 ", order %" PRIu64 "\n", makespan, sum);

@@ -11,19 +11,22 @@
  *
  * Each function validates its arguments, and returns PFS_OK or the number of a fault. Of several faults it returns the
  * one that its description lists first. Validation allocates nothing and writes nothing. If a function does not return
- * PFS_OK, every output is unchanged, except the sizes that it sets with PFS_ROOM and the place of a file's fault.
+ * PFS_OK, every output is unchanged, except the sizes that it sets with PFS_ROOM and the place of a file's fault. Only
+ * pfs_release returns nothing, as it cannot fail.
  *
  * A pointer may be NULL only if the length that belongs to it is 0, as that of an empty std::vector is. No output may
- * overlap another argument, and no list may change during a call. Nothing is kept between calls: any number of threads
- * may call the library at once, also on the same lists. Memory comes from malloc and is freed before the call returns;
- * if an allocation fails, the function returns PFS_MEMORY. No function may be called from a signal handler.
+ * overlap another argument, and no list may change during a call. Nothing is kept between calls, except for what a
+ * handle holds (struct pfs_prepared). Any number of threads may call the library at once, also on the same lists, but
+ * only one at a time with the same handle. Memory comes from malloc and is freed before the call returns, except for
+ * that of a handle; if an allocation fails, the function returns PFS_MEMORY. No function may be called from a signal
+ * handler.
  *
- * Versions of libpfs.so.0 stay compatible: functions, numbers and struct pfs_notes keep their meaning and their layout.
- * Later versions may add functions and numbers. A program that needs an added one compares PFS_VERSION_NUMBER.
+ * Versions of libpfs.so.0 stay compatible: functions, numbers and structs keep their meaning and their layout. Later
+ * versions may add functions and numbers. A program that needs an added one compares PFS_VERSION_NUMBER.
  *
  * For every input, what each function does with its arguments is proved, except for pfs_version and pfs_message: the
  * number that it returns, and what it writes. That the declarations below agree with the proved functions (the order
- * and types of the parameters, the fields of pfs_notes, the numbers of the macros) is tested.
+ * and types of the parameters, the fields of the structs, the numbers of the macros) is tested.
  */
 #ifndef PFS_H
 #define PFS_H
@@ -72,21 +75,22 @@ extern "C" {
 /** @name Numbers that functions return.
  * @{
  */
-#define PFS_OK 0        /**< the call succeeded */
-#define PFS_MEMORY 1    /**< an allocation failed */
-#define PFS_SIZE 2      /**< not 1 to PFS_MOST_JOBS jobs, or not 1 to PFS_MOST_MACHINES machines */
-#define PFS_LENGTH 3    /**< a list does not have the length that the sizes require */
-#define PFS_TIME 4      /**< a time is greater than PFS_LONGEST_TIME */
-#define PFS_JOB 5       /**< a job is not below the number of jobs, or a job of a list is not in the sequence */
-#define PFS_REPEATED 6  /**< a job occurs twice, or the job to insert is in the sequence already */
-#define PFS_TAKE 7      /**< the destruction size is not 1 to the number of jobs */
-#define PFS_PASSES 8    /**< more than PFS_MOST_PASSES passes */
-#define PFS_ROUNDS 9    /**< first + count is greater than PFS_MOST_ROUNDS */
-#define PFS_SEED 10     /**< the seed is not 1 to 2147483646, the seeds of Taillard's generator */
-#define PFS_LAYOUT 11   /**< neither PFS_TAILLARD nor PFS_ORLIB */
-#define PFS_BLOCK 12    /**< the number of the block is not 1 to PFS_MOST_BLOCKS */
-#define PFS_MAKESPAN 13 /**< the makespan is greater than PFS_MOST_MAKESPAN */
-#define PFS_ROOM 14     /**< too little room for the result; the outputs say how much it needs */
+#define PFS_OK 0            /**< the call succeeded */
+#define PFS_MEMORY 1        /**< an allocation failed */
+#define PFS_SIZE 2          /**< not 1 to PFS_MOST_JOBS jobs, or not 1 to PFS_MOST_MACHINES machines */
+#define PFS_LENGTH 3        /**< a list does not have the length that the sizes require */
+#define PFS_TIME 4          /**< a time is greater than PFS_LONGEST_TIME */
+#define PFS_JOB 5           /**< a job is not below the number of jobs, or a job of a list is not in the sequence */
+#define PFS_REPEATED 6      /**< a job occurs twice, or the job to insert is in the sequence already */
+#define PFS_TAKE 7          /**< the destruction size is not 1 to the number of jobs */
+#define PFS_PASSES 8        /**< more than PFS_MOST_PASSES passes */
+#define PFS_ROUNDS 9        /**< first + count is greater than PFS_MOST_ROUNDS */
+#define PFS_SEED 10         /**< the seed is not 1 to 2147483646, the seeds of Taillard's generator */
+#define PFS_LAYOUT 11       /**< neither PFS_TAILLARD nor PFS_ORLIB */
+#define PFS_BLOCK 12        /**< the number of the block is not 1 to PFS_MOST_BLOCKS */
+#define PFS_MAKESPAN 13     /**< the makespan is greater than PFS_MOST_MAKESPAN */
+#define PFS_ROOM 14         /**< too little room for the result; the outputs say how much it needs */
+#define PFS_NOT_PREPARED 15 /**< the handle holds no prepared instance */
 /** @} */
 
 /** @name Faults of instance files, and what place is then.
@@ -274,6 +278,59 @@ int pfs_rounds(const uint32_t *times, size_t times_length, size_t jobs, size_t m
  */
 int pfs_insert(const uint32_t *times, size_t times_length, size_t jobs, size_t machines, const uint32_t *sequence,
                size_t sequence_length, uint32_t job, size_t *place, uint64_t *makespan) PFS_CHECKED;
+
+/** @brief A handle, which holds a prepared instance or none.
+ *
+ * A new handle holds none: struct pfs_prepared prepared = {NULL}. A handle whose bytes are all 0 holds none either.
+ * After that, only the three functions below may change it. A handle may be moved in memory; of a handle and its copy,
+ * only one may be used.
+ */
+struct pfs_prepared {
+    void *at; /**< what the handle holds, or NULL if it holds no instance */
+};
+
+/** @brief Prepares an instance for many insertions.
+ *
+ * The handle holds a copy of the times, and the tables of an insertion. So pfs_insert_prepared neither validates nor
+ * copies the times, and the caller's list may change after this call. If the handle held another instance, the function
+ * releases that one, unless it fails. Release every prepared instance by pfs_release.
+ *
+ * @param[in] times processing times, job by job
+ * @param[in] times_length number of times, which is jobs * machines
+ * @param[in] jobs number of jobs
+ * @param[in] machines number of machines
+ * @param[in,out] prepared a handle; unless the function returns PFS_OK, it holds what it held before
+ * @return PFS_OK, or the first of PFS_SIZE (jobs, machines), PFS_LENGTH (times_length), PFS_TIME (times), PFS_MEMORY
+ */
+int pfs_prepare(const uint32_t *times, size_t times_length, size_t jobs, size_t machines,
+                struct pfs_prepared *prepared) PFS_CHECKED;
+
+/** @brief Finds the best place of a job in a sequence of other jobs of a prepared instance.
+ *
+ * The place and the makespan are those of pfs_insert. The handle holds the same instance after every call, also after
+ * one that reports a fault. Calls do not depend on one another, but a call is faster if its sequence differs only in a
+ * few places from the one before. Where a wavefront serves the instance (docs/SEARCH.md), the function allocates
+ * nothing.
+ *
+ * @param[in,out] prepared a handle that holds an instance
+ * @param[in] sequence distinct jobs, without the job to insert
+ * @param[in] sequence_length number of jobs in the sequence
+ * @param[in] job the job to insert
+ * @param[out] place the best place, from 0 to sequence_length
+ * @param[out] makespan makespan with the job at this place
+ * @return PFS_OK, or the first of PFS_NOT_PREPARED (prepared), PFS_JOB or PFS_REPEATED (the jobs of the sequence from
+ *     the left), PFS_JOB or PFS_REPEATED (job), PFS_MEMORY
+ */
+int pfs_insert_prepared(struct pfs_prepared *prepared, const uint32_t *sequence, size_t sequence_length, uint32_t job,
+                        size_t *place, uint64_t *makespan) PFS_CHECKED;
+
+/** @brief Releases a prepared instance.
+ *
+ * Its memory is freed, and the handle holds no instance. If it held none, nothing happens.
+ *
+ * @param[in,out] prepared a handle
+ */
+void pfs_release(struct pfs_prepared *prepared);
 
 /** @brief Computes the makespan with a job at each place of a sequence of other jobs.
  *

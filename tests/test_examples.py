@@ -10,6 +10,7 @@ import subprocess
 
 import pytest
 from support import second_program
+from support.growths import Shim
 from support.library import HEADER, Library, compile_quietly
 from support.needs import tool
 from support.program import Program
@@ -19,7 +20,7 @@ from support.tools import Done, require_debian_module, output_of, run_tool, with
 EXAMPLES = HEADER.parent.parent / "examples"
 README = HEADER.parent.parent / "README.md"
 PAGE = (EXAMPLES / "README.md").read_text()
-SOURCES = [EXAMPLES / name for name in ("audit_orders.c", "gaps.cpp", "neh_ties.c", "timed_search.c")]
+SOURCES = [EXAMPLES / name for name in ("audit_orders.c", "gaps.cpp", "neh_ties.c", "own_search.c", "timed_search.c")]
 VERSION = (HEADER.parent.parent / "VERSION").read_text().strip()
 STRICT = {"cc": "-std=c99", "c++": "-std=c++17"}
 SEED = 873654221
@@ -80,7 +81,7 @@ def run_page(built: pathlib.Path, pfs: Program, folder: pathlib.Path) -> None:
     for path in (*(built / source.stem for source in SOURCES), pfs.path):
         (folder / path.name).symlink_to(path)
     shown = re.findall(r"^\$ (.*)\n((?:(?!\$|```).*\n)*)", PAGE, re.MULTILINE)
-    assert len(shown) == 6
+    assert len(shown) == 7
     for line, text in shown:
         printed = output_of(["sh", "-c", f"{{ {line}; }} 2>&1 || [ $? = 1 ]"], folder, env=with_path(folder))
         assert printed == text, line
@@ -151,17 +152,52 @@ def test_a_search_rejects_other_states(built: pathlib.Path, shop: pathlib.Path, 
     assert (shop / "state").read_bytes() == state and not (shop / "state.new").exists()
 
 
+@pytest.mark.parametrize(("jobs", "machines", "rounds", "seed"), [
+    (20, 5, 300, 7), (50, 10, 20, 2**64 - 1), (9, 30, 40, 1), (4, 3, 9, 5), (3, 2, 9, 0), (1, 1, 2, 3), (20, 5, 0, 1)])
+def test_an_own_search(built: pathlib.Path, pfs: Program, folder: pathlib.Path, jobs: int, machines: int, rounds: int,
+                       seed: int) -> None:
+    """It finds what the program finds, by insertions into a prepared instance."""
+    (folder / "shop").write_bytes(second_program.canonical(second_program.generated(jobs, machines, SEED), b"taillard"))
+    found = run(built, "own_search", "shop", str(rounds), str(seed), cwd=folder)
+    whole = pfs.run(f"solve --layout taillard --rounds {rounds} --seed {seed} shop", folder).stdout.decode()
+    assert found == Done(0, whole, f"{rounds} rounds, makespan {whole.split()[-1]}\n")
+
+
+def test_an_own_search_reports_failed_allocations(built: pathlib.Path, shop: pathlib.Path) -> None:
+    """Each in turn. Without memory for a buffer, the C library reads and writes files without one."""
+    shim, program, words = Shim(shop), Program(built / "own_search"), ["shop", "3", "7"]
+    right = program.run(words, shop)
+    failed = set[bytes]()
+    growth, is_refused = 0, True
+    while is_refused:
+        growth += 1
+        ran, is_refused = shim.run_refused(program, words, shop, b"", growth)
+        if ran != right:
+            assert (ran.stdout, ran.status) == (b"", 4 if b"cannot open" in ran.stderr else 2), f"allocation {growth}"
+            failed.add(ran.stderr)
+    assert right.status == 0 and b"own_search: search: memory allocation failed\n" in failed
+    assert all(re.fullmatch(rb"own_search: (shop: cannot open|\w+: memory allocation failed)\n", line)
+               for line in failed), failed
+
+
+def test_an_own_search_rejects_other_files(built: pathlib.Path, shop: pathlib.Path) -> None:
+    (shop / "empty").write_bytes(b"")
+    got = run(built, "own_search", "empty", "3", "7", cwd=shop)
+    assert got == Done(2, "", "own_search: empty: the file ends before the block\n")
+
+
 def test_files_that_cannot_be_opened_or_written(built: pathlib.Path, shop: pathlib.Path) -> None:
     got = run(built, "timed_search", "none", "state", "7", "0", cwd=shop)
     assert got == Done(4, "", "timed_search: none: cannot open\n")
     got = run(built, "timed_search", "shop", "none/state", "7", "0", cwd=shop)
     assert got == Done(4, "", "timed_search: none/state.new: cannot open\n")
+    assert run(built, "own_search", "none", "1", "1", cwd=shop) == Done(4, "", "own_search: none: cannot open\n")
     assert run(built, "audit_orders", "none", "x", cwd=shop) == Done(4, "", "audit_orders: none: cannot open\n")
     assert run(built, "audit_orders", "shop", "none", cwd=shop) == Done(4, "", "audit_orders: none: cannot open\n")
 
 
 @pytest.mark.parametrize("words", [["timed_search", "shop", "state", "7", "0"], ["neh_ties", "5", "2", "1"],
-                                   ["audit_orders", "shop", "shop"]])
+                                   ["own_search", "shop", "3", "7"], ["audit_orders", "shop", "shop"]])
 def test_a_full_device_is_reported(built: pathlib.Path, shop: pathlib.Path, words: list[str]) -> None:
     with open("/dev/full", "wb") as full:
         done = subprocess.run([built / words[0], *words[1:]], cwd=shop, stdout=full, stderr=subprocess.PIPE, text=True)

@@ -23,14 +23,16 @@ CALLS = SUPPORT / "library_calls.c"
 # Each function that is proved, and whether a call of it allocates memory.
 FUNCTIONS = {
     "makespan": True, "makespans": False, "bound": False, "table": True, "neh": True, "rounds": True, "insert": True,
-    "insertions": True, "heads_tails": False, "construct": True, "local_search": True, "random": False,
-    "generate": False, "read": False, "write": False, "read_order": False, "write_order": False,
+    "prepare": True, "insert_prepared": True, "release": False, "insertions": True, "heads_tails": False,
+    "construct": True, "local_search": True, "random": False, "generate": False, "read": False, "write": False,
+    "read_order": False, "write_order": False,
 }
 # Calls on a larger instance, which use other tables.
-LARGE = ["insert_lanes", "insert_rows", "construct_lanes", "local_search_lanes"]
+LARGE = ["insert_lanes", "insert_rows", "prepare_lanes", "prepare_rows", "prepare_again", "construct_lanes",
+         "local_search_lanes"]
 TEXTS = {"pfs_message", "pfs_version"}
 NAMES = {f"pfs_{name}" for name in FUNCTIONS} | TEXTS
-ALL_CALLS = Ran(b"325 calls, 0 failures\n", b"", 0)
+ALL_CALLS = Ran(b"380 calls, 0 failures\n", b"", 0)
 LONG_CALLS = Ran(b"4 calls, 0 failures\n", b"", 0)
 # The number of the first allocation of a call, after those of the calling program. No call makes more than
 # MOST_GROWTHS.
@@ -78,25 +80,26 @@ def test_the_numbers_are_those_of_the_crate(top: pathlib.Path) -> None:
     answered = {name: value for name, value in defined().items()
                 if not re.match("PFS_(MOST|LONGEST)_|PFS_(TAILLARD|ORLIB|VERSION_NUMBER)$", name)}
     assert answered == numbers
-    assert sorted(answered.values()) == [*range(15), *range(20, 29), *range(30, 34)]
+    assert sorted(answered.values()) == [*range(16), *range(20, 29), *range(30, 34)]
 
 
 def test_the_header_names_the_parameters_as_the_functions_do(top: pathlib.Path) -> None:
-    """In the same order, since two of them may have the same type. A slice is a pointer and a length in C."""
+    """In the same order, since two of them may have the same type. A slice is a pointer and a length in C. Each returns
+    a number, or nothing."""
     source = "\n".join(path.read_text() for path in sorted((top / "crates" / "pfs_c" / "src").rglob("*.rt")))
     others = {"span": "makespan", "least": "bound", "len": "length"}
     header = re.sub(r"/\*.*?\*/", "", HEADER.read_text(), flags=re.DOTALL)
-    declared = dict(re.findall(r"^int (pfs_\w+)\(([^)]*)\) PFS_CHECKED;", header, re.MULTILINE))
-    assert declared.keys() == NAMES - TEXTS
-    for name, parameters in declared.items():
+    declared = re.findall(r"^(int|void) (pfs_\w+)\(([^)]*)\)( PFS_CHECKED)?;", header, re.MULTILINE)
+    assert {name for _, name, *_ in declared} == NAMES - TEXTS
+    for kind, name, parameters, checked in declared:
         got = [re.findall(r"\w+", each)[-1] for each in parameters.split(",")]
-        proved = re.search(rf'^pub extern "C" fn {name}\(([^)]*)\) -> i32', source, re.MULTILINE)
-        assert proved, name
+        proved = re.search(rf'^pub extern "C" fn {name}\(([^)]*)\)( -> i32)?$', source, re.MULTILINE)
+        assert proved and (kind, checked) == (("int", " PFS_CHECKED") if proved[2] else ("void", "")), name
         due = []
-        for parameter, kind in re.findall(r"(\w+): ([^,]*)", proved[1]):
+        for parameter, type_name in re.findall(r"(\w+): ([^,]*)", proved[1]):
             if parameter != "alloc":
                 due.append(others.get(parameter, parameter))
-            if "[" in kind:
+            if "[" in type_name:
                 due.append("room" if got[len(due):len(due) + 1] == ["room"] else f"{due[-1]}_length")
         assert got == due, f"the parameters of {name}"
 
@@ -120,7 +123,7 @@ def test_a_compiler_warns_if_a_program_ignores_the_number(folder: pathlib.Path, 
 MEANT = {
     0: "done", 1: "memory", 2: "number of jobs or of machines", 3: "list", 4: "^a time is greater",
     5: "^a job isn't below", 6: "^a job occurs twice", 7: "destruction size", 8: "passes", 9: "rounds", 10: "seed",
-    11: "layout", 12: "block isn't from 1", 13: "makespan", 14: "room", 20: "ends before the block",
+    11: "layout", 12: "block isn't from 1", 13: "makespan", 14: "room", 15: "handle", 20: "ends before the block",
     21: "too few or too many", 22: "number of a size line is out", 23: "and a word", 24: "time of the file is greater",
     25: "machine number", 26: "follows the last time", 27: "ends inside a block", 28: "doesn't end within",
     30: "not an order file", 31: "0 or greater than the number of jobs", 32: "job of the order file occurs twice",
@@ -159,9 +162,9 @@ COMMENTS = {
     1: "allocation failed", 2: "PFS_MOST_JOBS.*PFS_MOST_MACHINES", 3: "a list.*length", 4: "a time.*PFS_LONGEST_TIME$",
     5: "a job is not below", 6: "a job occurs twice", 7: "destruction size", 8: "PFS_MOST_PASSES", 9: "PFS_MOST_ROUNDS",
     10: "2147483646", 11: "PFS_TAILLARD nor PFS_ORLIB", 12: "PFS_MOST_BLOCKS", 13: "PFS_MOST_MAKESPAN", 14: "room",
-    20: "before the block", 21: "too few or too many", 22: "out of range", 23: "a word", 24: "PFS_LONGEST_TIME;",
-    25: "machine number", 26: "last time", 27: "inside a block", 28: "PFS_LONGEST_INPUT", 30: "not an order file",
-    31: "0 or greater", 32: "at an earlier place", 33: "PFS_LONGEST_ORDER_FILE"}
+    15: "handle holds no", 20: "before the block", 21: "too few or too many", 22: "out of range", 23: "a word",
+    24: "PFS_LONGEST_TIME;", 25: "machine number", 26: "last time", 27: "inside a block", 28: "PFS_LONGEST_INPUT",
+    30: "not an order file", 31: "0 or greater", 32: "at an earlier place", 33: "PFS_LONGEST_ORDER_FILE"}
 
 
 def test_the_header_explains_each_number() -> None:
@@ -180,7 +183,7 @@ MANUAL = HEADER.parent.parent / "share" / "pfs.3"
 def test_the_manual_page_declares_what_the_header_does() -> None:
     code = re.sub(r"/\*.*?\*/", "", HEADER.read_text(), flags=re.DOTALL)
     declared = {name: re.sub(r"\s+", " ", parameters).split(", ") for name, parameters
-                in re.findall(r"^(?:int|const char \*)\s*(pfs_\w+)\(([^)]*)\)", code, re.MULTILINE)}
+                in re.findall(r"^(?:int|void|const char \*)\s*(pfs_\w+)\(([^)]*)\)", code, re.MULTILINE)}
     got = {name: re.findall(r'^\.Fa "(.*)"$', parameters, re.MULTILINE) for name, parameters
             in re.findall(r"^\.Fo (\w+)\n(.*?)^\.Fc$", MANUAL.read_text(), re.MULTILINE | re.DOTALL)}
     assert got == declared and got.keys() == NAMES
@@ -210,7 +213,7 @@ def test_the_library_exports_only_the_names_of_the_header(libpfs: Library) -> No
         lines = [line.split() for line in printed.splitlines() if not line.endswith(":")]
         names = {name for name, kind, *_ in lines if kind != "A"}
         assert names == ({f"{name}@@PFS_0" for name in NAMES} if path == libpfs.path else NAMES), path
-    header = set(re.findall(r"^(?:int|const char \*)\s*(pfs_\w+)\(", HEADER.read_text(), re.MULTILINE))
+    header = set(re.findall(r"^(?:int|void|const char \*)\s*(pfs_\w+)\(", HEADER.read_text(), re.MULTILINE))
     assert header == NAMES
 
 

@@ -88,13 +88,20 @@ def test_the_library_that_the_variable_names_goes_before_the_packages(monkeypatc
     assert _library.path_of_library() == "/elsewhere/libpfs.so.0", "the package's library goes before the named one"
 
 
+# The functions over a handle. The package has none: threads may call the methods of one instance at once, but only one
+# thread at a time may use a handle.
+OVER_HANDLES = {"pfs_prepare", "pfs_insert_prepared", "pfs_release"}
+
+
 def test_the_functions_are_called_as_the_header_declares_them() -> None:
     """Each parameter by its type in C, in which a list is a pointer and a length."""
     types = {"size_t": "c_ulong", "uint32_t": "c_uint", "uint64_t": "c_ulong", "int": "c_int"}
     header = re.sub(r"/\*.*?\*/", "", (TOP / "lib" / "pfs.h").read_text(), flags=re.DOTALL)
-    declared = dict(re.findall(r"^int (pfs_\w+)\((.*?)\)(?: PFS_CHECKED)?;", header, re.MULTILINE | re.DOTALL))
-    assert declared.keys() == _library.PROTOTYPES.keys()
-    for name, parameters in declared.items():
+    declared = dict(re.findall(r"^(?:int|void) (pfs_\w+)\((.*?)\)(?: PFS_CHECKED)?;", header,
+                               re.MULTILINE | re.DOTALL))
+    assert declared.keys() == _library.PROTOTYPES.keys() | OVER_HANDLES
+    for name in _library.PROTOTYPES:
+        parameters = declared[name]
         due = ["c_void_p" if "*" in each else types[each.split()[-2]] for each in parameters.split(",")]
         assert [kind.__name__ for kind in _library.PROTOTYPES[name]] == due, f"the types of {name}"
         assert [kind.__name__ for kind in getattr(_library.library, name).argtypes] == due

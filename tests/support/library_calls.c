@@ -28,6 +28,13 @@ struct outputs {
     uint8_t text[200];
 };
 
+/* A handle between numbers that no call may write. */
+static struct {
+    uint64_t before;
+    struct pfs_prepared handle;
+    uint64_t after;
+} held = {PATTERN, {NULL}, PATTERN};
+
 static struct outputs out, due;
 static int calls, failures;
 static int seen[64];
@@ -42,6 +49,10 @@ static void check(int line, int number, int returned) {
     ++calls;
     if (returned >= 0 && returned < (int)COUNT(seen))
         seen[returned] = 1;
+    if (held.before != PATTERN || held.after != PATTERN) {
+        ++failures;
+        printf("line %d: something beside the handle was written\n", line);
+    }
     if (returned != number || memcmp(&out, &due, sizeof out) != 0) {
         ++failures;
         printf("line %d: %d is due, returned %d, outputs %s\n", line, number, returned,
@@ -102,6 +113,13 @@ static int rounds_on(const uint32_t *shop, size_t length, size_t jobs, size_t ma
 
 static int insert_on(const uint32_t *shop, size_t length, size_t jobs, size_t machines) {
     return pfs_insert(shop, length, jobs, machines, OUTSIDE, 3, 9, &out.place, &out.makespan);
+}
+
+/* Returns -1 if the handle was changed. */
+static int prepare_on(const uint32_t *shop, size_t length, size_t jobs, size_t machines) {
+    void *before = held.handle.at;
+    int returned = pfs_prepare(shop, length, jobs, machines, &held.handle);
+    return held.handle.at == before ? returned : -1;
 }
 
 static int insertions_on(const uint32_t *shop, size_t length, size_t jobs, size_t machines) {
@@ -270,6 +288,63 @@ static void rounds(void) {
     CALL(PFS_OK, right_rounds(NUMBERED, 0, 1, 1, 1, BEST, 10, 20 + 60));
     CALL(PFS_OK, right_rounds(NUMBERED, 0, 1, 2, 0, BEST, 10, 32));
     CALL(PFS_OK, right_rounds(BEST, PFS_MOST_ROUNDS - 1, 1, 3, 100, BEST, 10, 36 + 100 * 60));
+}
+
+static int insert_prepared(const uint32_t *sequence, size_t length, uint32_t job) {
+    return pfs_insert_prepared(&held.handle, sequence, length, job, &out.place, &out.makespan);
+}
+
+/* Releases what the handle holds. After that it holds nothing. */
+static void release(int line) {
+    pfs_release(&held.handle);
+    check(line, 0, held.handle.at != NULL);
+}
+
+#define RELEASE() release(__LINE__)
+
+static void due_place(size_t place, uint64_t makespan) {
+    due.place = place;
+    due.makespan = makespan;
+}
+
+/* The handle holds the instance of three jobs on two machines. After each wrong call it still holds it. */
+static void prepared_insertions(void) {
+    due_place(2, 10);
+    CALL(PFS_OK, insert_prepared(BEST, 2, 2));
+    CALL(PFS_JOB, insert_prepared(OUTSIDE, 3, 9));
+    CALL(PFS_JOB, insert_prepared((uint32_t[]){0, 3, 0}, 3, 9));
+    CALL(PFS_REPEATED, insert_prepared(TWICE, 3, 9));
+    CALL(PFS_REPEATED, insert_prepared((uint32_t[]){0, 1, 2, 0}, 4, 9));
+    CALL(PFS_JOB, insert_prepared(BEST, 2, 3));
+    CALL(PFS_JOB, insert_prepared(BEST, 3, UINT32_MAX));
+    CALL(PFS_REPEATED, insert_prepared(BEST, 2, 0));
+    CALL(PFS_REPEATED, insert_prepared(BEST, 3, 2));
+    due_place(2, 10);
+    CALL(PFS_OK, insert_prepared(BEST, 2, 2));
+    due_place(0, 10);
+    CALL(PFS_OK, insert_prepared((uint32_t[]){0, 2}, 2, 1));
+    due_place(0, 5);
+    CALL(PFS_OK, insert_prepared(NULL, 0, 0));
+}
+
+static void preparations(void) {
+    uint32_t *passing = copied(TIMES, 6);
+    wrong_shops(prepare_on);
+    CALL(PFS_NOT_PREPARED, insert_prepared(OUTSIDE, 3, 9));
+    CALL(PFS_NOT_PREPARED, insert_prepared(NULL, 0, 0));
+    RELEASE();
+    CALL(PFS_OK, pfs_prepare((uint32_t[]){1, 1, 1}, 3, 3, 1, &held.handle));
+    due_place(0, 3);
+    CALL(PFS_OK, insert_prepared(BEST, 2, 2));
+    CALL(PFS_OK, pfs_prepare(passing, 6, 3, 2, &held.handle));
+    memset(passing, 0, 6 * sizeof *passing);
+    free(passing);
+    prepared_insertions();
+    wrong_shops(prepare_on);
+    prepared_insertions();
+    RELEASE();
+    CALL(PFS_NOT_PREPARED, insert_prepared(BEST, 2, 2));
+    RELEASE();
 }
 
 static void insertions(void) {
@@ -633,7 +708,7 @@ static void fail(const char *what, int number) {
 /* Each number of pfs.h was returned, except PFS_MEMORY and those of files that are too long. */
 static void numbers(void) {
     for (int number = 0; number < (int)COUNT(seen); ++number) {
-        int is_known = number <= PFS_ROOM || (number >= PFS_NO_BLOCK && number <= PFS_INPUT_TOO_LONG)
+        int is_known = number <= PFS_NOT_PREPARED || (number >= PFS_NO_BLOCK && number <= PFS_INPUT_TOO_LONG)
                        || (number >= PFS_SYNTAX && number <= PFS_FILE_TOO_LONG);
         int is_due = is_known && number != PFS_MEMORY && number != PFS_INPUT_TOO_LONG && number != PFS_FILE_TOO_LONG;
         if (seen[number] != is_due)
@@ -720,18 +795,47 @@ static void threads(void) {
     free(shop);
 }
 
+/* Inserts job 2 into two jobs of a prepared instance, and releases it. */
+static int prepared_call(const uint32_t *shop, size_t length, size_t jobs, size_t machines, const uint32_t *sequence) {
+    int returned = pfs_prepare(shop, length, jobs, machines, &held.handle);
+    if (returned == PFS_OK)
+        returned = insert_prepared(sequence, 2, 2);
+    pfs_release(&held.handle);
+    return returned;
+}
+
+/* The same in a handle that holds another instance, which it still holds if an allocation fails. */
+static int prepared_again(const uint32_t *shop, size_t length, size_t jobs, size_t machines) {
+    size_t place = 0;
+    uint64_t makespan = 0;
+    int returned = pfs_prepare(times, 6, 3, 2, &held.handle);
+    if (returned != PFS_OK)
+        return returned;
+    returned = pfs_prepare(shop, length, jobs, machines, &held.handle);
+    if (returned == PFS_OK)
+        returned = insert_prepared(NUMBERED, 2, 2);
+    else if (pfs_insert_prepared(&held.handle, BEST, 2, 2, &place, &makespan) != PFS_OK || place != 2 || makespan != 10)
+        fail("the instance of the handle is lost:", returned);
+    pfs_release(&held.handle);
+    return returned;
+}
+
 /* Times of 1 of an instance with more than 128 of them, on which insertions use other tables: lanes, or rows if it has
  * more than 24 machines. All orders are equally long, so each job is inserted at the front. */
 enum { LARGE = 200 };
 
 static int call_on_large(const char *name) {
     static uint32_t ones[LARGE];
-    size_t jobs = strcmp(name, "insert_rows") == 0 ? 8 : 100, machines = LARGE / jobs;
+    size_t jobs = strstr(name, "_rows") == NULL ? 100 : 8, machines = LARGE / jobs;
     for (size_t at = 0; at < LARGE; ++at)
         ones[at] = 1;
     due.makespan = 2 + machines;
     if (strcmp(name, "insert_rows") == 0 || strcmp(name, "insert_lanes") == 0)
         return due.place = 0, pfs_insert(ones, LARGE, jobs, machines, NUMBERED, 2, 2, &out.place, &out.makespan);
+    if (strcmp(name, "prepare_rows") == 0 || strcmp(name, "prepare_lanes") == 0)
+        return due.place = 0, prepared_call(ones, LARGE, jobs, machines, NUMBERED);
+    if (strcmp(name, "prepare_again") == 0)
+        return due.place = 0, prepared_again(ones, LARGE, jobs, machines);
     if (strcmp(name, "construct_lanes") == 0)
         return due_list((uint32_t[]){2, 0, 1}, 3), pfs_construct(ones, LARGE, jobs, machines, NUMBERED, 2, NUMBERED + 2,
                                                                  1, out.list, 3, &out.makespan);
@@ -749,6 +853,15 @@ static int call_on_shop(const char *name) {
         return due.bound = 10, pfs_bound(times, 6, 3, 2, &out.bound);
     if (strcmp(name, "insert") == 0)
         return due.place = 2, due.makespan = 10, pfs_insert(times, 6, 3, 2, BEST, 2, 2, &out.place, &out.makespan);
+    if (strcmp(name, "prepare") == 0) {
+        int returned = pfs_prepare(times, 6, 3, 2, &held.handle);
+        pfs_release(&held.handle);
+        return returned;
+    }
+    if (strcmp(name, "insert_prepared") == 0)
+        return due_place(2, 10), prepared_call(times, 6, 3, 2, BEST);
+    if (strcmp(name, "release") == 0)
+        return pfs_release(&held.handle), PFS_OK;
     if (strcmp(name, "insertions") == 0)
         return due_makespans((uint64_t[]){13, 11, 10}, 3), all_places(BEST, 2, 2);
     if (strcmp(name, "heads_tails") == 0)
@@ -821,7 +934,7 @@ int main(int count, char **words) {
     fresh();
     if (strcmp(word, "all") == 0) {
         void (*const parts[])(void) = {makespans, many_makespans, bounds, tables, nehs, rounds, insertions,
-                                       all_insertions, long_sequences, heads_and_tails, constructions,
+                                       preparations, all_insertions, long_sequences, heads_and_tails, constructions,
                                        local_searches, random_words, no_lists, drawings, readings, writings,
                                        order_readings, order_writings, numbers};
         for (size_t part = 0; part < COUNT(parts); ++part)

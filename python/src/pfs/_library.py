@@ -1,4 +1,4 @@
-"""The shared library, loaded with ctypes: the functions and constants of `pfs.h`.
+"""The shared library, loaded with ctypes: the functions and constants of `pfs.h`, but for those over a handle.
 
 A ctypes call releases the GIL, so other threads run during the call. Therefore its inputs are `bytes`, which are
 immutable, and its outputs are arrays that are allocated for the call.

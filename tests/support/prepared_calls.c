@@ -1,0 +1,137 @@
+/* Compares pfs_insert_prepared with pfs_insert: on random instances of many sizes, in each order of a random walk, and
+ * after faults. All instances are prepared in the same handle, most of them while it holds the one before.
+ *
+ * usage: prepared_calls COUNT SEED     COUNT instances; prints the number of calls
+ *        prepared_calls threads COUNT  the same in four threads at once, with a handle for each */
+#define _POSIX_C_SOURCE 200809L
+#include <inttypes.h>
+#include <pthread.h>
+#include <stdio.h>
+#include <stdlib.h>
+#include <string.h>
+
+#include "pfs.h"
+
+enum { MOST = 220, STEPS = 40, THREADS = 4 };
+
+/* Numbers of machines and of jobs, and longest times, around those at which the method changes. */
+static const uint32_t MACHINES[] = {1, 2, 7, 8, 9, 16, 17, 24, 25, 40, 41, 64, 65, 104, 105, 200};
+static const uint32_t JOBS[] = {1, 2, 7, 8, 9, 20, 50, 100, 200, MOST};
+static const uint32_t LONGEST[] = {0, 1, 99, 65535, 1000000, PFS_LONGEST_TIME};
+
+#define ONE_OF(walk, list) (list)[draw(walk, sizeof(list) / sizeof *(list))]
+
+/* An instance with an order of its jobs, and the number of calls, of those that succeeded, and of those that differ. */
+struct walk {
+    uint64_t state, calls, done, wrong;
+    unsigned long instances;
+    size_t jobs, machines;
+    uint32_t *times, order[MOST];
+    struct pfs_prepared prepared;
+};
+
+static uint32_t draw(struct walk *walk, uint32_t below) {
+    walk->state = walk->state * 6364136223846793005U + 1442695040888963407U;
+    return (uint32_t)((walk->state >> 33) % below);
+}
+
+/* Makes both calls, and returns the number and the place of pfs_insert. */
+static int compare(struct walk *walk, const uint32_t *sequence, size_t length, uint32_t job, size_t *place) {
+    size_t got_place = 77;
+    uint64_t makespan = 77, got_makespan = 77;
+    *place = 77;
+    int number = pfs_insert(walk->times, walk->jobs * walk->machines, walk->jobs, walk->machines, sequence, length, job,
+                            place, &makespan);
+    int got = pfs_insert_prepared(&walk->prepared, sequence, length, job, &got_place, &got_makespan);
+    ++walk->calls;
+    walk->done += number == PFS_OK;
+    if (got != number || got_place != *place || got_makespan != makespan) {
+        ++walk->wrong;
+        printf("%zu jobs, %zu machines, %zu in the sequence: %d at %zu, %" PRIu64 ", not %d at %zu, %" PRIu64 "\n",
+               walk->jobs, walk->machines, length, got, got_place, got_makespan, number, *place, makespan);
+    }
+    return number;
+}
+
+/* Exchanges two jobs of the order, and inserts the job after a first part of it into this part. Most parts have all
+ * other jobs. The job then has its best place in the order. */
+static void step(struct walk *walk) {
+    uint32_t jobs = (uint32_t)walk->jobs, one = draw(walk, jobs), other = draw(walk, jobs);
+    uint32_t moved = walk->order[one];
+    size_t place, length = draw(walk, 3) == 0 ? draw(walk, jobs) : jobs - 1;
+    walk->order[one] = walk->order[other];
+    walk->order[other] = moved;
+    uint32_t job = walk->order[length];
+    if (compare(walk, walk->order, length, job, &place) == PFS_OK) {
+        memmove(walk->order + place + 1, walk->order + place, (length - place) * sizeof job);
+        walk->order[place] = job;
+    }
+}
+
+/* Inserts a job, which may be in the sequence or no job of the instance, where a job may occur twice. */
+static void spoilt_step(struct walk *walk) {
+    uint32_t sequence[MOST], jobs = (uint32_t)walk->jobs;
+    size_t place, length = draw(walk, jobs + 1);
+    memcpy(sequence, walk->order, jobs * sizeof *sequence);
+    sequence[draw(walk, jobs)] = draw(walk, jobs + 1);
+    compare(walk, sequence, length, draw(walk, jobs + 1), &place);
+}
+
+static void on_instance(struct walk *walk) {
+    size_t size;
+    uint32_t longest = ONE_OF(walk, LONGEST);
+    walk->jobs = ONE_OF(walk, JOBS);
+    walk->machines = ONE_OF(walk, MACHINES);
+    size = walk->jobs * walk->machines;
+    walk->times = malloc(size * sizeof *walk->times);
+    if (walk->times == NULL)
+        exit(2);
+    for (size_t at = 0; at < size; ++at)
+        walk->times[at] = draw(walk, longest + 1);
+    for (uint32_t job = 0; job < walk->jobs; ++job)
+        walk->order[job] = job;
+    if (pfs_prepare(walk->times, size, walk->jobs, walk->machines, &walk->prepared) != PFS_OK)
+        exit(2);
+    for (int made = 0; made < STEPS; ++made)
+        if (draw(walk, 5) == 0)
+            spoilt_step(walk);
+        else
+            step(walk);
+    free(walk->times);
+}
+
+static void *walk_all(void *given) {
+    struct walk *walk = given;
+    for (unsigned long made = 0; made < walk->instances; ++made) {
+        on_instance(walk);
+        if (draw(walk, 4) == 0)
+            pfs_release(&walk->prepared);
+    }
+    pfs_release(&walk->prepared);
+    pfs_release(&walk->prepared);
+    return NULL;
+}
+
+int main(int count, char **words) {
+    static struct walk walks[THREADS];
+    pthread_t threads[THREADS];
+    uint64_t calls = 0, done = 0, wrong = 0;
+    if (count != 3)
+        return 3;
+    int all = strcmp(words[1], "threads") == 0 ? THREADS : 1;
+    for (int index = 0; index < all; ++index) {
+        walks[index].instances = strtoul(words[all == 1 ? 1 : 2], NULL, 10);
+        walks[index].state = all == 1 ? strtoull(words[2], NULL, 10) : (uint64_t)index;
+        if (pthread_create(&threads[index], NULL, walk_all, &walks[index]) != 0)
+            return 2;
+    }
+    for (int index = 0; index < all; ++index) {
+        if (pthread_join(threads[index], NULL) != 0)
+            return 2;
+        calls += walks[index].calls;
+        done += walks[index].done;
+        wrong += walks[index].wrong;
+    }
+    printf("%" PRIu64 " calls, %" PRIu64 " failures\n", calls, wrong);
+    return wrong != 0 || 2 * done < calls || done == calls;
+}
