@@ -1,6 +1,7 @@
 pub mod Returning
 pub mod BestPlaces
 pub mod Gathered
+pub mod HandleValues
 pub mod Jobs
 pub mod ManyLemmas
 pub mod Marks

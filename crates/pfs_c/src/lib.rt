@@ -6,6 +6,7 @@
 
 mod building;
 mod given;
+mod handle;
 mod heads;
 mod inserting;
 mod kept;
@@ -13,7 +14,9 @@ pub mod laws;
 mod many;
 mod moving;
 mod numbers;
+mod opened;
 mod places;
+mod preparing;
 mod random;
 mod rows;
 mod searching;

@@ -1,0 +1,72 @@
+//! The handle of a prepared instance, as C holds it.
+ghost use Rattle.std.specs.Prelude.{◌≡◌, MatchOption, Option};
+ghost use Rattle.std.specs.declared.option.Option.TheVariants.{None, Some};
+ghost use Rattle.pfs_base.specs.FlowShop.{FlowShop};
+
+use crate::kept::Kept;
+use crate::opened::OpenBox;
+use std::alloc::Global;
+use std::marker::Model;
+use std::ptr::null_mut;
+
+/// The struct `pfs_prepared` of C: the address of a kept instance in a box, or null. `Global` takes no bytes. A type
+/// with a `Vec` in it can't cross to C, so the pointer is one to bytes.
+#[repr(C)]
+pub struct Prepared {
+    at: *mut u8,
+    alloc: Global,
+    pub(crate) ghost shop: { Option FlowShop },
+}
+
+impl Model for Prepared {
+    ghost use Rattle.pfs_c.specs.Private.Handle.{holds};
+    ghost use Rattle.pfs_c.specs.contracts.kept.Kept.{the_row};
+
+    ghost also_owns = { λ handle. holds the_row handle.alloc handle.at handle.shop };
+}
+
+impl Prepared {
+    /// Makes a handle that holds no instance.
+    pub(crate) fn none(alloc: Global) -> Prepared
+        ensures { result.shop ≡ None }
+    {
+        Prepared {
+            at: null_mut(),
+            alloc,
+        }
+    }
+
+    /// Makes a handle that holds a kept instance.
+    pub(crate) fn of(kept: OpenBox<Kept, Global>) -> Prepared
+        ensures { result.shop ≡ Some kept.value }
+    {
+        let OpenBox { at, alloc } = kept;
+        Prepared {
+            at: at as *mut u8,
+            alloc,
+        }
+    }
+
+    /// Returns the instance, or `None` if the handle holds none.
+    pub(crate) fn into_kept(self) -> Option<OpenBox<Kept, Global>>
+        ensures { MatchOption result (self.shop ≡ None) (λ kept. self.shop ≡ Some kept.value) }
+    {
+        let Prepared { at, alloc } = self;
+        if at.is_null() {
+            None
+        } else {
+            Some(OpenBox {
+                at: at as *mut Kept,
+                alloc,
+            })
+        }
+    }
+}
+
+impl Drop for Prepared {
+    fn drop(self) {
+        if let Some(kept) = self.into_kept() {
+            drop(kept.into_box());
+        }
+    }
+}
