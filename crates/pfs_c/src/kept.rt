@@ -21,10 +21,11 @@ use pfs_wave::{
 use std::alloc::Global;
 use std::marker::Model;
 
-/// The instance, as the method that serves it takes it: a wavefront of a given number of lanes with its tables, whose
-/// lanes have 16 bits or 32, or `HeadsTails`.
+/// An instance with what the method that serves it needs: the tables of a wavefront, whose number of lanes is in the
+/// name, with 16 bits (`Short`) or 32 bits (`Long`), or the instance alone for `HeadsTails` (`Rows`). The tables are in
+/// boxes because the borrow checker of the toolchain rejects an enum with this many types of `PreparedLanes` in it.
 #[derive(Drop)]
-pub(crate) enum Tables {
+pub(crate) enum KeptTables {
     Rows(Instance),
     Short8(Box<PreparedLanes<OneBand<Short>>>),
     Short16(Box<PreparedLanes<TwoBands<Short>>>),
@@ -46,7 +47,7 @@ pub(crate) enum Tables {
 #[derive(Drop)]
 pub(crate) struct Kept {
     jobs: usize,
-    tables: Tables,
+    tables: KeptTables,
 }
 
 impl Model for Kept {
@@ -95,48 +96,48 @@ impl Kept {
 }
 
 // The tables of an instance, by the method that serves it.
-fn tables_of(alloc: Global, instance: Instance) -> Result<Tables, CallFault>
+fn tables_of(alloc: Global, instance: Instance) -> Result<KeptTables, CallFault>
     ensures made { IfOk result (λ made. shop_in made ≡ instance.shop) }
     ensures memory { IfErr result (λ why. why ≡ CallFault.Memory) }
 {
     match method_for(&instance) {
-        Method::HeadsTails => Ok(Tables::Rows(instance)),
+        Method::HeadsTails => Ok(KeptTables::Rows(instance)),
         Method::Wavefront16(width) => short_tables(alloc, instance, width),
         Method::Wavefront32(width) => long_tables(alloc, instance, width),
     }
 }
 
 // Those of a wavefront of a given width, whose lanes have 16 bits.
-fn short_tables(alloc: Global, instance: Instance, width: Width) -> Result<Tables, CallFault>
+fn short_tables(alloc: Global, instance: Instance, width: Width) -> Result<KeptTables, CallFault>
     requires served { IsServed instance.shop (lanes_of width) 65535 }
     ensures made { IfOk result (λ made. shop_in made ≡ instance.shop) }
     ensures memory { IfErr result (λ why. why ≡ CallFault.Memory) }
 {
     Ok(match width {
-        Width::Lanes8 => Tables::Short8(prepared(alloc, instance)?),
-        Width::Lanes16 => Tables::Short16(prepared(alloc, instance)?),
-        Width::Lanes24 => Tables::Short24(prepared(alloc, instance)?),
-        Width::Lanes40 => Tables::Short40(prepared(alloc, instance)?),
-        Width::Lanes64 => Tables::Short64(prepared(alloc, instance)?),
-        Width::Lanes104 => Tables::Short104(prepared(alloc, instance)?),
-        Width::Lanes208 => Tables::Short208(prepared(alloc, instance)?),
+        Width::Lanes8 => KeptTables::Short8(prepared(alloc, instance)?),
+        Width::Lanes16 => KeptTables::Short16(prepared(alloc, instance)?),
+        Width::Lanes24 => KeptTables::Short24(prepared(alloc, instance)?),
+        Width::Lanes40 => KeptTables::Short40(prepared(alloc, instance)?),
+        Width::Lanes64 => KeptTables::Short64(prepared(alloc, instance)?),
+        Width::Lanes104 => KeptTables::Short104(prepared(alloc, instance)?),
+        Width::Lanes208 => KeptTables::Short208(prepared(alloc, instance)?),
     })
 }
 
 // Those of a wavefront whose lanes have 32 bits.
-fn long_tables(alloc: Global, instance: Instance, width: Width) -> Result<Tables, CallFault>
+fn long_tables(alloc: Global, instance: Instance, width: Width) -> Result<KeptTables, CallFault>
     requires served { IsServed instance.shop (lanes_of width) 2147483647 }
     ensures made { IfOk result (λ made. shop_in made ≡ instance.shop) }
     ensures memory { IfErr result (λ why. why ≡ CallFault.Memory) }
 {
     Ok(match width {
-        Width::Lanes8 => Tables::Long8(prepared(alloc, instance)?),
-        Width::Lanes16 => Tables::Long16(prepared(alloc, instance)?),
-        Width::Lanes24 => Tables::Long24(prepared(alloc, instance)?),
-        Width::Lanes40 => Tables::Long40(prepared(alloc, instance)?),
-        Width::Lanes64 => Tables::Long64(prepared(alloc, instance)?),
-        Width::Lanes104 => Tables::Long104(prepared(alloc, instance)?),
-        Width::Lanes208 => Tables::Long208(prepared(alloc, instance)?),
+        Width::Lanes8 => KeptTables::Long8(prepared(alloc, instance)?),
+        Width::Lanes16 => KeptTables::Long16(prepared(alloc, instance)?),
+        Width::Lanes24 => KeptTables::Long24(prepared(alloc, instance)?),
+        Width::Lanes40 => KeptTables::Long40(prepared(alloc, instance)?),
+        Width::Lanes64 => KeptTables::Long64(prepared(alloc, instance)?),
+        Width::Lanes104 => KeptTables::Long104(prepared(alloc, instance)?),
+        Width::Lanes208 => KeptTables::Long208(prepared(alloc, instance)?),
     })
 }
 
@@ -156,7 +157,7 @@ fn prepared<L: Lanes>(alloc: Global, instance: Instance) -> Result<Box<PreparedL
 // allocates nothing.
 fn best_in_tables(
     alloc: Global,
-    tables: &mut Tables,
+    tables: &mut KeptTables,
     sequence: &[u32],
     job: usize,
 ) -> Result<Placed<u64>, CallFault>
@@ -170,21 +171,21 @@ fn best_in_tables(
     ensures shop { shop_in tables.new ≡ shop_in tables.old }
 {
     match tables {
-        Tables::Rows(instance) => best_of_instance(alloc, instance, sequence, job),
-        Tables::Short8(lanes) => Ok(lanes.best(sequence, job)),
-        Tables::Short16(lanes) => Ok(lanes.best(sequence, job)),
-        Tables::Short24(lanes) => Ok(lanes.best(sequence, job)),
-        Tables::Short40(lanes) => Ok(lanes.best(sequence, job)),
-        Tables::Short64(lanes) => Ok(lanes.best(sequence, job)),
-        Tables::Short104(lanes) => Ok(lanes.best(sequence, job)),
-        Tables::Short208(lanes) => Ok(lanes.best(sequence, job)),
-        Tables::Long8(lanes) => Ok(lanes.best(sequence, job)),
-        Tables::Long16(lanes) => Ok(lanes.best(sequence, job)),
-        Tables::Long24(lanes) => Ok(lanes.best(sequence, job)),
-        Tables::Long40(lanes) => Ok(lanes.best(sequence, job)),
-        Tables::Long64(lanes) => Ok(lanes.best(sequence, job)),
-        Tables::Long104(lanes) => Ok(lanes.best(sequence, job)),
-        Tables::Long208(lanes) => Ok(lanes.best(sequence, job)),
+        KeptTables::Rows(instance) => best_of_instance(alloc, instance, sequence, job),
+        KeptTables::Short8(lanes) => Ok(lanes.best(sequence, job)),
+        KeptTables::Short16(lanes) => Ok(lanes.best(sequence, job)),
+        KeptTables::Short24(lanes) => Ok(lanes.best(sequence, job)),
+        KeptTables::Short40(lanes) => Ok(lanes.best(sequence, job)),
+        KeptTables::Short64(lanes) => Ok(lanes.best(sequence, job)),
+        KeptTables::Short104(lanes) => Ok(lanes.best(sequence, job)),
+        KeptTables::Short208(lanes) => Ok(lanes.best(sequence, job)),
+        KeptTables::Long8(lanes) => Ok(lanes.best(sequence, job)),
+        KeptTables::Long16(lanes) => Ok(lanes.best(sequence, job)),
+        KeptTables::Long24(lanes) => Ok(lanes.best(sequence, job)),
+        KeptTables::Long40(lanes) => Ok(lanes.best(sequence, job)),
+        KeptTables::Long64(lanes) => Ok(lanes.best(sequence, job)),
+        KeptTables::Long104(lanes) => Ok(lanes.best(sequence, job)),
+        KeptTables::Long208(lanes) => Ok(lanes.best(sequence, job)),
     }
 }
 

@@ -1,9 +1,9 @@
 -- The flow shop of a kept instance.
 use Rattle.pfs_base.specs.FlowShop.{FlowShop}
-use Rattle.pfs_c.specs.declared.kept.Tables.{Tables}
-use Rattle.pfs_c.specs.declared.kept.Tables.TheVariants as tables
+use Rattle.pfs_c.specs.declared.kept.KeptTables.{KeptTables}
+use Rattle.pfs_c.specs.declared.kept.KeptTables.TheVariants as tables
 
-abbrev pub shop_in : Tables → FlowShop
+abbrev pub shop_in : KeptTables → FlowShop
 shop_in (tables.Rows instance) = instance.shop
 shop_in (tables.Short8 lanes) = lanes.value
 shop_in (tables.Short16 lanes) = lanes.value
