@@ -45,7 +45,7 @@ abbrev pub parts : RattleType
 parts = Struct (shape (open-box.the_type kept global ghosts))
 
 pub parts-are : (x : opened.Denot) → Is parts (to (open-box.the_type kept global ghosts) x) (opened-laws.val x ∷ [])
-parts-are x = ((ptr_val x.at ∷ [], (of-global.lowered x.alloc ∷ [], tt)), (refl, (refl, (global-is x.alloc, tt))))
+parts-are x = ((ptr_val x.pointer ∷ [], (of-global.lowered x.allocator ∷ [], tt)), (refl, (refl, (global-is x.allocator, tt))))
 
 module _ {M : Type 1} {𝓤 : Ura M} (𝓛 : Logic 𝓤) where
   pub fields-made : Makes 𝓛 fields (Is fields)
@@ -59,8 +59,14 @@ module _ {M : Type 1} {𝓤 : Ura M} (𝓛 : Logic 𝓤) where
       h) _ (fields-are h)
 
   pub parts-made : Makes 𝓛 parts (Is parts)
-  parts-made = Struct-Makes 𝓛 (shape (open-box.the_type kept global ghosts)) (RawPtr-plain, ((λ alloc vs.
-      of-global.the_field_plain ((alloc.memory.seal, tt), tt) vs), tt))
+  parts-made = Struct-Makes 𝓛 (shape (open-box.the_type kept global ghosts)) (
+    RawPtr-plain,
+    (
+      (λ alloc vs.
+          of-global.the_field_plain ((alloc.memory.seal, tt), tt) vs),
+      tt,
+    ),
+  )
 
   pub opened-typed : (x : opened.Denot) → Typed opened.mir (opened-laws.val x ∷ [])
   opened-typed x = (Struct-Lawful 𝓛 (shape (open-box.the_type kept global ghosts)) (lawfuls 𝓛 (open-box.the_type kept

@@ -38,26 +38,26 @@ impl Prepared {
 
     /// Makes a handle that holds a kept instance.
     pub(crate) fn of(kept: OpenBox<Kept, Global>) -> Prepared
-        ensures { result.shop ≡ Some kept.value }
+        ensures { result.shop ≡ Some kept.content }
     {
-        let OpenBox { at, alloc } = kept;
+        let OpenBox { pointer, allocator } = kept;
         Prepared {
-            at: at as *mut u8,
-            alloc,
+            at: pointer as *mut u8,
+            alloc: allocator,
         }
     }
 
     /// Returns the instance, or `None` if the handle holds none.
     pub(crate) fn into_kept(self) -> Option<OpenBox<Kept, Global>>
-        ensures { MatchOption result (self.shop ≡ None) (λ kept. self.shop ≡ Some kept.value) }
+        ensures { MatchOption result (self.shop ≡ None) (λ kept. self.shop ≡ Some kept.content) }
     {
         let Prepared { at, alloc } = self;
         if at.is_null() {
             None
         } else {
             Some(OpenBox {
-                at: at as *mut Kept,
-                alloc,
+                pointer: at as *mut Kept,
+                allocator: alloc,
             })
         }
     }

@@ -31,7 +31,7 @@ pub extern "C" fn pfs_prepare(
 {
     match kept_of(alloc, times, jobs, machines) {
         Ok(kept) => {
-            drop(replace(prepared, Prepared::of(OpenBox::of(kept))));
+            drop(replace(prepared, Prepared::of(OpenBox::from_box(kept))));
             PFS_OK
         }
         Err(why) => why.number(),
@@ -97,7 +97,7 @@ fn best_of_prepared(
         Some(parts) => {
             let mut kept = parts.into_box();
             let best = kept.best(alloc, sequence, job);
-            *prepared = Prepared::of(OpenBox::of(kept));
+            *prepared = Prepared::of(OpenBox::from_box(kept));
             best
         }
         None => Err(CallFault::NotPrepared),

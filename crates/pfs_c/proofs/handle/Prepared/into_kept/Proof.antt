@@ -56,11 +56,11 @@ stayed = (stay_dropped _ yes, tt)
 -- Who may free a block may compare its address with null.
 testable : {M : Type 1} {𝓤 : Ura M} (𝓛 : Logic 𝓤) (alloc : Global) (at : Ptr) (x : kept.Denot)
     → ent 𝓤 (sem 𝓛 (box_owns (ghosts.dealloc_token alloc) kept at x)) (guard 𝓤 (Testable at) (sem 𝓛 (box_owns
-        (ghosts.dealloc_token alloc) kept at x)))
+    (ghosts.dealloc_token alloc) kept at x)))
 testable {𝓤 = 𝓤} 𝓛 alloc at x =
     let Owned = sem 𝓛 (box_owns (ghosts.dealloc_token alloc) kept at x) in
     fact_use 𝓤 (Testable at) (via 𝓤 (sem 𝓛 (ghosts.dealloc_token alloc (bare (lone kept.mir)) at)) (snd∗ 𝓤 (sem 𝓛
-        (points_to kept at x)) (sem 𝓛 (ghosts.dealloc_token alloc (bare (lone kept.mir)) at)))
+    (points_to kept at x)) (sem 𝓛 (ghosts.dealloc_token alloc (bare (lone kept.mir)) at)))
     (dealloc_token-Testable 𝓛 alloc (bare (lone kept.mir)) at)) (λ may. guard_i 𝓤 (Testable at) Owned may)
 
 module _ {M : Type 1} (𝓤 : Ura M) (𝓛 : Logic 𝓤) (𝓜 : Model 𝓤 𝓛.H) (𝓡 : Running 𝓤 𝓛.H 𝓜) where
@@ -78,14 +78,17 @@ module _ {M : Type 1} (𝓤 : Ura M) (𝓛 : Logic 𝓤) (𝓜 : Model 𝓤 𝓛
     Walk h = ent 𝓤 (sep 𝓤 (on_entry 𝓛 f.signature κs qs (h, tt) (lowered h ∷ [], tt)) (sem 𝓛 ftrue))
         (WpFn 𝓤 𝓛.H 𝓣.C 𝓣.Λ code.function (lowered h ∷ []) ((walk_of 𝓛 f.ended stayed c).post (y h)))
 
-    walk : (at : Ptr) (alloc : Global) (shop : Option kept.Denot) → Walk (record { at = at; alloc = alloc; shop = shop
-        })
+    walk : (at : Ptr) (alloc : Global) (shop : Option kept.Denot) → Walk (record {
+      at = at;
+      alloc = alloc;
+      shop = shop;
+    })
     walk null_ptr alloc None =
         let h : Prepared = record { at = null_ptr; alloc = alloc; shop = None } in
         qed 𝓛 ((‵ ftrue ⊛ ‵ (handle.own_val h (lowered h ∷ [])) ⊛ ‵ ftrue) ∷ ‵ ftrue ∷ []) ∵ drop ! $ drop ! $
         enter ! _ _ _ _ _ $ alloc_all ! (λ l. pass_all ! refl (handle-typed 𝓛 h) $
         sets ! (of_opd ! (get_in ! (fld ! refl (stop !)) (sub ! 0 refl (whole !)))) refl ((rawptr_Lawful 𝓛).typed
-            null_ptr _ refl).0 $
+        null_ptr _ refl).0 $
         sets ! (of_opd ! (get_in ! (fld ! refl (stop !)) (sub ! 1 refl (whole !)))) refl (global-typed 𝓛 alloc).0 $
         sets ! (bin ! (get ! refl) (lit ! tt) (tests_null null_ptr (lit< tt))) refl (tt, tt) $
         first ! $ branches ! (get ! refl)
@@ -106,35 +109,43 @@ module _ {M : Type 1} (𝓤 : Ura M) (𝓛 : Logic 𝓤) (𝓜 : Model 𝓤 𝓛
         qed 𝓛 ((‵ ftrue ⊛ ‵ (handle.own_val h (lowered h ∷ [])) ⊛ ‵ ftrue) ∷ ‵ ftrue ∷ []) ∵
         split ! $ drop ! $ split ! $ fsplit ! $ move ! (1 ∷ []) $ fsplit ! $
         in_a_block ! null_ptr (λ p. points_to kept p x) (id⊢ 𝓤 _) (λ b o is_block. absurd (subst InBlock (sym is_block)
-            tt))
+        tt))
     walk (block_ptr b o) alloc (Some x) =
         let h : Prepared = record { at = block_ptr b o; alloc = alloc; shop = Some x } in
-        let open-box : opened.Denot = record { at = block_ptr b o; alloc = alloc; value = x } in
+        let open-box : opened.Denot = record { pointer = block_ptr b o; allocator = alloc; content = x } in
         let Owned = ‵ (box_owns (ghosts.dealloc_token alloc) kept (block_ptr b o) x) in
         qed 𝓛 ((‵ ftrue ⊛ ‵ (handle.own_val h (lowered h ∷ [])) ⊛ ‵ ftrue) ∷ ‵ ftrue ∷ []) ∵
         split ! $ drop ! $ split ! $ fsplit ! $ keep ! (1 ∷ []) $
         use1 𝓛 (given (Testable (block_ptr b o)) Owned) (testable 𝓛 alloc (block_ptr b o) x) $ learn ! (λ may.
         enter ! _ _ _ _ _ $ alloc_all ! (λ l. pass_all ! refl (handle-typed 𝓛 h) $
         sets ! (of_opd ! (get_in ! (fld ! refl (stop !)) (sub ! 0 refl (whole !)))) refl ((rawptr_Lawful 𝓛).typed
-            (block_ptr b o) _ refl).0 $
+        (block_ptr b o) _ refl).0 $
         sets ! (of_opd ! (get_in ! (fld ! refl (stop !)) (sub ! 1 refl (whole !)))) refl (global-typed 𝓛 alloc).0 $
         sets ! (bin ! (get ! refl) (lit ! tt) (tests_null (block_ptr b o) may)) refl (tt, tt) $
         first ! $ branches ! (get ! refl)
         (λ holds. absurd holds)
         (λ _. sets ! (of_opd ! (get ! refl)) refl ((rawptr_Lawful 𝓛).typed (block_ptr b o) _ refl).0 $
         sets ! (agg ! (and_then ! (get ! refl) (and_then ! (get ! refl) (no_more !)))) refl (opened-typed 𝓛 open-box).0
-            $
-        sets_last ! (agg ! (and_then ! (lit ! tt) (and_then ! (get ! refl) (no_more !)))) refl (tt, (record { fits =
-            lit< tt }, ((tt, (((tt, tt), tt), tt)), tt))) $
+        $
+        sets_last ! (agg ! (and_then ! (lit ! tt) (and_then ! (get ! refl) (no_more !)))) refl (
+          tt,
+          (
+            record {
+              fits =
+                  lit< tt;
+            },
+            ((tt, (((tt, tt), tt), tt)), tt),
+          ),
+        ) $
         exec ! 𝓣.C 𝓣.Λ (env code.Mir.locals l) code.Mir.t-5 (at_ret _ ((walk_of 𝓛 f.ended stayed c).post (y h))) $
         sets ! (of_opd ! (get ! refl)) refl (tt, (record { fits = lit< tt }, ((tt, (((tt, tt), tt), tt)), tt))) $
         returns ! (look_at ! 0 refl) $ free_all ! refl $
         suffices ! _ (ends_at 𝓛 f.ended stayed c (y h) (live 1 (of_list (opened-laws.val open-box ∷ []))) (Some
-            open-box) (tt, tt) (tt, tt)) $ says ! refl $
+        open-box) (tt, tt) (tt, tt)) $ says ! refl $
         owned ! parts (Is parts) (parts-made 𝓛) (to (open-type kept global ghosts) open-box) (opened-laws.val open-box ∷
-            []) (parts-are open-box) $ fjoin ! $
+        []) (parts-are open-box) $ fjoin ! $
         use1 𝓛 (‵ ((option.the_row opened).own_val (Some open-box) (live 1 (of_list (opened-laws.val open-box ∷ [])) ∷
-            []))) (Some-of 𝓛 opened open-box (opened-laws.val open-box)) $
+        []))) (Some-of 𝓛 opened open-box (opened-laws.val open-box)) $
         nothing ! $ nothing ! $ join ! $ nothing ! $ done !)))
 
 pub into_kept_spec : {M : Type 1} → statement M

@@ -41,7 +41,7 @@ none_spec 𝓤 𝓛 𝓜 𝓡 wired =
     sets ! (agg ! (and_then ! (lit ! tt) (and_then ! (get ! refl) (no_more !)))) refl (handle-typed 𝓛 new).0 $
     returns ! (look_at ! 0 refl) $ free_all ! refl $
     suffices ! _ (ends_at 𝓛 f.ended stayed c ((κs, qs, bounds, a, (of-global.lowered a.0 ∷ [], tt)), tt) (lowered new)
-        new (tt, tt) (tt, tt)) $ says ! refl $
+    new (tt, tt) (tt, tt)) $ says ! refl $
     nothing ! $ fpack ! (null_ptr ≡ null_ptr) (λ _. ftrue) refl $
     owned ! fields (Is fields) (fields-made 𝓛) (to the_type new) (lowered new ∷ []) (fields-are new) $ fjoin ! $
     nothing ! $ nothing ! $ join ! $ nothing ! $ done !))

@@ -93,7 +93,7 @@ module _ (T A : RattleType) (L : Laws T) (LA : Laws A) (ghosts : Ghosts A.Denot)
       y vs = ((κs, qs, bounds, (x, tt), (vs, tt)), tt)
 
       abbrev z : Val → G.Ghost
-      z h = ((κs, qs, bounds, (x.alloc, (x.at, tt)), (h ∷ [], (ptr_val x.at ∷ [], tt))), x.value)
+      z h = ((κs, qs, bounds, (x.allocator, (x.pointer, tt)), (h ∷ [], (ptr_val x.pointer ∷ [], tt))), x.content)
 
       abbrev Runs : List Val → SProp 𝓤
       Runs vs = WpFn 𝓤 𝓛.H 𝓣.C 𝓣.Λ function (vs ++ []) ((walk_of 𝓛 ended stayed c).post (y vs))
@@ -101,55 +101,55 @@ module _ (T A : RattleType) (L : Laws T) (LA : Laws A) (ghosts : Ghosts A.Denot)
       walk : (vs : List Val) → ent 𝓤 ((walk_of 𝓛 ended stayed c).pre (y vs)) (Runs vs)
       walk vs =
           qed 𝓛 ((raw (alive 𝓛 ended.signature κs qs) ⊛ ‵ (opened.own_val x vs) ⊛ ‵ ftrue)
-              ∷ (raw (fact 𝓤 (κs.0 ⊑ T.lives)) ⊛ raw (fact 𝓤 (κs.1.0 ⊑ A.lives)) ⊛ ‵ ftrue) ∷ []) ∵
+          ∷ (raw (fact 𝓤 (κs.0 ⊑ T.lives)) ⊛ raw (fact 𝓤 (κs.1.0 ⊑ A.lives)) ⊛ ‵ ftrue) ∷ []) ∵
           split ! $ move ! (1 ∷ []) $ split ! $ fsplit ! $ fpick ! (λ words. fsplit ! $
-              feq_l ! (λ are-both. fsplit ! $ feq_l ! (λ is-at. fsplit ! $
-          handle_tells allocator ! x.alloc words.1.0 (λ h is-h fits-h.
-          let words-are : vs ≡ pair-word x.at h ∷ [] = are-both ∙ ap (λ us. vstruct (of_list (us ++ (words.1.0 ++ [])))
-              ∷ []) is-at ∙ ap (λ us. vstruct (of_list (ptr_val x.at ∷ (us ++ []))) ∷ []) is-h in
-          let pointer-fits = ((rawptr_Lawful 𝓛).typed x.at _ refl).0 in
-          let both-fit = as_fields (ty_ptr ∷ layout A ∷ []) (ptr_val x.at ∷ h ∷ []) (pointer-fits, (fits-h, tt)) in
+          feq_l ! (λ are-both. fsplit ! $ feq_l ! (λ is-at. fsplit ! $
+          handle_tells allocator ! x.allocator words.1.0 (λ h is-h fits-h.
+          let words-are : vs ≡ pair-word x.pointer h ∷ [] = are-both ∙ ap (λ us. vstruct (of_list (us ++ (words.1.0 ++ [])))
+          ∷ []) is-at ∙ ap (λ us. vstruct (of_list (ptr_val x.pointer ∷ (us ++ []))) ∷ []) is-h in
+          let pointer-fits = ((rawptr_Lawful 𝓛).typed x.pointer _ refl).0 in
+          let both-fit = as_fields (ty_ptr ∷ layout A ∷ []) (ptr_val x.pointer ∷ h ∷ []) (pointer-fits, (fits-h, tt)) in
           regoal ! (λ us. prop (Runs us)) words-are refl $
           enter ! _ _ _ _ _ $ alloc_all ! (λ l. pass_all ! refl (both-fit, tt) $
           sets ! (of_opd ! (get_in ! (fld ! refl (stop !)) (sub ! 0 refl (whole !)))) refl pointer-fits $
           sets ! (of_opd ! (get_in ! (fld ! refl (stop !)) (sub ! 1 refl (whole !)))) refl fits-h $
           first ! $ blocks ! $ sets ! (of_opd ! (get ! refl)) refl fits-h $
           -- [the allocator; nothing; the memory; nothing; the tokens; the bounds]
-          move ! (1 ∷ []) $ feq_i ! (List Val) (ptr_val x.at ∷ []) (ptr_val x.at ∷ []) refl $ join ! $
-              move ! (1 ∷ 0 ∷ []) $ join ! $
+          move ! (1 ∷ []) $ feq_i ! (List Val) (ptr_val x.pointer ∷ []) (ptr_val x.pointer ∷ []) refl $ join ! $
+          move ! (1 ∷ 0 ∷ []) $ join ! $
           move ! (3 ∷ 0 ∷ []) $ join ! $ move ! (3 ∷ []) $ split ! $ move ! (1 ∷ []) $ split ! $
           -- [the second bound; nothing; the first bound; the tokens and the arguments; the memory; nothing]
           move ! (0 ∷ 4 ∷ []) $ join ! $ move ! (2 ∷ 0 ∷ []) $ join ! $ move ! (2 ∷ 0 ∷ []) $
           use2 𝓛 (raw (G.pre (z h))) (id⊢ 𝓤 _) $
           calls_at_last ! (framed 𝓤 𝓛.H 𝓜 𝓣) G meets (z h) (and_then ! (get ! refl) (and_then ! (get ! refl) (no_more
-              !))) (λ w.
+          !))) (λ w.
           use1 𝓛 (later (some (λ (r : boxed.Denot). (raw (alive 𝓛 ended.signature κs qs) ⊛ ‵ (boxed.own_val r (w ∷ [])))
-              ⊛
-              some (λ (ws : Lasts given κs (x.alloc, (x.at, tt))). ‵ (lasts given κs (x.alloc, (x.at, tt)) ws) ⊛ raw
-                  (fact 𝓤 (r.value ≡ x.value)) ⊛ raw (fact 𝓤 (r.alloc ≡ x.alloc)))))) (id⊢ 𝓤 _) $
+          ⊛
+          some (λ (ws : Lasts given κs (x.allocator, (x.pointer, tt))). ‵ (lasts given κs (x.allocator, (x.pointer, tt)) ws) ⊛ raw
+          (fact 𝓤 (r.value ≡ x.content)) ⊛ raw (fact 𝓤 (r.alloc ≡ x.allocator)))))) (id⊢ 𝓤 _) $
           await ! tt $ pick ! (λ r. split ! $ split ! $ move ! (1 ∷ []) $
-              peeks ! boxed _ (shows 𝓛 boxed) r (w ∷ []) (λ is.
+          peeks ! boxed _ (shows 𝓛 boxed) r (w ∷ []) (λ is.
           let word-fits = ((of-box.the_field_loose (param 0 T) (param 1 A) ghosts (param_laws 0 T L) (param_laws 1 A
-              LA)).lawful 𝓛).typed r (w ∷ []) is in
+          LA)).lawful 𝓛).typed r (w ∷ []) is in
           move ! (2 ∷ []) $ pick ! (λ ws. split ! $ drop ! $ split ! $ heard ! _ (λ is-value. drop ! $
           lands_last ! refl word-fits.0 $
           exec ! 𝓣.C 𝓣.Λ (env function.locals l) (after 3 function.body) (at_ret _ ((walk_of 𝓛 ended stayed c).post (y
-              (pair-word x.at h ∷ [])))) $
+          (pair-word x.pointer h ∷ [])))) $
           sets ! (of_opd ! (get ! refl)) refl word-fits.0 $
           returns ! (look_at ! 0 refl) $ free_all ! refl $ keep ! (0 ∷ 1 ∷ []) $
-          suffices ! _ (ends_at 𝓛 ended stayed c (y (pair-word x.at h ∷ [])) w r ((tt, (tt, tt)), tt) (tt, tt)) $
-              says ! is-value $
+          suffices ! _ (ends_at 𝓛 ended stayed c (y (pair-word x.pointer h ∷ [])) w r ((tt, (tt, tt)), tt) (tt, tt)) $
+          says ! is-value $
           nothing ! $ nothing ! $ join ! $ move ! (2 ∷ []) $ done !))))))))))
 
 pub into_box_spec : {M : Type 1} → statement M
 into_box_spec 𝓤 𝓛 𝓜 𝓡 wired T A L LA ghosts takes drops-t drops-a met glue-t glue-a =
     let own = opened T A L LA ghosts takes drops-t drops-a in
     let meets = raw-met 𝓤 𝓛 𝓜 𝓡 (code.calls-std_alloc::boxed::Box::from_raw 𝓡.env wired) T A L LA ghosts takes drops-a
-        met glue-a in
+    met glue-a in
     proved_at 𝓛 (ended T A L LA ghosts takes drops-t drops-a) (stayed T A L LA ghosts takes drops-t drops-a) (c T A L LA
-        ghosts takes drops-t drops-a 𝓤 𝓛 𝓜 𝓡) 𝓜 𝓡
+    ghosts takes drops-t drops-a 𝓤 𝓛 𝓜 𝓡) 𝓜 𝓡
     (Goes-blank 𝓛 2 (plain (λ _. own)) no (λ κs x last. tt), tt)
     (f.Key.name (args T A L LA ghosts takes drops-t drops-a (dcons drops-t (dcons drops-a dnil)))) (function T A L LA
-        ghosts takes drops-t drops-a)
+    ghosts takes drops-t drops-a)
     (code.unfolded 𝓤 𝓛.H 𝓜 𝓡 wired (T, (A, tt)) takes drops-t drops-a) (λ y are.
     walk T A L LA ghosts takes drops-t drops-a 𝓤 𝓛 𝓜 𝓡 y.0.0 y.0.1 y.0.2 y.0.3.0 meets y.0.4.0)

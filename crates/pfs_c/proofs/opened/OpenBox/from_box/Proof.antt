@@ -45,9 +45,9 @@ use Rattle.std_alloc.proofs.boxed.Box.TheLaws as of-box
 use Rattle.std_alloc.specs.contracts.boxed.Box.into_raw_with_allocator as g
 use Rattle.std_alloc.proofs.boxed.Box.into_raw_with_allocator.Met.{met as raw-met}
 use Rattle.pfs_c.specs.contracts.opened.OpenBox as open-box
-use Rattle.pfs_c.specs.contracts.opened.OpenBox.of as f
-use Rattle.pfs_c.proofs.opened.OpenBox.of.Statement.{statement}
-use Rattle.pfs_c.proofs.opened.OpenBox.of.Code as code
+use Rattle.pfs_c.specs.contracts.opened.OpenBox.from_box as f
+use Rattle.pfs_c.proofs.opened.OpenBox.from_box.Statement.{statement}
+use Rattle.pfs_c.proofs.opened.OpenBox.from_box.Code as code
 
 one-word : (τ : Ty) (vs : List Val) → Typed (τ ∷ []) vs → (v : Val) × ((vs ≡ v ∷ []) × (Holds (has_ty τ v) × WT v))
 one-word τ [] fits = absurd fits
@@ -119,20 +119,20 @@ module _ (T A : RattleType) (ghosts : Ghosts A.Denot) (takes drops-t drops-a : D
           calls_at ! (framed 𝓤 𝓛.H 𝓜 𝓣) G meets (y (v ∷ []))
           (and_then ! (get ! refl) (no_more !)) (λ w.
           use1 𝓛 (later (some (λ (r : Ptr × A.Denot). (raw (alive 𝓛 ended.signature κs qs) ⊛ ‵ (pair.own_val r (w ∷
-              []))) ⊛
-              some (λ (ws : Lasts given κs (x, tt)). ‵ (lasts given κs (x, tt) ws) ⊛ raw (fact 𝓤 (r.1 ≡ x.alloc)) ⊛ ‵
-                  (memory r.0 x.alloc))))) (id⊢ 𝓤 _) $
+          []))) ⊛
+          some (λ (ws : Lasts given κs (x, tt)). ‵ (lasts given κs (x, tt) ws) ⊛ raw (fact 𝓤 (r.1 ≡ x.alloc)) ⊛ ‵
+          (memory r.0 x.alloc))))) (id⊢ 𝓤 _) $
           await ! tt $ pick ! (λ r. split ! $ split ! $ move ! (1 ∷ []) $ fpick ! (λ words. fsplit ! $
-              feq_l ! (λ are-both. fsplit ! $ feq_l ! (λ is-at. fsplit ! $
+          feq_l ! (λ are-both. fsplit ! $ feq_l ! (λ is-at. fsplit ! $
           handle_tells (allocator LA) ! r.1 words.1.0 (λ h is-h fits-h.
           -- [the allocator; nothing; the tokens; the rest of what the call gives]
           let words-are : w ≡ pair-word r.0 h = ap only (are-both ∙ ap (λ us. vstruct (of_list (us ++ (words.1.0 ++
-              []))) ∷ []) is-at ∙ ap (λ us. vstruct (of_list (ptr_val r.0 ∷ (us ++ []))) ∷ []) is-h) in
+          []))) ∷ []) is-at ∙ ap (λ us. vstruct (of_list (ptr_val r.0 ∷ (us ++ []))) ∷ []) is-h) in
           let pointer-fits = ((rawptr_Lawful 𝓛).typed r.0 _ refl).0 in
           let both-fit = as_fields (ty_ptr ∷ layout A ∷ []) (ptr_val r.0 ∷ h ∷ []) (pointer-fits, (fits-h, tt)) in
-          let new : (opened.Denot) = record { at = r.0; alloc = r.1; value = x.value } in
+          let new : (opened.Denot) = record { pointer = r.0; allocator = r.1; content = x.value } in
           move ! (3 ∷ []) $ pick ! (λ ws. split ! $ drop ! $ split ! $
-              heard ! _ (λ is-alloc. rewrite ! 0 (λ a. ‵ (memory r.0 a)) (sym is-alloc) refl $
+          heard ! _ (λ is-alloc. rewrite ! 0 (λ a. ‵ (memory r.0 a)) (sym is-alloc) refl $
           lands_as ! words-are refl both-fit $
           sets ! (of_opd ! (get_in ! (fld ! refl (stop !)) (sub ! 0 refl (whole !)))) refl pointer-fits $
           sets ! (of_opd ! (get_in ! (fld ! refl (stop !)) (sub ! 1 refl (whole !)))) refl fits-h $
@@ -140,26 +140,26 @@ module _ (T A : RattleType) (ghosts : Ghosts A.Denot) (takes drops-t drops-a : D
           sets ! (agg ! (and_then ! (get ! refl) (and_then ! (get ! refl) (no_more !)))) refl both-fit $
           returns ! (look_at ! 0 refl) $ free_all ! refl $
           suffices ! _ (ends_at 𝓛 ended stayed c (y (v ∷ [])) (pair-word r.0 h) new ((tt, (tt, tt)), tt) (tt, tt)) $
-              says ! refl $
+          says ! refl $
           move ! (1 ∷ 2 ∷ []) $ fjoin ! $ feq_i ! (List Val) (ptr_val r.0 ∷ []) (ptr_val r.0 ∷ []) refl $ fjoin ! $
           feq_i ! (List Val) (pair-word r.0 h ∷ []) (pair-word r.0 h ∷ []) refl $ fjoin ! $
           fpack ! (Valss (RawPtr ∷ param 1 A ∷ [])) (within (shape open-type) (r.0, (r.1, tt)) (pair-word r.0 h ∷ []))
-              (ptr_val r.0 ∷ [], (h ∷ [], tt)) $ fjoin ! $
+          (ptr_val r.0 ∷ [], (h ∷ [], tt)) $ fjoin ! $
           nothing ! $ nothing ! $ join ! $ move ! (2 ∷ []) $ done !)))))))))
 
-pub of_spec : {M : Type 1} → statement M
-of_spec 𝓤 𝓛 𝓜 𝓡 wired T A L LA ghosts takes drops-t drops-a met glue-t glue-a =
+pub from_box_spec : {M : Type 1} → statement M
+from_box_spec 𝓤 𝓛 𝓜 𝓡 wired T A L LA ghosts takes drops-t drops-a met glue-t glue-a =
     let own = boxed T A ghosts takes drops-t drops-a in
     proved_at 𝓛 (ended T A ghosts takes drops-t drops-a) (stayed T A ghosts takes drops-t drops-a) (c T A ghosts takes
-        drops-t drops-a 𝓤 𝓛 𝓜 𝓡) 𝓜 𝓡
+    drops-t drops-a 𝓤 𝓛 𝓜 𝓡) 𝓜 𝓡
     (Goes-blank 𝓛 2 (plain (λ _. own)) no (λ κs x last. tt), tt)
     (f.Key.name (args T A ghosts takes drops-t drops-a (dcons drops-t (dcons drops-a dnil)))) (function T A ghosts takes
-        drops-t drops-a)
+    drops-t drops-a)
     (code.unfolded 𝓤 𝓛.H 𝓜 𝓡 wired (T, (A, tt)) takes drops-t drops-a) (λ y are.
     let word = one-word (layout own) y.0.4.0 (((of-box.the_field_loose (param 0 T) (param 1 A) ghosts (param_laws 0 T L)
-        (param_laws 1 A LA)).lawful 𝓛).typed y.0.3.0 y.0.4.0 are.0) in
+    (param_laws 1 A LA)).lawful 𝓛).typed y.0.3.0 y.0.4.0 are.0) in
     let meets = raw-met 𝓤 𝓛 𝓜 𝓡 (code.calls-std_alloc::boxed::Box::into_raw_with_allocator 𝓡.env wired) T A L LA ghosts
-        takes drops-a drops-t met glue-a glue-t in
+    takes drops-a drops-t met glue-a glue-t in
     let W = Walk T A ghosts takes drops-t drops-a 𝓤 𝓛 𝓜 𝓡 y.0.0 y.0.1 y.0.2 y.0.3.0 LA meets in
     subst W (sym word.1.0) (walk T A ghosts takes drops-t drops-a 𝓤 𝓛 𝓜 𝓡 y.0.0 y.0.1 y.0.2 y.0.3.0 LA meets word.0
-        word.1.1))
+    word.1.1))
