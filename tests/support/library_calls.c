@@ -366,14 +366,16 @@ static void insertions(void) {
     CALL(PFS_OK, pfs_insert((uint32_t[]){1, 1, 1}, 3, 3, 1, BEST, 2, 2, &out.place, &out.makespan));
 }
 
-/* Sequences of all jobs but the last one, which is inserted. The job at each place in turn is invalid. Up to 512 jobs,
- * sequences are validated by other loops than above, several jobs at a time. */
+/* Sequences of all jobs but the last one, which is inserted. The job at each place in turn is invalid. With up to 512
+ * jobs the library compares several jobs of a sequence at a time, and with more it compares one at a time. */
 static void long_sequences(void) {
     static uint32_t ones[513], sequence[513];
     for (uint32_t size = 512; size <= 513; ++size) {
         uint32_t last = size - 1;
-        for (uint32_t place = 0; place < size; ++place)
-            ones[place] = 1, sequence[place] = place;
+        for (uint32_t place = 0; place < size; ++place) {
+            ones[place] = 1;
+            sequence[place] = place;
+        }
         due.place = 0;
         due.makespan = size;
         CALL(PFS_OK, pfs_insert(ones, size, size, 1, sequence, last, last, &out.place, &out.makespan));
