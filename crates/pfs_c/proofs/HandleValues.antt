@@ -1,5 +1,5 @@
--- The machine values of a handle, of a box that was taken apart and of their allocator. They are facts: memory is owned
--- beside them.
+-- The machine values of a handle, of a box that is taken apart and of their allocator. They own no memory: what a handle
+-- owns is a formula of its own.
 use mathlib.Core.Path.{refl}
 use mathlib.Core.List.{[], ◌∷◌}
 use mir.Val.{vunit, vstruct, of_list}

@@ -1,4 +1,3 @@
-use Rattle.std.proofs.Common.{refl}
 use Rattle.pfs_order.proofs.Published.Sequences.{length-lt-size}
 use Rattle.pfs_c.proofs.kept.Kept.best.Goals as goal
 
