@@ -42,8 +42,8 @@ def test_what_only_proofs_and_private_functions_use_is_private(top: pathlib.Path
 
 
 DEFINED = re.compile(r"^ *(?:pub )?(?:abbrev|unfoldable|record|data) (?:pub )?([^\s:({]+)", re.MULTILINE)
-# What each function's own proof is named after.
-OWN = {"Answers.antt", "Invariants.antt"}
+# What the files of each function's own proof are called; `Proof.antt` is one by hand.
+OWN = {"Answers.antt", "Invariants.antt", "Proof.antt"}
 # Short for the same within modules that several proofs have: the weights of the jobs, and the last machine.
 SHORT = {"weigh", "last"}
 
