@@ -24,7 +24,7 @@ use Rattle.pfs_c.proofs.handle.Prepared.TheLaws.{lowered}
 use Rattle.pfs_c.specs.contracts.handle.Prepared.none as f
 use Rattle.pfs_c.proofs.handle.Prepared.none.Statement.{statement}
 use Rattle.pfs_c.proofs.handle.Prepared.none.Code as code
-use Rattle.pfs_c.proofs.HandleValues.{fields, fields-are, fields-made, global-typed, handle-typed}
+use Rattle.pfs_c.proofs.HandleValues.{handle-fields, handle-fields-are, handle-fields-made, global-typed, handle-typed}
 
 abbrev stayed : Stays f.ended.signature.params f.ended.kept
 stayed = (stay_dropped _ yes, tt)
@@ -43,5 +43,6 @@ none_spec 𝓤 𝓛 𝓜 𝓡 wired =
     suffices ! _ (ends_at 𝓛 f.ended stayed c ((κs, qs, bounds, a, (of-global.lowered a.0 ∷ [], tt)), tt) (lowered new)
     new (tt, tt) (tt, tt)) $ says ! refl $
     nothing ! $ fpack ! (null_ptr ≡ null_ptr) (λ _. ftrue) refl $
-    owned ! fields (Is fields) (fields-made 𝓛) (to the_type new) (lowered new ∷ []) (fields-are new) $ fjoin ! $
+    owned ! handle-fields (Is handle-fields) (handle-fields-made 𝓛) (to the_type new) (lowered new ∷ [])
+    (handle-fields-are new) $ fjoin ! $
     nothing ! $ nothing ! $ join ! $ nothing ! $ done !))

@@ -105,7 +105,8 @@ module _ (T A : RattleType) (L : Laws T) (LA : Laws A) (ghosts : Ghosts A.Denot)
           split ! $ move ! (1 ∷ []) $ split ! $ fsplit ! $ fpick ! (λ words. fsplit ! $
           feq_l ! (λ are-both. fsplit ! $ feq_l ! (λ is-at. fsplit ! $
           handle_tells allocator ! x.allocator words.1.0 (λ h is-h fits-h.
-          let words-are : vs ≡ pair-word x.pointer h ∷ [] = are-both ∙ ap (λ us. vstruct (of_list (us ++ (words.1.0 ++ [])))
+          let words-are : vs ≡ pair-word x.pointer h ∷ [] = are-both ∙ ap (λ us. vstruct (of_list (us ++ (words.1.0 ++
+          [])))
           ∷ []) is-at ∙ ap (λ us. vstruct (of_list (ptr_val x.pointer ∷ (us ++ []))) ∷ []) is-h in
           let pointer-fits = ((rawptr_Lawful 𝓛).typed x.pointer _ refl).0 in
           let both-fit = as_fields (ty_ptr ∷ layout A ∷ []) (ptr_val x.pointer ∷ h ∷ []) (pointer-fits, (fits-h, tt)) in
@@ -125,7 +126,8 @@ module _ (T A : RattleType) (L : Laws T) (LA : Laws A) (ghosts : Ghosts A.Denot)
           !))) (λ w.
           use1 𝓛 (later (some (λ (r : boxed.Denot). (raw (alive 𝓛 ended.signature κs qs) ⊛ ‵ (boxed.own_val r (w ∷ [])))
           ⊛
-          some (λ (ws : Lasts given κs (x.allocator, (x.pointer, tt))). ‵ (lasts given κs (x.allocator, (x.pointer, tt)) ws) ⊛ raw
+          some (λ (ws : Lasts given κs (x.allocator, (x.pointer, tt))). ‵ (lasts given κs (x.allocator, (x.pointer, tt))
+          ws) ⊛ raw
           (fact 𝓤 (r.value ≡ x.content)) ⊛ raw (fact 𝓤 (r.alloc ≡ x.allocator)))))) (id⊢ 𝓤 _) $
           await ! tt $ pick ! (λ r. split ! $ split ! $ move ! (1 ∷ []) $
           peeks ! boxed _ (shows 𝓛 boxed) r (w ∷ []) (λ is.
