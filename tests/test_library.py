@@ -28,8 +28,8 @@ FUNCTIONS = {
     "read_order": False, "write_order": False,
 }
 # Calls on a larger instance, which use other tables.
-LARGE = ["insert_lanes", "insert_rows", "prepare_lanes", "prepare_rows", "prepare_again", "construct_lanes",
-         "local_search_lanes"]
+LARGE = ["insert_lanes", "insert_rows", "prepare_lanes", "prepare_rows", "thrice_lanes", "thrice_rows",
+         "prepare_again", "construct_lanes", "local_search_lanes"]
 TEXTS = {"pfs_message", "pfs_version"}
 NAMES = {f"pfs_{name}" for name in FUNCTIONS} | TEXTS
 ALL_CALLS = Ran(b"5497 calls, 0 failures\n", b"", 0)
@@ -289,6 +289,12 @@ def test_a_failed_allocation_leaves_every_output_unchanged(calls: Program, shim:
                                                            name: str) -> None:
     """Of two calls, the one whose allocation fails returns PFS_MEMORY and leaves every output unchanged. The other one
     is right."""
+    half = allocations(calls, shim, folder, name)
+    assert half > (1 if name in LARGE else 0) or FUNCTIONS.get(name) is False
+
+
+def allocations(calls: Program, shim: Shim, folder: pathlib.Path, name: str) -> int:
+    """The number of allocations of a call, each of which was made to fail in the first and in the second of two."""
     got = []
     for growth in range(FIRST_GROWTH, MOST_GROWTHS):
         ran, is_refused = shim.run_refused(calls, [name], folder, b"", growth)
@@ -299,7 +305,16 @@ def test_a_failed_allocation_leaves_every_output_unchanged(calls: Program, shim:
     assert ran == Ran(b"right\nright\n", b"", 0), "the last allocation is too late to fail"
     half = len(got) // 2
     assert got == [b"memory\nright\n"] * half + [b"right\nmemory\n"] * half
-    assert half > (1 if name in LARGE else 0) or FUNCTIONS.get(name) is False
+    return half
+
+
+@OF_CALLS
+def test_an_insertion_into_a_prepared_instance_allocates_nothing_by_a_wavefront(calls: Program, shim: Shim,
+                                                                                folder: pathlib.Path) -> None:
+    once, thrice = (allocations(calls, shim, folder, f"{name}_lanes") for name in ("prepare", "thrice"))
+    assert once == thrice, "further insertions allocate memory"
+    once, thrice = (allocations(calls, shim, folder, f"{name}_rows") for name in ("prepare", "thrice"))
+    assert once < thrice, "by rows an insertion allocates memory, so this test would find it"
 
 
 # Against the program and the second implementation

@@ -806,7 +806,20 @@ static int prepared_call(const uint32_t *shop, size_t length, size_t jobs, size_
     return returned;
 }
 
-/* The same in a handle that holds another instance, which it still holds if an allocation fails. */
+/* The same after two other insertions. */
+static int prepared_thrice(const uint32_t *shop, size_t length, size_t jobs, size_t machines) {
+    size_t place;
+    uint64_t makespan;
+    int returned = pfs_prepare(shop, length, jobs, machines, &held.handle);
+    for (uint32_t job = 3; returned == PFS_OK && job < 5; ++job)
+        returned = pfs_insert_prepared(&held.handle, NUMBERED, 2, job, &place, &makespan);
+    if (returned == PFS_OK)
+        returned = insert_prepared(NUMBERED, 2, 2);
+    pfs_release(&held.handle);
+    return returned;
+}
+
+/* One insertion in a handle that holds another instance, which it still holds if an allocation fails. */
 static int prepared_again(const uint32_t *shop, size_t length, size_t jobs, size_t machines) {
     size_t place = 0;
     uint64_t makespan = 0;
@@ -836,6 +849,8 @@ static int call_on_large(const char *name) {
         return due.place = 0, pfs_insert(ones, LARGE, jobs, machines, NUMBERED, 2, 2, &out.place, &out.makespan);
     if (strcmp(name, "prepare_rows") == 0 || strcmp(name, "prepare_lanes") == 0)
         return due.place = 0, prepared_call(ones, LARGE, jobs, machines, NUMBERED);
+    if (strcmp(name, "thrice_rows") == 0 || strcmp(name, "thrice_lanes") == 0)
+        return due.place = 0, prepared_thrice(ones, LARGE, jobs, machines);
     if (strcmp(name, "prepare_again") == 0)
         return due.place = 0, prepared_again(ones, LARGE, jobs, machines);
     if (strcmp(name, "construct_lanes") == 0)
