@@ -19,7 +19,7 @@ ELSEWHERE = re.compile(r"\bout(?:/|$)|\bNAME/|^START-HERE\.md$|/PROVED$|^(?:tabl
 # A name of more than one word, or of a function that is called.
 NAME = re.compile(r"[A-Za-z]\w*(?:_|[a-z][A-Z])\w*|[a-z]\w*(?=\(\))")
 # Types of Julia and R that a page names.
-FOREIGN = {"Csize_t", "M_MMAP_THRESHOLD", "M_TRIM_THRESHOLD", "R_xlen_t"}
+FOREIGN = {"Csize_t", "M_MMAP_THRESHOLD", "M_TRIM_THRESHOLD", "R_xlen_t", "c_void"}
 TEXTS = {".antt", ".c", ".cpp", ".edit", ".fish", ".h", ".hpp", ".html", ".in", ".py", ".rt", ".toml", ".txt", ".1", ""}
 
 
