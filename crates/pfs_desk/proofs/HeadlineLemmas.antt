@@ -18,17 +18,18 @@ use Rattle.pfs_desk.specs.Engine.{IsSolveFault, WritesOutput, WritesNothing, lay
 use Rattle.pfs_desk.specs.Engine.{SolveOutput}
 use Rattle.pfs_desk.specs.Headline.{PrintsSolution, ReadsOn, RunsOn, Solves}
 use Rattle.pfs_desk.specs.Solve.{take_for}
+use Rattle.pfs_desk.specs.Uses.{SinkUse}
 
 abbrev rejecting : LayoutFault → Result Outcome DeskFault
 rejecting fault = Err (faults.Layout fault)
 
 module _ (layout : Layout) (file : List ℕ) (block : ℕ) (some : 1 ≤ block) (options : SolveOptions)
-    (old new : Option (List ℕ)) (reader_failed writer_failed : Bool) where
+    (reader_failed : Bool) (writer : SinkUse) where
   abbrev Is : Problem → Type 0
   Is problem = IsInstanceFile limits layout file block problem
 
   abbrev IsResult : Result Outcome DeskFault → Type 0
-  IsResult result = Solves layout file block options old new reader_failed writer_failed result
+  IsResult result = Solves layout file block options reader_failed writer result
 
   -- a block of a file contains only one problem
   one_problem : (problem other : Problem) → Is problem → Is other → problem ≡ other
@@ -53,9 +54,9 @@ module _ (layout : Layout) (file : List ℕ) (block : ℕ) (some : 1 ≤ block) 
   -- the block contains a problem with at least as many jobs as the destruction size
   held : {result : Result Outcome DeskFault} (problem : Problem) → Is problem
       → take_for options.take problem.shop.jobs ≤ problem.shop.jobs
-      → (RunsOn reader_failed writer_failed result → PrintsSolution problem options old new result) → IsResult result
+      → (RunsOn reader_failed writer.failed result → PrintsSolution problem options writer result) → IsResult result
   held {result} problem holds within prints = record {
-    accepted = λ other holds_other few runs. subst (λ p. PrintsSolution p options old new result)
+    accepted = λ other holds_other few runs. subst (λ p. PrintsSolution p options writer result)
         (one_problem problem other holds holds_other) (prints runs);
     rejected = λ fault rejects reads. absurd (not_both problem fault holds rejects);
     too_many = λ other asked holds_other is above reads.
@@ -63,7 +64,7 @@ module _ (layout : Layout) (file : List ℕ) (block : ℕ) (some : 1 ≤ block) 
   }
 
   -- the file is rejected
-  rejected_file : (fault : LayoutFault) → WritesNothing old new writer_failed
+  rejected_file : (fault : LayoutFault) → WritesNothing writer
       → (fault ≢ layout_faults.Read → fault ≢ layout_faults.Memory → RejectsInstance layout file block fault)
       → (Some fault ≡ Some layout_faults.Read → reader_failed ≡ true) → IsResult (rejecting fault)
   rejected_file fault nothing rejects failed =
@@ -79,7 +80,7 @@ module _ (layout : Layout) (file : List ℕ) (block : ℕ) (some : 1 ≤ block) 
       }
 
   has_result : (result : Result Outcome DeskFault)
-      → WritesOutput (SolveOutput layout (Some file) block options) old new writer_failed result
+      → WritesOutput (SolveOutput layout (Some file) block options) writer result
       → IfErr result (IsSolveFault layout (Some file) block options.take)
       → (layout_fault_of result ≡ Some layout_faults.Read → reader_failed ≡ true) → IsResult result
   has_result (Ok outcome) writes fault read =
@@ -114,11 +115,11 @@ module _ (layout : Layout) (file : List ℕ) (block : ℕ) (some : 1 ≤ block) 
 -- `Solves` follows from what the engine does: it writes its output or nothing, and validates the file and then the
 -- destruction size
 pub solves : (file : Option (List ℕ)) (layout : Layout) (block : ℕ) (options : SolveOptions)
-    (old new : Option (List ℕ)) (reader_failed writer_failed : Bool) (result : Result Outcome DeskFault)
-    → 1 ≤ block → WritesOutput (SolveOutput layout file block options) old new writer_failed result
+    (reader_failed : Bool) (writer : SinkUse) (result : Result Outcome DeskFault)
+    → 1 ≤ block → WritesOutput (SolveOutput layout file block options) writer result
     → IfErr result (IsSolveFault layout file block options.take)
     → (layout_fault_of result ≡ Some layout_faults.Read → reader_failed ≡ true)
-    → IfSome file (λ bytes. Solves layout bytes block options old new reader_failed writer_failed result)
-solves None layout block options old new reader_failed writer_failed result some writes fault read = tt
-solves (Some file) layout block options old new reader_failed writer_failed result some writes fault read =
-    has_result layout file block some options old new reader_failed writer_failed result writes fault read
+    → IfSome file (λ bytes. Solves layout bytes block options reader_failed writer result)
+solves None layout block options reader_failed writer result some writes fault read = tt
+solves (Some file) layout block options reader_failed writer result some writes fault read =
+    has_result layout file block some options reader_failed writer result writes fault read

@@ -17,7 +17,7 @@ use Rattle.pfs_desk.specs.declared.fault.Outcome.{Outcome}
 use Rattle.pfs_desk.specs.declared.stop.Stop.{Stop}
 use Rattle.pfs_desk.specs.declared.stop.Stop.TheVariants as stops_for
 use Rattle.pfs_desk.specs.Private.Ending.{EndsOutput, ReportsSent}
-use Rattle.pfs_desk.specs.Engine.{IsUnread, SourceUse}
+use Rattle.pfs_desk.specs.Uses.{IsUnread, SinkUse, SourceUse, files_use, sink_use}
 use Rattle.pfs_desk.specs.Program.{JobResult, prints, stops, WritesResult, reports_write}
 use Rattle.pfs_desk.specs.ProgramText.{usage_stop}
 use Rattle.pfs_desk.specs.FileState.{FileEvent, FileState}
@@ -91,15 +91,18 @@ module _ {W : Type 0} (written : W → Option (List ℕ)) (old mid new : Bufferi
         q.counted;
   }
 
+  abbrev sent_on : Bool → SinkUse
+  sent_on failed = sink_use (written old.writer) (written new.writer) failed
+
   pub writes_text : (failed failed' : Bool) (returned : JobResult) (reached ended : Result Outcome Stop)
       → failed ≡ reports_write reached → failed' ≡ reports_write ended
-      → WritesResult (bytes_given written old) (bytes_given written mid) failed returned reached
+      → WritesResult (sink_use (bytes_given written old) (bytes_given written mid) failed) returned reached
       → EndsOutput reached new.held new.sent ended
-      → WritesText (IsNew written old) (written new.writer) failed' returned ended
+      → WritesText (IsNew written old) (sent_on failed') returned ended
   writes_text failed failed' (prints outcome text) reached ended t t' (inl p) q =
       all-stand (subst (λ r. EndsOutput r new.held new.sent ended) p.0 q) where
         all-stand : EndsOutput (Ok outcome) new.held new.sent ended
-            → WritesText (IsNew written old) (written new.writer) failed' (prints outcome text) ended
+            → WritesText (IsNew written old) (sent_on failed') (prints outcome text) ended
         all-stand (inl r) = inl (r.0, λ fresh. given_all written new text (given-text text p.1 fresh) r.1)
         all-stand (inr r) = inr (front_reported text (length text) ended (rw (take-length text) p.1) r)
   writes_text failed failed' (prints outcome text) reached ended t t' (inr p) q =
@@ -123,12 +126,12 @@ usage_reports usage_faults.Usage = refl
 usage_reports usage_faults.Memory = refl
 
 pub gives_rejection : {A : Type 0} (f : A → List ℕ) (words : List A) (state : List ℕ → FileState)
-    (log : Option (List FileEvent)) (input : SourceUse) (fresh : Type 0) (out : Option (List ℕ)) (failed : Bool)
+    (log : Option (List FileEvent)) (input : SourceUse) (fresh : Type 0) (output : SinkUse)
     (fault : UsageFault) (ended : Result Outcome Stop) → ended ≡ Err (usage_stop fault) → IsUnread input
-    → failed ≡ false → (fresh → out ≡ Some []) → (words ≡ [] → ⊥)
+    → output.failed ≡ false → (fresh → output.new ≡ Some []) → (words ≡ [] → ⊥)
     → ((word : List ℕ) (others : List (List ℕ)) → map f words ≡ word ∷ others → fault ≡ usage_faults.Usage
-    → AsksForNothing word others) → Runs (map f words) state log log input fresh out failed ended
-gives_rejection f words state log input fresh out failed fault ended e unread working nothing some usage = record {
+    → AsksForNothing word others) → Runs (map f words) (files_use state log log) input fresh output ended
+gives_rejection f words state log input fresh output fault ended e unread working nothing some usage = record {
   returned = stops (usage_stop fault);
   is_result = inl (record { rejected = rejects_words f words fault some usage; none_opened = refl; unread = unread });
   is_written = (e, working, nothing);

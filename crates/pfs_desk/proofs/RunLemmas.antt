@@ -12,7 +12,8 @@ use Rattle.pfs_desk.specs.declared.files.OpenFault.{OpenFault}
 use Rattle.pfs_desk.specs.declared.files.OpenFault.TheVariants as open_faults
 use Rattle.pfs_desk.specs.declared.stop.Stop.{Stop}
 use Rattle.pfs_desk.specs.declared.stop.Stop.TheVariants.{Fault}
-use Rattle.pfs_desk.specs.Engine.{WritesOutput, IsAuditFault, SourceUse, IsUnread, ReadsBlock, ReadsOrder}
+use Rattle.pfs_desk.specs.Engine.{WritesOutput, IsAuditFault, ReadsBlock, ReadsOrder}
+use Rattle.pfs_desk.specs.Uses.{Did, FilesUse, IsUnread, SinkUse, SourceUse, files_use, sink_use}
 use Rattle.pfs_desk.specs.Engine.{layout_fault_of, order_fault_of}
 use Rattle.pfs_desk.specs.Private.Ending.{ending, OpensBoth, OneFails}
 use Rattle.pfs_desk.specs.Program.{JobResult, prints, stops, layout_fault_in, order_fault_in, closing}
@@ -20,7 +21,7 @@ use Rattle.pfs_desk.specs.Program.{StopsAtPath, ReadsFiles, IsResultOf, ReturnsO
 use Rattle.pfs_desk.specs.Program.{Delivers, ReturnsValue}
 use Rattle.pfs_desk.specs.Program.{paths_of, WritesResult, reports_write}
 use Rattle.pfs_desk.specs.ProgramText.{open_stop}
-use Rattle.pfs_desk.specs.FileState.{FileState, FileEvent, opened, not_opened, Logs, MayOpen, MayFail}
+use Rattle.pfs_desk.specs.FileState.{FileState, FileEvent, Logs, MayOpen, MayFail, opened, not_opened}
 
 pub logs_then : (a b c : Option (List FileEvent)) (xs ys : List FileEvent) → Logs a b xs → Logs b c ys
     → Logs a c (xs ++ ys)
@@ -32,33 +33,34 @@ logs_none None = tt
 logs_none (Some x) = ap Some (sym (append-nil x))
 
 -- no file was opened
-pub reads_none : (state : List ℕ → FileState) (log : Option (List FileEvent)) → ReadsFiles state log log [] []
+pub reads_none : (state : List ℕ → FileState) (log : Option (List FileEvent))
+    → ReadsFiles (files_use state log log) [] []
 reads_none state log = record { give = tt; events = logs_none log }
 
 -- one file was opened, read and closed
-pub reads_file : (state : List ℕ → FileState) (log between log' : Option (List FileEvent)) (path : List ℕ)
-    (file : SourceUse) → MayOpen (state path) file.given → file.was_ended ≡ false
-    → Logs log between (opened path ∷ []) → Logs between log' (closing file ∷ [])
-    → ReadsFiles state log log' (path ∷ []) (file ∷ [])
-reads_file state log between log' path file give fresh opens closes =
-    record { give = (give, fresh, tt); events = logs_then log between log' _ _ opens closes }
+pub reads_file : (disk : FilesUse) (between : Option (List FileEvent)) (path : List ℕ) (file : SourceUse)
+    → MayOpen (disk.state path) file.given → file.was_ended ≡ false
+    → Logs disk.old_log between (opened path ∷ []) → Logs between disk.new_log (closing file ∷ [])
+    → ReadsFiles disk (path ∷ []) (file ∷ [])
+reads_file disk between path file give fresh opens closes =
+    record { give = (give, fresh, tt); events = logs_then disk.old_log between disk.new_log _ _ opens closes }
 
 -- two files were opened, read and closed
-pub reads_files : (state : List ℕ → FileState) (log opens closes log' : Option (List FileEvent))
-    (path order_path : List ℕ) (file orders : SourceUse)
-    → OpensBoth state log opens path order_path file.given orders.given → file.was_ended ≡ false
-    → orders.was_ended ≡ false → Logs opens closes (closing file ∷ [])
-    → Logs closes log' (closing orders ∷ [])
-    → ReadsFiles state log log' (path ∷ order_path ∷ []) (file ∷ orders ∷ [])
-reads_files state log opens closes log' path order_path file orders both fresh fresh_orders p q = record {
+pub reads_files : (disk : FilesUse) (opens closes : Option (List FileEvent)) (path order_path : List ℕ)
+    (file orders : SourceUse)
+    → OpensBoth (files_use disk.state disk.old_log opens) path order_path file.given orders.given
+    → file.was_ended ≡ false → orders.was_ended ≡ false → Logs opens closes (closing file ∷ [])
+    → Logs closes disk.new_log (closing orders ∷ [])
+    → ReadsFiles disk (path ∷ order_path ∷ []) (file ∷ orders ∷ [])
+reads_files disk opens closes path order_path file orders both fresh fresh_orders p q = record {
   give = (both.give, fresh, (both.give_orders, fresh_orders, tt));
-  events = logs_then log opens log' _ _ both.events (logs_then opens closes log' _ _ p q);
+  events = logs_then disk.old_log opens disk.new_log _ _ both.events (logs_then opens closes disk.new_log _ _ p q);
 }
 
 -- a stop that reports no failed write
 pub gives_stop : (Comes : JobResult → Type 0) (old : Option (List ℕ)) (failed : Bool) (stop : Stop)
     (ended : Result Outcome Stop) → ended ≡ Err stop → reports_write (Err stop) ≡ false → failed ≡ false
-    → Comes (stops stop) → Delivers Comes (WritesResult old old failed) failed ended
+    → Comes (stops stop) → Delivers Comes WritesResult (sink_use old old failed) ended
 gives_stop Comes old failed stop ended e reports working comes = record {
   returned = stops stop;
   is_result = comes;
@@ -70,10 +72,10 @@ opening_reports : (fault : OpenFault) → reports_write (Err (open_stop fault)) 
 opening_reports open_faults.Closed = refl
 opening_reports open_faults.Memory = refl
 
-module _ (state : List ℕ → FileState) (log log' : Option (List FileEvent)) where
-  stops_first : (path : List ℕ) (rest : List (List ℕ)) (fault : OpenFault) → MayFail (state path) fault
-      → Logs log log' (not_opened path fault ∷ [])
-      → StopsAtPath state log log' (path ∷ rest) (stops (open_stop fault))
+module _ (disk : FilesUse) where
+  stops_first : (path : List ℕ) (rest : List (List ℕ)) (fault : OpenFault) → MayFail (disk.state path) fault
+      → Did disk (not_opened path fault ∷ [])
+      → StopsAtPath disk (path ∷ rest) (stops (open_stop fault))
   stops_first path rest fault may events = record {
     before = [];
     path = path;
@@ -87,8 +89,8 @@ module _ (state : List ℕ → FileState) (log log' : Option (List FileEvent)) w
     reported = refl;
   }
 
-  stops_one : (path order_path : List ℕ) (fault : OpenFault) → OneFails state log log' path order_path fault
-      → StopsAtPath state log log' (path ∷ order_path ∷ []) (stops (open_stop fault))
+  stops_one : (path order_path : List ℕ) (fault : OpenFault) → OneFails disk path order_path fault
+      → StopsAtPath disk (path ∷ order_path ∷ []) (stops (open_stop fault))
   stops_one path order_path fault (inl p) = stops_first path (order_path ∷ []) fault p.may_fail p.events
   stops_one path order_path fault (inr p) = record {
     before = path ∷ [];
@@ -106,37 +108,37 @@ module _ (state : List ℕ → FileState) (log log' : Option (List FileEvent)) w
   -- the only path of a job, or the first of two, or the second, could not be opened
   pub gives_closed : (asked : Job) (path : List ℕ) (input : SourceUse) (old : Option (List ℕ)) (failed : Bool)
       (fault : OpenFault) (ended : Result Outcome Stop) → paths_of asked ≡ path ∷ [] → IsUnread input → failed ≡ false
-      → ended ≡ Err (open_stop fault) → MayFail (state path) fault → Logs log log' (not_opened path fault ∷ [])
-      → Delivers (RunsJob asked state log log' input) (WritesResult old old failed) failed ended
+      → ended ≡ Err (open_stop fault) → MayFail (disk.state path) fault → Did disk (not_opened path fault ∷ [])
+      → Delivers (RunsJob asked disk input) WritesResult (sink_use old old failed) ended
   gives_closed asked path input old failed fault ended one unread working e may events =
       gives_stop _ old failed (open_stop fault) ended e (opening_reports fault) working (inl (
         unread,
-        subst (λ paths. StopsAtPath state log log' paths (stops (open_stop fault))) (sym one)
+        subst (λ paths. StopsAtPath disk paths (stops (open_stop fault))) (sym one)
             (stops_first path [] fault may events),
       ))
 
   pub gives_one_closed : (asked : Job) (path order_path : List ℕ) (input : SourceUse) (old : Option (List ℕ))
       (failed : Bool) (fault : OpenFault) (ended : Result Outcome Stop) → paths_of asked ≡ path ∷ order_path ∷ []
       → IsUnread input → failed ≡ false → ended ≡ Err (open_stop fault)
-      → OneFails state log log' path order_path fault
-      → Delivers (RunsJob asked state log log' input) (WritesResult old old failed) failed ended
+      → OneFails disk path order_path fault
+      → Delivers (RunsJob asked disk input) WritesResult (sink_use old old failed) ended
   gives_one_closed asked path order_path input old failed fault ended two unread working e rejects =
       gives_stop _ old failed (open_stop fault) ended e (opening_reports fault) working (inl (
         unread,
-        subst (λ paths. StopsAtPath state log log' paths (stops (open_stop fault))) (sym two)
+        subst (λ paths. StopsAtPath disk paths (stops (open_stop fault))) (sym two)
             (stops_one path order_path fault rejects),
       ))
 
 -- the result of an engine as a `JobResult`
-module _ (Output : Outcome → List ℕ → Type 0) (IsFault : DeskFault → Type 0) (old new : Option (List ℕ)) (failed : Bool)
+module _ (Output : Outcome → List ℕ → Type 0) (IsFault : DeskFault → Type 0) (writer : SinkUse)
     (Comes : JobResult → Type 0) where
   abbrev Reaches : Result Outcome DeskFault → Type 0
   Reaches result = (returned : JobResult) → IsResultOf Output IsFault returned → layout_fault_in returned
       ≡ layout_fault_of result
       → order_fault_in returned ≡ order_fault_of result → Comes returned
 
-  pub gives_ending : (result : Result Outcome DeskFault) → WritesOutput Output old new failed result
-      → IfErr result IsFault → Reaches result → Delivers Comes (WritesResult old new failed) failed (ending result)
+  pub gives_ending : (result : Result Outcome DeskFault) → WritesOutput Output writer result
+      → IfErr result IsFault → Reaches result → Delivers Comes WritesResult writer (ending result)
   gives_ending (Ok outcome) w f comes = record {
     returned = prints outcome w.text;
     is_result = comes (prints outcome w.text) w.is_output refl refl;
@@ -183,17 +185,17 @@ module _ (Output : Outcome → List ℕ → Type 0) (IsFault : DeskFault → Typ
       }
 
 -- a job delivers what its engine delivers on its files, which were opened, read and closed
-pub gives_run : (asked : Job) (state : List ℕ → FileState) (log log' : Option (List FileEvent)) (input : SourceUse)
-    (paths : List (List ℕ)) (files : List SourceUse) (IsWritten : JobResult → Result Outcome Stop → Type 0)
-    (failed : Bool) (reached ended : Result Outcome Stop) → ended ≡ reached → paths_of asked ≡ paths
-    → ReadsFiles state log log' paths files → Delivers (ReturnsFor asked input files) IsWritten failed reached
-    → Delivers (RunsJob asked state log log' input) IsWritten failed ended
-gives_run asked state log log' input paths files IsWritten failed reached ended e are reads gave =
-    subst (Delivers (RunsJob asked state log log' input) IsWritten failed) (sym e) (record {
+pub gives_run : (asked : Job) (disk : FilesUse) (input : SourceUse) (paths : List (List ℕ)) (files : List SourceUse)
+    (IsWritten : SinkUse → JobResult → Result Outcome Stop → Type 0) (output : SinkUse)
+    (reached ended : Result Outcome Stop) → ended ≡ reached → paths_of asked ≡ paths → ReadsFiles disk paths files
+    → Delivers (ReturnsFor asked input files) IsWritten output reached
+    → Delivers (RunsJob asked disk input) IsWritten output ended
+gives_run asked disk input paths files IsWritten output reached ended e are reads gave =
+    subst (Delivers (RunsJob asked disk input) IsWritten output) (sym e) (record {
       returned = gave.returned;
       is_result = inr (record {
         files = files;
-        reads = subst (λ some. ReadsFiles state log log' some files) (sym are) reads;
+        reads = subst (λ some. ReadsFiles disk some files) (sym are) reads;
         has_result = gave.is_result;
       });
       is_written = gave.is_written;
@@ -202,8 +204,8 @@ gives_run asked state log log' input paths files IsWritten failed reached ended 
 
 -- what an engine delivers that reads one input
 module _ (Comes : JobResult → Type 0) (layout : Layout) (block : ℕ) (Output : Outcome → List ℕ → Type 0)
-    (old new : Option (List ℕ)) (failed : Bool) (result : Result Outcome DeskFault)
-    (w : WritesOutput Output old new failed result) (file : SourceUse)
+    (writer : SinkUse) (result : Result Outcome DeskFault)
+    (w : WritesOutput Output writer result) (file : SourceUse)
     (r : ReadsBlock layout block file (layout_fault_of result)) where
   first_reads : (returned : JobResult) → layout_fault_in returned ≡ layout_fault_of result
       → ReadsBlock layout block file (layout_fault_in returned)
@@ -211,17 +213,17 @@ module _ (Comes : JobResult → Type 0) (layout : Layout) (block : ℕ) (Output 
 
   pub gives_on : (IsFault : DeskFault → Type 0) → IfErr result IsFault
       → ((returned : JobResult) → ReturnsOn layout block Output IsFault file returned → Comes returned)
-      → Delivers Comes (WritesResult old new failed) failed (ending result)
-  gives_on IsFault f has_result = gives_ending Output IsFault old new failed Comes result w f
+      → Delivers Comes WritesResult writer (ending result)
+  gives_on IsFault f has_result = gives_ending Output IsFault writer Comes result w f
       (λ returned is first second. has_result returned (record { is = is; reads = first_reads returned first }))
 
   -- what an engine delivers that reads an order file after it
   pub gives_on_both : (orders : SourceUse) → IfErr result (IsAuditFault layout file.given block orders.given)
       → ReadsOrder orders (layout_fault_of result) (order_fault_of result)
       → ((returned : JobResult) → ReturnsOnBoth layout block Output file orders returned → Comes returned)
-      → Delivers Comes (WritesResult old new failed) failed (ending result)
+      → Delivers Comes WritesResult writer (ending result)
   gives_on_both orders f reads has_result =
-      gives_ending Output (IsAuditFault layout file.given block orders.given) old new failed Comes result w f
+      gives_ending Output (IsAuditFault layout file.given block orders.given) writer Comes result w f
       (λ returned is first second. has_result returned (record {
         first = record { is = is; reads = first_reads returned first };
         reads_order = subst (ReadsOrder orders (layout_fault_in returned)) (sym second)

@@ -1,6 +1,6 @@
 -- What an engine, the function that does a command's work, returns and writes. The bytes of a file are those that its
 -- reader hasn't read yet, or `None` if they aren't known; nothing is said of bytes that aren't known.
-use Rattle.std.specs.Prelude.{⊤, ◌≡◌, ◌≢◌, ◌↔◌, ℕ, ◌≤◌, Bool, true, false, List, Option, Some, None, Result, Ok, Err}
+use Rattle.std.specs.Prelude.{⊤, ◌≡◌, ◌≢◌, ◌↔◌, ℕ, ◌≤◌, true, false, List, Option, Some, None, Result, Ok, Err}
 use Rattle.std.specs.Prelude.{◌⊎◌, IfSome}
 use Rattle.std.specs.Io.KnownBytes.{Appends}
 use Rattle.pfs_base.specs.Limits.{limits}
@@ -27,6 +27,7 @@ use Rattle.pfs_desk.specs.declared.fault.DeskFault.TheVariants.{Order, Write}
 use Rattle.pfs_desk.specs.declared.fault.DeskFault.TheVariants as faults
 use Rattle.pfs_words.specs.declared.solve_options.SolveOptions.{SolveOptions}
 use Rattle.pfs_desk.specs.Solve.{take_for, IsTakeFault, IsSolution}
+use Rattle.pfs_desk.specs.Uses.{IsUnread, SinkUse, SourceUse}
 use Rattle.pfs_desk.specs.OutputText.{value_text, verdict_text, outcome_of, TablePrints}
 
 -- this block of an instance file, counted from 1, contains this problem
@@ -117,25 +118,6 @@ abbrev pub order_fault_of : {A : Type 0} → Result A DeskFault → Option Order
 order_fault_of (Err (Order fault)) = Some fault
 order_fault_of others = None
 
--- what a call did with a source: the bytes that were left to read before and after the call, if they are known; whether
--- a read failed; and whether a read had reported the end of the bytes before the call, and by the end of it
-pub record SourceUse : Type 0 where
-  pub given : Option (List ℕ)
-  pub left : Option (List ℕ)
-  pub failed : Bool
-  pub was_ended : Bool
-  pub ended : Bool
-
-abbrev pub source_use : Option (List ℕ) → Option (List ℕ) → Bool → Bool → Bool → SourceUse
-source_use given left failed was_ended ended =
-    record { given = given; left = left; failed = failed; was_ended = was_ended; ended = ended }
-
--- nothing was read: all bytes are left, no read failed, and none reported the end
-pub record IsUnread (source : SourceUse) : Type 0 where
-  pub kept : source.left ≡ source.given
-  pub working : source.failed ≡ false
-  pub no_end : source.ended ≡ source.was_ended
-
 -- how the instance file is read by an engine that reports this fault of it, or `None`
 pub record ReadsBlock (layout : Layout) (block : ℕ) (source : SourceUse) (fault : Option LayoutFault) : Type 0 where
   -- a failed read is reported exactly if a read failed
@@ -158,33 +140,30 @@ pub record ReadsOrder (source : SourceUse) (first : Option LayoutFault) (fault :
   pub before_end : fault ≡ Some order_faults.Read → source.ended ≡ source.was_ended
   pub as_far : ReadsSecond source first fault
 
--- all of an output was written; `old` and `new` are the bytes written before and after
-pub record WritesAll (output : Outcome → List ℕ → Type 0) (old new : Option (List ℕ)) (failed : Bool)
-    (outcome : Outcome) : Type 0 where
+-- all of an output was written
+pub record WritesAll (output : Outcome → List ℕ → Type 0) (writer : SinkUse) (outcome : Outcome) : Type 0 where
   pub text : List ℕ
   pub is_output : output outcome text
-  pub working : failed ≡ false
-  pub bytes : Appends old new text
+  pub working : writer.failed ≡ false
+  pub bytes : Appends writer.old writer.new text
 
 -- the writer has failed, and a prefix of an output was written, as long as the fault's number `written` says
-pub record WritesFront (output : Outcome → List ℕ → Type 0) (old new : Option (List ℕ)) (failed : Bool) (written : ℕ)
-    : Type 0 where
+pub record WritesFront (output : Outcome → List ℕ → Type 0) (writer : SinkUse) (written : ℕ) : Type 0 where
   pub outcome : Outcome
   pub text : List ℕ
   pub is_output : output outcome text
-  pub front : SendsFront old new failed 0 text written
+  pub front : SendsFront writer.old writer.new writer.failed 0 text written
 
 -- nothing was written
-pub record WritesNothing (old new : Option (List ℕ)) (failed : Bool) : Type 0 where
-  pub working : failed ≡ false
-  pub kept : new ≡ old
+pub record WritesNothing (writer : SinkUse) : Type 0 where
+  pub working : writer.failed ≡ false
+  pub kept : writer.new ≡ writer.old
 
 -- an engine wrote all of its output, or a prefix of it if a write failed, or nothing if it reports another fault
-abbrev pub WritesOutput : (Outcome → List ℕ → Type 0) → Option (List ℕ) → Option (List ℕ) → Bool
-    → Result Outcome DeskFault → Type 0
-WritesOutput output old new failed (Ok outcome) = WritesAll output old new failed outcome
-WritesOutput output old new failed (Err (Write fault)) = WritesFront output old new failed fault.written
-WritesOutput output old new failed (Err others) = WritesNothing old new failed
+abbrev pub WritesOutput : (Outcome → List ℕ → Type 0) → SinkUse → Result Outcome DeskFault → Type 0
+WritesOutput output writer (Ok outcome) = WritesAll output writer outcome
+WritesOutput output writer (Err (Write fault)) = WritesFront output writer fault.written
+WritesOutput output writer (Err others) = WritesNothing writer
 
 -- the output of `value`: the makespan of the jobs of an instance in the order of their numbers
 pub record ValueOutput (layout : Layout) (file : Option (List ℕ)) (block : ℕ) (outcome : Outcome) (text : List ℕ)

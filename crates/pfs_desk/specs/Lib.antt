@@ -1,10 +1,11 @@
 pub mod Engine
 pub mod FaultText
+pub mod FileState
 pub mod Headline
 pub mod OutputText
 pub mod Private
 pub mod Program
 pub mod ProgramText
 pub mod Solve
-pub mod FileState
+pub mod Uses
 pub mod WholeProgram

@@ -20,9 +20,10 @@ use Rattle.pfs_desk.specs.declared.stop.Stop.{Stop}
 use Rattle.pfs_desk.specs.declared.stop.Stop.TheVariants.{Fault}
 use Rattle.pfs_desk.specs.Engine.{ValueOutput, SolveOutput, CheckOutput, TableOutput, ConvertOutput, GenerateOutput}
 use Rattle.pfs_desk.specs.Engine.{IsValueFault, IsSolveFault, IsAuditFault, IsConvertFault, IsGenerateFault}
-use Rattle.pfs_desk.specs.Engine.{SourceUse, source_use, IsUnread, ReadsBlock, ReadsOrder}
+use Rattle.pfs_desk.specs.Engine.{ReadsBlock, ReadsOrder}
 use Rattle.pfs_desk.specs.ProgramText.{open_stop}
-use Rattle.pfs_desk.specs.FileState.{FileState, MayOpen, MayFail, FileEvent, opened, not_opened, closed, Logs}
+use Rattle.pfs_desk.specs.FileState.{FileState, MayOpen, MayFail, FileEvent, opened, not_opened, closed}
+use Rattle.pfs_desk.specs.Uses.{Did, FilesUse, IsUnread, SinkUse, SourceUse, source_use}
 
 -- the result of a job: a text to print and the outcome after it, or why the program stops without one
 pub data JobResult : Type 0 where
@@ -67,23 +68,21 @@ abbrev pub closing : SourceUse → FileEvent
 closing file = closed file.left file.failed file.ended
 
 -- all paths were opened, one after the other; then the files were read, and closed
-pub record ReadsFiles (state : List ℕ → FileState) (log log' : Option (List FileEvent)) (paths : List (List ℕ))
-    (files : List SourceUse) : Type 0 where
-  pub give : GiveFiles state paths files
-  pub events : Logs log log' (map opened paths ++ map closing files)
+pub record ReadsFiles (disk : FilesUse) (paths : List (List ℕ)) (files : List SourceUse) : Type 0 where
+  pub give : GiveFiles disk.state paths files
+  pub events : Did disk (map opened paths ++ map closing files)
 
 -- a path could not be opened: those before it were, and their files were closed unread
-pub record StopsAtPath (state : List ℕ → FileState) (log log' : Option (List FileEvent)) (paths : List (List ℕ))
-    (returned : JobResult) : Type 0 where
+pub record StopsAtPath (disk : FilesUse) (paths : List (List ℕ)) (returned : JobResult) : Type 0 where
   pub before : List (List ℕ)
   pub path : List ℕ
   pub after : List (List ℕ)
   pub given : List (Option (List ℕ))
   pub fault : OpenFault
   pub parts : paths ≡ before ++ path ∷ after
-  pub give : GiveFiles state before (map unread given)
-  pub may_fail : MayFail (state path) fault
-  pub events : Logs log log' (map opened before ++ not_opened path fault ∷ map closing (map unread given))
+  pub give : GiveFiles disk.state before (map unread given)
+  pub may_fail : MayFail (disk.state path) fault
+  pub events : Did disk (map opened before ++ not_opened path fault ∷ map closing (map unread given))
   pub reported : returned ≡ stops (open_stop fault)
 
 -- ---- what an engine returns
@@ -133,19 +132,15 @@ ReturnsFor (job.Generate jobs machines seed) input [] returned = IsUnread input
 ReturnsFor others input files returned = ⊥
 
 -- all files of the job were opened, read and closed, and the job's engine has this result
-pub record RunsEngine (asked : Job) (state : List ℕ → FileState) (log log' : Option (List FileEvent))
-    (input : SourceUse) (returned : JobResult) : Type 0 where
+pub record RunsEngine (asked : Job) (disk : FilesUse) (input : SourceUse) (returned : JobResult) : Type 0 where
   pub files : List SourceUse
-  pub reads : ReadsFiles state log log' (paths_of asked) files
+  pub reads : ReadsFiles disk (paths_of asked) files
   pub has_result : ReturnsFor asked input files returned
 
--- what the program does for a job, and the job's result: a path could not be opened, or the engine ran; log and log'
--- are the log before and after
-abbrev pub RunsJob : Job → (List ℕ → FileState) → Option (List FileEvent) → Option (List FileEvent) → SourceUse
-    → JobResult → Type 0
-RunsJob asked state log log' input returned =
-    (IsUnread input × StopsAtPath state log log' (paths_of asked) returned)
-    ⊎ RunsEngine asked state log log' input returned
+-- what the program does for a job, and the job's result: a path could not be opened, or the engine ran
+abbrev pub RunsJob : Job → FilesUse → SourceUse → JobResult → Type 0
+RunsJob asked disk input returned =
+    (IsUnread input × StopsAtPath disk (paths_of asked) returned) ⊎ RunsEngine asked disk input returned
 
 -- ---- what is written of the result
 
@@ -154,23 +149,23 @@ abbrev pub reports_write : Result Outcome Stop → Bool
 reports_write (Err (Fault (faults.Write fault))) = true
 reports_write others = false
 
--- some result of a job was written as `IsWritten` says, and a failed write is reported exactly if a write failed
-pub record Delivers (IsResult : JobResult → Type 0) (IsWritten : JobResult → Result Outcome Stop → Type 0)
-    (failed : Bool) (result : Result Outcome Stop) : Type 0 where
+-- some result of a job was written to the output as `IsWritten` says, and a failed write is reported exactly if a
+-- write failed
+pub record Delivers (IsResult : JobResult → Type 0) (IsWritten : SinkUse → JobResult → Result Outcome Stop → Type 0)
+    (output : SinkUse) (result : Result Outcome Stop) : Type 0 where
   pub returned : JobResult
   pub is_result : IsResult returned
-  pub is_written : IsWritten returned result
-  pub write_failed : failed ≡ reports_write result
+  pub is_written : IsWritten output returned result
+  pub write_failed : output.failed ≡ reports_write result
 
 -- a write failed after a prefix of the text
-pub record WritesFrontOf (text : List ℕ) (old new : Option (List ℕ)) (failed : Bool) (result : Result Outcome Stop)
-    : Type 0 where
+pub record WritesFrontOf (text : List ℕ) (output : SinkUse) (result : Result Outcome Stop) : Type 0 where
   pub fault : WriteFault
   pub reported : result ≡ Err (Fault (faults.Write fault))
-  pub front : SendsFront old new failed 0 text fault.written
+  pub front : SendsFront output.old output.new output.failed 0 text fault.written
 
 -- all of the result's text was written, or a prefix of it if a write failed, and nothing if the result has no text
-abbrev pub WritesResult : Option (List ℕ) → Option (List ℕ) → Bool → JobResult → Result Outcome Stop → Type 0
-WritesResult old new failed (prints outcome text) result =
-    ((result ≡ Ok outcome) × Appends old new text) ⊎ WritesFrontOf text old new failed result
-WritesResult old new failed (stops stop) result = (result ≡ Err stop) × (failed ≡ false) × (new ≡ old)
+abbrev pub WritesResult : SinkUse → JobResult → Result Outcome Stop → Type 0
+WritesResult output (prints outcome text) result =
+    ((result ≡ Ok outcome) × Appends output.old output.new text) ⊎ WritesFrontOf text output result
+WritesResult output (stops stop) result = (result ≡ Err stop) × (output.failed ≡ false) × (output.new ≡ output.old)

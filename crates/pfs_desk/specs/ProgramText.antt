@@ -1,5 +1,5 @@
 -- How the program ends: what it writes to the error output, and its exit status.
-use Rattle.std.specs.Prelude.{◌≡◌, ℕ, Bool, false, List, [], ◌∷◌, Option, Result, Ok, Err, codes}
+use Rattle.std.specs.Prelude.{◌≡◌, ℕ, false, List, [], ◌∷◌, Result, Ok, Err, codes}
 use Rattle.std.specs.List.{flat_map}
 use Rattle.pfs_base.specs.declared.device.WriteFault.{WriteFault}
 use Rattle.pfs_base.specs.Sends.{Prints}
@@ -14,6 +14,7 @@ use Rattle.pfs_desk.specs.declared.stop.Stop.TheVariants as stops
 use Rattle.pfs_words.specs.declared.usage.UsageFault.{UsageFault}
 use Rattle.pfs_words.specs.declared.usage.UsageFault.TheVariants as usage_faults
 use Rattle.pfs_desk.specs.FaultText.{fault_text, status_of}
+use Rattle.pfs_desk.specs.Uses.{SinkUse}
 
 -- the usage text: a first line, and a line for each command
 unfoldable pub usage_text : List ℕ
@@ -56,11 +57,11 @@ exit_status_of (Ok CheckFailed) = 1
 exit_status_of (Err stop) = stop_status_of stop
 
 -- the text was written, or a prefix of it if a write failed
-pub record ReportsText (text : List ℕ) (old new : Option (List ℕ)) (failed : Bool) : Type 0 where
+pub record ReportsText (text : List ℕ) (errors : SinkUse) : Type 0 where
   pub returned : Result (Unit {0}) WriteFault
-  pub printed : Prints old new failed text returned
+  pub printed : Prints errors.old errors.new errors.failed text returned
 
 -- what is written to the error output: why the program stopped, if it stopped, and else nothing
-abbrev pub Reports : Result Outcome Stop → Option (List ℕ) → Option (List ℕ) → Bool → Type 0
-Reports (Ok outcome) old new failed = (failed ≡ false) × (new ≡ old)
-Reports (Err stop) old new failed = ReportsText (stop_text stop) old new failed
+abbrev pub Reports : Result Outcome Stop → SinkUse → Type 0
+Reports (Ok outcome) errors = (errors.failed ≡ false) × (errors.new ≡ errors.old)
+Reports (Err stop) errors = ReportsText (stop_text stop) errors

@@ -1,8 +1,8 @@
 //! Runs a job: opens the files that it names, calls its engine and closes the files.
 ghost use Rattle.std.specs.Prelude.{◌≡◌, ◌∷◌, [], length, false, IfOk, IfErr};
 ghost use Rattle.pfs_words.specs.Jobs.{IsWithinLimits};
-ghost use Rattle.pfs_desk.specs.Engine.{IsUnread, SourceUse, source_use};
 ghost use Rattle.pfs_desk.specs.Program.{Delivers, ReturnsFor, RunsJob, WritesResult, paths_of};
+ghost use Rattle.pfs_desk.specs.Uses.{IsUnread, SourceUse, files_use, sink_use, source_use};
 ghost use Rattle.pfs_desk.specs.Private.Ending.{OpensBoth, OneFails};
 ghost use Rattle.pfs_desk.specs.Private.Ending.{ending as ending_of};
 
@@ -33,11 +33,11 @@ pub fn run_job<F: Files, R: Source, W: Sink>(
     requires within { IsWithinLimits job.now }
     requires reading { R.has_failed input.old ≡ false }
     requires writing { W.has_failed writer.old ≡ false }
-    ensures { Delivers (RunsJob job.now (F.state files.old) (F.log files.old) (F.log files.new)
+    ensures { Delivers (RunsJob job.now (files_use (F.state files.old) (F.log files.old) (F.log files.new))
         (source_use (R.left input.old) (R.left input.new) (R.has_failed input.new)
         (R.has_ended input.old) (R.has_ended input.new)))
-        (WritesResult (W.written writer.old) (W.written writer.new) (W.has_failed writer.new))
-        (W.has_failed writer.new) result }
+        WritesResult
+        (sink_use (W.written writer.old) (W.written writer.new) (W.has_failed writer.new)) result }
 {
     match job {
         Job::Value {
@@ -87,9 +87,8 @@ fn run_on_file<F: Files, W: Sink>(
     requires within { IsWithinLimits job.now }
     requires writing { W.has_failed writer.old ≡ false }
     ensures { (input : SourceUse) → IsUnread input → Delivers (RunsJob job.now
-        (F.state files.old) (F.log files.old) (F.log files.new) input)
-        (WritesResult (W.written writer.old) (W.written writer.new) (W.has_failed writer.new))
-        (W.has_failed writer.new) result }
+        (files_use (F.state files.old) (F.log files.old) (F.log files.new)) input) WritesResult
+        (sink_use (W.written writer.old) (W.written writer.new) (W.has_failed writer.new)) result }
 {
     let mut file = files.open(path)?;
     let returned = run_engine(alloc, job, &mut file, writer);
@@ -111,8 +110,8 @@ fn run_engine<R: Source, W: Sink>(
     ensures { (input : SourceUse) → IsUnread input → Delivers (ReturnsFor job.now input
         (source_use (R.left file.old) (R.left file.new) (R.has_failed file.new)
         (R.has_ended file.old) (R.has_ended file.new) ∷ []))
-        (WritesResult (W.written writer.old) (W.written writer.new) (W.has_failed writer.new))
-        (W.has_failed writer.new) (ending_of result) }
+        WritesResult
+        (sink_use (W.written writer.old) (W.written writer.new) (W.has_failed writer.new)) (ending_of result) }
 {
     match job {
         Job::Value { layout, block, .. } => run_value(alloc, file, *layout, *block, writer),
@@ -141,13 +140,14 @@ fn open_both<F: Files>(
     order_path: &PathText,
 ) -> Result<(F::File, F::File), OpenFault>
     ensures kept { F.state files.new ≡ F.state files.old }
-    ensures both { IfOk result (λ both. OpensBoth (F.state files.old) (F.log files.old) (F.log files.new)
+    ensures both { IfOk result (λ both. OpensBoth
+        (files_use (F.state files.old) (F.log files.old) (F.log files.new))
         path.now order_path.now (F.File.left both.0) (F.File.left both.1)) }
     ensures working { IfOk result (λ both. F.File.has_failed both.0 ≡ false) }
     ensures working_orders { IfOk result (λ both. F.File.has_failed both.1 ≡ false) }
     ensures fresh { IfOk result (λ both. F.File.has_ended both.0 ≡ false) }
     ensures fresh_orders { IfOk result (λ both. F.File.has_ended both.1 ≡ false) }
-    ensures fails { IfErr result (OneFails (F.state files.old) (F.log files.old) (F.log files.new)
+    ensures fails { IfErr result (OneFails (files_use (F.state files.old) (F.log files.old) (F.log files.new))
         path.now order_path.now) }
 {
     let file = files.open(path)?;
@@ -173,9 +173,8 @@ fn run_on_both<F: Files, W: Sink>(
     requires within { IsWithinLimits job.now }
     requires writing { W.has_failed writer.old ≡ false }
     ensures { (input : SourceUse) → IsUnread input → Delivers (RunsJob job.now
-        (F.state files.old) (F.log files.old) (F.log files.new) input)
-        (WritesResult (W.written writer.old) (W.written writer.new) (W.has_failed writer.new))
-        (W.has_failed writer.new) result }
+        (files_use (F.state files.old) (F.log files.old) (F.log files.new)) input) WritesResult
+        (sink_use (W.written writer.old) (W.written writer.new) (W.has_failed writer.new)) result }
 {
     let (mut file, mut orders) = open_both(files, path, order_path)?;
     let returned = run_audit(alloc, job, &mut file, &mut orders, writer);
@@ -202,8 +201,8 @@ fn run_audit<R: Source, O: Source, W: Sink>(
         (R.has_ended file.old) (R.has_ended file.new)
         ∷ source_use (O.left orders.old) (O.left orders.new) (O.has_failed orders.new)
         (O.has_ended orders.old) (O.has_ended orders.new) ∷ []))
-        (WritesResult (W.written writer.old) (W.written writer.new) (W.has_failed writer.new))
-        (W.has_failed writer.new) (ending_of result) }
+        WritesResult
+        (sink_use (W.written writer.old) (W.written writer.new) (W.has_failed writer.new)) (ending_of result) }
 {
     match job {
         Job::Check { layout, block, .. } => run_check(alloc, file, *layout, *block, orders, writer),

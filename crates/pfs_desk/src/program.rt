@@ -2,8 +2,8 @@
 ghost use Rattle.std.specs.Prelude.{◌≡◌, false, map, string_bytes};
 ghost use Rattle.std.specs.Io.KnownBytes.{Keeps};
 ghost use Rattle.pfs_base.specs.Buffer.{IsNew, bytes_given};
-ghost use Rattle.pfs_desk.specs.Engine.{source_use};
 ghost use Rattle.pfs_desk.specs.Program.{reports_write};
+ghost use Rattle.pfs_desk.specs.Uses.{files_use, sink_use, source_use};
 ghost use Rattle.pfs_desk.specs.WholeProgram.{Ends, Runs};
 ghost use Rattle.pfs_desk.specs.Private.Ending.{EndsOutput};
 
@@ -28,11 +28,12 @@ pub fn run_program<F: Files, R: Source, W: Sink, E: Sink>(
     requires reading { R.has_failed input.old ≡ false }
     requires writing { W.has_failed output.old.writer ≡ false }
     requires reporting { E.has_failed errors.old ≡ false }
-    ensures { Ends (map string_bytes words.now) (F.state files.old) (F.log files.old) (F.log files.new)
+    ensures { Ends (map string_bytes words.now) (files_use (F.state files.old) (F.log files.old) (F.log files.new))
         (source_use (R.left input.old) (R.left input.new) (R.has_failed input.new)
         (R.has_ended input.old) (R.has_ended input.new))
-        (IsNew W.written output.old) (W.written output.new.writer) (W.has_failed output.new.writer)
-        (E.written errors.old) (E.written errors.new) (E.has_failed errors.new) result }
+        (IsNew W.written output.old)
+        (sink_use (W.written output.old.writer) (W.written output.new.writer) (W.has_failed output.new.writer))
+        (sink_use (E.written errors.old) (E.written errors.new) (E.has_failed errors.new)) result }
 {
     let ended = run(alloc, words, files, input, output);
     finish(errors, &ended)
@@ -48,10 +49,12 @@ fn run<F: Files, R: Source, W: Sink>(
 ) -> Result<Outcome, Stop>
     requires reading { R.has_failed input.old ≡ false }
     requires writing { W.has_failed output.old.writer ≡ false }
-    ensures { Runs (map string_bytes words.now) (F.state files.old) (F.log files.old) (F.log files.new)
+    ensures { Runs (map string_bytes words.now) (files_use (F.state files.old) (F.log files.old) (F.log files.new))
         (source_use (R.left input.old) (R.left input.new) (R.has_failed input.new)
         (R.has_ended input.old) (R.has_ended input.new))
-        (IsNew W.written output.old) (W.written output.new.writer) (W.has_failed output.new.writer) result }
+        (IsNew W.written output.old)
+        (sink_use (W.written output.old.writer) (W.written output.new.writer) (W.has_failed output.new.writer))
+        result }
 {
     let job = plan(alloc, words)?;
     let returned = run_job(alloc, &job, files, input, output);

@@ -1,7 +1,9 @@
 //! How the program ends: what it writes to the error output, and its exit status.
 ghost use Rattle.std.specs.Prelude.{◌≡◌, false};
 ghost use Rattle.pfs_base.specs.Sends.{Prints};
-ghost use Rattle.pfs_desk.specs.ProgramText.{Reports, exit_status_of, open_stop, stop_status_of, stop_text, usage_stop};
+ghost use Rattle.pfs_desk.specs.ProgramText.{Reports, exit_status_of, open_stop};
+ghost use Rattle.pfs_desk.specs.ProgramText.{stop_status_of, stop_text, usage_stop};
+ghost use Rattle.pfs_desk.specs.Uses.{sink_use};
 
 use crate::fault::{DeskFault, Outcome, status, write_fault};
 use crate::files::OpenFault;
@@ -54,7 +56,8 @@ impl From<OpenFault> for Stop {
 /// error output fails, no more is written, and the status is the same.
 pub fn finish<E: Sink>(errors: &mut E, returned: &Result<Outcome, Stop>) -> u8
     requires { E.has_failed errors.old ≡ false }
-    ensures reported { Reports returned.now (E.written errors.old) (E.written errors.new) (E.has_failed errors.new) }
+    ensures reported { Reports returned.now
+        (sink_use (E.written errors.old) (E.written errors.new) (E.has_failed errors.new)) }
     ensures status { result ≡ exit_status_of returned.now }
 {
     match returned {

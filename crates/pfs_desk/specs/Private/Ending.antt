@@ -7,34 +7,30 @@ use Rattle.pfs_desk.specs.declared.fault.Outcome.{Outcome}
 use Rattle.pfs_desk.specs.declared.stop.Stop.{Stop}
 use Rattle.pfs_desk.specs.declared.stop.Stop.TheVariants.{Fault}
 use Rattle.pfs_desk.specs.declared.files.OpenFault.{OpenFault}
-use Rattle.pfs_desk.specs.FileState.{FileState, MayOpen, MayFail, FileEvent, opened, not_opened, closed, Logs}
+use Rattle.pfs_desk.specs.FileState.{MayOpen, MayFail, opened, not_opened, closed}
+use Rattle.pfs_desk.specs.Uses.{Did, FilesUse}
 
 -- both files were opened, one after the other
-pub record OpensBoth (state : List ℕ → FileState) (log log' : Option (List FileEvent)) (path order_path : List ℕ)
-    (file orders : Option (List ℕ)) : Type 0 where
-  pub give : MayOpen (state path) file
-  pub give_orders : MayOpen (state order_path) orders
-  pub events : Logs log log' (opened path ∷ opened order_path ∷ [])
+pub record OpensBoth (disk : FilesUse) (path order_path : List ℕ) (file orders : Option (List ℕ)) : Type 0 where
+  pub give : MayOpen (disk.state path) file
+  pub give_orders : MayOpen (disk.state order_path) orders
+  pub events : Did disk (opened path ∷ opened order_path ∷ [])
 
 -- the first path could not be opened
-pub record FirstFails (state : List ℕ → FileState) (log log' : Option (List FileEvent)) (path : List ℕ)
-    (fault : OpenFault) : Type 0 where
-  pub may_fail : MayFail (state path) fault
-  pub events : Logs log log' (not_opened path fault ∷ [])
+pub record FirstFails (disk : FilesUse) (path : List ℕ) (fault : OpenFault) : Type 0 where
+  pub may_fail : MayFail (disk.state path) fault
+  pub events : Did disk (not_opened path fault ∷ [])
 
 -- the second path could not be opened, and the first file was closed unread
-pub record SecondFails (state : List ℕ → FileState) (log log' : Option (List FileEvent))
-    (path order_path : List ℕ) (fault : OpenFault) : Type 0 where
+pub record SecondFails (disk : FilesUse) (path order_path : List ℕ) (fault : OpenFault) : Type 0 where
   pub file : Option (List ℕ)
-  pub give : MayOpen (state path) file
-  pub may_fail : MayFail (state order_path) fault
-  pub events : Logs log log' (opened path ∷ not_opened order_path fault ∷ closed file false false ∷ [])
+  pub give : MayOpen (disk.state path) file
+  pub may_fail : MayFail (disk.state order_path) fault
+  pub events : Did disk (opened path ∷ not_opened order_path fault ∷ closed file false false ∷ [])
 
 -- one of the two paths could not be opened
-abbrev pub OneFails : (List ℕ → FileState) → Option (List FileEvent) → Option (List FileEvent) → List ℕ → List ℕ
-    → OpenFault → Type 0
-OneFails state log log' path order_path fault = FirstFails state log log' path fault
-    ⊎ SecondFails state log log' path order_path fault
+abbrev pub OneFails : FilesUse → List ℕ → List ℕ → OpenFault → Type 0
+OneFails disk path order_path fault = FirstFails disk path fault ⊎ SecondFails disk path order_path fault
 
 -- the result of an engine as the program's
 abbrev pub ending : Result Outcome DeskFault → Result Outcome Stop

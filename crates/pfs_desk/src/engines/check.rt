@@ -2,8 +2,9 @@
 ghost use Rattle.std.specs.Prelude.{◌≡◌, ◌+◌, ◌<◌, ◌≤◌, false, length, IfOk, IfErr};
 ghost use Rattle.pfs_base.specs.Sends.{Sends};
 ghost use Rattle.pfs_desk.specs.Engine.{WritesOutput, CheckOutput, IsAuditFault, ReadsBlock, ReadsOrder};
-ghost use Rattle.pfs_desk.specs.Engine.{layout_fault_of, order_fault_of, source_use};
+ghost use Rattle.pfs_desk.specs.Engine.{layout_fault_of, order_fault_of};
 ghost use Rattle.pfs_desk.specs.OutputText.{finding, outcome_of, valid_text, verdict_text};
+ghost use Rattle.pfs_desk.specs.Uses.{sink_use, source_use};
 
 use crate::fault::{DeskFault, Outcome};
 use pfs_audit::{Verdict, check};
@@ -33,7 +34,7 @@ pub fn run_check<R: Source, O: Source, W: Sink>(
     requires some { 1 ≤ block }
     requires few { block ≤ MOST_BLOCKS }
     ensures written { WritesOutput (CheckOutput layout (R.left reader.old) block (O.left order_reader.old))
-        (W.written writer.old) (W.written writer.new) (W.has_failed writer.new) result }
+        (sink_use (W.written writer.old) (W.written writer.new) (W.has_failed writer.new)) result }
     ensures fault { IfErr result (IsAuditFault layout (R.left reader.old) block (O.left order_reader.old)) }
     ensures reads { ReadsBlock layout block
         (source_use (R.left reader.old) (R.left reader.new) (R.has_failed reader.new)

@@ -1,7 +1,7 @@
 //! `convert`: a block of an instance file, written in another layout.
 ghost use Rattle.std.specs.Prelude.{◌≡◌, ◌≢◌, ◌≤◌, false, IfErr};
 ghost use Rattle.pfs_desk.specs.Engine.{WritesOutput, ConvertOutput, IsConvertFault, ReadsBlock, layout_fault_of};
-ghost use Rattle.pfs_desk.specs.Engine.{source_use};
+ghost use Rattle.pfs_desk.specs.Uses.{sink_use, source_use};
 
 use crate::fault::{DeskFault, Outcome};
 use pfs_base::{MOST_BLOCKS, Sink, Source};
@@ -26,7 +26,7 @@ pub fn run_convert<R: Source, W: Sink>(
     requires some { 1 ≤ block }
     requires few { block ≤ MOST_BLOCKS }
     ensures written { WritesOutput (ConvertOutput source target (R.left reader.old) block)
-        (W.written writer.old) (W.written writer.new) (W.has_failed writer.new) result }
+        (sink_use (W.written writer.old) (W.written writer.new) (W.has_failed writer.new)) result }
     ensures fault { IfErr result (IsConvertFault source (R.left reader.old) block) }
     ensures reads { ReadsBlock source block
         (source_use (R.left reader.old) (R.left reader.new) (R.has_failed reader.new)

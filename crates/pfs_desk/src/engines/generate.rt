@@ -3,6 +3,7 @@ ghost use Rattle.std.specs.Prelude.{◌≡◌, ◌≤◌, ◌↔◌, false, IfEr
 ghost use Rattle.pfs_base.specs.declared.limits.TheConstants.{MOST_JOBS, MOST_MACHINES};
 ghost use Rattle.pfs_layout.specs.Generator.{IsSeed};
 ghost use Rattle.pfs_desk.specs.Engine.{WritesOutput, GenerateOutput, IsGenerateFault};
+ghost use Rattle.pfs_desk.specs.Uses.{sink_use};
 
 use crate::fault::{DeskFault, Outcome};
 use pfs_base::Sink;
@@ -26,7 +27,7 @@ pub fn run_generate<W: Sink>(
     requires some_machine { 1 ≤ machines }
     requires few_machines { machines ≤ MOST_MACHINES }
     ensures written { WritesOutput (GenerateOutput jobs machines seed)
-        (W.written writer.old) (W.written writer.new) (W.has_failed writer.new) result }
+        (sink_use (W.written writer.old) (W.written writer.new) (W.has_failed writer.new)) result }
     ensures seed_range { result ≡ Err (DeskFault.Layout LayoutFault.SeedRange) ↔ (¬ IsSeed seed) }
     ensures faults { IfErr result IsGenerateFault }
 {

@@ -2,10 +2,10 @@
 ghost use Rattle.std.specs.Prelude.{◌≡◌, ◌<◌, ◌≤◌, ◌^◌, false, IfSome, IfOk, IfErr};
 ghost use Rattle.pfs_base.specs.Sends.{Sends};
 ghost use Rattle.pfs_desk.specs.Engine.{WritesOutput, SolveOutput, IsSolveFault, ReadsBlock, layout_fault_of};
-ghost use Rattle.pfs_desk.specs.Engine.{source_use};
 ghost use Rattle.pfs_desk.specs.Headline.{Solves};
 ghost use Rattle.pfs_desk.specs.Solve.{IsTakeFault, solution_text};
 ghost use Rattle.pfs_desk.specs.Solve.{take_for as take_of};
+ghost use Rattle.pfs_desk.specs.Uses.{sink_use, source_use};
 
 use crate::fault::{DeskFault, Outcome};
 use pfs_base::print::put_named;
@@ -40,13 +40,14 @@ pub fn run_solve<R: Source, W: Sink>(
     requires passes { options.now.passes ≤ MOST_PASSES }
     requires take { IfSome options.now.take (λ asked. 1 ≤ asked) }
     ensures written { WritesOutput (SolveOutput layout (R.left reader.old) block options.now)
-        (W.written writer.old) (W.written writer.new) (W.has_failed writer.new) result }
+        (sink_use (W.written writer.old) (W.written writer.new) (W.has_failed writer.new)) result }
     ensures fault { IfErr result (IsSolveFault layout (R.left reader.old) block options.now.take) }
     ensures reads { ReadsBlock layout block
         (source_use (R.left reader.old) (R.left reader.new) (R.has_failed reader.new)
         (R.has_ended reader.old) (R.has_ended reader.new)) (layout_fault_of result) }
     ensures solves { IfSome (R.left reader.old) (λ bytes. Solves layout bytes block options.now
-        (W.written writer.old) (W.written writer.new) (R.has_failed reader.new) (W.has_failed writer.new) result) }
+        (R.has_failed reader.new) (sink_use (W.written writer.old) (W.written writer.new) (W.has_failed writer.new))
+        result) }
 {
     let instance = read_block(alloc, reader, layout, block)?;
     let take = take_for(options.take, instance.jobs())?;

@@ -3,7 +3,7 @@ ghost use Rattle.std.specs.Prelude.{◌≡◌, ◌≤◌, false, IfOk, IfErr};
 ghost use Rattle.pfs_base.specs.Paths.{makespan};
 ghost use Rattle.pfs_order.specs.Sequence.{all_jobs};
 ghost use Rattle.pfs_desk.specs.Engine.{WritesOutput, ValueOutput, IsValueFault, ReadsBlock, layout_fault_of};
-ghost use Rattle.pfs_desk.specs.Engine.{source_use};
+ghost use Rattle.pfs_desk.specs.Uses.{sink_use, source_use};
 
 use crate::fault::{DeskFault, Outcome};
 use pfs_audit::makespan;
@@ -29,7 +29,7 @@ pub fn run_value<R: Source, W: Sink>(
     requires some { 1 ≤ block }
     requires few { block ≤ MOST_BLOCKS }
     ensures written { WritesOutput (ValueOutput layout (R.left reader.old) block)
-        (W.written writer.old) (W.written writer.new) (W.has_failed writer.new) result }
+        (sink_use (W.written writer.old) (W.written writer.new) (W.has_failed writer.new)) result }
     ensures fault { IfErr result (IsValueFault layout (R.left reader.old) block) }
     ensures reads { ReadsBlock layout block
         (source_use (R.left reader.old) (R.left reader.new) (R.has_failed reader.new)

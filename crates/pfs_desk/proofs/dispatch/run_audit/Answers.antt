@@ -1,5 +1,5 @@
 use Rattle.std.proofs.Common.{[], ◌∷◌, subst, sym}
-use Rattle.pfs_desk.specs.Engine.{source_use}
+use Rattle.pfs_desk.specs.Uses.{source_use}
 use Rattle.pfs_desk.specs.Program.{ReturnsFor}
 use Rattle.pfs_desk.proofs.RunLemmas.{gives_on_both}
 use Rattle.pfs_desk.proofs.dispatch.run_audit.Goals as goal
@@ -13,7 +13,7 @@ returns-in-Check g c = λ input unread.
     let orders = source_use (g.O.Source.left c.args.orders.now) (g.O.Source.left run.new.order_reader)
     (g.O.Source.has_failed run.new.order_reader) (g.O.Source.has_ended c.args.orders.now)
     (g.O.Source.has_ended run.new.order_reader) in
-    gives_on_both (ReturnsFor c.args.job.now input (file ∷ orders ∷ [])) _ _ _ _ _ _ run.result run.ensures.written file
+    gives_on_both (ReturnsFor c.args.job.now input (file ∷ orders ∷ [])) _ _ _ _ run.result run.ensures.written file
     run.ensures.reads orders run.ensures.fault run.ensures.reads_order (λ returned has_result.
     subst (λ job. ReturnsFor job input (file ∷ orders ∷ []) returned) (sym c.in-Check.is) (unread, has_result))
 
@@ -26,6 +26,6 @@ returns-in-Table g c = λ input unread.
     let orders = source_use (g.O.Source.left c.args.orders.now) (g.O.Source.left run.new.order_reader)
     (g.O.Source.has_failed run.new.order_reader) (g.O.Source.has_ended c.args.orders.now)
     (g.O.Source.has_ended run.new.order_reader) in
-    gives_on_both (ReturnsFor c.args.job.now input (file ∷ orders ∷ [])) _ _ _ _ _ _ run.result run.ensures.written file
+    gives_on_both (ReturnsFor c.args.job.now input (file ∷ orders ∷ [])) _ _ _ _ run.result run.ensures.written file
     run.ensures.reads orders run.ensures.fault run.ensures.reads_order (λ returned has_result.
     subst (λ job. ReturnsFor job input (file ∷ orders ∷ []) returned) (sym c.in-Table.is) (unread, has_result))

@@ -4,7 +4,7 @@ use Rattle.pfs_desk.proofs.program.run.Goals as goal
 
 pub returns-in_err-job : goal.returns-in_err-job
 returns-in_err-job g c =
-    gives_rejection _ c.args.words.now _ _ _ _ _ _ c.in_err-job.field-0.0 _ (search rules) (record {
+    gives_rejection _ c.args.words.now _ _ _ _ _ c.in_err-job.field-0.0 _ (search rules) (record {
       kept = refl;
       working = c.requires.reading;
       no_end = refl;

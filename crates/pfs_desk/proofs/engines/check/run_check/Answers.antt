@@ -1,6 +1,7 @@
 use Rattle.std.proofs.Common.{ap, rules}
 use Rattle.pfs_desk.specs.Engine.{WritesFront, CheckOutput}
 use Rattle.pfs_desk.specs.OutputText.{verdict_text, outcome_of}
+use Rattle.pfs_desk.specs.Uses.{sink_use}
 use Rattle.pfs_desk.proofs.engines.check.run_check.Goals as goal
 
 pub returns-in_err-put_verdict-clause-written : goal.returns-in_err-put_verdict-clause-written
@@ -11,7 +12,7 @@ returns-in_err-put_verdict-clause-written g c =
     let new = g.W.Sink.written c.put_verdict.new.writer in
     let failed = g.W.Sink.has_failed c.put_verdict.new.writer in
     let verdict = c.in_ok-verdict.verdict in
-    let front : WritesFront (CheckOutput c.args.layout file c.args.block order_file) old new failed
+    let front : WritesFront (CheckOutput c.args.layout file c.args.block order_file) (sink_use old new failed)
     c.in_err-put_verdict.field-0.0.written =
     record {
       outcome = outcome_of verdict;

@@ -4,6 +4,7 @@ use Rattle.pfs_audit.specs.Verdicts.{SizesMatch}
 use Rattle.pfs_desk.specs.declared.fault.Outcome.TheVariants.{Done, CheckFailed}
 use Rattle.pfs_desk.specs.Engine.{WritesFront, TableOutput}
 use Rattle.pfs_desk.specs.OutputText.{wrong_size_text, wrong_machines_text, table_text, IsLeastTable}
+use Rattle.pfs_desk.specs.Uses.{sink_use}
 use Rattle.pfs_desk.proofs.OutputLemmas.{wrong_size_prints, wrong_machines_prints, fitting_prints, least_of}
 use Rattle.pfs_desk.proofs.engines.table.run_table.Goals as goal
 
@@ -16,7 +17,7 @@ returns-in_err-put_verdict-clause-written g c =
     let failed = g.W.Sink.has_failed c.put_verdict.new.writer in
     let size = c.len-size.result in
     let jobs = c.jobs-jobs.result in
-    let front : WritesFront (TableOutput c.args.layout file c.args.block order_file) old new failed
+    let front : WritesFront (TableOutput c.args.layout file c.args.block order_file) (sink_use old new failed)
     c.in_err-put_verdict.field-0.0.written =
     record {
       outcome = CheckFailed;
@@ -47,7 +48,7 @@ returns-in_err-put_verdict-2-clause-written g c =
     let size : length c.in_ok-file.file.order ≡ c.in_ok-instance.instance.shop.jobs =
     ap length (sym c.order-order.ensures.value) ∙ sym c.len-size.ensures.value ∙ c.if-size-jobs.false
     ∙ c.jobs-jobs.ensures.value in
-    let front : WritesFront (TableOutput c.args.layout file c.args.block order_file) old new failed
+    let front : WritesFront (TableOutput c.args.layout file c.args.block order_file) (sink_use old new failed)
     c.in_err-put_verdict-2.field-0.0.written =
     record {
       outcome = CheckFailed;
@@ -84,7 +85,7 @@ returns-in_err-put_table-clause-written g c =
       makespan = c.in_ok-table.ensures.makespan;
     }
     in
-    let front : WritesFront (TableOutput c.args.layout file c.args.block order_file) old new failed
+    let front : WritesFront (TableOutput c.args.layout file c.args.block order_file) (sink_use old new failed)
     c.in_err-put_table.field-0.0.written =
     record {
       outcome = Done;
