@@ -1,6 +1,8 @@
 -- The best place of a job, from the lanes of the sums.
-use Rattle.std.proofs.Common.{◌≡◌, ℕ, ◌+◌, ◌<◌, ◌≤◌, List, length, get_or, drop, ap, ◌∙◌, arith}
-use Rattle.std.proofs.lemmas.List.{get_or-drop}
+use Rattle.std.proofs.Common.{◌≡◌, ℕ, ◌+◌, ◌-◌, ◌<◌, ◌≤◌, List, ◌++◌, length, map, take, drop, get_or, ap, ◌∙◌, sym}
+use Rattle.std.proofs.Common.{arith, inl, inr}
+use Rattle.std.proofs.lemmas.Bool.{cases_lt}
+use Rattle.std.proofs.lemmas.List.{get_or-take, get_or-drop, get_or_append_left, length-map, take-map, drop-map, map-append}
 use Rattle.std.specs.List.{slice_index_or}
 use Rattle.pfs_base.specs.FlowShop.{FlowShop}
 use Rattle.pfs_insert.specs.Insertion.{makespan_with}
@@ -8,36 +10,65 @@ use Rattle.pfs_insert.specs.Inserter.{IsBestPlace}
 use Rattle.pfs_insert.proofs.Published.BestPlaces.{best_place_found}
 use Rattle.pfs_wave.specs.Lanes.{capped, Rows, sums_at}
 use Rattle.pfs_wave.specs.Least.{IsLeastSoFar}
-use Rattle.pfs_wave.specs.Wavefront.{FitsLanes, AreSkewed, IsJobRow, HoldTails}
+use Rattle.pfs_wave.specs.Wavefront.{FitsLanes, AreSkewed, IsJobRow, HoldTails, step_count}
 use Rattle.pfs_wave.proofs.CappedLeast.{capped_least_law}
 use Rattle.pfs_wave.proofs.WavefrontLaws.{sums_law}
 
-module _ (cap : ℕ) (shop : FlowShop) (order : List ℕ) (job width last : ℕ) (times tails : Rows)
-    (job_times sums : List ℕ)
-    (suc_last : last + 1 ≡ width) (fits : FitsLanes shop width) (skewed : AreSkewed shop order width times)
+-- numbers of a part of a list that begins in its front
+pub numbers_of_part : {N : Type 0} (number : N → ℕ) (front rest : List N) (first count at to : ℕ) → at < count
+    → first + at < length front → to ≡ first + at
+    → get_or (map number (take count (drop first (front ++ rest)))) at 0 ≡ get_or (map number front) to 0
+numbers_of_part number front rest first count at to lt inside to_is =
+    let all = front ++ rest in
+    let long = length-map front number in
+    ap (λ l. get_or l at 0) (sym (take-map number count (drop first all)) ∙ ap (take count)
+    (sym (drop-map number first all)))
+    ∙ get_or-take count (drop first (map number all)) at 0 lt ∙ get_or-drop first (map number all) at 0
+    ∙ ap (λ l. get_or l (first + at) 0) (map-append number front rest)
+    ∙ get_or_append_left (map number front) (map number rest) 0 (first + at) (omega arith)
+    ∙ ap (λ i. get_or (map number front) i 0) (sym to_is)
+
+-- `row` is the row of sums after all steps
+module _ (cap : ℕ) (shop : FlowShop) (order : List ℕ) (job width : ℕ) (times tails : Rows)
+    (job_times row filled sums : List ℕ)
+    (fits : FitsLanes shop width) (skewed : AreSkewed shop order width times)
     (held : HoldTails cap shop order width tails) (is_job : IsJobRow shop job width job_times)
-    (sums_are : (step : ℕ) → step < length order + width
-    → slice_index_or sums step 0 ≡ slice_index_or (sums_at cap times tails job_times width (step + 1)) last 0) where
+    (row_is : row ≡ sums_at cap times tails job_times width (step_count shop order))
+    (filled_are : (step : ℕ) → step < step_count shop order
+    → slice_index_or filled step 0 ≡ slice_index_or (sums_at cap times tails job_times width (step + 1)) (width - 1) 0)
+    (kept : (place : ℕ) → place + width ≤ step_count shop order
+    → slice_index_or sums place 0 ≡ slice_index_or filled (place + (width - 1)) 0)
+    (taken : (place : ℕ) → place < length order + 1 → step_count shop order < place + width
+    → slice_index_or sums place 0 ≡ slice_index_or row (step_count shop order - 1 - place) 0) where
   sum_at : (place : ℕ) → place < length order + 1 →
-      slice_index_or (drop last sums) place 0 ≡ capped cap (makespan_with shop order job place)
+      slice_index_or sums place 0 ≡ capped cap (makespan_with shop order job place)
   sum_at place lt =
+      let some = fits.some in
       let few = fits.few in
-      let at : last + place ≡ place + last = omega arith in
-      get_or-drop last sums place 0 ∙ ap (λ i. get_or sums i 0) at ∙ sums_are (place + last) (omega arith)
-      ∙ sums_law cap shop order job width times tails job_times fits skewed is_job held place last (omega arith)
-      (omega arith) (omega arith)
+      let steps = step_count shop order in
+      let sums_are = sums_law cap shop order job width times tails job_times fits skewed is_job held place in
+      elim (cases_lt steps (place + width)) [
+        | inl late ↦
+            let lane = steps - 1 - place in
+            let all : steps ≡ place + lane + 1 = omega arith in
+            taken place lt late ∙ ap (λ r. slice_index_or r lane 0) row_is
+            ∙ ap (λ n. slice_index_or (sums_at cap times tails job_times width n) lane 0) all
+            ∙ sums_are lane (omega arith) (omega arith) (omega arith) (omega arith)
+        | inr early ↦
+            kept place early ∙ filled_are (place + (width - 1)) (omega arith)
+            ∙ sums_are (width - 1) (omega arith) (omega arith) (omega arith) (omega arith)
+      ]
 
   -- where every makespan is below the cap, the first place of the least sum is the best place
-  pub found : {count place least : ℕ} (part : List ℕ) → part ≡ drop last sums
-      → IsLeastSoFar (λ place. slice_index_or part place 0) count place least → count ≡ length order + 1
+  pub found : {count place least : ℕ} → IsLeastSoFar (λ place. slice_index_or sums place 0) count place least
+      → count ≡ length order + 1
       → ((place : ℕ) → place ≤ length order → makespan_with shop order job place < cap)
       → IsBestPlace shop order job place least
-  found {count} {place} {least} part is so_far many short =
+  found {count} {place} {least} so_far many short =
       let here = so_far.value_is in
       let first = rw many at so_far.first in
-      let sum_is = λ (at : ℕ) (lt : at < length order + 1). ap (λ v. slice_index_or v at 0) is ∙ sum_at at lt in
       let inside : place < length order + 1 = first.within in
-      let least_is = sum_is place inside in
-      let capped_is = capped_least_law cap (makespan_with shop order job) (λ at. slice_index_or part at 0)
-      (length order + 1) place sum_is first (omega (arith, least_is, short place (omega arith))) in
+      let least_is = sum_at place inside in
+      let capped_is = capped_least_law cap (makespan_with shop order job) (λ at. slice_index_or sums at 0)
+      (length order + 1) place sum_at first (omega (arith, least_is, short place (omega arith))) in
       best_place_found shop order job capped_is.0 (here ∙ capped_is.1)

@@ -115,7 +115,7 @@ module _ (cap width : ℕ) (pass : WavePass) (wide : AreWide width pass) where
       ∙ length-heads_step cap width (inserted_after cap width pass step) (heads_after cap width pass step)
       pass.job (inserted_wide step (omega arith)) (heads_wide step (omega arith)) wide.job
 
-  sums_wide : (step : ℕ) → step ≤ pass.steps → length (sums_after cap width pass step) ≡ width
+  pub sums_wide : (step : ℕ) → step ≤ pass.steps → length (sums_after cap width pass step) ≡ width
   sums_wide zero le = ap length (sums_first cap pass.times width pass.tails pass.job) ∙ length-zeros width
   sums_wide (suc step) le =
       ap length (sums_next cap pass.times width pass.tails pass.job step)

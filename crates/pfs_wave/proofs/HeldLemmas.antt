@@ -40,9 +40,9 @@ module _ {rows : List (List ℕ)} {len : ℕ} {order : List ℕ} {width : ℕ} {
       get_or-take len order row d inside ∙ get_or_default order row d 0 all in
       omega (arith, here, holding.jobs_in row inside, has.count)
 
-  pub holding_skewed : (shop : FlowShop) → HasRows shop width rows
+  pub holding_skewed : (shop : FlowShop) → shop.machines ≤ width → HasRows shop width rows
       → AreSkewed shop (take len order) width (rows_of times)
-  holding_skewed shop has =
+  holding_skewed shop fits has =
       let long = held_len in
       are_skewed shop rows order (take len order) width times has (jobs_below shop has)
       (padded_take shop.jobs (sym has.count))

@@ -6,7 +6,7 @@ use Rattle.std.proofs.lemmas.List.{get_or-take, get_or-drop, get_or-replicate, g
 use Rattle.std.specs.List.{All}
 use Rattle.pfs_base.specs.FlowShop.{FlowShop}
 use Rattle.pfs_wave.specs.Lanes.{rows_of}
-use Rattle.pfs_wave.specs.Wavefront.{AreSkewed, HasRows, padded_time}
+use Rattle.pfs_wave.specs.Wavefront.{AreSkewed, HasRows, padded_time, step_count}
 use Rattle.pfs_wave.specs.Private.HeldRows.{IsPadded, HoldLanes, HoldOutside, row_lane}
 use Rattle.pfs_wave.specs.Private.SkewedBand.{IsBandFilled, band_rows, eight_from}
 use Rattle.pfs_wave.specs.Private.Blending.{past_at}
@@ -133,7 +133,7 @@ row_lane_is shop rows order jobs width has below padded row lane inside lt =
 
 pub are_skewed : (shop : FlowShop) (rows : List (List ℕ)) (order jobs : List ℕ) (width : ℕ) (times : List (List ℕ))
     → HasRows shop width rows → All (λ job. job < shop.jobs) jobs → IsPadded order jobs shop.jobs
-    → length times ≡ length order → length jobs + width ≤ length times
+    → length times ≡ length order → step_count shop jobs ≤ length times
     → ((step : ℕ) → step < length times → length (get_or times step []) ≡ width) → HoldLanes rows order 0 width times
     → AreSkewed shop jobs width (rows_of times)
 are_skewed shop rows order jobs width times has below padded steps enough wide hold = record {
@@ -141,5 +141,5 @@ are_skewed shop rows order jobs width times has below padded steps enough wide h
   times_are = λ row lane lt inside.
       hold.times_are row lane (omega arith) lt (omega arith)
       ∙ row_lane_is shop rows order jobs width has below padded row lane (omega arith) lt;
-  none_before = λ step lane before lt. hold.none_before step lane before (omega arith) lt (omega arith);
+  none_before = λ step lane inside before lt. hold.none_before step lane before (omega arith) lt (omega arith);
 }

@@ -3,19 +3,20 @@ use Rattle.std.proofs.Common.{◌≡◌, ℕ, ◌+◌, ◌<◌, ◌≤◌, List,
 use Rattle.std.proofs.lemmas.List.{get_or-take, get_or_append_left, length-map, map-append, take-map}
 use Rattle.pfs_base.specs.FlowShop.{FlowShop}
 use Rattle.pfs_wave.specs.Lanes.{Rows, rows_of}
-use Rattle.pfs_wave.specs.Wavefront.{lane_of, AreSkewed, HoldTails}
+use Rattle.pfs_wave.specs.Wavefront.{lane_of, AreSkewed, HoldTails, step_count}
 
 -- rows that are the same in all steps of a sequence
 module _ (shop : FlowShop) (jobs : List ℕ) (width : ℕ) (rows others : Rows)
-    (same : (step : ℕ) → step < length jobs + width → others step ≡ rows step) where
-  same_lane : (step lane : ℕ) → step < length jobs + width → lane_of others step lane ≡ lane_of rows step lane
+    (same : (step : ℕ) → step < step_count shop jobs → others step ≡ rows step) where
+  same_lane : (step lane : ℕ) → step < step_count shop jobs → lane_of others step lane ≡ lane_of rows step lane
   same_lane step lane lt = ap (λ row. lane_of (λ _. row) step lane) (same step lt)
 
   pub same_skewed : AreSkewed shop jobs width rows → AreSkewed shop jobs width others
   same_skewed skewed = record {
     lanes = λ step lt. ap length (same step lt) ∙ skewed.lanes step lt;
     times_are = λ row lane lt inside. same_lane (row + lane) lane inside ∙ skewed.times_are row lane lt inside;
-    none_before = λ step lane before lt. same_lane step lane (omega arith) ∙ skewed.none_before step lane before lt;
+    none_before = λ step lane inside before lt. same_lane step lane inside
+        ∙ skewed.none_before step lane inside before lt;
   }
 
   pub same_tails : (cap : ℕ) → HoldTails cap shop jobs width rows → HoldTails cap shop jobs width others

@@ -7,7 +7,7 @@ use Rattle.pfs_base.specs.FlowShop.{FlowShop}
 use Rattle.pfs_wave.specs.Lanes.{capped, zeros, tails_step, heads_step, sums_step, Rows, tails_at, heads_at}
 use Rattle.pfs_wave.specs.Lanes.{inserted_at, sums_at}
 use Rattle.pfs_wave.specs.Wavefront.{lane_of, AreSkewed, FitsLanes, HoldTails, IsJobRow, TailsLaw, HeadsLaw}
-use Rattle.pfs_wave.specs.Wavefront.{InsertedRowsLaw, SumsLaw, padded_time, on_machine, machine_at}
+use Rattle.pfs_wave.specs.Wavefront.{InsertedRowsLaw, SumsLaw, padded_time, on_machine, machine_at, step_count}
 use Rattle.pfs_wave.proofs.Steps.{capped_none, capped_step, zeros-get_or, length-zeros, length-tails_step, tails_lane}
 use Rattle.pfs_wave.proofs.Steps.{capped_more}
 use Rattle.pfs_wave.proofs.Steps.{length-heads_step, heads_lane, length-sums_step, sums_lane}
@@ -61,7 +61,7 @@ module _ (cap : ℕ) (times : Rows) (width : ℕ) where
 module _ (cap : ℕ) (shop : FlowShop) (jobs : List ℕ) (width : ℕ) (times : Rows) (fits : FitsLanes shop width)
     (skewed : AreSkewed shop jobs width times) where
   abbrev steps : ℕ
-  steps = length jobs + width
+  steps = step_count shop jobs
 
   -- the time of a cell
   time_at : (step row lane : ℕ) → step < steps → step ≡ row + lane → lane < width →
@@ -82,7 +82,10 @@ module _ (cap : ℕ) (shop : FlowShop) (jobs : List ℕ) (width : ℕ) (times : 
       get_or (tails_at cap times width steps left) lane 0 ≡ capped cap (padded_back shop jobs row lane)
   tails_are zero row lane end lt =
       ap (λ v. get_or v lane 0) (tails_last cap times width steps) ∙ zeros-get_or width lane lt
-      ∙ capped_none cap ∙ ap (capped cap) (sym (padded_none shop jobs row lane (omega arith)))
+      ∙ capped_none cap ∙ ap (capped cap) (sym (elim (cases_lt row (length jobs)) [
+        | inl some ↦ on_padding shop (heaviest_back shop jobs row) lane (omega arith)
+        | inr none ↦ padded_none shop jobs row lane none
+      ]))
   tails_are (suc left) row lane end lt =
       let below = tails_at cap times width steps left in
       let now = times (steps - suc left) in
@@ -106,7 +109,7 @@ module _ (cap : ℕ) (shop : FlowShop) (jobs : List ℕ) (width : ℕ) (times : 
 
 pub tails_law : TailsLaw
 tails_law cap shop jobs width times tails fits skewed are =
-    let all = length jobs + width in
+    let all = step_count shop jobs in
     record {
       lanes = λ step lt.
           ap length (are step lt) ∙ tails_wide cap shop jobs width times fits skewed (all - step) (omega arith);
@@ -117,7 +120,7 @@ tails_law cap shop jobs width times tails fits skewed are =
 
 module _ (cap : ℕ) (shop : FlowShop) (jobs : List ℕ) (width : ℕ) (times : Rows) (fits : FitsLanes shop width)
     (skewed : AreSkewed shop jobs width times) where
-  heads_wide : (step : ℕ) → step ≤ length jobs + width → length (heads_at cap times width step) ≡ width
+  heads_wide : (step : ℕ) → step ≤ step_count shop jobs → length (heads_at cap times width step) ≡ width
   heads_wide zero le = ap length (heads_first cap times width) ∙ length-zeros width
   heads_wide (suc step) le =
       let before = heads_wide step (omega arith) in
@@ -127,7 +130,7 @@ module _ (cap : ℕ) (shop : FlowShop) (jobs : List ℕ) (width : ℕ) (times : 
       (skewed.lanes step (omega arith))
 
   -- a lane of heads, from the head before it and the head above it
-  head_lane : (step lane a b : ℕ) → step < length jobs + width → lane < width
+  head_lane : (step lane a b : ℕ) → step < step_count shop jobs → lane < width
       → get_or (0 ∷ (heads_at cap times width step)) lane 0 ≡ capped cap a
       → get_or (heads_at cap times width step) lane 0
       ≡ capped cap b
@@ -140,37 +143,39 @@ module _ (cap : ℕ) (shop : FlowShop) (jobs : List ℕ) (width : ℕ) (times : 
       ∙ capped_step cap (get_or (0 ∷ heads) lane 0) (get_or heads lane 0) a b (lane_of times step lane) before above
 
   -- lanes that the wavefront has not reached yet are 0
-  heads_none : (step lane : ℕ) → step ≤ lane → lane < width → get_or (heads_at cap times width step) lane 0 ≡ 0
-  heads_none zero lane le lt = ap (λ v. get_or v lane 0) (heads_first cap times width) ∙ zeros-get_or width lane lt
-  heads_none (suc step) zero le lt = absurd (omega arith)
-  heads_none (suc step) (suc lane) le lt =
+  heads_none : (step lane : ℕ) → step ≤ step_count shop jobs → step ≤ lane → lane < width
+      → get_or (heads_at cap times width step) lane 0 ≡ 0
+  heads_none zero lane inside le lt = ap (λ v. get_or v lane 0) (heads_first cap times width) ∙ zeros-get_or width lane lt
+  heads_none (suc step) zero inside le lt = absurd (omega arith)
+  heads_none (suc step) (suc lane) inside le lt =
       head_lane step (suc lane) 0 0 (omega arith) lt
-      (heads_none step lane (omega arith) (omega arith) ∙ capped_none cap)
-      (heads_none step (suc lane) (omega arith) lt ∙ capped_none cap)
-      ∙ ap (λ t. capped cap (max 0 0 + t)) (skewed.none_before step (suc lane) (omega arith) lt)
+      (heads_none step lane (omega arith) (omega arith) (omega arith) ∙ capped_none cap)
+      (heads_none step (suc lane) (omega arith) (omega arith) lt ∙ capped_none cap)
+      ∙ ap (λ t. capped cap (max 0 0 + t)) (skewed.none_before step (suc lane) (omega arith) (omega arith) lt)
       ∙ sym (capped_none cap)
 
-  heads_are : (step place lane : ℕ) → step ≡ place + lane → lane < width → place ≤ length jobs
+  heads_are : (step place lane : ℕ) → step ≤ step_count shop jobs → step ≡ place + lane → lane < width
+      → place ≤ length jobs
       → get_or (heads_at cap times width step) lane 0 ≡ capped cap (padded_head shop fits.some jobs place lane)
-  heads_are step zero lane is lt le = heads_none step lane (omega arith) lt ∙ capped_none cap
-  heads_are zero (suc place) lane is lt le = absurd (omega arith)
-  heads_are (suc step) (suc place) zero is lt le =
+  heads_are step zero lane inside is lt le = heads_none step lane inside (omega arith) lt ∙ capped_none cap
+  heads_are zero (suc place) lane inside is lt le = absurd (omega arith)
+  heads_are (suc step) (suc place) zero inside is lt le =
       let first = padded_head_first shop fits.some jobs place (omega arith) in
       let time = time_at cap shop jobs width times fits skewed step place 0 (omega arith) (omega arith) lt in
       head_lane step 0 0 (padded_head shop fits.some jobs place 0) (omega arith) lt (capped_none cap)
-      (heads_are step place 0 (omega arith) lt (omega arith))
+      (heads_are step place 0 (omega arith) (omega arith) lt (omega arith))
       ∙ ap (capped cap) (omega arith)
-  heads_are (suc step) (suc place) (suc lane) is lt le =
+  heads_are (suc step) (suc place) (suc lane) inside is lt le =
       let next = padded_head_step shop fits.some jobs place lane (omega arith) in
       let time = time_at cap shop jobs width times fits skewed step place (suc lane) (omega arith) (omega arith) lt in
       head_lane step (suc lane) (padded_head shop fits.some jobs (suc place) lane)
       (padded_head shop fits.some jobs place (suc lane)) (omega arith) lt
-      (heads_are step (suc place) lane (omega arith) (omega arith) le)
-      (heads_are step place (suc lane) (omega arith) lt (omega arith))
+      (heads_are step (suc place) lane (omega arith) (omega arith) (omega arith) le)
+      (heads_are step place (suc lane) (omega arith) (omega arith) lt (omega arith))
       ∙ ap (capped cap) (omega arith)
 
   module _ (job : ℕ) (job_times : List ℕ) (is_job : IsJobRow shop job width job_times) where
-    inserted_wide : (step : ℕ) → step ≤ length jobs + width → length (inserted_at cap times job_times width step)
+    inserted_wide : (step : ℕ) → step ≤ step_count shop jobs → length (inserted_at cap times job_times width step)
         ≡ width
     inserted_wide zero le = ap length (inserted_first cap times width job_times) ∙ length-zeros width
     inserted_wide (suc step) le =
@@ -179,7 +184,7 @@ module _ (cap : ℕ) (shop : FlowShop) (jobs : List ℕ) (width : ℕ) (times : 
         (heads_at cap times width step) job_times
         (inserted_wide step (omega arith)) (heads_wide step (omega arith)) is_job.lanes
 
-    inserted_lane : (step lane a b : ℕ) → step < length jobs + width → lane < width
+    inserted_lane : (step lane a b : ℕ) → step < step_count shop jobs → lane < width
         → get_or (0 ∷ (inserted_at cap times job_times width step)) lane 0 ≡ capped cap a
         → get_or (heads_at cap times width step) lane 0 ≡ capped cap b
         → get_or (inserted_at cap times job_times width (suc step)) lane 0
@@ -195,25 +200,26 @@ module _ (cap : ℕ) (shop : FlowShop) (jobs : List ℕ) (width : ℕ) (times : 
         (get_or job_times lane 0) before above
         ∙ ap (λ t. capped cap (max a b + t)) (is_job.times_are lane lt)
 
-    inserted_are : (lane step place : ℕ) → step ≡ place + lane → lane < width → (within : place ≤ length jobs)
+    inserted_are : (lane step place : ℕ) → step < step_count shop jobs → step ≡ place + lane → lane < width
+        → (within : place ≤ length jobs)
         → get_or (inserted_at cap times job_times width (suc step)) lane 0
         ≡ capped cap (padded_inserted shop fits.some jobs job place within lane)
-    inserted_are zero step place is lt within =
+    inserted_are zero step place inside is lt within =
         let first = padded_inserted_first shop fits.some jobs job place within in
         inserted_lane step 0 0 (padded_head shop fits.some jobs place 0) (omega arith) lt (capped_none cap)
-        (heads_are step place 0 is lt within)
+        (heads_are step place 0 (omega arith) is lt within)
         ∙ ap (capped cap) (omega arith)
-    inserted_are (suc lane) zero place is lt within = absurd (omega arith)
-    inserted_are (suc lane) (suc step) place is lt within =
+    inserted_are (suc lane) zero place inside is lt within = absurd (omega arith)
+    inserted_are (suc lane) (suc step) place inside is lt within =
         let next = padded_inserted_step shop fits.some jobs job place within lane in
         inserted_lane (suc step) (suc lane) (padded_inserted shop fits.some jobs job place within lane)
         (padded_head shop fits.some jobs place (suc lane)) (omega arith) lt
-        (inserted_are lane step place (omega arith) (omega arith) within)
-        (heads_are (suc step) place (suc lane) is lt within)
+        (inserted_are lane step place (omega arith) (omega arith) (omega arith) within)
+        (heads_are (suc step) place (suc lane) (omega arith) is lt within)
         ∙ ap (capped cap) (omega arith)
 
     module _ (tails : Rows) (backs : HoldTails cap shop jobs width tails) where
-      sums_wide : (step : ℕ) → step ≤ length jobs + width → length (sums_at cap times tails job_times width step)
+      sums_wide : (step : ℕ) → step ≤ step_count shop jobs → length (sums_at cap times tails job_times width step)
           ≡ width
       sums_wide zero le = ap length (sums_first cap times width tails job_times) ∙ length-zeros width
       sums_wide (suc step) le =
@@ -223,12 +229,13 @@ module _ (cap : ℕ) (shop : FlowShop) (jobs : List ℕ) (width : ℕ) (times : 
           (tails step) (sums_wide step (omega arith)) (inserted_wide (suc step) le)
           (backs.lanes step (omega arith))
 
-      sum_lane : (step place lane a : ℕ) → step ≡ place + lane → lane < width → (within : place ≤ length jobs)
+      sum_lane : (step place lane a : ℕ) → step < step_count shop jobs → step ≡ place + lane → lane < width
+          → (within : place ≤ length jobs)
           → get_or (0 ∷ (sums_at cap times tails job_times width step)) lane 0 ≡ capped cap a
           → get_or (sums_at cap times tails job_times width (suc step)) lane 0
           ≡ capped cap (max a (padded_inserted shop fits.some jobs job place within lane + padded_back shop jobs place
           lane))
-      sum_lane step place lane a is lt within before =
+      sum_lane step place lane a inside is lt within before =
           let sums = sums_at cap times tails job_times width step in
           let inserted = inserted_at cap times job_times width (suc step) in
           let tail = tails step in
@@ -238,36 +245,38 @@ module _ (cap : ℕ) (shop : FlowShop) (jobs : List ℕ) (width : ℕ) (times : 
           (backs.lanes step (omega arith)) lt
           ∙ capped_more cap (get_or (0 ∷ sums) lane 0) (get_or inserted lane 0) (get_or tail lane 0) a
           (padded_inserted shop fits.some jobs job place within lane) (padded_back shop jobs place lane) before
-          (inserted_are lane step place is lt within)
+          (inserted_are lane step place inside is lt within)
           (ap (λ s. lane_of tails s lane) is ∙ backs.tails_are place lane lt (omega arith))
 
-      sums_are : (lane step place : ℕ) → step ≡ place + lane → lane < width → (within : place ≤ length jobs)
+      sums_are : (lane step place : ℕ) → step < step_count shop jobs → step ≡ place + lane → lane < width
+          → (within : place ≤ length jobs)
           → get_or (sums_at cap times tails job_times width (suc step)) lane 0
           ≡ capped cap (padded_sum shop fits.some jobs job place within lane)
-      sums_are zero step place is lt within =
+      sums_are zero step place inside is lt within =
           let first = padded_sum_first shop fits.some jobs job place within in
-          sum_lane step place 0 0 is lt within (capped_none cap) ∙ ap (capped cap) (omega arith)
-      sums_are (suc lane) zero place is lt within = absurd (omega arith)
-      sums_are (suc lane) (suc step) place is lt within =
-          sum_lane (suc step) place (suc lane) (padded_sum shop fits.some jobs job place within lane) is lt within
-          (sums_are lane step place (omega arith) (omega arith) within)
+          sum_lane step place 0 0 inside is lt within (capped_none cap) ∙ ap (capped cap) (omega arith)
+      sums_are (suc lane) zero place inside is lt within = absurd (omega arith)
+      sums_are (suc lane) (suc step) place inside is lt within =
+          sum_lane (suc step) place (suc lane) (padded_sum shop fits.some jobs job place within lane) inside is lt within
+          (sums_are lane step place (omega arith) (omega arith) (omega arith) within)
           ∙ ap (capped cap) (sym (padded_sum_step shop fits.some jobs job place within lane))
 
 pub heads_law : HeadsLaw
-heads_law cap shop jobs width times fits skewed row lane lt inside =
+heads_law cap shop jobs width times fits skewed row lane lt inside in_steps =
     let e : row + lane + 1 ≡ suc row + lane = omega arith in
-    heads_are cap shop jobs width times fits skewed (row + lane + 1) (suc row) lane e lt (omega arith)
+    heads_are cap shop jobs width times fits skewed (row + lane + 1) (suc row) lane (omega arith) e lt (omega arith)
     ∙ ap (capped cap) (sym (heaviest_is (operation shop jobs) row (machine_at shop lane)))
 
 pub inserted_rows_law : InsertedRowsLaw
-inserted_rows_law cap shop jobs job width times job_times fits skewed is_job place lane lt within =
+inserted_rows_law cap shop jobs job width times job_times fits skewed is_job place lane lt within in_steps =
     ap (λ s. get_or (inserted_at cap times job_times width s) lane 0) (add-one (place + lane))
-    ∙ inserted_are cap shop jobs width times fits skewed job job_times is_job lane (place + lane) place refl lt within
+    ∙ inserted_are cap shop jobs width times fits skewed job job_times is_job lane (place + lane) place in_steps refl lt
+    within
     ∙ ap (capped cap) (sym (heaviest_is (operation shop (insert jobs place job)) place (machine_at shop lane)))
 
 pub sums_law : SumsLaw
-sums_law cap shop jobs job width times tails job_times fits skewed is_job backs place lane within lt all =
+sums_law cap shop jobs job width times tails job_times fits skewed is_job backs place lane within lt all in_steps =
     ap (λ s. get_or (sums_at cap times tails job_times width s) lane 0) (add-one (place + lane))
-    ∙ sums_are cap shop jobs width times fits skewed job job_times is_job tails backs lane (place + lane) place refl lt
-    within
+    ∙ sums_are cap shop jobs width times fits skewed job job_times is_job tails backs lane (place + lane) place in_steps
+    refl lt within
     ∙ ap (capped cap) (padded_sum_last shop fits.some jobs job place within lane (omega arith))

@@ -27,13 +27,18 @@ pub record FitsLanes (shop : FlowShop) (width : ℕ) : Type 0 where
   pub some : 1 ≤ shop.machines
   pub few : shop.machines ≤ width
 
--- the times of a sequence, skewed: a row of lanes for each of n + `width` steps, where n is the number of jobs; the
--- time at a row and a lane is in the step row + lane
+-- the number of steps of a wavefront: n + m for n jobs on m machines; at the last of them, the last machine's lane has
+-- the place after all jobs
+abbrev pub step_count : FlowShop → List ℕ → ℕ
+step_count shop jobs = length jobs + shop.machines
+
+-- the times of a sequence, skewed: a row of lanes for each step; the time at a row and a lane is in the step row + lane
 pub record AreSkewed (shop : FlowShop) (jobs : List ℕ) (width : ℕ) (times : Rows) : Type 0 where
-  pub lanes : (step : ℕ) → step < length jobs + width → length (times step) ≡ width
-  pub times_are : (row lane : ℕ) → lane < width → row + lane < length jobs + width
+  pub lanes : (step : ℕ) → step < step_count shop jobs → length (times step) ≡ width
+  pub times_are : (row lane : ℕ) → lane < width → row + lane < step_count shop jobs
       → lane_of times (row + lane) lane ≡ padded_time shop jobs row lane
-  pub none_before : (step lane : ℕ) → step < lane → lane < width → lane_of times step lane ≡ 0
+  pub none_before : (step lane : ℕ) → step < step_count shop jobs → step < lane → lane < width
+      → lane_of times step lane ≡ 0
 
 -- the times of a job in the lanes of its machines
 pub record IsJobRow (shop : FlowShop) (job width : ℕ) (times : List ℕ) : Type 0 where
@@ -42,8 +47,8 @@ pub record IsJobRow (shop : FlowShop) (job width : ℕ) (times : List ℕ) : Typ
 
 -- the lanes of `tails` contain the tails of the sequence (`heaviest_back`), capped, and 0 after the last machine
 pub record HoldTails (cap : ℕ) (shop : FlowShop) (jobs : List ℕ) (width : ℕ) (tails : Rows) : Type 0 where
-  pub lanes : (step : ℕ) → step < length jobs + width → length (tails step) ≡ width
-  pub tails_are : (row lane : ℕ) → lane < width → row + lane < length jobs + width
+  pub lanes : (step : ℕ) → step < step_count shop jobs → length (tails step) ≡ width
+  pub tails_are : (row lane : ℕ) → lane < width → row + lane < step_count shop jobs
       → lane_of tails (row + lane) lane ≡ capped cap (on_machine shop (heaviest_back shop jobs row) lane)
 
 -- the lanes of tails, computed from skewed times step by step, contain the tails of the sequence
@@ -51,8 +56,8 @@ abbrev pub TailsLaw : Type 0
 TailsLaw =
     (cap : ℕ) (shop : FlowShop) (jobs : List ℕ) (width : ℕ) (times tails : Rows) → FitsLanes shop width
     → AreSkewed shop jobs width times
-    → ((step : ℕ) → step < length jobs + width
-    → tails step ≡ tails_at cap times width (length jobs + width) (length jobs + width - step))
+    → ((step : ℕ) → step < step_count shop jobs
+    → tails step ≡ tails_at cap times width (step_count shop jobs) (step_count shop jobs - step))
     → HoldTails cap shop jobs width tails
 
 -- the machine whose value a lane contains: the lane's own, or the last machine in the lanes after that
@@ -64,6 +69,7 @@ abbrev pub HeadsLaw : Type 0
 HeadsLaw =
     (cap : ℕ) (shop : FlowShop) (jobs : List ℕ) (width : ℕ) (times : Rows) → FitsLanes shop width
     → AreSkewed shop jobs width times → (row lane : ℕ) → lane < width → row < length jobs
+    → row + lane < step_count shop jobs
     → slice_index_or (heads_at cap times width (row + lane + 1)) lane 0
     ≡ capped cap (heaviest_front shop jobs row (machine_at shop lane))
 
@@ -74,7 +80,7 @@ InsertedRowsLaw =
     (cap : ℕ) (shop : FlowShop) (jobs : List ℕ) (job width : ℕ) (times : Rows) (job_times : List ℕ)
     → FitsLanes shop width
     → AreSkewed shop jobs width times → IsJobRow shop job width job_times
-    → (place lane : ℕ) → lane < width → place ≤ length jobs
+    → (place lane : ℕ) → lane < width → place ≤ length jobs → place + lane < step_count shop jobs
     → slice_index_or (inserted_at cap times job_times width (place + lane + 1)) lane 0
     ≡ capped cap (heaviest_front shop (insert jobs place job) place (machine_at shop lane))
 
@@ -86,6 +92,7 @@ SumsLaw =
     → FitsLanes shop width → AreSkewed shop jobs width times → IsJobRow shop job width job_times
     → HoldTails cap shop jobs width tails
     → (place lane : ℕ) → place ≤ length jobs → lane < width → shop.machines ≤ lane + 1
+    → place + lane < step_count shop jobs
     → slice_index_or (sums_at cap times tails job_times width (place + lane + 1)) lane 0
     ≡ capped cap (makespan_with shop jobs job place)
 

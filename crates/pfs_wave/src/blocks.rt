@@ -23,6 +23,10 @@ pub trait Bands: Drop {
     /// The number of lanes of a row.
     ghost WIDTH: { ℕ };
 
+    /// A row of zeros.
+    fn none() -> Self
+        ensures { lanes result ≡ zeros WIDTH };
+
     /// The eight lanes of a band.
     fn band(&self, band: usize) -> Self::Band
         requires { 8 * band + 8 ≤ WIDTH }
@@ -164,8 +168,24 @@ fn keep_sums<B: Band>(carries: &[Front<B>], after: B, sums: &mut [B::Number])
     sums[last] = after.last();
 }
 
-/// Computes the heads, the inserted rows and the sums of all steps, and keeps the last sum of each step. `work` is
-/// overwritten: it has room for the fronts before each step of a block, and for those of each band.
+// The row of the sums of all bands.
+fn row_of_sums<L: Bands>(fronts: &[Front<L::Band>]) -> L
+    requires bands { 8 * length fronts.now ≡ L.WIDTH }
+    ensures row { (sums : List ℕ) → length sums ≡ L.WIDTH
+        → ((band : ℕ) (other : _) → band < length fronts.now
+        → L.Band.lanes (slice_index_or fronts.now band other).sum ≡ eight_from (8 * band) sums)
+        → L.lanes result ≡ sums }
+{
+    let mut row = L::none();
+    for band in 0..fronts.len() {
+        row.put_band(band, fronts[band].sum);
+    }
+    row
+}
+
+/// Computes the heads, the inserted rows and the sums of all steps, and keeps the last sum of each step. It returns the
+/// sums after the last step. `work` is overwritten: it has room for the fronts before each step of a block, and for
+/// those of each band.
 #[inline(never)]
 pub fn fill_sums<L: Bands>(
     times: &[L],
@@ -173,7 +193,7 @@ pub fn fill_sums<L: Bands>(
     job: &L,
     sums: &mut [<L::Band as Band>::Number],
     work: &mut [Front<L::Band>],
-)
+) -> L
     requires small { length times.now < 2 ^ 32 }
     requires tails { length tails.now ≡ length times.now }
     requires sums { length sums.old ≡ length times.now }
@@ -183,6 +203,9 @@ pub fn fill_sums<L: Bands>(
     ensures sums { (step : ℕ) → step < length times.now → slice_index_or (map L.Band.number sums.new) step 0
         ≡ slice_index_or (sums_at L.Band.CAP (rows_of (map L.lanes times.now)) (rows_of (map L.lanes tails.now))
         (L.lanes job.now) L.WIDTH (step + 1)) (L.WIDTH - 1) 0 }
+    ensures last { L.lanes result
+        ≡ sums_at L.Band.CAP (rows_of (map L.lanes times.now)) (rows_of (map L.lanes tails.now)) (L.lanes job.now)
+        L.WIDTH (length times.now) }
 {
     let steps = times.len();
     let (carries, fronts) = work.split_at_mut(BLOCK);
@@ -195,6 +218,7 @@ pub fn fill_sums<L: Bands>(
         sum_block(&times[from..to], &tails[from..to], job, fronts, carries);
         keep_sums(carries, fronts[fronts.len() - 1].sum, &mut sums[from..to]);
     }
+    row_of_sums(fronts)
 }
 
 // Fills the tails of one band of a block, from the last step to the first. For each step, `carries` contains the tails

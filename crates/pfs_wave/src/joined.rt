@@ -162,7 +162,7 @@ impl<A: Part, B: Part<Band = A::Band>> Lanes for Joined<A, B> {
         job: &Joined<A, B>,
         sums: &mut [<A::Band as Band>::Number],
         _work: &mut [Front<A::Band>],
-    ) {
-        fill_sums(times, tails, job, sums);
+    ) -> Joined<A, B> {
+        fill_sums(times, tails, job, sums)
     }
 }

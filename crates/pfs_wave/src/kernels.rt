@@ -25,14 +25,15 @@ pub fn fill_tails<L: WholeRow>(times: &[L], tails: &mut [L])
     }
 }
 
-/// Computes the heads, the inserted rows and the sums of all steps, and keeps the last sum of each step.
+/// Computes the heads, the inserted rows and the sums of all steps, and keeps the last sum of each step. It returns the
+/// sums after the last step.
 #[inline(never)]
 pub fn fill_sums<L: WholeRow>(
     times: &[L],
     tails: &[L],
     job: &L,
     sums: &mut [<L::Band as Band>::Number],
-)
+) -> L
     requires small { length times.now < 2 ^ 32 }
     requires tails { length tails.now ≡ length times.now }
     requires sums { length sums.old ≡ length times.now }
@@ -40,6 +41,9 @@ pub fn fill_sums<L: WholeRow>(
     ensures sums { (step : ℕ) → step < length times.now → slice_index_or (map L.Band.number sums.new) step 0
         ≡ slice_index_or (sums_at L.Band.CAP (rows_of (map L.lanes times.now)) (rows_of (map L.lanes tails.now))
         (L.lanes job.now) L.WIDTH (step + 1)) (L.WIDTH - 1) 0 }
+    ensures last { L.lanes result
+        ≡ sums_at L.Band.CAP (rows_of (map L.lanes times.now)) (rows_of (map L.lanes tails.now)) (L.lanes job.now)
+        L.WIDTH (length times.now) }
 {
     let zero = L::Band::zeros();
     let mut head = L::none();
@@ -51,4 +55,5 @@ pub fn fill_sums<L: WholeRow>(
         sums[step] = sum.last();
         head = L::heads(&head, &head, &times[step], zero);
     }
+    sum
 }

@@ -50,15 +50,15 @@ pub trait Lanes: Drop {
             ≡ tails_at Self.Band.CAP (rows_of (map lanes times.now)) WIDTH (length times.now)
             (length times.now - step) };
 
-    /// Computes the heads, the inserted rows and the sums of all steps, and keeps the last sum of each step. Rows of
-    /// bands overwrite `work`.
+    /// Computes the heads, the inserted rows and the sums of all steps, and keeps the last sum of each step. It returns
+    /// the sums after the last step. Rows of bands overwrite `work`.
     fn fill_sums(
         times: &[Self],
         tails: &[Self],
         job: &Self,
         sums: &mut [<Self::Band as Band>::Number],
         work: &mut [Front<Self::Band>],
-    )
+    ) -> Self
         requires small { length times.now < 2 ^ 32 }
         requires tails { length tails.now ≡ length times.now }
         requires sums { length sums.old ≡ length times.now }
@@ -67,7 +67,10 @@ pub trait Lanes: Drop {
         ensures work { length work.new ≡ length work.old }
         ensures sums { (step : ℕ) → step < length times.now → slice_index_or (map Self.Band.number sums.new) step 0
             ≡ slice_index_or (sums_at Self.Band.CAP (rows_of (map lanes times.now)) (rows_of (map lanes tails.now))
-            (lanes job.now) WIDTH (step + 1)) (WIDTH - 1) 0 };
+            (lanes job.now) WIDTH (step + 1)) (WIDTH - 1) 0 }
+        ensures last { lanes result
+            ≡ sums_at Self.Band.CAP (rows_of (map lanes times.now)) (rows_of (map lanes tails.now)) (lanes job.now)
+            WIDTH (length times.now) };
 
     ghost wide: { (row : Self) → length (lanes row) ≡ WIDTH };
 

@@ -17,8 +17,8 @@ pub fn inserted_rows()
     ensures { InsertedRowsLaw }
 {}
 
-/// The last lane of the sums contains the makespan with the job at each place, capped. So do all lanes from the last
-/// machine's on.
+/// In each step, the lanes of sums from the last machine's on contain the makespans with the job at the lanes' places,
+/// capped.
 pub fn sums()
     ensures { SumsLaw }
 {}

@@ -118,6 +118,11 @@ impl Band for Long {
     }
 
     #[inline(always)]
+    fn lane(self, lane: usize) -> u32 {
+        self.values.to_array()[lane]
+    }
+
+    #[inline(always)]
     fn nothing() -> u32 {
         0
     }

@@ -112,19 +112,26 @@ impl<'a, L: Lanes> LaneBench for MeteredLanes<'a, L> {
 
     #[inline(always)]
     fn fill_tails(&mut self, seq: &Seq, tables: &mut Tables<L>) {
-        let cells = seq.len() as u64 * self.bench.machines() as u64;
+        let machines = self.bench.machines();
+        let cells = seq.len() as u64 * machines as u64;
         self.bench.count(cells);
         self.skewed.hold(seq.as_slice());
-        self.skewed.fill_tails(&mut tables.tails, &mut tables.bands);
+        self.skewed
+            .fill_tails(machines, &mut tables.tails, &mut tables.bands);
     }
 
     #[inline(always)]
     fn best_place(&mut self, seq: &Seq, job: usize, tables: &mut Tables<L>) -> Placed<Span> {
-        let cells = (3 * seq.len() as u64 + 2) * self.bench.machines() as u64;
+        let machines = self.bench.machines();
+        let cells = (3 * seq.len() as u64 + 2) * machines as u64;
         self.bench.count(cells);
-        let found = self
-            .skewed
-            .best_place(job, &tables.tails, &mut tables.sums, &mut tables.fronts);
+        let found = self.skewed.best_place(
+            job,
+            machines,
+            &tables.tails,
+            &mut tables.sums,
+            &mut tables.fronts,
+        );
         Placed {
             place: found.place,
             span: self.bench.length(u64::from(found.sum)),

@@ -134,7 +134,7 @@ impl<B: Band> Lanes for OneBand<B> {
         job: &OneBand<B>,
         sums: &mut [B::Number],
         _work: &mut [Front<B>],
-    ) {
-        fill_sums(times, tails, job, sums);
+    ) -> OneBand<B> {
+        fill_sums(times, tails, job, sums)
     }
 }

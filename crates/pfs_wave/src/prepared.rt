@@ -74,7 +74,8 @@ impl<L: Lanes> PreparedLanes<L> {
     {
         copy_jobs(sequence, &mut self.sequence);
         let jobs = &self.sequence[..sequence.len()];
-        best_in_tables(&mut self.skewed, &mut self.tables, jobs, job)
+        let machines = self.instance.machines();
+        best_in_tables(&mut self.skewed, &mut self.tables, jobs, job, machines)
     }
 }
 
@@ -96,20 +97,30 @@ fn best_in_tables<L: Lanes>(
     tables: &mut Tables<L>,
     sequence: &[usize],
     job: usize,
+    machines: usize,
 ) -> Placed<u64>
     requires jobs { All (λ other. other + 1 < length skewed.old.rows) sequence.now }
     requires few { length sequence.now ≤ tables.old.jobs }
     requires tables { tables.old.jobs < length skewed.old.rows }
     requires job { job < length skewed.old.rows }
-    ensures best { (shop : FlowShop) → IsServed shop L.WIDTH L.Band.CAP → HasRows shop L.WIDTH skewed.old.rows
+    requires some { 1 ≤ machines }
+    requires machines { machines ≤ L.WIDTH }
+    ensures best { (shop : FlowShop) → IsServed shop L.WIDTH L.Band.CAP → shop.machines ≡ machines
+        → HasRows shop L.WIDTH skewed.old.rows
         → length sequence.now < shop.jobs → job < shop.jobs
         → IsBestPlace shop sequence.now job result.place result.span }
     ensures rows { skewed.new.rows ≡ skewed.old.rows }
     ensures tables { tables.new.jobs ≡ tables.old.jobs }
 {
     skewed.hold(sequence);
-    skewed.fill_tails(&mut tables.tails, &mut tables.bands);
-    let found = skewed.best_place(job, &tables.tails, &mut tables.sums, &mut tables.fronts);
+    skewed.fill_tails(machines, &mut tables.tails, &mut tables.bands);
+    let found = skewed.best_place(
+        job,
+        machines,
+        &tables.tails,
+        &mut tables.sums,
+        &mut tables.fronts,
+    );
     Placed {
         place: found.place,
         span: u64::from(found.sum),

@@ -54,8 +54,8 @@ pub enum Method {
 
 /// Whether a wavefront of this width, whose lanes have this greatest value, serves an instance: it has at least 8 jobs
 /// and a lane for each machine, and (n + m - 1) times its longest time, which bounds every path of n jobs on m
-/// machines, is below the greatest value. A wavefront of w lanes computes n + w steps for n jobs. With more than 24
-/// lanes, at least a third of these lanes must have a cell: with fewer, heads and tails by rows are faster.
+/// machines, is below the greatest value. With w lanes, more than 24, cells must also fill at least a third of n + w
+/// steps of these lanes: where they fill less, heads and tails by rows are faster.
 pub fn is_served(instance: &Instance, width: Width, cap: u32) -> bool
     ensures { IsTrue result ↔ IsServed instance.now.shop (lanes_of width) cap }
 {

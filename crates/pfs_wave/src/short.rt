@@ -153,6 +153,11 @@ impl Band for Short {
     }
 
     #[inline(always)]
+    fn lane(self, lane: usize) -> u16 {
+        self.values.to_array()[lane]
+    }
+
+    #[inline(always)]
     fn nothing() -> u16 {
         0
     }

@@ -85,52 +85,66 @@ impl<L: Lanes> SkewedTimes<L> {
         self.len = seq.len();
     }
 
-    // The skewed times of the sequence.
+    // The skewed times of the sequence, for each step of a shop of this number of machines.
     #[inline(always)]
-    fn times(&self) -> &[L]
-        ensures steps { length result.now ≡ length self.now.jobs + L.WIDTH }
+    fn times(&self, machines: usize) -> &[L]
+        requires { machines ≤ L.WIDTH }
+        ensures steps { length result.now ≡ length self.now.jobs + machines }
         ensures few { length result.now ≤ 2 ^ 16 }
-        ensures skewed { (shop : FlowShop) → HasRows shop L.WIDTH self.now.rows
+        ensures skewed { (shop : FlowShop) → shop.machines ≡ machines → HasRows shop L.WIDTH self.now.rows
             → AreSkewed shop self.now.jobs L.WIDTH (rows_of (map L.lanes result.now)) }
     {
-        &self.times[..self.len + L::WIDTH]
+        &self.times[..self.len + machines]
     }
 
-    /// Fills the tails of the sequence.
+    /// Fills the tails of the sequence, for a shop of this number of machines.
     #[inline(always)]
-    pub fn fill_tails(&self, tails: &mut [L], work: &mut [L::Band])
+    pub fn fill_tails(&self, machines: usize, tails: &mut [L], work: &mut [L::Band])
+        requires machines { machines ≤ L.WIDTH }
         requires tails { length self.now.jobs + L.WIDTH ≤ length tails.old }
         requires work { 8 * length work.old ≡ 256 + L.WIDTH }
         ensures length { length tails.new ≡ length tails.old }
         ensures work { length work.new ≡ length work.old }
-        ensures tails { (shop : FlowShop) → FitsLanes shop L.WIDTH → HasRows shop L.WIDTH self.now.rows
+        ensures tails { (shop : FlowShop) → FitsLanes shop L.WIDTH → shop.machines ≡ machines
+            → HasRows shop L.WIDTH self.now.rows
             → HoldTails L.Band.CAP shop self.now.jobs L.WIDTH (rows_of (map L.lanes tails.new)) }
     {
-        fill_front(self.times(), tails, work);
+        fill_front(self.times(machines), tails, work);
     }
 
-    /// The best place of a job in the sequence, and the makespan with the job there.
+    /// The best place of a job in the sequence, and the makespan with the job there, for a shop of this number of
+    /// machines.
     #[inline(always)]
     pub fn best_place(
         &self,
         job: usize,
+        machines: usize,
         tails: &[L],
         sums: &mut [<L::Band as Band>::Number],
         work: &mut [Front<L::Band>],
     ) -> Found
         requires job { job < length self.now.rows }
+        requires some { 1 ≤ machines }
+        requires machines { machines ≤ L.WIDTH }
         requires tails { length self.now.jobs + L.WIDTH ≤ length tails.now }
         requires sums { length self.now.jobs + L.WIDTH ≤ length sums.old }
         requires work { 8 * length work.old ≡ 256 + L.WIDTH }
         ensures length { length sums.new ≡ length sums.old }
         ensures work { length work.new ≡ length work.old }
-        ensures best { (shop : FlowShop) → FitsLanes shop L.WIDTH → HasRows shop L.WIDTH self.now.rows
-            → job < shop.jobs
+        ensures best { (shop : FlowShop) → FitsLanes shop L.WIDTH → shop.machines ≡ machines
+            → HasRows shop L.WIDTH self.now.rows → job < shop.jobs
             → HoldTails L.Band.CAP shop self.now.jobs L.WIDTH (rows_of (map L.lanes tails.now))
             → ((place : ℕ) → place ≤ length self.now.jobs → makespan_with shop self.now.jobs job place < L.Band.CAP)
             → IsBestPlace shop self.now.jobs job result.place result.sum }
     {
-        best_place(self.times(), tails, &self.rows[job], sums, work)
+        best_place(
+            self.times(machines),
+            tails,
+            &self.rows[job],
+            machines,
+            sums,
+            work,
+        )
     }
 }
 

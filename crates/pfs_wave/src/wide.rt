@@ -52,6 +52,13 @@ where
     ghost some = { Prim.omega arith };
 
     #[inline(always)]
+    fn none() -> Wide<N> {
+        Wide {
+            bands: [Long::zeros(); N],
+        }
+    }
+
+    #[inline(always)]
     fn band(&self, band: usize) -> Long {
         self.bands[band]
     }
@@ -84,9 +91,7 @@ where
 
     #[inline(always)]
     fn none() -> Wide<N> {
-        Wide {
-            bands: [Long::zeros(); N],
-        }
+        Bands::none()
     }
 
     #[inline(always)]
@@ -116,7 +121,7 @@ where
         job: &Wide<N>,
         sums: &mut [u32],
         work: &mut [Front<Long>],
-    ) {
-        fill_sums(times, tails, job, sums, work);
+    ) -> Wide<N> {
+        fill_sums(times, tails, job, sums, work)
     }
 }

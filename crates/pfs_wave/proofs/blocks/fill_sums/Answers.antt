@@ -3,6 +3,7 @@ use Rattle.std.proofs.Common.{subst, refl, arith}
 use Rattle.std.proofs.lemmas.List.{length-map, length-take-le, length-drop}
 use Rattle.pfs_wave.specs.Private.Blocks.{AreFronts, IsBandAfter, sums_after}
 use Rattle.pfs_wave.proofs.BlockSums.{whole_pass, front_zero, put_part, pass_wide, part_block, block_sums, lane_last}
+use Rattle.pfs_wave.proofs.BlockSums.{sums_wide}
 use Rattle.pfs_wave.proofs.blocks.fill_sums.Goals as goal
 
 pub loop-block-init : goal.loop-block-init
@@ -87,3 +88,24 @@ loop-block-preserved g c =
           ∙ lane_last (sums_after cap width pass (at + (step + 1))) width (omega arith)
           ∙ ap (λ n. get_or (sums_after cap width pass n) (width - 1) 0) here);
     }
+
+pub returns-clause-last : goal.returns-clause-last
+returns-clause-last g c =
+    let lanes = g.L.Bands.lanes in
+    let band = g.L.Band.Band.lanes in
+    let cap = g.L.Band.Band.CAP in
+    let width = g.L.Bands.WIDTH in
+    let times = c.args.times.now in
+    let tails = c.args.tails.now in
+    let job = c.args.job.now in
+    let steps = length times in
+    let pass = whole_pass (map lanes times) (map lanes tails) (lanes job) in
+    let wide = pass_wide lanes width g.met.L.Bands.wide times tails job c.requires.tails in
+    let end = c.div_ceil-block-end.ensures in
+    let all = c.loop-block.auto.block-end in
+    let outside = c.loop-block-test.false in
+    let ended : min steps (32 * c.loop-block.block) ≡ steps = omega arith in
+    let fronts = subst (λ n. AreFronts band cap width pass n c.loop-block.fronts) ended c.loop-block.invariant.fronts in
+    c.row_of_sums.ensures.row (sums_after cap width pass steps)
+    (sums_wide cap width pass wide steps (omega (arith, length-map times lanes)))
+    (λ at other lt. (fronts at other lt).sum)

@@ -5,7 +5,7 @@ use Rattle.pfs_wave.proofs.ServedPaths.{served_path}
 use Rattle.pfs_wave.proofs.prepared.best_in_tables.Goals as goal
 
 pub returns-clause-best : goal.returns-clause-best
-returns-clause-best g c shop served rows few job =
+returns-clause-best g c shop served machines rows few job =
     let tails = c.fill_tails.new.tails in
     let old = c.tables.inside.tails.items in
     let fits : FitsLanes shop g.L.Lanes.WIDTH = record { some = served.some; few = served.few } in
@@ -15,7 +15,7 @@ returns-clause-best g c shop served rows few job =
     let long : length tails ≡ c.tables.inside.tails.len =
     omega (arith, c.fill_tails.ensures.length, c.deref_mut.ensures.len) in
     rw c.from.ensures
-    (best shop fits rows job
-    (rw (take_at tails (drop (length tails) old) c.tables.inside.tails.len long) (filled shop fits rows))
+    (best shop fits machines rows job
+    (rw (take_at tails (drop (length tails) old) c.tables.inside.tails.len long) (filled shop fits machines rows))
     (λ place within. served_path shop g.L.Lanes.WIDTH g.L.Band.Band.CAP served c.args.sequence.now c.args.job place few
     within))

@@ -1,4 +1,4 @@
-use Rattle.std.proofs.Common.{◌≡◌, length, drop, arith}
+use Rattle.std.proofs.Common.{◌≡◌, length, drop, sym, arith}
 use Rattle.std.proofs.lemmas.List.{take_at}
 use Rattle.pfs_base.specs.FlowShop.{FlowShop}
 use Rattle.pfs_wave.proofs.metered.MeteredLanesLaneBench.fill_tails.Goals as goal
@@ -15,4 +15,4 @@ returns-clause-tails g c =
     let filled = rw (c.hold.ensures.jobs, c.as_slice.ensures.value, c.hold.ensures.rows) at
     c.fill_tails.ensures.tails in
     rw (take_at tails (drop (length tails) old) c.tables.inside.tails.len long)
-    (filled shop (record { some = served.some; few = served.few }) c.args.self.now.rows)
+    (filled shop (record { some = served.some; few = served.few }) (sym c.machines-machines.ensures) c.args.self.now.rows)

@@ -1,4 +1,4 @@
-use Rattle.std.proofs.Common.{◌≡◌, length, drop, arith}
+use Rattle.std.proofs.Common.{◌≡◌, length, drop, sym, arith}
 use Rattle.std.proofs.lemmas.List.{take_at}
 use Rattle.pfs_wave.proofs.prepared.PreparedLanes.best.Goals as goal
 
@@ -12,5 +12,5 @@ returns-clause-best g c =
     let found = rw (c.deref.ensures.value, take_at list rest inside.sequence.len long, c.copy_jobs.ensures.front) at
     c.best_in_tables.ensures.best in
     rw (← c.self.view_is)
-    (found inside.instance.shop c.self.invariant.served c.self.invariant.rows
+    (found inside.instance.shop c.self.invariant.served (sym c.machines-machines.ensures.value) c.self.invariant.rows
     (rw (← c.self.view_is) at c.requires.few) (rw (← c.self.view_is) at c.requires.job))

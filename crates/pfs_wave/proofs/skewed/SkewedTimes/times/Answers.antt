@@ -15,8 +15,9 @@ returns-clause-skewed g c =
     let long = held_len holds in
     let all = length-map items lanes in
     let rows = length-map c.self.inside.rows.items lanes in
-    rw (← c.self.view_is, c.deref.ensures.value) (λ shop has.
+    let fits = c.requires in
+    rw (← c.self.view_is, c.deref.ensures.value) (λ shop machines has.
     same_skewed shop jobs width (rows_of (map lanes items)) _
-    (λ step lt. taken_rows lanes (c.self.inside.len + c.WIDTH.result) items step
-    (omega (arith, c.WIDTH.ensures, holds.some, holds.steps, holds.all_times)) (omega (arith, c.WIDTH.ensures)))
-    (holding_skewed holds shop has))
+    (λ step lt. taken_rows lanes (c.self.inside.len + c.args.machines) items step
+    (omega (arith, holds.some, holds.steps, holds.all_times)) (omega arith))
+    (holding_skewed holds shop (omega arith) has))
