@@ -2,7 +2,8 @@
 use Rattle.std.proofs.Common.{◌≡◌, ℕ, ◌+◌, ◌-◌, ◌<◌, ◌≤◌, List, ◌++◌, length, map, take, drop, get_or, ap, ◌∙◌, sym}
 use Rattle.std.proofs.Common.{arith, inl, inr}
 use Rattle.std.proofs.lemmas.Bool.{cases_lt}
-use Rattle.std.proofs.lemmas.List.{get_or-take, get_or-drop, get_or_append_left, length-map, take-map, drop-map, map-append}
+use Rattle.std.proofs.lemmas.List.{get_or-take, get_or-drop, get_or_append_left, length-map, take-map, drop-map}
+use Rattle.std.proofs.lemmas.List.{map-append}
 use Rattle.std.specs.List.{slice_index_or}
 use Rattle.pfs_base.specs.FlowShop.{FlowShop}
 use Rattle.pfs_insert.specs.Insertion.{makespan_with}

@@ -145,7 +145,8 @@ module _ (cap : ℕ) (shop : FlowShop) (jobs : List ℕ) (width : ℕ) (times : 
   -- lanes that the wavefront has not reached yet are 0
   heads_none : (step lane : ℕ) → step ≤ step_count shop jobs → step ≤ lane → lane < width
       → get_or (heads_at cap times width step) lane 0 ≡ 0
-  heads_none zero lane inside le lt = ap (λ v. get_or v lane 0) (heads_first cap times width) ∙ zeros-get_or width lane lt
+  heads_none zero lane inside le lt =
+      ap (λ v. get_or v lane 0) (heads_first cap times width) ∙ zeros-get_or width lane lt
   heads_none (suc step) zero inside le lt = absurd (omega arith)
   heads_none (suc step) (suc lane) inside le lt =
       head_lane step (suc lane) 0 0 (omega arith) lt
@@ -257,7 +258,8 @@ module _ (cap : ℕ) (shop : FlowShop) (jobs : List ℕ) (width : ℕ) (times : 
           sum_lane step place 0 0 inside is lt within (capped_none cap) ∙ ap (capped cap) (omega arith)
       sums_are (suc lane) zero place inside is lt within = absurd (omega arith)
       sums_are (suc lane) (suc step) place inside is lt within =
-          sum_lane (suc step) place (suc lane) (padded_sum shop fits.some jobs job place within lane) inside is lt within
+          sum_lane (suc step) place (suc lane) (padded_sum shop fits.some jobs job place within lane) inside is lt
+          within
           (sums_are lane step place (omega arith) (omega arith) (omega arith) within)
           ∙ ap (capped cap) (sym (padded_sum_step shop fits.some jobs job place within lane))
 

@@ -9,8 +9,8 @@ use Rattle.pfs_wave.specs.declared.served.Width.TheVariants as width
 abbrev pub longest_path : FlowShop → ℕ
 longest_path shop = (shop.jobs + shop.machines - 1) * greatest shop.times
 
--- the shop has n jobs, at least 8, and at most `width` machines; with more than 24 lanes, cells fill at least a third of
--- n + `width` steps of these lanes; and the bound on the shop's paths is below `cap`, the greatest value of a lane
+-- the shop has n jobs, at least 8, and at most `width` machines; with more than 24 lanes, cells fill at least a third
+-- of n + `width` steps of these lanes; and the bound on the shop's paths is below `cap`, the greatest value of a lane
 pub record IsServed (shop : FlowShop) (width cap : ℕ) : Type 0 where
   pub jobs : 8 ≤ shop.jobs
   pub some : 1 ≤ shop.machines

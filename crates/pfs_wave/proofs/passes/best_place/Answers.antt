@@ -41,7 +41,8 @@ returns-clause-best g c shop jobs inserted fits machines skewed holds is_job ste
     (c.fill_sums-row.ensures.last ∙ ap (sums_at cap times tails job width) steps)
     (λ step lt. c.fill_sums-row.ensures.sums step (omega arith))
     (λ place early. c.take_last_sums.ensures.kept place (omega arith)
-    ∙ numbers_of_part number filled rest first places place (place + (width - 1)) (omega arith) (omega arith) (omega arith))
+    ∙ numbers_of_part number filled rest first places place (place + (width - 1)) (omega arith) (omega arith)
+    (omega arith))
     (λ place lt late. c.take_last_sums.ensures.taken place (omega (arith, places_long)) (omega arith)
     ∙ ap (λ n. slice_index_or row (n - 1 - place) 0) steps)
     c.first_least.ensures (c.take_last_sums.ensures.places ∙ places_long ∙ omega arith) short

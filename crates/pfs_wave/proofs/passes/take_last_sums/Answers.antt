@@ -1,6 +1,7 @@
 use Rattle.std.proofs.Common.{inl, inr, ◌≡◌, ◌+◌, ◌-◌, ◌*◌, ◌/◌, ◌%◌, map, drop, get_or, ap, ◌∙◌, arith}
 use Rattle.std.proofs.lemmas.Bool.{cases_lt}
-use Rattle.std.proofs.lemmas.List.{get_or-set_same, get_or-set_other, length-set, length-map, map-set, get_or-take, get_or-drop}
+use Rattle.std.proofs.lemmas.List.{get_or-set_same, get_or-set_other, length-set, length-map, map-set, get_or-take}
+use Rattle.std.proofs.lemmas.List.{get_or-drop}
 use Rattle.pfs_wave.proofs.passes.take_last_sums.Goals as goal
 
 pub loop-place-preserved : goal.loop-place-preserved
@@ -33,6 +34,7 @@ loop-place-preserved g c =
                 ∙ so_far.taken place earlier late
             | inr later ↦
                 let e : place ≡ at = omega arith in
-                rw e (get_or-set_same (map number sums) at (number new) 0 (omega (arith, so_far.places, inside)) ∙ sum_is)
+                rw e (get_or-set_same (map number sums) at (number new) 0 (omega (arith, so_far.places, inside))
+                ∙ sum_is)
           ];
     })

@@ -11,7 +11,8 @@ returns-clause-best g c =
     let best = rw (c.requires.held, c.deref.ensures.value) at c.best_place-found.ensures.best in
     let tails = rw (← c.tables.view_is) at c.requires.tails in
     rw (c.length.ensures, c.from.ensures)
-    (best shop (record { some = served.some; few = served.few }) (sym c.machines-machines.ensures) c.args.self.now.rows c.requires.job
+    (best shop (record { some = served.some; few = served.few }) (sym c.machines-machines.ensures)
+    c.args.self.now.rows c.requires.job
     tails
     (λ place within. served_path shop g.L.Lanes.WIDTH g.L.Band.Band.CAP served c.args.seq.now.jobs c.args.job place
     c.requires.few

@@ -15,4 +15,5 @@ returns-clause-tails g c =
     let filled = rw (c.hold.ensures.jobs, c.as_slice.ensures.value, c.hold.ensures.rows) at
     c.fill_tails.ensures.tails in
     rw (take_at tails (drop (length tails) old) c.tables.inside.tails.len long)
-    (filled shop (record { some = served.some; few = served.few }) (sym c.machines-machines.ensures) c.args.self.now.rows)
+    (filled shop (record { some = served.some; few = served.few }) (sym c.machines-machines.ensures)
+    c.args.self.now.rows)
