@@ -43,14 +43,17 @@ LOOPS = {"times::fill_times": 14, "kernels::fill_tails": 12, "kernels::fill_sums
 
 @pytest.mark.parametrize("loop", LOOPS)
 def test_a_loop_of_a_wavefront_calls_nothing(pfs: Program, loop: str) -> None:
-    """Except that a loop over blocks of steps clears a list by `memset` for each block. A program without symbols can't
-    be tested and passes."""
+    """Except that a loop over blocks of steps clears a list by `memset` for each block, and copies the last row of sums
+    by `memcpy` after all blocks. A program without symbols can't be tested and passes."""
     functions = loops(pfs, loop)
     if functions is None:
         return
     assert len(functions) == LOOPS[loop]
-    called = {name for body in functions for name in re.findall(r"\tcall +\S+ <(.+)>", body)}
-    assert called <= ({"memset@plt"} if loop.startswith("blocks") else set())
+    for body in functions:
+        called = re.findall(r"\tcall +\S+ <(.+)>", body)
+        while loop == "blocks::fill_sums" and called[-1] == "memcpy@plt":
+            called.pop()
+        assert set(called) <= ({"memset@plt"} if loop.startswith("blocks") else set())
     assert not any(re.search(r"\tcall +\*", body) for body in functions)
 
 
