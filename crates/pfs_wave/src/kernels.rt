@@ -1,10 +1,39 @@
 //! Loops over the steps of a wavefront, one whole row of lanes for each step.
 ghost use Rattle.std.specs.Prelude.{◌≡◌, ℕ, ◌+◌, ◌-◌, ◌^◌, ◌<◌, [], length, map};
 ghost use Rattle.std.specs.List.{slice_index_or};
-ghost use Rattle.pfs_wave.specs.Lanes.{rows_of, tails_at, sums_at};
+ghost use Rattle.pfs_wave.specs.Lanes.{rows_of, heads_step, sums_step, tails_at, sums_at};
 
 use crate::band::Band;
 use crate::whole_row::WholeRow;
+
+/// The heads, the inserted rows and the sums of a step.
+#[derive(Drop)]
+struct StepRows<L: WholeRow> {
+    head: L,
+    inserted: L,
+    sum: L,
+}
+
+// The rows of the next step, from its times and tails and the times of the job to insert.
+#[inline(always)]
+fn next_step<L: WholeRow>(before: &StepRows<L>, times: &L, tails: &L, job: &L) -> StepRows<L>
+    ensures inserted { L.lanes result.inserted
+        ≡ heads_step L.Band.CAP 0 (L.lanes before.now.inserted) (L.lanes before.now.head) (L.lanes job.now) }
+    ensures sum { L.lanes result.sum
+        ≡ sums_step L.Band.CAP 0 (L.lanes before.now.sum) (L.lanes result.inserted) (L.lanes tails.now) }
+    ensures head { L.lanes result.head
+        ≡ heads_step L.Band.CAP 0 (L.lanes before.now.head) (L.lanes before.now.head) (L.lanes times.now) }
+{
+    let zero = L::Band::zeros();
+    let inserted = L::heads(&before.inserted, &before.head, job, zero);
+    let sum = L::sums(&before.sum, &inserted, tails, zero);
+    let head = L::heads(&before.head, &before.head, times, zero);
+    StepRows {
+        head,
+        inserted,
+        sum,
+    }
+}
 
 /// Fills the tails of all steps, from the last step to the first.
 #[inline(never)]
@@ -18,10 +47,15 @@ pub fn fill_tails<L: WholeRow>(times: &[L], tails: &mut [L])
     let steps = times.len();
     let zero = L::Band::zeros();
     let mut after = L::none();
-    for left in 0..steps {
-        let step = steps - 1 - left;
-        after = L::tails(&after, &times[step], zero);
-        tails[step] = after.again();
+    for pair in 0..steps / 2 {
+        let step = steps - 1 - 2 * pair;
+        let last = L::tails(&after, &times[step], zero);
+        after = L::tails(&last, &times[step - 1], zero);
+        tails[step] = last;
+        tails[step - 1] = after.again();
+    }
+    if steps % 2 == 1 {
+        tails[0] = L::tails(&after, &times[0], zero);
     }
 }
 
@@ -45,15 +79,23 @@ pub fn fill_sums<L: WholeRow>(
         ≡ sums_at L.Band.CAP (rows_of (map L.lanes times.now)) (rows_of (map L.lanes tails.now)) (L.lanes job.now)
         L.WIDTH (length times.now) }
 {
-    let zero = L::Band::zeros();
-    let mut head = L::none();
-    let mut inserted = L::none();
-    let mut sum = L::none();
-    for step in 0..times.len() {
-        inserted = L::heads(&inserted, &head, job, zero);
-        sum = L::sums(&sum, &inserted, &tails[step], zero);
-        sums[step] = sum.last();
-        head = L::heads(&head, &head, &times[step], zero);
+    let steps = times.len();
+    let job = job.again();
+    let mut rows = StepRows {
+        head: L::none(),
+        inserted: L::none(),
+        sum: L::none(),
+    };
+    for pair in 0..steps / 2 {
+        let step = 2 * pair;
+        let between = next_step(&rows, &times[step], &tails[step], &job);
+        sums[step] = between.sum.last();
+        rows = next_step(&between, &times[step + 1], &tails[step + 1], &job);
+        sums[step + 1] = rows.sum.last();
     }
-    sum
+    if steps % 2 == 1 {
+        rows = next_step(&rows, &times[steps - 1], &tails[steps - 1], &job);
+        sums[steps - 1] = rows.sum.last();
+    }
+    rows.sum
 }
