@@ -26,7 +26,7 @@ band_lane rows order first row part lane few is =
 -- one more band contains the rows of the sequence
 module _ (rows : List (List ℕ)) (order : List ℕ) (first from to end width : ℕ) (old times : List (List ℕ))
     (filled : IsBandFilled (band_rows rows order first) first from end old times)
-    (ends : end ≡ min (to + 7) (length old - first)) where
+    (ends : min (to + 7) (length old - first) ≤ end) where
   low_lane : (step lane : ℕ) → lane < first → get_or (get_or times step []) lane 0 ≡ get_or (get_or old step []) lane 0
   low_lane step lane lt =
       sym (get_or-take first (get_or times step []) lane 0 lt) ∙ ap (λ l. get_or l lane 0) (filled.lower step)

@@ -1,5 +1,5 @@
 //! The skewed times of a sequence. Each band is filled on its own: the first row reaches band b after 8 * b steps.
-ghost use Rattle.std.specs.Prelude.{◌≡◌, ℕ, ◌+◌, ◌-◌, ◌*◌, ◌<◌, ◌≤◌, length, map, max, min};
+ghost use Rattle.std.specs.Prelude.{◌≡◌, ℕ, ◌+◌, ◌-◌, ◌*◌, ◌<◌, ◌≤◌, ◌^◌, length, map, max, min};
 ghost use Rattle.std.specs.List.{All};
 ghost use Rattle.pfs_wave.specs.Lanes.{rows_of};
 ghost use Rattle.pfs_wave.specs.Private.HeldRows.{AreMoved, HoldLanes, HoldOutside};
@@ -44,27 +44,40 @@ fn blends_before<L: Lanes>(rows: &[L], order: &[usize], row: usize, band: usize)
     last
 }
 
-// Fills one band of the steps that contain a row that changed: the steps of those rows, and the seven after them. With
-// four rows in each turn of the loop the blends stay in registers and are not copied.
+// The row before which a band is filled, of at most `room` rows. The steps of the seven rows after those that changed
+// contain these too. The number of rows is rounded up to fours where there is room: then no row is left after the turns
+// of the loop, whose number seldom changes from one sequence to the next.
 #[inline(always)]
-fn fill_band<L: Lanes>(rows: &[L], order: &[usize], times: &mut [L], changed: Changed, band: usize)
+fn band_end(changed: Changed, room: usize) -> usize
+    requires from { changed.from ≤ changed.to }
+    requires room { changed.from ≤ room }
+    requires few { changed.to + 10 < 2 ^ 64 }
+    ensures from { changed.from ≤ result }
+    ensures enough { min (changed.to + 7) room ≤ result }
+    ensures within { result ≤ room }
+{
+    let end = (changed.to + 7).min(room);
+    let fours = changed.from + (end - changed.from + 3) / 4 * 4;
+    if fours <= room { fours } else { end }
+}
+
+// Fills one band of the steps of these rows. With four rows in each turn of the loop the blends stay in registers and
+// are not copied.
+#[inline(always)]
+fn fill_band<L: Lanes>(rows: &[L], order: &[usize], times: &mut [L], filled: Changed, band: usize)
     requires jobs { All (λ job. job < length rows.now) order.now }
     requires band { 8 * band + 8 ≤ L.WIDTH }
-    requires from { changed.from ≤ changed.to }
-    requires to { changed.to ≤ length order.now }
-    requires room { changed.from + L.WIDTH ≤ length order.now }
+    requires from { filled.from ≤ filled.to }
+    requires room { 8 * band + filled.to ≤ length order.now }
     requires steps { length times.old ≡ length order.now }
     ensures filled { IsBandFilled (band_rows (map L.lanes rows.now) order.now (8 * band)) (8 * band)
-        changed.from (min (changed.to + 7) (length times.old - 8 * band)) (map L.lanes times.old)
-        (map L.lanes times.new) }
+        filled.from filled.to (map L.lanes times.old) (map L.lanes times.new) }
 {
     let first = 8 * band;
-    let from = changed.from;
-    let end = (changed.to + 7).min(order.len() - first);
-    let mut last = blends_before(rows, order, from, band);
-    let turns = (end - from) / 4;
+    let mut last = blends_before(rows, order, filled.from, band);
+    let turns = (filled.to - filled.from) / 4;
     for turn in 0..turns {
-        let row = from + 4 * turn;
+        let row = filled.from + 4 * turn;
         let step = first + row;
         let a = last.push(band_of_row(rows, order, row, band));
         let b = a.next.push(band_of_row(rows, order, row + 1, band));
@@ -76,7 +89,7 @@ fn fill_band<L: Lanes>(rows: &[L], order: &[usize], times: &mut [L], changed: Ch
         times[step + 2].put_band(band, c.row);
         times[step + 3].put_band(band, d.row);
     }
-    for row in from + 4 * turns..end {
+    for row in filled.from + 4 * turns..filled.to {
         let one = last.push(band_of_row(rows, order, row, band));
         last = one.next;
         times[first + row].put_band(band, one.row);
@@ -100,7 +113,11 @@ pub fn fill_times<L: Lanes>(rows: &[L], order: &[usize], times: &mut [L], change
         → HoldLanes (map L.lanes rows.now) order.now 0 L.WIDTH (map L.lanes times.new) }
 {
     for band in 0..L::WIDTH / 8 {
-        fill_band(rows, order, times, changed, band);
+        let filled = Changed {
+            from: changed.from,
+            to: band_end(changed, order.len() - 8 * band),
+        };
+        fill_band(rows, order, times, filled, band);
     }
 }
 

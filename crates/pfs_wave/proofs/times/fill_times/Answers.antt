@@ -32,9 +32,10 @@ loop-band-preserved g c =
     let inside = c.loop-band-test.true in
     let fits : 8 * band + 8 ≤ width = omega arith in
     let next : 8 * band + 8 ≡ 8 * (band + 1) = omega arith in
-    let end = min (to + 7) (length c.loop-band.times - 8 * band) in
-    let ends : end ≡ min (to + 7) (length old - 8 * band) =
-    ap (λ n. min (to + 7) (n - 8 * band)) (sym (length-map c.loop-band.times lanes)) in
+    let end = c.band_end.result in
+    let steps : length c.args.order.now ≡ length old =
+    sym c.requires.steps ∙ sym so_far.steps ∙ sym (length-map c.loop-band.times lanes) in
+    let ends : min (to + 7) (length old - 8 * band) ≤ end = rw steps at c.band_end.ensures.enough in
     record {
       steps = sym (length-map c.fill_band.new.times lanes) ∙ filled.steps ∙ length-map c.loop-band.times lanes
           ∙ so_far.steps;
