@@ -1,10 +1,10 @@
 -- Tails that are filled a block of steps at a time, from the last block to the first.
-use Rattle.std.proofs.Common.{inl, inr, ◌≡◌, ℕ, ◌+◌, ◌-◌, ◌*◌, ◌<◌, ◌≤◌, List, length, take}
+use Rattle.std.proofs.Common.{inl, inr, ◌≡◌, ℕ, ◌+◌, ◌-◌, ◌*◌, ◌<◌, ◌≤◌, List, ◌++◌, length, take, drop}
 use Rattle.std.proofs.Common.{map, get_or, ap, ◌∙◌, sym, arith, slice_set}
 use Rattle.std.proofs.lemmas.Bool.{cases_lt}
 use Rattle.std.proofs.lemmas.List.{get_or-set_same, get_or-set_other, length-map, get_or-take, get_or-drop}
-use Rattle.std.proofs.lemmas.List.{take-map, drop-map, map-append, length-take-le, get_or-append_right}
-use Rattle.std.proofs.lemmas.Slice.{take-put_mid, drop-put_mid}
+use Rattle.std.proofs.lemmas.List.{take-map, drop-map, map-append, length-take-le, length-append, length-drop, get_or-append_right}
+use Rattle.std.proofs.lemmas.Slice.{take-put_mid, take-put_mid_below, drop-put_mid}
 use borrow.Rule.Slice.PartMut.{put_mid}
 use Rattle.pfs_wave.specs.Lanes.{rows_of, zeros}
 use Rattle.pfs_wave.specs.Private.SkewedBand.{eight_from}
@@ -22,6 +22,20 @@ tails_pass width steps times = record {
   job = zeros width;
 }
 
+-- a list over a part of which values are written is as long as before
+pub put_long : {X : Type 0} (a k : ℕ) (xs ys : List X) → a + k ≤ length xs → length ys ≡ k
+    → length (put_mid a k xs ys) ≡ length xs
+put_long a k xs ys inside same =
+    let rest = drop k (drop a xs) in
+    omega (
+      arith,
+      length-append (take a xs) (ys ++ rest),
+      length-append ys rest,
+      length-take-le a xs (omega arith),
+      length-drop k (drop a xs),
+      length-drop a xs,
+    )
+
 -- values written over a part of a list
 module _ {X V : Type 0} (value : X → V) (a k : ℕ) (xs ys : List X) (inside : a ≤ length xs) (same : length ys ≡ k)
     (other : V) where
@@ -35,6 +49,15 @@ module _ {X V : Type 0} (value : X → V) (a k : ℕ) (xs ys : List X) (inside :
       ∙ ap (λ l. get_or l step other) (take-map value n (put_mid a k xs ys)
       ∙ ap (map value) (take-put_mid a k xs ys n (omega arith) inside) ∙ map-append value (take a xs) ys)
       ∙ get_or-append_right front (map value ys) a step other long le
+
+  pub put_before : (step : ℕ) → step < a
+      → get_or (map value (put_mid a k xs ys)) step other ≡ get_or (map value xs) step other
+  put_before step lt =
+      let at = λ (l : List X). sym (get_or-take a (map value l) step other lt) in
+      at (put_mid a k xs ys)
+      ∙ ap (λ l. get_or l step other) (take-map value a (put_mid a k xs ys)
+      ∙ ap (map value) (take-put_mid_below a k xs ys a (omega arith) inside) ∙ sym (take-map value a xs))
+      ∙ sym (at xs)
 
   pub put_after : (step : ℕ) → a + k ≤ step
       → get_or (map value (put_mid a k xs ys)) step other ≡ get_or (map value xs) step other

@@ -1,9 +1,8 @@
 -- The best place of a job, from the lanes of the sums.
-use Rattle.std.proofs.Common.{◌≡◌, ℕ, ◌+◌, ◌-◌, ◌<◌, ◌≤◌, List, ◌++◌, length, map, take, drop, get_or, ap, ◌∙◌, sym}
+use Rattle.std.proofs.Common.{◌≡◌, ℕ, ◌+◌, ◌-◌, ◌<◌, ◌≤◌, List, length, map, take, drop, get_or, ap, ◌∙◌, sym}
 use Rattle.std.proofs.Common.{arith, inl, inr}
 use Rattle.std.proofs.lemmas.Bool.{cases_lt}
-use Rattle.std.proofs.lemmas.List.{get_or-take, get_or-drop, get_or_append_left, length-map, take-map, drop-map}
-use Rattle.std.proofs.lemmas.List.{map-append}
+use Rattle.std.proofs.lemmas.List.{get_or-take, get_or-drop, take-map, drop-map}
 use Rattle.std.specs.List.{slice_index_or}
 use Rattle.pfs_base.specs.FlowShop.{FlowShop}
 use Rattle.pfs_insert.specs.Insertion.{makespan_with}
@@ -15,19 +14,13 @@ use Rattle.pfs_wave.specs.Wavefront.{FitsLanes, AreSkewed, IsJobRow, HoldTails, 
 use Rattle.pfs_wave.proofs.CappedLeast.{capped_least_law}
 use Rattle.pfs_wave.proofs.WavefrontLaws.{sums_law}
 
--- numbers of a part of a list that begins in its front
-pub numbers_of_part : {N : Type 0} (number : N → ℕ) (front rest : List N) (first count at to : ℕ) → at < count
-    → first + at < length front → to ≡ first + at
-    → get_or (map number (take count (drop first (front ++ rest)))) at 0 ≡ get_or (map number front) to 0
-numbers_of_part number front rest first count at to lt inside to_is =
-    let all = front ++ rest in
-    let long = length-map front number in
+-- a number of a part of a list
+pub number_of_part : {N : Type 0} (number : N → ℕ) (all : List N) (first count at : ℕ) → at < count
+    → get_or (map number (take count (drop first all))) at 0 ≡ get_or (map number all) (first + at) 0
+number_of_part number all first count at lt =
     ap (λ l. get_or l at 0) (sym (take-map number count (drop first all)) ∙ ap (take count)
     (sym (drop-map number first all)))
     ∙ get_or-take count (drop first (map number all)) at 0 lt ∙ get_or-drop first (map number all) at 0
-    ∙ ap (λ l. get_or l (first + at) 0) (map-append number front rest)
-    ∙ get_or_append_left (map number front) (map number rest) 0 (first + at) (omega arith)
-    ∙ ap (λ i. get_or (map number front) i 0) (sym to_is)
 
 -- `row` is the row of sums after all steps
 module _ (cap : ℕ) (shop : FlowShop) (order : List ℕ) (job width : ℕ) (times tails : Rows)

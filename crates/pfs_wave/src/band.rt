@@ -1,5 +1,5 @@
 //! Bands of eight lanes.
-ghost use Rattle.std.specs.Prelude.{◌≡◌, ℕ, ◌+◌, ◌<◌, ◌≤◌, ◌^◌, ◌∷◌, [], ◌++◌, List, length, map, max, min, take, drop};
+ghost use Rattle.std.specs.Prelude.{◌≡◌, ℕ, ◌+◌, ◌-◌, ◌<◌, ◌≤◌, ◌^◌, ◌∷◌, [], ◌++◌, List, length, map, max, min, take, drop};
 ghost use Rattle.std.specs.List.{All, slice_index_or};
 ghost use Rattle.std.specs.Simd.Lanes.{chunk, zip2};
 ghost use Rattle.pfs_wave.specs.Lanes.{capped_add, zeros};
@@ -86,10 +86,10 @@ pub trait Band: Copy + Drop {
     fn last(self) -> Self::Number
         ensures { number result ≡ slice_index_or (lanes self) 7 0 };
 
-    /// The number of a lane.
-    fn lane(self, lane: usize) -> Self::Number
-        requires { lane < 8 }
-        ensures { number result ≡ slice_index_or (lanes self) lane 0 };
+    /// The numbers of the lanes, from the last lane to the first.
+    fn reversed(self) -> [Self::Number; 8]
+        ensures { (lane : ℕ) → lane < 8 → slice_index_or (map number result) (7 - lane) 0
+            ≡ slice_index_or (lanes self) lane 0 };
 
     /// The number 0.
     fn nothing() -> Self::Number

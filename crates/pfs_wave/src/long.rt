@@ -118,8 +118,10 @@ impl Band for Long {
     }
 
     #[inline(always)]
-    fn lane(self, lane: usize) -> u32 {
-        self.values.to_array()[lane]
+    fn reversed(self) -> [u32; 8] {
+        self.values
+            .shuffle(self.values, [7, 6, 5, 4, 3, 2, 1, 0])
+            .to_array()
     }
 
     #[inline(always)]

@@ -29,23 +29,18 @@ pub(crate) fn fill_front<L: Lanes>(times: &[L], tails: &mut [L], work: &mut [L::
     L::fill_tails(times, &mut tails[..times.len()], work);
 }
 
-// Takes the sums of the last places from the row of sums after all steps. These have not come to the last lane: the sum
-// of place p is in lane steps - 1 - p.
+// Writes a row from its last lane to its first. The sums of the last places have not come to the last lane after all
+// steps: that of place p is in lane steps - 1 - p. In a row that is written so they follow those of the places before.
 #[inline(always)]
-fn take_last_sums<L: Lanes>(row: &L, steps: usize, sums: &mut [<L::Band as Band>::Number])
-    requires small { steps < 2 ^ 32 }
-    requires places { length sums.old ≤ steps }
-    requires lanes { steps < length sums.old + L.WIDTH }
-    ensures places { length sums.new ≡ length sums.old }
-    ensures kept { (place : ℕ) → place + L.WIDTH ≤ steps
-        → slice_index_or (map L.Band.number sums.new) place 0 ≡ slice_index_or (map L.Band.number sums.old) place 0 }
-    ensures taken { (place : ℕ) → place < length sums.old → steps < place + L.WIDTH
-        → slice_index_or (map L.Band.number sums.new) place 0 ≡ slice_index_or (L.lanes row.now) (steps - 1 - place) 0 }
+fn write_reversed<L: Lanes>(row: &L, sums: &mut [<L::Band as Band>::Number])
+    requires { length sums.old ≡ L.WIDTH }
+    ensures length { length sums.new ≡ L.WIDTH }
+    ensures lanes { (lane : ℕ) → lane < L.WIDTH
+        → slice_index_or (map L.Band.number sums.new) (L.WIDTH - 1 - lane) 0 ≡ slice_index_or (L.lanes row.now) lane 0 }
 {
-    let first = (steps + 1).saturating_sub(L::WIDTH);
-    for place in first..sums.len() {
-        let lane = steps - 1 - place;
-        sums[place] = row.band(lane / 8).lane(lane % 8);
+    for band in 0..L::WIDTH / 8 {
+        let first = L::WIDTH - 8 - 8 * band;
+        sums[first..first + 8].copy_from_slice(&row.band(band).reversed());
     }
 }
 
@@ -65,7 +60,7 @@ pub(crate) fn best_place<L: Lanes>(
     requires steps { machines ≤ length times.now }
     requires small { length times.now ≤ 2 ^ 16 }
     requires tails { length times.now ≤ length tails.now }
-    requires sums { length times.now + L.WIDTH ≤ length sums.old + machines }
+    requires sums { length times.now + L.WIDTH ≤ length sums.old + 1 }
     requires work { 8 * length work.old ≡ 256 + L.WIDTH }
     ensures sums { length sums.new ≡ length sums.old }
     ensures work { length work.new ≡ length work.old }
@@ -79,7 +74,6 @@ pub(crate) fn best_place<L: Lanes>(
 {
     let steps = times.len();
     let row = L::fill_sums(times, &tails[..steps], job, &mut sums[..steps], work);
-    let places = &mut sums[L::WIDTH - 1..steps - machines + L::WIDTH];
-    take_last_sums(&row, steps, places);
-    L::Band::first_least(places)
+    write_reversed(&row, &mut sums[steps - 1..steps - 1 + L::WIDTH]);
+    L::Band::first_least(&sums[L::WIDTH - 1..steps - machines + L::WIDTH])
 }

@@ -153,8 +153,10 @@ impl Band for Short {
     }
 
     #[inline(always)]
-    fn lane(self, lane: usize) -> u16 {
-        self.values.to_array()[lane]
+    fn reversed(self) -> [u16; 8] {
+        self.values
+            .shuffle(self.values, [7, 6, 5, 4, 3, 2, 1, 0])
+            .to_array()
     }
 
     #[inline(always)]

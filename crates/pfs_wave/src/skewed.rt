@@ -127,7 +127,7 @@ impl<L: Lanes> SkewedTimes<L> {
         requires some { 1 ≤ machines }
         requires machines { machines ≤ L.WIDTH }
         requires tails { length self.now.jobs + L.WIDTH ≤ length tails.now }
-        requires sums { length self.now.jobs + L.WIDTH ≤ length sums.old }
+        requires sums { length self.now.jobs + 2 * L.WIDTH ≤ length sums.old }
         requires work { 8 * length work.old ≡ 256 + L.WIDTH }
         ensures length { length sums.new ≡ length sums.old }
         ensures work { length work.new ≡ length work.old }

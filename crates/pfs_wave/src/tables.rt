@@ -37,7 +37,7 @@ impl<L: Lanes> Model for Tables<L> {
     ghost invariant = { λ a. record {
       few : a.jobs ≤ MOST_JOBS;
       tails : length a.tails.items ≡ a.jobs + L.WIDTH;
-      sums : length a.sums.items ≡ a.jobs + L.WIDTH;
+      sums : length a.sums.items ≡ a.jobs + 2 * L.WIDTH;
       bands : 8 * length a.bands.items ≡ 256 + L.WIDTH;
       fronts : 8 * length a.fronts.items ≡ 256 + L.WIDTH;
     } };
@@ -53,8 +53,8 @@ impl<L: Lanes> Tables<L> {
         let steps = jobs + L::WIDTH;
         let tails = rows_of_zeros(alloc, steps)?;
         let mut sums = Vec::new(alloc);
-        sums.reserve_exact(steps)?;
-        sums.resize(steps, L::Band::nothing())?;
+        sums.reserve_exact(steps + L::WIDTH)?;
+        sums.resize(steps + L::WIDTH, L::Band::nothing())?;
         let room = BLOCK + L::WIDTH / 8;
         let mut bands = Vec::new(alloc);
         bands.reserve_exact(room)?;

@@ -1,4 +1,4 @@
-use Rattle.std.proofs.Common.{◌≡◌, ◌+◌, ◌-◌, ◌*◌, ◌<◌, length, map, slice_set, ◌∙◌, sym, refl, arith}
+use Rattle.std.proofs.Common.{◌≡◌, ◌+◌, ◌-◌, ◌*◌, ◌<◌, length, map, slice_set, ◌∙◌, sym, arith}
 use Rattle.std.proofs.lemmas.List.{length-map, map-set}
 use Rattle.pfs_wave.proofs.FilledSteps.{IsSummed, none_summed, more_summed_rows}
 use Rattle.pfs_wave.proofs.kernels.fill_sums.Given as given

@@ -1,6 +1,6 @@
-use Rattle.std.proofs.Common.{◌≡◌, ◌+◌, ◌-◌, ◌*◌, ◌<◌, length, map, slice_set, subst, refl, arith}
+use Rattle.std.proofs.Common.{◌≡◌, ◌+◌, ◌-◌, ◌*◌, ◌<◌, length, slice_set, refl, arith}
 use Rattle.std.proofs.lemmas.List.{length-map}
-use Rattle.pfs_wave.proofs.FilledSteps.{IsFilled, none_filled_rows, more_filled_rows}
+use Rattle.pfs_wave.proofs.FilledSteps.{none_filled_rows, more_filled_rows}
 use Rattle.pfs_wave.proofs.kernels.fill_tails.Goals as goal
 
 pub loop-pair-init : goal.loop-pair-init

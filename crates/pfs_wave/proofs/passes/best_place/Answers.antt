@@ -1,9 +1,12 @@
-use Rattle.std.proofs.Common.{◌≡◌, ◌+◌, ◌-◌, ◌++◌, length, take, drop, map, ap, ◌∙◌, arith}
-use Rattle.std.proofs.lemmas.List.{length-drop, length-take-le, length-append}
-use Rattle.std.specs.List.{slice_index_or}
+use Rattle.std.proofs.Common.{inl, inr, ◌≡◌, ◌+◌, ◌-◌, ◌≤◌, ◌++◌, length, take, drop, map, get_or, ap, ◌∙◌, sym, arith}
+use Rattle.std.proofs.lemmas.Bool.{cases_lt}
+use Rattle.std.proofs.lemmas.List.{length-drop, length-take-le, length-append, length-map, map-append}
+use Rattle.std.proofs.lemmas.List.{get_or_append_left}
+use borrow.Rule.Slice.PartMut.{put_mid}
 use Rattle.pfs_wave.specs.Lanes.{rows_of, sums_at}
+use Rattle.pfs_wave.proofs.AllTails.{put_inside, put_before, put_long}
 use Rattle.pfs_wave.proofs.TakenSteps.{same_tails, taken_rows}
-use Rattle.pfs_wave.proofs.BestFound.{found, numbers_of_part}
+use Rattle.pfs_wave.proofs.BestFound.{found, number_of_part}
 use Rattle.pfs_wave.proofs.passes.best_place.Goals as goal
 
 pub returns-clause-best : goal.returns-clause-best
@@ -21,28 +24,59 @@ returns-clause-best g c shop jobs inserted fits machines skewed holds is_job ste
     let job = lanes c.args.job.now in
     let row = lanes c.fill_sums-row.result in
     let filled = c.fill_sums-row.new.sums in
-    let sums = c.take_last_sums.new.sums in
-    let first = c.WIDTH.result - 1 in
-    let places = count - c.args.machines + c.WIDTH-2.result - first in
     let rest = drop count c.args.sums.now in
+    let written = c.write_reversed.new.sums in
     let some = g.met.L.Lanes.some in
     let one = c.WIDTH.ensures in
     let two = c.WIDTH-2.ensures in
+    let three = c.WIDTH-3.ensures in
     let room = c.requires.sums in
+    let from = count - 1 in
+    let part = from + c.WIDTH.result - from in
+    let all = put_mid from part (filled ++ rest) written in
+    let first = c.WIDTH-2.result - 1 in
+    let places = count - c.args.machines + c.WIDTH-3.result - first in
     let filled_long = c.fill_sums-row.ensures.steps in
-    let places_long : length (take places (drop first (filled ++ rest))) ≡ places =
-    length-take-le places (drop first (filled ++ rest)) (omega (
-      arith,
-      length-drop first (filled ++ rest),
-      length-append filled rest,
-      length-drop count c.args.sums.now,
-    )) in
-    found cap shop jobs inserted width times tails job row (map number filled) (map number sums) fits skewed held is_job
+    let rest_long = length-drop count c.args.sums.now in
+    let both_long = length-append filled rest in
+    let inside : from ≤ length (filled ++ rest) = omega arith in
+    let same : length written ≡ part = c.write_reversed.ensures.length ∙ omega arith in
+    let all_long = put_long from part (filled ++ rest) written (omega arith) same in
+    let places_long : length (take places (drop first all)) ≡ places =
+    length-take-le places (drop first all) (omega (arith, length-drop first all)) in
+    let sums_are = c.fill_sums-row.ensures.sums in
+    let numbers_long = length-map filled number in
+    found cap shop jobs inserted width times tails job row (map number filled)
+    (map number (take places (drop first all))) fits skewed held is_job
     (c.fill_sums-row.ensures.last ∙ ap (sums_at cap times tails job width) steps)
-    (λ step lt. c.fill_sums-row.ensures.sums step (omega arith))
-    (λ place early. c.take_last_sums.ensures.kept place (omega arith)
-    ∙ numbers_of_part number filled rest first places place (place + (width - 1)) (omega arith) (omega arith)
-    (omega arith))
-    (λ place lt late. c.take_last_sums.ensures.taken place (omega (arith, places_long)) (omega arith)
-    ∙ ap (λ n. slice_index_or row (n - 1 - place) 0) steps)
-    c.first_least.ensures (c.take_last_sums.ensures.places ∙ places_long ∙ omega arith) short
+    (λ step lt. sums_are step (omega arith))
+    (λ place early.
+    let here : first + place ≡ place + (width - 1) = omega arith in
+    number_of_part number all first places place (omega arith)
+    ∙ ap (λ n. get_or (map number all) n 0) here
+    ∙ elim (cases_lt (place + (width - 1)) from) [
+      | inl before ↦
+          put_before number from part (filled ++ rest) written inside same 0 (place + (width - 1)) before
+          ∙ ap (λ l. get_or l (place + (width - 1)) 0) (map-append number filled rest)
+          ∙ get_or_append_left (map number filled) (map number rest) 0 (place + (width - 1)) (omega arith)
+      | inr last ↦
+          let at : place + (width - 1) ≡ from = omega arith in
+          let zero : place + (width - 1) - from ≡ width - 1 - (width - 1) = omega arith in
+          let next : from + 1 ≡ count = omega arith in
+          put_inside number from part (filled ++ rest) written inside same 0 (place + (width - 1)) (omega arith)
+          (omega arith)
+          ∙ ap (λ n. get_or (map number written) n 0) zero
+          ∙ c.write_reversed.ensures.lanes (width - 1) (omega arith)
+          ∙ ap (λ l. get_or l (width - 1) 0) c.fill_sums-row.ensures.last
+          ∙ ap (λ n. get_or (sums_at cap times tails job width n) (width - 1) 0) (sym next)
+          ∙ sym (sums_are from (omega arith)) ∙ ap (λ n. get_or (map number filled) n 0) (sym at)
+    ])
+    (λ place lt late.
+    let lane = count - 1 - place in
+    let here : first + place - from ≡ width - 1 - lane = omega arith in
+    number_of_part number all first places place (omega arith)
+    ∙ put_inside number from part (filled ++ rest) written inside same 0 (first + place) (omega arith) (omega arith)
+    ∙ ap (λ n. get_or (map number written) n 0) here
+    ∙ c.write_reversed.ensures.lanes lane (omega arith)
+    ∙ ap (λ n. get_or row (n - 1 - place) 0) steps)
+    c.first_least.ensures (places_long ∙ omega arith) short

@@ -1,4 +1,4 @@
-use Rattle.std.proofs.Common.{◌≡◌, ◌≤◌, ◌*◌, ◌+◌, ◌-◌, map, min, length, subst, ap, sym, ◌∙◌, refl, arith}
+use Rattle.std.proofs.Common.{◌≡◌, ◌≤◌, ◌*◌, ◌+◌, ◌-◌, map, min, length, subst, sym, ◌∙◌, refl, arith}
 use Rattle.std.proofs.lemmas.List.{length-map}
 use Rattle.pfs_wave.specs.Private.HeldRows.{HoldLanes, HoldOutside}
 use Rattle.pfs_wave.proofs.SkewedTimes.{hold_none, band_below, band_above}
