@@ -1,6 +1,6 @@
 """The completions of bash, zsh and fish, each run in its own shell, compared with the usage text: commands, options
-that the line does not have yet, layouts, and files where a path may be given. The descriptions that zsh and fish show
-for an option and a path are compared with what the program accepts."""
+that the line does not have yet, layouts, and files where a path may be given. What zsh and fish say of an option and a
+path is what it is for; the ranges in it are written by tools/facts."""
 import os
 import pathlib
 import re
@@ -13,7 +13,7 @@ import pytest
 from support.needs import tool
 from support.program import Program, Ran
 from support.terminals import Terminal
-from support.usage import LAYOUTS, commands, ends_of, ends_taken, ranges
+from support.usage import LAYOUTS, commands
 
 FILES = ["best", "three", "two words"]
 SHELLS = ["bash", "zsh", "fish"]
@@ -28,7 +28,7 @@ offer() {{
     local last=${{@: -1}} is_file=
     COMP_WORDS=("$@") COMP_CWORD=$(($# - 1))
     [ "$last" != = ] || last=
-    _pfs pfs "$last" "${{@: -2:1}}"
+    {function} "$1" "$last" "${{@: -2:1}}"
     [ -z "$is_file" ] || mapfile -t COMPREPLY < <(compgen -f -- "$last")
     printf '%s\\n' "${{COMPREPLY[@]}}" '='
 }}
@@ -148,14 +148,24 @@ def split_results(text: str) -> list[Answer]:
     return [answer_of(answer.split("\n")) for answer in answers]
 
 
+def with_files(place: pathlib.Path) -> pathlib.Path:
+    """A folder with the files and a folder."""
+    folder = place / "files"
+    (folder / "folder").mkdir(parents=True)
+    for name in FILES:
+        (folder / name).touch()
+    return folder
+
+
 def run_all(words: list[str], text: str, folder: pathlib.Path) -> list[Answer]:
     done = subprocess.run(words, input=text, capture_output=True, text=True, cwd=folder, timeout=MOST_SECONDS)
     assert done.stderr == "", f"what {words[0]} says"
     return split_results(done.stdout)
 
 
-def bash(asked: list[str], folder: pathlib.Path, scripts: pathlib.Path) -> list[Answer]:
-    text = BASH.format(script=shlex.quote(str(scripts / "pfs.bash")))
+def bash(asked: list[str], folder: pathlib.Path, scripts: pathlib.Path, name: str = "pfs") -> list[Answer]:
+    script = shlex.quote(str(scripts / f"{name}.bash"))
+    text = BASH.format(script=script, function=f"_{name.replace('-', '_')}")
     for line in asked:
         words = [word for part in line.split(" ") for word in re.split("(=)", part) if word or word == part]
         text += "offer " + shlex.join(words) + "\n"
@@ -195,12 +205,8 @@ def answers(top: pathlib.Path, tmp_path_factory: pytest.TempPathFactory) -> Answ
     def answer(shell: str, line: str) -> Answer:
         if shell not in found:
             tool(shell)
-            folder = tmp_path_factory.mktemp(shell) / "files"
-            (folder / "folder").mkdir(parents=True)
-            for name in FILES:
-                (folder / name).touch()
             asked = [line.text for line in ASKED]
-            got = ASK[shell](asked, folder, top / "share" / "completions")
+            got = ASK[shell](asked, with_files(tmp_path_factory.mktemp(shell)), top / "share" / "completions")
             assert len(got) == len(asked), f"answers of {shell}"
             found[shell] = dict(zip(asked, got))
         return found[shell][line]
@@ -268,16 +274,6 @@ OPTIONS = [(command, option) for command, (options, _) in commands().items() for
 @in_shells("zsh", "fish")
 def test_says_of_an_option_what_it_is_for(shell: str, command: str, option: str, answers: Answers) -> None:
     assert MEANT[option] in said_of(option, answers(shell, f"pfs {command} --")).lower()
-
-
-@pytest.mark.parametrize("option", ["--block", "--rounds", "--take", "--passes"])
-@in_shells("zsh", "fish")
-def test_says_the_range_of_an_option(shell: str, option: str, answers: Answers, pfs: Program,
-                                     folder: pathlib.Path) -> None:
-    said = said_of(option, answers(shell, "pfs solve --"))
-    assert len(ranges(said)) == 1, said
-    (least, most), = ranges(said)
-    assert ends_taken(pfs, option, least, most, folder) == ends_of(least, most), f"what the program takes: {said}"
 
 
 PATHS = [(command, place) for command, (_, paths) in commands().items() for place in range(len(paths))]

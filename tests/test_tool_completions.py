@@ -1,35 +1,18 @@
 """What the completions of bash, zsh and fish offer for pfs-gantt and pfs-experiments, each asked in its own shell,
 against the usage texts of the scripts: commands, options, formats, and files elsewhere."""
+import functools
 import pathlib
 import re
-import shlex
 from collections.abc import Callable
-from typing import NamedTuple
 
 import pytest
 from support.needs import tool
-from test_completions import FILES, Answer, fish, run_all, zsh
+from test_completions import FILES, Answer, Line, bash, fish, with_files, zsh
 
 TOP = pathlib.Path(__file__).resolve().parent.parent
 SCRIPTS = TOP / "share" / "completions"
-BASH = """
-source {script}
-compopt() {{ [ "$*" != '-o default' ] || is_file=1; }}
-offer() {{
-    local last=${{@: -1}} is_file=
-    COMP_WORDS=("$@") COMP_CWORD=$(($# - 1))
-    _pfs_tools "$1" "$last" "${{@: -2:1}}"
-    [ -z "$is_file" ] || mapfile -t COMPREPLY < <(compgen -f -- "$last")
-    printf '%s\\n' "${{COMPREPLY[@]}}" '='
-}}
-"""
 HERE = set(FILES) | {"folder"}
 FORMATS = {"png", "svg", "pdf"}
-
-
-class Line(NamedTuple):
-    text: str
-    offered: set[str]
 
 
 def options_of(usage: str) -> dict[str, str]:
@@ -66,24 +49,13 @@ def lines() -> list[Line]:
 LINES = lines()
 
 
-def bash(asked: list[str], folder: pathlib.Path) -> list[Answer]:
-    text = BASH.format(script=shlex.quote(str(SCRIPTS / "pfs-tools.bash")))
-    return run_all(["bash", "--norc"], text + "".join(f"offer {shlex.join(line.split(' '))}\n" for line in asked),
-                   folder)
-
-
 @pytest.mark.parametrize("shell", ["bash", "fish", "zsh"])
 def test_the_tools_options_commands_and_files_are_offered(shell: str, folder: pathlib.Path) -> None:
     tool(shell)
-    here = folder / "files"
-    (here / "folder").mkdir(parents=True)
-    for name in FILES:
-        (here / name).touch()
     asked = [line.text for line in LINES]
-    ask: dict[str, Callable[[], list[Answer]]] = {
-        "bash": lambda: bash(asked, here), "fish": lambda: fish(asked, here, SCRIPTS, "pfs-tools"),
-        "zsh": lambda: zsh(asked, here, SCRIPTS)}
-    answers = ask[shell]()
+    ask: dict[str, Callable[..., list[Answer]]] = {
+        "bash": functools.partial(bash, name="pfs-tools"), "fish": functools.partial(fish, name="pfs-tools"), "zsh": zsh}
+    answers = ask[shell](asked, with_files(folder), SCRIPTS)
     assert len(answers) == len(asked)
     found = {}
     for line, answer in zip(LINES, answers):

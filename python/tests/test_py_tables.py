@@ -9,8 +9,15 @@ from hypothesis import strategies as st
 
 MISSING = "the time is missing: write 0 where a job skips a machine (it still waits there for its turn)"
 SAVE_AS = "save it as CSV UTF-8 (Excel), or as CSV with the character set Unicode (UTF-8) (LibreOffice)"
-WITHOUT = "leave it out, or allow totals (`allow_totals`)"
+ROW_OF_SUMS = "the row '{}' has the sums of the rows above: leave it out, or allow totals (`allow_totals`)"
+COLUMN_OF_SUMS = "the column '{}' has the sums of the columns before: leave it out, or allow totals (`allow_totals`)"
+UNITS = "the times of the machine are in {}, and others are in {}: use one unit"
 ADD = "were missing: add it, or write `job` into the first cell of the table"
+GROUPED = ("'{}' may be {}, or have decimals: leave out thousands separators, or say which decimal sign the table has "
+           "(`decimal`)")
+NO_ROW = f"the names of the machines are numbers, as if the row of names {ADD}"
+NO_COLUMN = f"the names of the jobs are numbers, as if the column of names {ADD}"
+UNGROUPED = "isn't a time: leave out thousands separators"
 MINUTES = "times such as 1:30 may be hours and minutes, or minutes and seconds: write [h:mm] instead of {}, or numbers"
 TABLES = {
     "commas": "job,saw,drill\ntable,3,2\nchair,2,5\n",
@@ -56,45 +63,26 @@ BAD_TABLES = {
 }
 # Tables that would be read as another plan, and where and why they are rejected.
 WRONG_TABLES = {
-    "thousands with points": ("job;saw;drill\na;1.000;2.500\nb;3.000;2.000\n", 2, 2,
-                              "'1.000' may be 1000, or have decimals: leave out thousands separators, or say which "
-                              "decimal sign the table has (`decimal`)"),
-    "thousands with commas": ("job\tsaw\na\t7\nb\t12,345\n", 3, 2,
-                              "'12,345' may be 12345, or have decimals: leave out thousands separators, or say which "
-                              "decimal sign the table has (`decimal`)"),
-    "a million": ("job;saw\na;1.000.000\n", 2, 2,
-                  "'1.000.000' may be 1000000, or have decimals: leave out thousands separators, or say which decimal "
-                  "sign the table has (`decimal`)"),
+    "thousands with points": ("job;saw;drill\na;1.000;2.500\nb;3.000;2.000\n", 2, 2, GROUPED.format("1.000", "1000")),
+    "thousands with commas": ("job\tsaw\na\t7\nb\t12,345\n", 3, 2, GROUPED.format("12,345", "12345")),
+    "a million": ("job;saw\na;1.000.000\n", 2, 2, GROUPED.format("1.000.000", "1000000")),
     "both signs": ("job;saw;drill\na;1.500;2,5\n", 2, 2,
                    "'1.500' has another decimal sign than '2,5' in line 2, column 3"),
     "both signs in another order": ("job;saw\na;1.5\nb;2,25\n", 3, 2,
                                     "'2,25' has another decimal sign than '1.5' in line 2, column 2"),
-    "a row of sums": ("job;saw;drill\na;1;2\nb;3;4\nc;4;6\n", 4, 0,
-                      f"the row 'c' has the sums of the rows above: {WITHOUT}"),
-    "a row of decimal sums": ("job,saw,drill\na,1.5,2\nb,3,4\nc,4.50,6\n", 4, 0,
-                              f"the row 'c' has the sums of the rows above: {WITHOUT}"),
-    "the total of one job": ("job;saw\na;3\nSumme;3\n", 3, 0,
-                             f"the row 'Summe' has the sums of the rows above: {WITHOUT}"),
-    "a column of sums": ("job;saw;drill;all\na;1;2;3\nb;3;4;7\n", 1, 4,
-                         f"the column 'all' has the sums of the columns before: {WITHOUT}"),
-    "a total of one machine": ("job;saw;Total\na;3;3\n", 1, 3,
-                               f"the column 'Total' has the sums of the columns before: {WITHOUT}"),
-    "no row of names": ("a;3;12\nb;20;5\n", 1, 2,
-                        f"the names of the machines are numbers, as if the row of names {ADD}"),
-    "no column of names": ("saw;drill\n3;12\n20;5\n", 2, 1,
-                           f"the names of the jobs are numbers, as if the column of names {ADD}"),
-    "no names": ("3,2\n1.5,4\n", 1, 2,
-                 f"the names of the machines are numbers, as if the row of names {ADD}"),
-    "no row of names above hours": ("a;3:00;1:12\nb;0:20;5:00\n", 1, 2,
-                                    f"the names of the machines are numbers, as if the row of names {ADD}"),
-    "no row of names, and times that count from 1": (
-        "a;1;2\nb;20;5\n", 1, 2, f"the names of the machines are numbers, as if the row of names {ADD}"),
-    "no row of names, and times that count from 0": (
-        "a;0;1\nb;20;5\n", 1, 2, f"the names of the machines are numbers, as if the row of names {ADD}"),
-    "no row of names, and a job in brackets": (
-        "chair (red);1;2\nb;20;5\n", 1, 2, f"the names of the machines are numbers, as if the row of names {ADD}"),
-    "no column of names, and times that count from 1": (
-        "saw;drill\n1;12\n2;5\n", 2, 1, f"the names of the jobs are numbers, as if the column of names {ADD}"),
+    "a row of sums": ("job;saw;drill\na;1;2\nb;3;4\nc;4;6\n", 4, 0, ROW_OF_SUMS.format("c")),
+    "a row of decimal sums": ("job,saw,drill\na,1.5,2\nb,3,4\nc,4.50,6\n", 4, 0, ROW_OF_SUMS.format("c")),
+    "the total of one job": ("job;saw\na;3\nSumme;3\n", 3, 0, ROW_OF_SUMS.format("Summe")),
+    "a column of sums": ("job;saw;drill;all\na;1;2;3\nb;3;4;7\n", 1, 4, COLUMN_OF_SUMS.format("all")),
+    "a total of one machine": ("job;saw;Total\na;3;3\n", 1, 3, COLUMN_OF_SUMS.format("Total")),
+    "no row of names": ("a;3;12\nb;20;5\n", 1, 2, NO_ROW),
+    "no column of names": ("saw;drill\n3;12\n20;5\n", 2, 1, NO_COLUMN),
+    "no names": ("3,2\n1.5,4\n", 1, 2, NO_ROW),
+    "no row of names above hours": ("a;3:00;1:12\nb;0:20;5:00\n", 1, 2, NO_ROW),
+    "no row of names, and times that count from 1": ("a;1;2\nb;20;5\n", 1, 2, NO_ROW),
+    "no row of names, and times that count from 0": ("a;0;1\nb;20;5\n", 1, 2, NO_ROW),
+    "no row of names, and a job in brackets": ("chair (red);1;2\nb;20;5\n", 1, 2, NO_ROW),
+    "no column of names, and times that count from 1": ("saw;drill\n1;12\n2;5\n", 2, 1, NO_COLUMN),
     "minutes and seconds": ("job [min];saw\na;1:30\n", 1, 1, MINUTES.format("min")),
     "minutes and seconds in German": ("job;saw [Minuten]\na;1:30\n", 1, 1, MINUTES.format("Minuten")),
     "hours, minutes and seconds": ("job;saw\na;1:30:00\n", 2, 2,
@@ -102,33 +90,21 @@ WRONG_TABLES = {
     "hours, minutes and seconds beside others": (
         "job;saw\na;1:30\nb;1:30:00\n", 3, 2,
         "'1:30:00' isn't hours and minutes, as other times of the table are: leave out the seconds"),
-    "thousands with apostrophes": ("job;saw\na;1'000\n", 2, 2,
-                                   '"1\'000" isn\'t a time: leave out thousands separators'),
-    "thousands with typographic apostrophes": ("job;saw\na;1\u2019000,5\n", 2, 2,
-                                               "'1\u2019000,5' isn't a time: leave out thousands separators"),
-    "thousands with blanks": ("job;saw\na;12 345 678\n", 2, 2,
-                              "'12 345 678' isn't a time: leave out thousands separators"),
-    "thousands with fixed blanks": ("job;saw\na;1\xa0000\n", 2, 2,
-                                    "'1\\xa0000' isn't a time: leave out thousands separators"),
-    "thousands with narrow blanks": ("job;saw\na;1\u202f000\n", 2, 2,
-                                     "'1\\u202f000' isn't a time: leave out thousands separators"),
+    "thousands with apostrophes": ("job;saw\na;1'000\n", 2, 2, f'"1\'000" {UNGROUPED}'),
+    "thousands with typographic apostrophes": ("job;saw\na;1\u2019000,5\n", 2, 2, f"'1\u2019000,5' {UNGROUPED}"),
+    "thousands with blanks": ("job;saw\na;12 345 678\n", 2, 2, f"'12 345 678' {UNGROUPED}"),
+    "thousands with fixed blanks": ("job;saw\na;1\xa0000\n", 2, 2, f"'1\\xa0000' {UNGROUPED}"),
+    "thousands with narrow blanks": ("job;saw\na;1\u202f000\n", 2, 2, f"'1\\u202f000' {UNGROUPED}"),
     "a unit at a time": ("job;saw\na;1,5 h\n", 2, 2,
                          "'1,5 h' isn't a time: write the unit in brackets into the first cell of the table"),
-    "two units": ("job;saw [min];drill [h]\na;3;2\n", 1, 3,
-                  "the times of the machine are in h, and others are in min: use one unit"),
-    "a machine without a unit": ("job;saw [min];drill\na;3;2\n", 1, 3,
-                                 "the times of the machine are in no unit, and others are in min: use one unit"),
-    "another unit than the table's": ("job [h];saw;drill [min]\na;3;2\n", 1, 3,
-                                      "the times of the machine are in min, and others are in h: use one unit"),
+    "two units": ("job;saw [min];drill [h]\na;3;2\n", 1, 3, UNITS.format("h", "min")),
+    "a machine without a unit": ("job;saw [min];drill\na;3;2\n", 1, 3, UNITS.format("no unit", "min")),
+    "another unit than the table's": ("job [h];saw;drill [min]\na;3;2\n", 1, 3, UNITS.format("min", "h")),
     "machines without names": ("job;;\na;1;2\nb;3;4\n", 1, 2, "the machine has no name"),
     "a machine without a name": ("job [h];\na;1\nb;5\n", 1, 2, "the machine has no name"),
-    "machines without names, and another word": (
-        "Auftrag;;\na;1;2\nb;3;4\n", 2, 2,
-        f"the names of the machines are numbers, as if the row of names {ADD}"),
-    "two units in German": ("job;saw [Stunden];drill [Minuten]\na;3;2\n", 1, 3,
-                            "the times of the machine are in Minuten, and others are in Stunden: use one unit"),
-    "two units in French": ("job;saw (heures);drill (minutes)\na;3;2\n", 1, 3,
-                            "the times of the machine are in minutes, and others are in heures: use one unit"),
+    "machines without names, and another word": ("Auftrag;;\na;1;2\nb;3;4\n", 2, 2, NO_ROW),
+    "two units in German": ("job;saw [Stunden];drill [Minuten]\na;3;2\n", 1, 3, UNITS.format("Minuten", "Stunden")),
+    "two units in French": ("job;saw (heures);drill (minutes)\na;3;2\n", 1, 3, UNITS.format("minutes", "heures")),
     "hours beside numbers": ("job;saw\na;1:30\nb;2\n", 3, 2,
                              "'2' isn't hours and minutes, as other times of the table are"),
     "61 minutes": ("job;saw\na;1:30\nb;1:61\n", 3, 2,
@@ -236,7 +212,8 @@ def test_a_decimal_sign_that_is_given(tmp_path: pathlib.Path, decimal: str, cell
 
 
 @pytest.mark.parametrize(("decimal", "cell"), [(",", "1.5"), (".", "1,5"), (",", "12.3456"), (".", "1,0000.5"),
-                                               (",", "1.000.00"), (".", "1234,567")])
+                                               (",", "1.000.00"), (".", "1234,567"), (",", "0.500"),
+                                               (",", "0.125.000"), (",", "00.500")])
 def test_what_isnt_grouped_by_thousands(tmp_path: pathlib.Path, decimal: str, cell: str) -> None:
     with pytest.raises(pfs.TableFault, match="line 2, column 2: '.*' isn't a time"):
         pfs.read_csv(written(tmp_path, f"job;saw\na;{cell}\n"), decimal=decimal)
@@ -307,10 +284,3 @@ def test_other_encodings_are_rejected(tmp_path: pathlib.Path) -> None:
     with pytest.raises(pfs.TableFault) as fault:
         pfs.read_csv(tmp_path / "file")
     assert (fault.value.line, fault.value.text) == (2, f"isn't text in UTF-8: {SAVE_AS}")
-
-
-@pytest.mark.parametrize("text", ["0.500", "0.125.000", "00.500"])
-def test_zeros_group_no_thousands(tmp_path: pathlib.Path, text: str) -> None:
-    with pytest.raises(pfs.TableFault) as fault:
-        pfs.read_csv(written(tmp_path, f"job;saw\na;2,5\nb;{text}\n"), decimal=",")
-    assert (fault.value.line, fault.value.column, fault.value.text) == (3, 2, f"{text!r} isn't a time")
