@@ -1,7 +1,6 @@
 """The CSV of an experiment has the results of pfs itself: with GNU parallel, here and over ssh, and on a Slurm cluster
 of one node, also if its runs were killed at various moments and repeated, and if two experiments start at once."""
 import ast
-import csv
 import json
 import os
 import pathlib
@@ -20,7 +19,7 @@ from support.program import Program
 from support.slurm import Cluster
 from support.ssh import Server
 from support.terminals import Terminal
-from support.tools import Done, output_of, run_tool, wait_until, with_path, write_script
+from support.tools import Done, csv_rows, output_of, run_tool, wait_until, with_path, write_script
 from support.warm import Warm
 
 # A replacement of pfs, whose searches with some of the seeds fail.
@@ -38,7 +37,7 @@ KILLING = """#!/bin/sh
 case "$*" in solve*"--seed 2 "*) test -e {folder}/fixed || kill -9 $PPID;; esac
 exec {pfs} "$@"
 """
-TWELVE, SIX = (f"out.csv: {count} runs, 0 of them failed, 0 still to run\n" for count in (12, 6))
+ONE, SIX, EIGHT, TWELVE = (f"out.csv: {count} runs, 0 of them failed, 0 still to run\n" for count in (1, 6, 8, 12))
 
 on_slurm = pytest.mark.xdist_group("slurm")
 over_ssh = pytest.mark.xdist_group("ssh")
@@ -51,61 +50,57 @@ def parallel() -> None:
 
 # Plans
 
+# The instances of a plan, to which other lines may be added.
+ALL, ONLY_B = 'instances = ["shops/*"]\n', 'instances = ["shops/b"]\n'
 INVALID = {
-    "an unknown key": ("instances = [\"shops/*\"]\nseed = [1]\n", "seed"),
-    "rounds that aren't a list": ("instances = [\"shops/*\"]\nrounds = 3\n", "rounds"),
-    "no rounds": ("instances = [\"shops/*\"]\nrounds = []\n", "rounds"),
-    "a number of rounds below 0": ("instances = [\"shops/*\"]\nrounds = [-1]\n", "rounds"),
-    "a seed that is not whole": ("instances = [\"shops/*\"]\nseeds = [1.5]\n", "seeds"),
-    "a seed that isn't a number": ("instances = [\"shops/*\"]\nseeds = [true]\n", "seeds"),
-    "no repetition": ("instances = [\"shops/*\"]\nrepetitions = 0\n", "repetitions"),
-    "an unknown layout": ("instances = [\"shops/*\"]\nlayout = \"csv\"\n", "layout"),
-    "not TOML": ("instances = [\"shops/*\"]\nrounds = [1\n", "plan.toml"),
+    "an unknown key": (ALL + "seed = [1]\n", "seed"),
+    "rounds that aren't a list": (ALL + "rounds = 3\n", "rounds"),
+    "no rounds": (ALL + "rounds = []\n", "rounds"),
+    "a number of rounds below 0": (ALL + "rounds = [-1]\n", "rounds"),
+    "a seed that is not whole": (ALL + "seeds = [1.5]\n", "seeds"),
+    "a seed that isn't a number": (ALL + "seeds = [true]\n", "seeds"),
+    "no repetition": (ALL + "repetitions = 0\n", "repetitions"),
+    "an unknown layout": (ALL + 'layout = "csv"\n', "layout"),
+    "not TOML": (ALL + "rounds = [1\n", "plan.toml"),
     "no instances": ("", "instances"),
     "instances that aren't a list": ("instances = \"shops/a\"", "instances"),
     "a pattern that no file matches": ("instances = [\"none*\"]", "none*"),
     "a folder among the instances": ("instances = [\"sh*\"]", "shops"),
-    "more rounds than pfs accepts": ("instances = [\"shops/*\"]\nrounds = [1000001]\n", "rounds"),
-    "more passes than pfs accepts": ("instances = [\"shops/*\"]\npasses = [101]\n", "passes"),
-    "a greater seed than pfs accepts": ("instances = [\"shops/*\"]\nseeds = [18446744073709551616]\n", "seeds"),
-    "no job to be removed": ("instances = [\"shops/*\"]\ntakes = [0]\n", "takes"),
-    "more jobs to be removed than there are": ("instances = [\"shops/*\"]\ntakes = [2, 4]\n", "shops/b"),
-    "a block 0": ("instances = [\"shops/*\"]\nblocks = [0]\n", "blocks"),
-    "a block 1,001": ("instances = [\"shops/*\"]\nblocks = [1001]\n", "blocks"),
-    "a reference that is a number": ("instances = [\"shops/*\"]\nreference = 1\n", "reference"),
-    "a reference that is missing": ("instances = [\"shops/*\"]\nreference = \"none.csv\"\n", "none.csv"),
+    "more rounds than pfs accepts": (ALL + "rounds = [1000001]\n", "rounds"),
+    "more passes than pfs accepts": (ALL + "passes = [101]\n", "passes"),
+    "a greater seed than pfs accepts": (ALL + "seeds = [18446744073709551616]\n", "seeds"),
+    "no job to be removed": (ALL + "takes = [0]\n", "takes"),
+    "more jobs to be removed than there are": (ALL + "takes = [2, 4]\n", "shops/b"),
+    "a block 0": (ALL + "blocks = [0]\n", "blocks"),
+    "a block 1,001": (ALL + "blocks = [1001]\n", "blocks"),
+    "a reference that is a number": (ALL + "reference = 1\n", "reference"),
+    "a reference that is missing": (ALL + 'reference = "none.csv"\n', "none.csv"),
     "values that are nested too deeply": ("x = " + "[" * 5000 + "]" * 5000, "plan.toml"),
     "an instance with a zero byte in its name": ("instances = [\"shops/\\u0000\"]\n", "shops/"),
-    "a reference with a zero byte in its name": ("instances = [\"shops/*\"]\nreference = \"\\u0000\"\n", "reference"),
+    "a reference with a zero byte in its name": (ALL + 'reference = "\\u0000"\n', "reference"),
     "more bytes than a plan has": ("#" * 1_048_577, "plan.toml"),
-    "a time factor of 0": ("instances = [\"shops/*\"]\ntime_factors = [0]\n", "time_factors"),
-    "a time factor that isn't a number": ("instances = [\"shops/*\"]\ntime_factors = [nan]\n", "time_factors"),
-    "no time factors": ("instances = [\"shops/*\"]\ntime_factors = []\n", "time_factors"),
-    "a command without a method": ("instances = [\"shops/*\"]\ncommand = \"a {instance}\"\n", "method"),
-    "a command without the instance": ("instances = [\"shops/*\"]\nmethod = \"m\"\ncommand = \"a\"\n", "{instance}"),
-    "a command with another word": (
-        "instances = [\"shops/*\"]\nmethod = \"m\"\ncommand = \"a {instance} {x}\"\n", "{x}"),
-    "seconds without a time": (
-        "instances = [\"shops/*\"]\nmethod = \"m\"\ncommand = \"a {instance} {seconds}\"\n", "time_factors"),
-    "a command with rounds": (
-        "instances = [\"shops/*\"]\nrounds = [1]\nmethod = \"m\"\ncommand = \"a {instance}\"\n", "rounds"),
-    "a command that is cut": ("instances = [\"shops/*\"]\nmethod = \"m\"\ncommand = \"a '{instance}\"\n", "command"),
-    "a command that is missing": (
-        "instances = [\"shops/*\"]\nmethod = \"m\"\ncommand = \"./a {instance}\"\n", "no file matches a"),
-    "files without a command": ("instances = [\"shops/*\"]\nmethod = \"m\"\nfiles = [\"shops/*\"]\n", "files"),
-    "files of another folder": (
-        "instances = [\"shops/*\"]\nmethod = \"m\"\ncommand = \"a {instance}\"\nfiles = [\"/etc/passwd\"]\n", "/etc"),
+    "a time factor of 0": (ALL + "time_factors = [0]\n", "time_factors"),
+    "a time factor that isn't a number": (ALL + "time_factors = [nan]\n", "time_factors"),
+    "no time factors": (ALL + "time_factors = []\n", "time_factors"),
+    "a command without a method": (ALL + 'command = "a {instance}"\n', "method"),
+    "a command without the instance": (ALL + 'method = "m"\ncommand = "a"\n', "{instance}"),
+    "a command with another word": (ALL + 'method = "m"\ncommand = "a {instance} {x}"\n', "{x}"),
+    "seconds without a time": (ALL + 'method = "m"\ncommand = "a {instance} {seconds}"\n', "time_factors"),
+    "a command with rounds": (ALL + 'rounds = [1]\nmethod = "m"\ncommand = "a {instance}"\n', "rounds"),
+    "a command that is cut": (ALL + "method = \"m\"\ncommand = \"a '{instance}\"\n", "command"),
+    "a command that is missing": (ALL + 'method = "m"\ncommand = "./a {instance}"\n', "no file matches a"),
+    "files without a command": (ALL + 'method = "m"\nfiles = ["shops/*"]\n', "files"),
+    "files of another folder": (ALL + 'method = "m"\ncommand = "a {instance}"\nfiles = ["/etc/passwd"]\n', "/etc"),
     "files beside the plan's folder": (
-        "instances = [\"shops/*\"]\nmethod = \"m\"\ncommand = \"a {instance}\"\nfiles = [\"../*/shops/a\"]\n", "../"),
-    "a method with a line end": ("instances = [\"shops/*\"]\nmethod = \"a\\nb\"\n", "method"),
-    "a reference without makespans": ("instances = [\"shops/*\"]\nreference = \"plan.toml\"\n", "instance, makespan"),
+        ALL + 'method = "m"\ncommand = "a {instance}"\nfiles = ["../*/shops/a"]\n', "../"),
+    "a method with a line end": (ALL + 'method = "a\\nb"\n', "method"),
+    "a reference without makespans": (ALL + 'reference = "plan.toml"\n', "instance, makespan"),
 }
 
 
 @pytest.mark.parametrize(("text", "named"), INVALID.values(), ids=INVALID)
 def test_an_invalid_plan_is_rejected_with_its_fault(text: str, named: str, experiment: Experiment) -> None:
-    (experiment.folder / "plan.toml").write_text(text)
-    got = experiment.run()
+    got = experiment.plan(text).run()
     assert (got.status, got.stdout) == (2, "")
     assert re.fullmatch(f"experiments/run: .*{re.escape(named)}.*\n", got.stderr), got.stderr[-500:]
     assert sorted(os.listdir(experiment.folder)) == ["plan.toml", "shops"]
@@ -119,9 +114,8 @@ def test_a_missing_plan_is_rejected(experiment: Experiment) -> None:
 
 
 def test_the_greatest_values_that_pfs_accepts_are_planned(experiment: Experiment) -> None:
-    (experiment.folder / "plan.toml").write_text(
-        "instances = [\"shops/b\"]\nrounds = [0]\ntakes = [1, 3]\npasses = [100]\nseeds = [18446744073709551615]\n")
-    assert experiment.run() == Done(0, "", "out.csv: 1 runs, 0 of them failed, 0 still to run\n")
+    plan = ONLY_B + "rounds = [0]\ntakes = [1, 3]\npasses = [100]\nseeds = [18446744073709551615]\n"
+    assert experiment.plan(plan).run() == Done(0, "", ONE)
 
 
 PATHS = {"a folder": "shops", "below a file": "plan.toml/out.csv", "a name that is too long": "x" * 255}
@@ -157,7 +151,7 @@ def test_a_full_disk_is_reported(kib: int, experiment: Experiment) -> None:
     """On one line. Once there is room, the same command completes the work."""
     if subprocess.run([tool("unshare"), "-m", "true"], capture_output=True).returncode != 0:
         missing("nobody but root mounts a small disk here")
-    (experiment.folder / "plan.toml").write_text(HALF)
+    experiment.plan(HALF)
     small = experiment.folder / "small"
     small.mkdir()
     run = " ".join(map(str, experiment.words("run", "plan.toml", "small/out.csv", "--jobs", "1",
@@ -224,8 +218,7 @@ DAMAGED = {
 def test_a_damaged_list_is_reported_on_one_line(name: str, data: bytes, made: Experiment) -> None:
     before = (made.folder / "out.csv").read_text()
     (made.runs / name).write_bytes(data)
-    (made.folder / "plan.toml").write_text(PLAN + "repetitions = 2\n")
-    got = made.run()
+    got = made.plan(PLAN + "repetitions = 2\n").run()
     assert (got.status, got.stdout) == (2, "")
     assert re.fullmatch("experiments/run: [^\n]*out\\.csv[^\n]*\n", got.stderr), got.stderr[-500:]
     assert (made.folder / "out.csv").read_text() == before
@@ -286,7 +279,7 @@ def test_names_that_are_not_utf8_are_reported_on_one_line(experiment: Experiment
 def test_the_csv_and_the_lists_are_synced_before_they_are_renamed(experiment: Experiment) -> None:
     """And their folder after that. Nothing opens them for writing."""
     strace = tool("strace")
-    (experiment.folder / "plan.toml").write_text("instances = [\"shops/b\"]\n")
+    experiment.plan(ONLY_B)
     words = [strace, "-f", "-y", "-o", "trace", "-e", "trace=open,openat,fsync,rename,renameat,renameat2",
              *experiment.words("run", "plan.toml", "out.csv")]
     assert run_tool(words, experiment.folder).status == 0
@@ -339,8 +332,7 @@ def test_a_second_start_makes_nothing_again(half_made: Experiment) -> None:
     assert (half_made.folder / "out.csv").read_text() == first
     for other in (PLAN.replace("[10, 30]", "[30]"), PLAN.replace("1, 2, 3", "1, 2"), PLAN.replace("*", "a"),
                   PLAN + "layout = \"orlib\"\n"):
-        (half_made.folder / "plan.toml").write_text(other)
-        got = half_made.run()
+        got = half_made.plan(other).run()
         assert (got.status, got.stderr.count("\n"), "another plan" in got.stderr) == (2, 1, True), other
         assert (half_made.folder / "out.csv").read_text() == first
 
@@ -363,16 +355,14 @@ def test_readme_names_the_keys_of_a_plan_and_their_defaults(top: pathlib.Path) -
 
 
 def test_what_a_plan_leaves_out_is_as_readme_says(experiment: Experiment) -> None:
-    (experiment.folder / "plan.toml").write_text("instances = [\"shops/b\", \"shops/a\"]\n")
-    assert experiment.run().status == 0
+    assert experiment.plan("instances = [\"shops/b\", \"shops/a\"]\n").run().status == 0
     assert [row[:8] for row in experiment.rows()] == [("shops/b", "3", "2", "0", "3", "0", "0", "1"),
                                                       ("shops/a", "20", "5", "0", "4", "0", "0", "1")]
 
 
 def test_where_the_bound_is_0_there_is_no_gap(experiment: Experiment) -> None:
     (experiment.folder / "shops" / "zero").write_text("2 1 0 0 0\n0 0\n")
-    (experiment.folder / "plan.toml").write_text("instances = [\"shops/zero\"]\n")
-    assert experiment.run().status == 0
+    assert experiment.plan("instances = [\"shops/zero\"]\n").run().status == 0
     row, = experiment.rows()
     assert (row.makespan, row.bound, row.gap_percent, row.status) == ("0", "0", "0.0000", "ok")
     assert experiment.script("check", "out.csv").status == 0, "an optimal order is wrong"
@@ -380,8 +370,7 @@ def test_where_the_bound_is_0_there_is_no_gap(experiment: Experiment) -> None:
 
 def test_layouts_blocks_takes_passes_and_repetitions(experiment: Experiment) -> None:
     """And a file that isn't an instance."""
-    (experiment.folder / "plan.toml").write_text(
-        "layout = \"orlib\"\ninstances = [\"two.or\", \"bad.or\"]\nblocks = [2, 1]\nrounds = [5]\n"
+    experiment.plan("layout = \"orlib\"\ninstances = [\"two.or\", \"bad.or\"]\nblocks = [2, 1]\nrounds = [5]\n"
         "takes = [2, 1]\npasses = [1]\nseeds = [7]\nrepetitions = 2\n")
     shops = [experiment.printed("convert", "--from", "taillard", "--to", "orlib", f"shops/{name}") for name in "ab"]
     (experiment.folder / "two.or").write_text("".join(shops))
@@ -445,8 +434,7 @@ def test_check_rejects_a_csv_without_orders(experiment: Experiment) -> None:
 def test_the_csv_has_the_reference_of_the_plan(made: Experiment) -> None:
     """Also one that is named once all runs are made."""
     (made.folder / "best.csv").write_text("instance,makespan,source\nb,12.0,a paper\nc,1,no paper\n")
-    (made.folder / "plan.toml").write_text(PLAN + "reference = \"best.csv\"\n")
-    assert made.run() == Done(0, "", TWELVE)
+    assert made.plan(PLAN + "reference = \"best.csv\"\n").run() == Done(0, "", TWELVE)
     assert made.columns("instance", "reference", "source") \
         == [("shops/a", "", "")] * 6 + [("shops/b", "12", "a paper")] * 6
     assert made.rows() == made.wanted()
@@ -466,11 +454,9 @@ GROWN: dict[str, tuple[str, str, dict[str, Any]]] = {
 @pytest.mark.parametrize(("first", "grown", "wanted"), GROWN.values(), ids=GROWN)
 def test_a_plan_may_grow(first: str, grown: str, wanted: dict[str, Any], experiment: Experiment) -> None:
     """What is done is kept, and the CSV is in the order of the plan that has grown."""
-    (experiment.folder / "plan.toml").write_text(first)
-    assert experiment.run(program=experiment.waiting()).status == 0
+    assert experiment.plan(first).run(program=experiment.waiting()).status == 0
     before, made = experiment.rows_and_seconds(), len(experiment.started())
-    (experiment.folder / "plan.toml").write_text(grown)
-    assert experiment.run(program=experiment.waiting()).status == 0
+    assert experiment.plan(grown).run(program=experiment.waiting()).status == 0
     after = experiment.rows_and_seconds()
     assert len(before) == made == (3 if first == ONLY_A else 6)
     assert [row for row in before if row not in after] == [], "runs that are gone, or were made again"
@@ -481,10 +467,8 @@ def test_a_plan_may_grow(first: str, grown: str, wanted: dict[str, Any], experim
 
 def test_a_search_of_0_rounds_is_made_once(experiment: Experiment) -> None:
     """Take, passes and seed don't change it. Repetitions are made."""
-    (experiment.folder / "plan.toml").write_text(
-        "instances = [\"shops/b\"]\nrounds = [0, 1]\ntakes = [2, 3]\npasses = [0, 1]\nseeds = [5, 6]\n"
-        "repetitions = 2\n")
-    assert experiment.run(program=experiment.waiting()).status == 0
+    assert experiment.plan(ONLY_B + "rounds = [0, 1]\ntakes = [2, 3]\npasses = [0, 1]\nseeds = [5, 6]\n"
+        "repetitions = 2\n").run(program=experiment.waiting()).status == 0
     zeros = [row[:8] for row in experiment.rows() if row.rounds == "0"]
     assert zeros == [("shops/b", "3", "2", "0", "2", "0", "5", again) for again in "12"]
     assert len(experiment.rows()) == len(experiment.started()) == 2 + 16
@@ -493,21 +477,18 @@ def test_a_search_of_0_rounds_is_made_once(experiment: Experiment) -> None:
 def test_a_search_of_0_rounds_is_made_once_if_the_plan_grows(experiment: Experiment) -> None:
     """By a take that comes before those that are there."""
     for takes in ("[3]", "[2, 3]"):
-        (experiment.folder / "plan.toml").write_text(f"instances = [\"shops/b\"]\ntakes = {takes}\n")
-        assert experiment.run().status == 0
+        assert experiment.plan(ONLY_B + f"takes = {takes}\n").run().status == 0
         assert [row.take for row in experiment.rows()] == ["3"], takes
 
 
 def test_runs_of_0_rounds_that_an_earlier_version_listed_stay(experiment: Experiment) -> None:
-    (experiment.folder / "plan.toml").write_text("instances = [\"shops/b\"]\nrounds = [1]\nseeds = [1, 2]\n")
-    assert experiment.run().status == 0
+    assert experiment.plan(ONLY_B + "rounds = [1]\nseeds = [1, 2]\n").run().status == 0
     for path, old, new in (("runs.tsv", "\t1\t1\t3\t0\t", "\t1\t0\t3\t0\t"),
                            ("plan.json", '"rounds": [1]', '"rounds": [0]')):
         text = (experiment.runs / path).read_text()
         assert old in text
         (experiment.runs / path).write_text(text.replace(old, new))
-    (experiment.folder / "plan.toml").write_text("instances = [\"shops/b\"]\nrounds = [0, 2]\nseeds = [1, 2]\n")
-    assert experiment.run().status == 0
+    assert experiment.plan(ONLY_B + "rounds = [0, 2]\nseeds = [1, 2]\n").run().status == 0
     assert [(row.rounds, row.seed) for row in experiment.rows()] == [("0", "1"), ("0", "2"), ("2", "1"), ("2", "2")]
 
 
@@ -522,10 +503,8 @@ def test_names_of_instances_are_not_formulas_in_a_spreadsheet(experiment: Experi
         shutil.copy(experiment.folder / "shops" / "b", experiment.folder / name.replace("/", "_"))
     names = [name.replace("/", "_") for name in HOSTILE]
     listed = ", ".join(json.dumps(re.sub(r"([\[*?])", r"[\1]", name)) for name in names)
-    (experiment.folder / "plan.toml").write_text(f"instances = [{listed}]\n")
-    assert experiment.run("=out.csv").status == 0
-    with open(experiment.folder / "=out.csv", newline="") as file:
-        rows = list(csv.DictReader(file))
+    assert experiment.plan(f"instances = [{listed}]\n").run("=out.csv").status == 0
+    rows = csv_rows(experiment.folder / "=out.csv")
     formulas = [cell for row in rows for cell in row.values() if re.match(r"[=+@\t\r-]", cell)]
     assert formulas == [], "cells that begin as formulas do"
     assert [os.path.normpath(row["instance"]) for row in rows] == names
@@ -535,7 +514,7 @@ def test_names_of_instances_are_not_formulas_in_a_spreadsheet(experiment: Experi
 
 # Runs by time
 
-BY_TIME = "instances = [\"shops/*\"]\ntime_factors = [1, 2.5]\nseeds = [1, 2]\ntakes = [2]\n"
+BY_TIME = ALL + "time_factors = [1, 2.5]\nseeds = [1, 2]\ntakes = [2]\n"
 
 
 @pytest.fixture
@@ -545,8 +524,7 @@ def with_library(libpfs: Library) -> dict[str, str]:
 
 def test_runs_by_time_take_their_time(experiment: Experiment, with_library: dict[str, str]) -> None:
     """Jobs times half the machines times the factor, in milliseconds. The order is that of the rounds in the CSV."""
-    (experiment.folder / "plan.toml").write_text(BY_TIME)
-    assert experiment.run(env=with_library) == Done(0, "", "out.csv: 8 runs, 0 of them failed, 0 still to run\n")
+    assert experiment.plan(BY_TIME).run(env=with_library) == Done(0, "", EIGHT)
     names = ("instance", "time_factor", "take", "passes", "seed", "rounds", "seconds", "makespan", "cells", "order")
     rows = experiment.columns(*names)
     assert [row[:5] for row in rows] == [(shop, factor, "2", "0", seed) for shop in ("shops/a", "shops/b")
@@ -563,19 +541,16 @@ def test_runs_by_time_take_their_time(experiment: Experiment, with_library: dict
 
 def test_a_plan_has_rounds_and_times(experiment: Experiment, with_library: dict[str, str], warm: Warm) -> None:
     """It may grow by either. What is done stays, and the report tells them apart."""
-    plan = "instances = [\"shops/b\"]\nrounds = [5]\n"
-    (experiment.folder / "plan.toml").write_text(plan)
-    assert experiment.run().status == 0
+    plan = ONLY_B + "rounds = [5]\n"
+    assert experiment.plan(plan).run().status == 0
     before, = experiment.columns(*HEAD.split(","))
-    (experiment.folder / "plan.toml").write_text(plan + "time_factors = [1]\n")
-    assert experiment.run(env=with_library).status == 0
+    assert experiment.plan(plan + "time_factors = [1]\n").run(env=with_library).status == 0
     assert experiment.columns(*HEAD.split(","))[0] == before
     assert experiment.columns("time_factor") == [("",), ("1",)]
     got = warm.run_tool([experiment.top / "experiments" / "report", "out.csv", "report"], experiment.folder)
     assert (got.status, got.stderr) == (0, "")
-    with open(experiment.folder / "report" / "table.csv", newline="") as file:
-        assert [(row["rounds"], row["time_factor"], row["runs"]) for row in csv.DictReader(file)] \
-            == [("", "1", "1"), ("5", "", "1")]
+    rows = experiment.columns("rounds", "time_factor", "runs", csv_name="report/table.csv")
+    assert rows == [("", "1", "1"), ("5", "", "1")]
 
 
 def test_after_a_million_rounds_a_search_by_time_continues_with_another_seed(
@@ -609,8 +584,7 @@ def test_no_round_begins_after_the_time(top: pathlib.Path) -> None:
 
 def test_an_instance_that_pfs_rejects_fails_by_time_too(experiment: Experiment, with_library: dict[str, str]) -> None:
     (experiment.folder / "shops" / "c").write_text("no instance\n")
-    (experiment.folder / "plan.toml").write_text("instances = [\"shops/c\"]\ntime_factors = [0.001]\n")
-    got = experiment.run(env=with_library)
+    got = experiment.plan("instances = [\"shops/c\"]\ntime_factors = [0.001]\n").run(env=with_library)
     assert got == Done(1, "", "shops/c (time factor 0.001, passes 0, seed 0) failed: "
                                "convert: exit 2, pfs: no block, found 0\n"
                                "out.csv: 1 runs, 1 of them failed, 0 still to run\n")
@@ -618,8 +592,7 @@ def test_an_instance_that_pfs_rejects_fails_by_time_too(experiment: Experiment, 
 
 @pytest.mark.parametrize("path", ["none.so", "plan.toml"], ids=["missing", "no library"])
 def test_an_invalid_library_is_reported(path: str, experiment: Experiment) -> None:
-    (experiment.folder / "plan.toml").write_text(BY_TIME)
-    got = experiment.run(env=dict(os.environ, PFS_LIBRARY=str(experiment.folder / path)))
+    got = experiment.plan(BY_TIME).run(env=dict(os.environ, PFS_LIBRARY=str(experiment.folder / path)))
     if path == "none.so":
         assert (got.status, got.stdout, got.stderr.count("\n")) == (2, "", 1), got.stderr[-500:]
         assert not experiment.runs.exists()
@@ -681,7 +654,7 @@ STATUSES = [
 
 def with_other(experiment: Experiment, plan: str = OTHER) -> Experiment:
     write_script(experiment.folder / "mine.py", MINE)
-    (experiment.folder / "plan.toml").write_text(plan)
+    experiment.plan(plan)
     return experiment
 
 
@@ -714,8 +687,7 @@ def test_orders_of_another_program_are_audited(experiment: Experiment) -> None:
     assert [row[:2] for row in before] == [("1", "ok"), ("2", "check: exit 1, wrong makespan")]
     assert experiment.run().status == 1
     assert experiment.columns("seed", "status", "seconds") == before
-    (experiment.folder / "plan.toml").write_text((experiment.folder / "plan.toml").read_text().replace("{seed}", "1"))
-    got = experiment.run()
+    got = experiment.plan((experiment.folder / "plan.toml").read_text().replace("{seed}", "1")).run()
     assert (got.status, got.stderr.count("\n"), "another command" in got.stderr) == (2, 1, True), got.stderr
 
 
@@ -736,9 +708,8 @@ def test_the_report_compares_another_program_with_pfs(made: Experiment, warm: Wa
     (made.folder / "out.csv").rename(made.folder / "pfs.csv")
     got = warm.run_tool([made.top / "experiments" / "report", "pfs.csv", "mine.csv", "report"], made.folder)
     assert (got.status, got.stderr) == (0, "")
-    with open(made.folder / "report" / "comparison.csv", newline="") as file:
-        rows = [row for row in csv.DictReader(file) if row["method"] != row["other_method"]]
-    assert {(row["method"], row["other_method"], row["instances"]) for row in rows} == {("mine", "pfs", "1")}
+    rows = made.columns("method", "other_method", "instances", csv_name="report/comparison.csv")
+    assert {row for row in rows if row[0] != row[1]} == {("mine", "pfs", "1")}
 
 
 def test_a_program_that_waits_is_ended(top: pathlib.Path, folder: pathlib.Path) -> None:
@@ -823,15 +794,13 @@ def test_a_run_that_fails_is_not_made_again(failing: tuple[Experiment, Done]) ->
 def test_the_report_counts_runs_that_failed(failing: tuple[Experiment, Done], warm: Warm) -> None:
     experiment, _ = failing
     warm.run_tool([experiment.top / "experiments" / "report", "out.csv", "report"], experiment.folder)
-    with open(experiment.folder / "report" / "table.csv", newline="") as file:
-        assert [(row["runs"], row["failed"]) for row in csv.DictReader(file)] == [("1", "4")] * 4
+    assert experiment.columns("runs", "failed", csv_name="report/table.csv") == [("1", "4")] * 4
 
 
 def test_a_killed_run_is_reported_and_made_by_the_next_start(experiment: Experiment) -> None:
     program = write_script(experiment.folder / "killing",
                            KILLING.format(folder=experiment.folder, pfs=experiment.pfs.path))
-    (experiment.folder / "plan.toml").write_text(HALF)
-    got = experiment.run(program=program)
+    got = experiment.plan(HALF).run(program=program)
     assert got == Done(1, "", "shops/a (rounds 10, take 4, passes 0, seed 2) and 1 more failed: "
                                "lost: exit 137, signal 0\n"
                                "out.csv: 6 runs, 2 of them failed, 0 still to run\n")
@@ -847,8 +816,8 @@ def test_ten_kinds_of_errors_are_reported(experiment: Experiment) -> None:
 case $1 in solve) echo "fault $(echo "$*" | sed 's/.*--seed \\([0-9]*\\).*/\\1/' | tr 0-9 a-j)" >&2; exit 2;; esac
 exec {experiment.pfs.path} "$@"
 """)
-    (experiment.folder / "plan.toml").write_text(f"instances = [\"shops/b\"]\nrounds = [1]\nseeds = {[*range(12)]}\n")
-    *lines, more, _ = experiment.run(program=program).stderr.splitlines()
+    got = experiment.plan(ONLY_B + f"rounds = [1]\nseeds = {[*range(12)]}\n").run(program=program)
+    *lines, more, _ = got.stderr.splitlines()
     assert (len(lines), more) == (10, "2 more kinds of errors") and lines[9].endswith("exit 2, fault j")
 
 
@@ -867,8 +836,7 @@ def test_a_run_whose_program_was_killed_is_made_by_the_next_start(experiment: Ex
     """By a signal, or because memory ran out, in the search or in the audit."""
     program = write_script(experiment.folder / "program",
                            MEMORY.format(folder=experiment.folder, pfs=experiment.pfs.path))
-    (experiment.folder / "plan.toml").write_text(HALF)
-    assert experiment.run(program=program).status == 1
+    assert experiment.plan(HALF).run(program=program).status == 1
     assert [row.status for row in experiment.rows()] \
         == ["solve: signal 9", "solve: exit 4, pfs: no memory", "check: signal 15"] * 2
     (experiment.folder / "fixed").touch()
@@ -883,8 +851,7 @@ test -e {experiment.folder}/fixed && exec {experiment.pfs.path} "$@"
 case "$*" in "solve "*"--seed 1 "*) echo "some fault" >&2; exit 2;; esac
 exec {experiment.pfs.path} "$@"
 """)
-    (experiment.folder / "plan.toml").write_text(HALF)
-    assert experiment.run(program=program).status == 1
+    assert experiment.plan(HALF).run(program=program).status == 1
     (experiment.folder / "fixed").touch()
     (experiment.folder / "notes").unlink()
     assert experiment.run(program=program).status == 1
@@ -982,7 +949,7 @@ KILLS: dict[str, Kills] = {
 @pytest.mark.parametrize("kills", KILLS.values(), ids=KILLS)
 def test_no_run_is_lost_or_made_again(kills: Kills, experiment: Experiment) -> None:
     """Each run is in the CSV once, and none that was logged before a kill is made again."""
-    (experiment.folder / "plan.toml").write_text(HALF)
+    experiment.plan(HALF)
     wanted, made = experiment.wanted(rounds=(10,)), {}
     # as a start leaves it that was killed while it made copies
     (experiment.runs / "pfs-experiment-begun" / "instances").mkdir(parents=True)
@@ -1006,7 +973,7 @@ def test_no_run_is_lost_or_made_again(kills: Kills, experiment: Experiment) -> N
 
 
 def test_two_starts_at_once_make_each_run_once(experiment: Experiment) -> None:
-    (experiment.folder / "plan.toml").write_text(HALF)
+    experiment.plan(HALF)
     with experiment.gate() as gate, open(experiment.folder / "report", "wb") as got:
         first = start(experiment, "plan.toml", "out.csv", "--jobs", "1")
         wait_until(lambda: len(experiment.started()) == 1, "the first start makes a run")
@@ -1131,7 +1098,7 @@ def test_on_slurm_runs_whose_results_are_gone_are_made_again_and_no_others(
 @on_slurm
 def test_on_slurm_a_second_start_waits_for_the_array_of_the_first(experiment: Experiment, slurm: Cluster) -> None:
     """Also if the first start was killed while it waited for its array. A result exists only once it is complete."""
-    (experiment.folder / "plan.toml").write_text(HALF)
+    experiment.plan(HALF)
     words = ["--tasks", "1", "plan.toml", "out.csv", "--time=5"]
     with experiment.gate() as gate, open(experiment.folder / "report", "wb") as got:
         first = start(experiment, *words, name="slurm", env=slurm.env)
@@ -1179,7 +1146,7 @@ def run_out_of_time(slurm: Cluster, number: str) -> None:
 def test_what_slurm_says_of_a_task_that_it_ended_is_in_the_csv(
         experiment: Experiment, slurm: Cluster, end: Callable[[Cluster, str], None], why: str) -> None:
     """And the next start makes its runs."""
-    (experiment.folder / "plan.toml").write_text(HALF)
+    experiment.plan(HALF)
     words = ["--tasks", "2", "plan.toml", "out.csv", "--time=5"]
     with experiment.gate(), open(experiment.folder / "report", "wb") as got:
         begun = start(experiment, *words, name="slurm", env=slurm.env, stderr=got)
@@ -1243,7 +1210,7 @@ def test_on_slurm_the_line_of_a_dry_run_makes_the_runs(experiment: Experiment, s
 def asked(experiment: Experiment) -> Callable[..., list[str]]:
     """The arguments of sbatch."""
     def ask(plan: str, *words: str) -> list[str]:
-        (experiment.folder / "plan.toml").write_text(plan)
+        experiment.plan(plan)
         noted = experiment.folder / "words"
         (experiment.folder / "bin").mkdir()
         write_script(experiment.folder / "bin" / "sbatch", f"#!/bin/sh\nprintf '%s\\n' \"$@\" > {noted}\n")
@@ -1254,9 +1221,9 @@ def asked(experiment: Experiment) -> Callable[..., list[str]]:
 
 # A run of the first shop takes minutes with as many passes as there may be, and one of the second less than a second.
 LONG = "instances = [\"shops/a\"]\nrounds = [1000000]\npasses = [100]\nseeds = {}\n"
-SHORT = f"instances = [\"shops/b\"]\nrounds = [1]\nseeds = {list(range(1100))}\n"
+SHORT = ONLY_B + f"rounds = [1]\nseeds = {list(range(1100))}\n"
 
-COMMAND = "instances = [\"shops/*\"]\nseeds = [1, 2]\nmethod = \"m\"\ncommand = \"m {instance} {seed}\"\n"
+COMMAND = ALL + 'seeds = [1, 2]\nmethod = "m"\ncommand = "m {instance} {seed}"\n'
 
 
 @pytest.mark.parametrize(("plan", "words", "array"), [
@@ -1312,15 +1279,13 @@ def test_the_manual_page_has_the_exit_statuses(page: str, experiment: Experiment
     got = dict(re.findall(r"^\.It (\d)\n([^.]*\.)", page.partition(".Sh EXIT STATUS")[2].partition(".Sh ")[0],
                            re.MULTILINE))
     assert list(got) == ["0", "1", "2"], "statuses in the manual page"
-    (experiment.folder / "plan.toml").write_text("instances = [\"shops/*\"]\n")
-    made = experiment.run()
+    made = experiment.plan(ALL).run()
     (experiment.folder / "shops" / "c").write_text("no instance\n")
     failed = experiment.run("failed.csv")
     rows = (experiment.folder / "out.csv").read_text()
     (experiment.folder / "out.csv").write_text(rows.replace(",ok,out.csv.d", ",ok,no.csv.d"))
     wrong = experiment.script("check", "out.csv")
-    (experiment.folder / "plan.toml").write_text("x = 1\n")
-    rejected = [experiment.run(), experiment.script("run"), experiment.script("check", "none.csv"),
+    rejected = [experiment.plan("x = 1\n").run(), experiment.script("run"), experiment.script("check", "none.csv"),
                 run_tool([experiment.top / "experiments" / "taillard"], experiment.folder)]
     assert got[str(made.status)] == "Done.", "the status of a plan whose runs succeed"
     assert "failed" in got[str(failed.status)], "the status of a plan with runs that fail"
@@ -1396,5 +1361,4 @@ def test_the_lines_of_the_way_lead_to_the_reports_plots(top: pathlib.Path, pfs: 
     assert sorted(os.listdir(folder / "report")) \
         == ["gap.png", "means.png", "rpd.png", "seconds.png", "sizes.csv", "sizes.md", "sizes.tex", "table.csv",
             "table.md", "time.png"]
-    with open(folder / "report" / "table.csv", newline="") as file:
-        assert sum(int(row["runs"]) for row in csv.DictReader(file)) == 3 * (1 + 2 * 3)
+    assert sum(int(row["runs"]) for row in csv_rows(folder / "report" / "table.csv")) == 3 * (1 + 2 * 3)

@@ -1,7 +1,6 @@
 """An installation has the program, the manual page and the completions where each is looked for, runs, and leaves
 nothing when it is removed. It builds first what is missing or older than a source. All of it happens in a copy of the
 repository (support/installed.py)."""
-import csv
 import datetime
 import os
 import pathlib
@@ -17,7 +16,7 @@ from support.installed import (EXAMPLES, NEW, NOTES, LIBRARY, OLD, PLACES, PROGR
                                private_files, tools_of, version)
 from support.needs import tool
 from support.program import Program
-from support.tools import Done, output_of, run_tool
+from support.tools import Done, csv_rows, output_of, run_tool
 
 # so that the copy is made once
 pytestmark = [pytest.mark.xdist_group("installing"), pytest.mark.seconds(60)]
@@ -183,9 +182,7 @@ def test_the_installed_experiments_run_and_report(installed: Installed, folder: 
     env = tools_of(installed.prefix) | {"HOME": str(folder)}
     for words in ("taillard all", "run plan.toml runs.csv", "report runs.csv report"):
         assert run_tool(["pfs-experiments", *words.split()], folder, env=env).status == 0, words
-    with open(folder / "runs.csv", newline="") as file:
-        statuses = [row["status"] for row in csv.DictReader(file)]
-    assert statuses == ["ok"] * 4
+    assert [row["status"] for row in csv_rows(folder / "runs.csv")] == ["ok"] * 4
     assert (folder / "report" / "table.md").exists()
 
 

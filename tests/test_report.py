@@ -14,7 +14,7 @@ import pytest
 from support.colours import least_difference
 from support.experiments import OLD_HEAD
 from support.pictures import Picture, Scale, value_of
-from support.tools import Done, run_tool
+from support.tools import Done, csv_rows, run_tool
 from support.warm import Warm
 
 pytestmark = pytest.mark.long
@@ -246,8 +246,7 @@ def test_a_csv_that_pandas_wrote_is_read(report: Reported, folder: pathlib.Path)
 # The reference
 
 def percents(folder: pathlib.Path, name: str = "mean_rpd_percent") -> list[str]:
-    with open(folder / "report" / "table.csv", newline="") as file:
-        return [row[name] for row in csv.DictReader(file)]
+    return [row[name] for row in csv_rows(folder / "report" / "table.csv")]
 
 
 def test_the_rpd_is_relative_to_the_reference(report: Reported, folder: pathlib.Path) -> None:
@@ -293,8 +292,7 @@ def methods(script: Reported, folder: pathlib.Path) -> Reported:
 
 
 def compared(folder: pathlib.Path) -> list[dict[str, str]]:
-    with open(folder / "report" / "comparison.csv", newline="") as file:
-        return list(csv.DictReader(file))
+    return csv_rows(folder / "report" / "comparison.csv")
 
 
 def test_each_setting_of_a_method_is_compared_by_means_of_the_instances_that_both_have(
@@ -332,8 +330,7 @@ def test_the_columns_that_a_csv_lacks_are_named(text: str, named: str, methods: 
 def test_a_csv_of_instances_and_makespans_is_enough(methods: Reported, folder: pathlib.Path) -> None:
     """What it doesn't say of an instance another CSV does."""
     assert methods(REPORTED, "instance,makespan\na,102\nb,105\n").status == 0
-    with open(folder / "report" / "table.csv", newline="") as file:
-        last = list(csv.DictReader(file))[-1]
+    last = csv_rows(folder / "report" / "table.csv")[-1]
     assert (last["method"], last["jobs"], last["machines"], last["runs"]) == ("second", "20", "5", "2")
     assert last["mean_rpd_percent"] == f"{(100 / 101 + 200 / 103) / 2:.3f}"
 

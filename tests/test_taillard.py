@@ -1,7 +1,6 @@
 """The 120 instances that `make taillard` writes are Taillard's: their times are those of the generator's recurrence,
 and `pfs check` prints the published bound of each. The quality of orders in README is what searches find on some of
 them."""
-import csv
 import fnmatch
 import pathlib
 import re
@@ -11,7 +10,7 @@ import tomllib
 import pytest
 from support.files import generated
 from support.program import Program, Ran
-from support.tools import Done, output_of, run_tool, write_script
+from support.tools import Done, csv_rows, output_of, run_tool, write_script
 
 SIZES = [(20, 5), (20, 10), (20, 20), (50, 5), (50, 10), (50, 20), (100, 5), (100, 10), (100, 20), (200, 10),
          (200, 20), (500, 20)]
@@ -25,8 +24,7 @@ pytestmark = pytest.mark.xdist_group("taillard")
 @pytest.fixture(scope="module")
 def listed(top: pathlib.Path) -> dict[str, dict[str, str]]:
     """The rows of the list, by name."""
-    with open(top / "experiments" / "taillard.csv", newline="") as file:
-        return {row["instance"]: row for row in csv.DictReader(file)}
+    return {row["instance"]: row for row in csv_rows(top / "experiments" / "taillard.csv")}
 
 
 @pytest.fixture(scope="module")
@@ -79,8 +77,7 @@ TABLE_PASSES = [0, 1]
 
 @pytest.fixture(scope="module")
 def best_known(top: pathlib.Path) -> dict[str, int]:
-    with open(top / "experiments" / "best_known.csv", newline="") as file:
-        return {row["instance"]: int(row["makespan"]) for row in csv.DictReader(file)}
+    return {row["instance"]: int(row["makespan"]) for row in csv_rows(top / "experiments" / "best_known.csv")}
 
 
 def test_a_killed_program_leaves_no_part_of_an_instance(top: pathlib.Path, folder: pathlib.Path) -> None:

@@ -1,9 +1,9 @@
 """What the completions of bash, zsh and fish offer for pfs-gantt and pfs-experiments, each asked in its own shell,
 against the usage texts of the scripts: commands, options, formats, and files elsewhere."""
-import functools
 import pathlib
 import re
 from collections.abc import Callable
+from functools import partial
 
 import pytest
 from support.needs import tool
@@ -54,7 +54,7 @@ def test_the_tools_options_commands_and_files_are_offered(shell: str, folder: pa
     tool(shell)
     asked = [line.text for line in LINES]
     ask: dict[str, Callable[..., list[Answer]]] = {
-        "bash": functools.partial(bash, name="pfs-tools"), "fish": functools.partial(fish, name="pfs-tools"), "zsh": zsh}
+        "bash": partial(bash, name="pfs-tools"), "fish": partial(fish, name="pfs-tools"), "zsh": zsh}
     answers = ask[shell](asked, with_files(folder), SCRIPTS)
     assert len(answers) == len(asked)
     found = {}

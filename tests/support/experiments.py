@@ -12,7 +12,7 @@ from typing import Any, NamedTuple
 
 import pytest
 from support.program import Program
-from support.tools import Done, run_tool, write_script
+from support.tools import Done, csv_rows, run_tool, write_script
 
 PLAN = """instances = ["shops/*"]
 rounds = [10, 30]
@@ -57,6 +57,11 @@ class Experiment(NamedTuple):
     top: pathlib.Path
     folder: pathlib.Path
     pfs: Program
+
+    def plan(self, text: str) -> "Experiment":
+        """Writes the plan."""
+        (self.folder / "plan.toml").write_text(text)
+        return self
 
     def script(self, name: str, *words: str, program: pathlib.Path | None = None, **how: Any) -> Done:
         """Runs a script of the experiments."""
@@ -104,8 +109,7 @@ class Experiment(NamedTuple):
 
     def columns(self, *names: str, csv_name: str = "out.csv") -> list[tuple[str, ...]]:
         """These columns of a CSV."""
-        with open(self.folder / csv_name, newline="") as file:
-            return [tuple(row[name] for name in names) for row in csv.DictReader(file)]
+        return [tuple(row[name] for name in names) for row in csv_rows(self.folder / csv_name)]
 
     @property
     def runs(self) -> pathlib.Path:
@@ -181,8 +185,7 @@ def planned(top: pathlib.Path, pfs: Program, folder: pathlib.Path, text: str = P
     (folder / "shops").mkdir()
     for name, size in SHOPS.items():
         (folder / "shops" / name).write_text(made.printed("generate", *map(str, size)))
-    (folder / "plan.toml").write_text(text)
-    return made
+    return made.plan(text)
 
 
 Finished = Callable[[str], pathlib.Path]

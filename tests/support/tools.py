@@ -1,4 +1,5 @@
 """Runs of the scripts in tools/ and experiments/, and what they need."""
+import csv
 import importlib.machinery
 import importlib.util
 import os
@@ -36,6 +37,12 @@ def output_of(words: list[str | pathlib.Path], cwd: pathlib.Path, **how: Any) ->
     got = run_tool(words, cwd, **how)
     assert got.status == 0, f"{words}: {got}"
     return got.stdout
+
+
+def csv_rows(path: pathlib.Path) -> list[dict[str, str]]:
+    """The rows of a CSV, by its columns."""
+    with open(path, newline="") as file:
+        return list(csv.DictReader(file))
 
 
 def write_script(path: pathlib.Path, text: str) -> pathlib.Path:
