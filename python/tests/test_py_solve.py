@@ -311,6 +311,39 @@ def test_a_signal_loses_nothing(seconds: float) -> None:
     assert on.to_text() == whole.to_text() and cells + on.cells == whole.cells
 
 
+@pytest.mark.parametrize("call", ["pfs_neh", "pfs_rounds"])
+@pytest.mark.parametrize("when", ["before", "after"])
+def test_a_signal_right_around_a_call(monkeypatch: pytest.MonkeyPatch, call: str, when: str) -> None:
+    """The result of a call counts, also if the signal comes before the result is used."""
+    shop = pfs.taillard(12)
+    library = _library.library
+    real = getattr(library, call)
+    calls = 0
+
+    class Library:
+        def __getattr__(self, name: str) -> Any:
+            return around if name == call else getattr(library, name)
+
+    def around(*given: Any) -> int:
+        nonlocal calls
+        calls += 1
+        if calls == 1 and when == "before":
+            raise KeyboardInterrupt
+        number: int = real(*given)
+        if calls == 1:
+            raise KeyboardInterrupt
+        return number
+
+    monkeypatch.setattr(_library, "library", Library())
+    with pytest.raises(pfs.Interrupted) as stop:
+        shop.solve(50)
+    assert stop.value.solution.rounds == (1 if (call, when) == ("pfs_rounds", "after") else 0)
+    best = stop.value.solution
+    assert best == shop.solve(best.rounds)
+    assert shop.solve(50 - best.rounds, start=best, first=best.rounds).to_text() == shop.solve(50).to_text()
+    assert calls > 1
+
+
 class Closing:
     """A progress bar that counts how often it is closed."""
     closed = 0
