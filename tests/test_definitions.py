@@ -76,6 +76,11 @@ def test_each_definition_that_is_cited_is_in_the_page(top: pathlib.Path) -> None
     assert missing == set()
 
 
+@pytest.mark.parametrize("name", HEADLINE[:15])
+def test_this_word_of_the_headline_is_in_the_page(name: str, top: pathlib.Path) -> None:
+    assert name in got(top)
+
+
 # The list of what is proved
 
 LIBRARIES = ["pfs_base", "pfs_layout", "pfs_order", "pfs_audit", "pfs_insert", "pfs_wave", "pfs_search", "pfs_words",
