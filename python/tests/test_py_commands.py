@@ -11,7 +11,6 @@ import random
 import re
 import select
 import shlex
-import shutil
 import signal
 import subprocess
 import sys
@@ -357,25 +356,6 @@ def test_a_state_stays_where_a_link_leads(folder: pathlib.Path) -> None:
     assert (folder / "state").is_symlink() and rounds_in(folder) == 4
     assert (folder / "folder" / "kept").stat().st_mode & 0o777 == 0o640, "the permissions have changed"
     assert [path.name for path in (folder / "folder").iterdir()] == ["kept"]
-
-
-def test_a_state_is_on_the_disk_before_it_replaces_the_old_one(folder: pathlib.Path) -> None:
-    """The bytes before the renaming, and the name after it."""
-    strace = shutil.which("strace")
-    if strace is None:
-        pytest.skip("strace isn't installed (Debian: strace)")
-    words = [strace, "-f", "-y", "-o", "calls", "-e", "trace=openat,write,fsync,rename,renameat,renameat2,ftruncate",
-             sys.executable, "-m", "pfs", *LONG, "--rounds", "1", "--state", "state"]
-    subprocess.run(words, cwd=folder, env=environment(), check=True, stdout=subprocess.DEVNULL, timeout=60)
-    calls = [line for line in (folder / "calls").read_text().splitlines() if "ENOENT" not in line]
-    for at in [at for at, line in enumerate(calls) if " rename" in line]:
-        before, after = calls[:at], calls[at + 1:]
-        last = max(place for place, line in enumerate(before) if "write(" in line and "/state.new>" in line)
-        assert any("fsync(" in line and "/state.new>" in line for line in before[last:]), "the bytes aren't synced"
-        assert f"{folder}>" in next(line for line in after if "fsync(" in line), "the folder isn't synced"
-    assert [line for line in calls if " rename" in line], calls
-    opened = [line for line in calls if "openat(" in line and '/state"' in line.replace('"state"', '/state"')]
-    assert not any("O_WRONLY" in line or "O_RDWR" in line or "O_TRUNC" in line for line in opened), opened
 
 
 def test_the_state_of_another_instance(folder: pathlib.Path) -> None:

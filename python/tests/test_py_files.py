@@ -1,14 +1,11 @@
 """Files: instances, order files and Taillard's benchmark, against the program and byte for byte."""
-import contextlib
 import io
 import os
 import pathlib
 import pickle
-import socket
 import subprocess
-import threading
 import time
-from collections.abc import Callable, Iterator
+from collections.abc import Callable
 from typing import Any
 
 import pfs
@@ -79,39 +76,8 @@ class Drops(io.RawIOBase):
         return count
 
 
-@contextlib.contextmanager
-def slow(text: bytes, kind: str) -> Iterator[Any]:
-    """An unbuffered pipe or socket into which a thread writes a text in two pieces, cut inside the last number."""
-    ends: list[Any] = list(socket.socketpair()) if kind == "socket" else list(os.pipe())
-    cut = len(text.rstrip()) - 1
-
-    def write() -> None:
-        for piece in (text[:cut], text[cut:]):
-            ends[1].sendall(piece) if kind == "socket" else os.write(ends[1], piece)
-            time.sleep(0.1)
-        ends[1].close() if kind == "socket" else os.close(ends[1])
-
-    thread = threading.Thread(target=write)
-    thread.start()
-    with (ends[0].makefile("rb", buffering=0) if kind == "socket" else open(ends[0], "rb", buffering=0)) as file:
-        yield file
-    thread.join()
-    if kind == "socket":
-        ends[0].close()
-
-
 FORTY = b"2 2\n0 3 1 2\n0 2 1 40\n"
 ORDER = b"order2 12 2\n2 1 3 4 5 6 7 8 9 10 12 11\nmakespan 140\n"
-
-
-@pytest.mark.parametrize("kind", ["pipe", "socket"])
-def test_a_file_that_comes_in_pieces_is_read_to_its_end(kind: str) -> None:
-    with slow(FORTY, kind) as file:
-        assert pfs.read(file, "orlib").times.tolist() == [[3, 2], [2, 40]]
-    with slow(2 * FORTY, kind) as file:
-        assert [shop.times.tolist() for shop in pfs.read_all(file, "orlib")] == 2 * [[[3, 2], [2, 40]]]
-    with slow(ORDER, kind) as file:
-        assert pfs.read_order(file).makespan == 140
 
 
 @pytest.mark.parametrize("most", [1, 2, 7, 1000])
