@@ -128,6 +128,8 @@ MEANT = {
     25: "machine number", 26: "follows the last time", 27: "ends inside a block", 28: "doesn't end within",
     30: "not an order file", 31: "0 or greater than the number of jobs", 32: "job of the order file occurs twice",
     33: "order file of more than"}
+LIMITS_TOLD = {4: ["LONGEST_TIME"], 8: ["MOST_PASSES"], 9: ["MOST_ROUNDS"], 12: ["MOST_BLOCKS"], 24: ["LONGEST_TIME"],
+               28: ["LONGEST_INPUT"], 33: ["LONGEST_ORDER_FILE"]}
 
 
 @pytest.fixture(scope="session")
@@ -145,6 +147,8 @@ def texts(tmp_path_factory: pytest.TempPathFactory) -> dict[int, str]:
 def test_a_number_has_its_own_text(texts: dict[int, str], number: int) -> None:
     assert re.search(MEANT[number], texts[number]), f"the text of {number} is {texts[number]!r}"
     assert [other for other, text in texts.items() if re.search(MEANT[number], text)] == [number]
+    limits = [str(defined()[f"PFS_{name}"]) for name in LIMITS_TOLD.get(number, [])]
+    assert [limit for limit in limits if limit not in texts[number]] == [], "the limit that the text tells"
 
 
 def test_other_numbers_have_no_text(texts: dict[int, str]) -> None:

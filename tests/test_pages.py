@@ -13,14 +13,14 @@ from collections.abc import Callable
 from typing import Any, NamedTuple
 
 import pytest
-from support.facts import EXITS, LIMITS, OPTIONS, RANGES
+from support.facts import EXITS, FACTS, LIMITS, OPTIONS, RANGES
 from support.facts import FAULTS as STATUS_OF_FAULT
 from support.faults import FAULTS, met, with_numbers
 from support.files import USAGE, generated
 from support.needs import tool
 from support.program import Program, Ran
 from support.tools import Done, run_tool, wait_until, with_path
-from support.usage import LAYOUTS, LINES, commands, ends_of, ends_taken
+from support.usage import LAYOUTS, LINES, commands, ends_of, ends_taken, ranges
 
 TOP = pathlib.Path(__file__).resolve().parent.parent
 COMMANDS, FORMATS, TROUBLESHOOTING = ((TOP / "docs" / f"{name}.md").read_text()
@@ -259,6 +259,26 @@ def line_met(line: str, pfs: Program, worked: pathlib.Path) -> Ran:
     return met(pfs, FAULTS[line], worked) if line in FAULTS else pfs.run(line, worked)
 
 
+# The verdicts for which the status is 1, by the command and an order file that gets it.
+VERDICTS = {("check", "wrong size"): "two", ("table", "wrong size"): "two",
+            ("check", "wrong machines"): "for_three", ("table", "wrong machines"): "for_three",
+            ("check", "wrong makespan"): "wrong", ("table", "wrong makespan"): "wrong"}
+
+
+def verdicts(text: str) -> set[tuple[str, str]]:
+    """The commands and verdicts of a sentence, as `check or table printed wrong size or wrong machines`."""
+    got = re.findall(r"((?:check|table)(?: or (?:check|table))*) printed (wrong \w+(?: or wrong \w+)*)", text)
+    return {(command, verdict) for commands, names in got for command in commands.split(" or ")
+            for verdict in names.split(" or ")}
+
+
+def test_these_verdicts_end_with_status_1(pfs: Program, worked: pathlib.Path) -> None:
+    text = " ".join(it["when"] for it in EXITS if it["status"] == 1).replace("`", "")
+    ran = {pair: pfs.run(f"{pair[0]} --layout taillard three {order}", worked) for pair, order in VERDICTS.items()}
+    wanted = {pair for pair, got in ran.items() if got.status == 1 and got.stdout.startswith(pair[1].encode())}
+    assert verdicts(text) == wanted
+
+
 # Opening and writing
 
 def opened(pfs: Program, folder: pathlib.Path) -> list[str]:
@@ -321,6 +341,11 @@ def test_the_range_of_an_option_is_the_programs(option: str, pfs: Program, folde
     assert ends_taken(pfs, option, least, most, folder) == ends_of(least, most)
 
 
+def test_a_destruction_size_is_at_most_the_number_of_jobs(pfs: Program, worked: pathlib.Path) -> None:
+    taken = {take: pfs.run(f"solve --layout taillard --take {take} three", worked).status for take in (0, 1, 3, 4)}
+    assert taken == {0: 3, 1: 0, 3: 0, 4: 3}
+
+
 @pytest.mark.parametrize("option", RANGES)
 def test_a_default_is_as_without_and_one_more_is_not(option: str, pfs: Program, folder: pathlib.Path) -> None:
     default = OPTIONS[option]["default"]
@@ -340,6 +365,33 @@ def test_a_layout_is_one_of_these(option: str, pfs: Program, worked: pathlib.Pat
              "--to": "convert --from orlib --to {} none"}
     found = {name: pfs.run(lines[option].format(name), worked).status for name in [*names, "Taillard", "other"]}
     assert found == dict.fromkeys(names, 4) | {"Taillard": 3, "other": 3}
+
+
+def test_the_default_take_of_fewer_jobs_is_their_number(pfs: Program, worked: pathlib.Path) -> None:
+    call = "solve --layout taillard --cells --rounds 3 three"
+    without, all_jobs, fewer = (pfs.run(call + take, worked) for take in ("", " --take 3", " --take 2"))
+    assert without == all_jobs != fewer
+
+
+@pytest.mark.parametrize(("script", "got"), [("_pfs", r"--(\w+)=\[([^]]*)\]"),
+                                              ("pfs.fish", r"-l (\w+) .*-d '([^']*)'")])
+def test_a_range_in_a_completion_is_the_options(script: str, got: str) -> None:
+    text = (TOP / "share" / "completions" / script).read_text().replace("\\\n", "")
+    found = {f"--{name}": ranges(said)[0] for name, said in re.findall(got, text) if ranges(said)}
+    assert found == {option: each for option, each in RANGES.items() if option != "--seed"}
+
+
+def test_the_range_of_a_generators_seed_is_the_programs(pfs: Program, folder: pathlib.Path) -> None:
+    least, most = LIMITS["generator_seed"]
+    assert {seed: pfs.run(f"generate 1 1 {seed}", folder).status for seed in (least - 1, least, most, most + 1)} \
+        == {least - 1: 2, least: 0, most: 0, most + 1: 2}
+
+
+def test_the_sizes_of_generate_are_the_programs(pfs: Program, folder: pathlib.Path) -> None:
+    jobs, machines = LIMITS["jobs"].most, LIMITS["machines"].most
+    assert {size: pfs.run(f"generate {size} 1", folder).status for size in
+            (f"{jobs} 1", f"{jobs + 1} 1", f"1 {machines}", f"1 {machines + 1}", "0 1", "1 0")} \
+        == {f"{jobs} 1": 0, f"{jobs + 1} 1": 3, f"1 {machines}": 0, f"1 {machines + 1}": 3, "0 1": 3, "1 0": 3}
 
 
 def test_the_limits_of_an_instance_are_the_programs(pfs: Program, folder: pathlib.Path) -> None:
@@ -373,20 +425,65 @@ def fault_in(shop: str, pfs: Program, folder: pathlib.Path) -> str:
     return pfs.run("value --layout taillard shop", folder).stderr.decode().removeprefix("pfs: ").removesuffix("\n")
 
 
+def test_the_limit_of_the_input_is_the_programs(pfs: Program, folder: pathlib.Path) -> None:
+    most = LIMITS["input"].most
+    ran = []
+    for count in (most, most + 1):
+        with open(folder / "shop", "wb") as file:
+            file.write(b"1 1 0 0 0\n")
+            file.seek(count - 3)
+            file.write(b"\n5\n")
+        ran.append(pfs.run("value --layout taillard shop", folder))
+    assert ran == [Ran(b"makespan 5\n", b"", 0), Ran(b"", b"pfs: input too long\n", 2)]
+
+
+def test_the_limit_of_an_order_file_is_the_programs(pfs: Program, worked: pathlib.Path) -> None:
+    most = LIMITS["order_file"].most
+    found = []
+    for count in (most, most + 1):
+        (worked / "order").write_bytes(b"o" * count)
+        found.append(pfs.run("check --layout taillard three order", worked).stderr)
+    assert found == [b"pfs: order file syntax at 1\n", b"pfs: order file too long\n"], "at the limit and beyond it"
+
+
 # Order files
+
+def syntax(text: str, pfs: Program, worked: pathlib.Path) -> int | None:
+    """The offset of the syntax error in this order file, if it has one."""
+    (worked / "order").write_text(text)
+    got = re.fullmatch(r"pfs: order file syntax at (\d+)\n",
+                        pfs.run("check --layout taillard three order", worked).stderr.decode())
+    return int(got[1]) if got else None
+
 
 OFFSETS = [(text.strip("`").replace("\\n", "\n"), int(offset)) for text, offset in table(FORMATS, "Input", "Offset")]
 
 
 @pytest.mark.parametrize(("text", "offset"), OFFSETS, ids=[repr(text) for text, _ in OFFSETS])
 def test_an_offset_of_formats_is_the_programs(text: str, offset: int, pfs: Program, worked: pathlib.Path) -> None:
-    (worked / "order").write_text(text)
-    ran = pfs.run("check --layout taillard three order", worked)
-    assert ran == Ran(b"", b"pfs: order file syntax at %d\n" % offset, 2)
+    assert syntax(text, pfs, worked) == offset
 
 
 def test_formats_has_offsets() -> None:
     assert len(OFFSETS) > 3
+
+
+@pytest.mark.parametrize(("limit", "text"), [("jobs", "order {}\n1"), ("machines", "order2 3 {}\n1")])
+def test_the_numerals_of_an_order_files_first_line_are_within_the_limits(limit: str, text: str, pfs: Program,
+                                                                        worked: pathlib.Path) -> None:
+    least, most = LIMITS[limit]
+    ends = [syntax(text.format(count), pfs, worked) for count in (most, least)]
+    assert None not in ends and min(end or 0 for end in ends) > text.index("{"), f"ends of the numerals of {text}"
+    offsets = [syntax(text.format(count), pfs, worked) for count in (most + 1, least - 1)]
+    assert offsets == [text.index("{") + len(str(most)) - 1, text.index("{")], f"beyond the numerals of {text}"
+
+
+@pytest.mark.parametrize(("numeral", "text"), [("job", "order2 3 2\n{} 1 2\nmakespan 0\n"),
+                                               ("makespan", "order2 3 2\n1 2 3\nmakespan {}\n")])
+def test_a_numeral_has_at_most_these_digits(numeral: str, text: str, pfs: Program, worked: pathlib.Path) -> None:
+    most = FACTS["digits"][numeral]
+    assert syntax(text.format("9" * most), pfs, worked) is None
+    assert syntax(text.format("9" * (most + 1)), pfs, worked) == text.index("{") + most
 
 
 # Printed texts

@@ -25,6 +25,12 @@ def commands() -> dict[str, Command]:
     return found
 
 
+def ranges(text: str) -> list[tuple[int, int]]:
+    """The least and the greatest number of each range of a text."""
+    return [(int(least.replace(",", "")), int(most.replace(",", ""))) for least, most
+            in re.findall(r"\b([\d,]+) to ([\d,]*\d)", " ".join(text.split()))]
+
+
 def is_taken(pfs: Program, option: str, number: int, folder: pathlib.Path) -> bool:
     """Whether a search accepts this number. It then reports that its file doesn't exist."""
     got = pfs.run(["solve", "--layout", "taillard", f"{option}={number}", "/missing"], folder)
