@@ -45,6 +45,13 @@ def installed(libpfs: Library, tmp_path_factory: pytest.TempPathFactory) -> path
     return prefix
 
 
+def flags_of(installed: pathlib.Path) -> list[str]:
+    """What pkg-config says of the library, and where a program finds it."""
+    env = {"PKG_CONFIG_PATH": str(installed / "lib" / "pkgconfig"), "PATH": "/usr/bin:/bin"}
+    printed = output_of([tool("pkg-config"), "--cflags", "--libs", "pfs"], installed, env=env)
+    return [*shlex.split(printed), f"-Wl,-rpath,{installed / 'lib'}"]
+
+
 @pytest.fixture(scope="session")
 def built(installed: pathlib.Path, tmp_path_factory: pytest.TempPathFactory) -> pathlib.Path:
     """A folder with the examples, compiled as the page says, and with warnings as errors."""
@@ -54,14 +61,11 @@ def built(installed: pathlib.Path, tmp_path_factory: pytest.TempPathFactory) -> 
 def compile_examples(installed: pathlib.Path, folder: pathlib.Path, *options: str) -> pathlib.Path:
     """Compile the examples into a folder by the commands of the page, with more options of the compiler."""
     lines = {compiler: line for line, compiler in re.findall(r"^((cc|c\+\+) .*)$", PAGE, re.MULTILINE)}
-    env = {"PKG_CONFIG_PATH": str(installed / "lib" / "pkgconfig"), "PATH": "/usr/bin:/bin"}
-    flags = shlex.split(output_of([tool("pkg-config"), "--cflags", "--libs", "pfs"], folder, env=env))
     for source in SOURCES:
         compiler = "cc" if source.suffix == ".c" else "c++"
         assert lines[compiler].endswith("$(pkg-config --cflags --libs pfs)") and STRICT[compiler] in lines[compiler]
-        rpath = f"-Wl,-rpath,{installed / 'lib'}"
         compile_quietly([tool(compiler), STRICT[compiler], "-O2", "-Wall", "-Wextra", "-pedantic", "-Werror",
-                         *options, "-o", folder / source.stem, source, *flags, rpath])
+                         *options, "-o", folder / source.stem, source, *flags_of(installed)])
     return folder
 
 
@@ -253,11 +257,8 @@ def test_readmes_lines_in_c(installed: pathlib.Path, folder: pathlib.Path) -> No
     include, lines = block_of_readme("c").split("\n", 1)
     assert "/* order is now 1 0 2, makespan 10 */" in lines
     (folder / "readme.c").write_text(PROGRAM.format(include=include, lines=lines))
-    env = {"PKG_CONFIG_PATH": str(installed / "lib" / "pkgconfig"), "PATH": "/usr/bin:/bin"}
-    flags = shlex.split(output_of([tool("pkg-config"), "--cflags", "--libs", "pfs"], folder, env=env))
-    rpath = f"-Wl,-rpath,{installed / 'lib'}"
     compile_quietly([tool("cc"), "-std=c99", "-Wall", "-Wextra", "-Werror", "-o", folder / "readme",
-                     folder / "readme.c", *flags, rpath])
+                     folder / "readme.c", *flags_of(installed)])
     assert output_of([folder / "readme"], folder) == "status 0, order 1 0 2, makespan 10\n"
 
 

@@ -1,9 +1,7 @@
 """Validation of arguments: arrays of all kinds are read correctly or rejected, with the cause and the position. Nothing
 is read out of bounds."""
-import ctypes
 import functools
 import io
-import threading
 from collections.abc import Callable
 from typing import Any
 
@@ -291,31 +289,6 @@ def test_anything_as_a_file(text: bytes) -> None:
         pfs.read_order(io.BytesIO(text))
     except pfs.OrderFault as fault:
         assert 0 <= fault.place <= len(text)
-
-
-@pytest.mark.parametrize("kind", [np.uint32, np.int64, np.uint64])
-def test_arrays_that_another_thread_changes(kind: Any) -> None:
-    """The order is copied before it is validated: the result is that of some order, or an exception."""
-    shop = pfs.generate(400, 5, 1)
-    order = np.arange(400, dtype=kind)
-    ended = threading.Event()
-
-    def spoil() -> None:
-        while not ended.is_set():
-            ctypes.memset(order.ctypes.data, 255, order.nbytes)
-            order[:] = np.arange(400)
-
-    thread = threading.Thread(target=spoil)
-    thread.start()
-    try:
-        for _ in range(3000):
-            try:
-                assert shop.makespan(order) > 0
-            except ValueError:
-                pass
-    finally:
-        ended.set()
-        thread.join()
 
 
 @pytest.mark.parametrize("kind", KINDS)

@@ -1,16 +1,11 @@
 """The usage text, and files to run the program on."""
 import pathlib
 
+from support import second_program
+
 TITLE = b"number of jobs, number of machines, initial seed, upper bound and lower bound :\n"
 
-USAGE = b"""pfs: usage
-pfs value --layout L [--block K] FILE
-pfs solve --layout L [--block K] [--rounds R] [--take D] [--seed S] [--passes P] [--cells] FILE
-pfs check --layout L [--block K] FILE ORDER
-pfs table --layout L [--block K] FILE ORDER
-pfs convert --from L --to L [--block K] FILE
-pfs generate N M SEED
-"""
+USAGE = second_program.USAGE
 
 
 def taillard(size_line: bytes, *rows: bytes) -> bytes:
@@ -20,15 +15,7 @@ def taillard(size_line: bytes, *rows: bytes) -> bytes:
 
 def generated(jobs: int, machines: int, seed: int) -> bytes:
     """What Taillard's generator draws, by the remainders that define it."""
-    first = seed
-    rows = []
-    for _ in range(machines):
-        times = []
-        for _ in range(jobs):
-            seed = seed * 16807 % 2147483647
-            times.append(b"%d" % (1 + seed * 99 // 2147483647))
-        rows.append(b" ".join(times))
-    return taillard(b"%d %d %d 0 0" % (jobs, machines, first), *rows)
+    return second_program.canonical(second_program.generated(jobs, machines, seed), b"taillard")
 
 
 THREE_JOBS = taillard(b"3 2 0 0 0", b"3 2 4", b"2 5 1")
