@@ -8,7 +8,7 @@ import shutil
 import signal
 import socket
 import subprocess
-from collections.abc import Iterator
+from collections.abc import Callable, Iterator
 
 import pytest
 from support.files import FILES, THREE_JOBS, USAGE
@@ -17,6 +17,8 @@ from support.pipes import PAGE, first_opened, opened_for_writing, page_pipe, unr
 from support.program import Program, Ran, Words, ended
 
 NOBODY = 65_534
+# The number of attempts to stop a program in time.
+MOST_STARTS = 100
 # The longest word that Linux passes on, without its end, and how many words are many.
 LONGEST_WORD = 131_071
 MANY = 100_000
@@ -329,6 +331,39 @@ def test_a_file_that_shrinks_before_it_is_read(pfs: Program, piped: pathlib.Path
     os.truncate(piped / "three", 118)
     os.close(opened_for_writing(piped / "pipe"))
     assert ended(child) == refused("truncated after 5 times", 2)
+
+
+@pytest.mark.parametrize("size_after", [lambda position: position // 2, lambda position: position + 128],
+                         ids=["before the place", "after the place"])
+def test_a_file_that_shrinks_while_it_is_read(pfs: Program, folder: pathlib.Path,
+                                              size_after: Callable[[int], int]) -> None:
+    """A file of lines of 128 bytes, each with a time, gets another size where it is being read. A size before the place
+    that is read ends the file there."""
+    head, line = b"2000 200 0 0 0\n", b"0" * 127 + b"\n"
+    (folder / "shrinks").write_bytes(head + line * 399_000)
+    child, position = stopped_while_reading(pfs, folder / "shrinks")
+    end = size_after(position)
+    os.truncate(folder / "shrinks", end)
+    child.send_signal(signal.SIGCONT)
+    begun = -(-(max(position, end) - len(head)) // len(line))
+    assert ended(child) == refused(f"truncated after {begun} times", 2), f"{end} bytes after {position}"
+
+
+def stopped_while_reading(pfs: Program, file: pathlib.Path) -> tuple[subprocess.Popen[bytes], int]:
+    """The program, which is stopped somewhere in the first half of a file, and how far it has read. It is started again
+    if it was further before it stopped, or had ended."""
+    half = file.stat().st_size // 2
+    for _ in range(MOST_STARTS):
+        child = pfs.start(f"value --layout taillard {file.name}", file.parent)
+        wait_for("a part of the file is read",
+                 lambda: child.poll() is not None or bool(opened_position(child.pid, file.name)))
+        stop(child)
+        position = opened_position(child.pid, file.name)
+        if position and position < half:
+            return child, position
+        child.send_signal(signal.SIGCONT)
+        ended(child)
+    pytest.fail(f"in {MOST_STARTS} starts the program was never stopped in the first half of the file")
 
 
 def opened_position(process: int, name: str) -> int | None:

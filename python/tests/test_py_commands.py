@@ -11,6 +11,7 @@ import random
 import re
 import select
 import shlex
+import shutil
 import signal
 import subprocess
 import sys
@@ -171,6 +172,17 @@ def test_the_status_is_that_of_the_first_signal(numbers: tuple[signal.Signals, .
     assert signal.getsignal(signal.SIGTERM) == signal.SIG_DFL
 
 
+def test_two_signals_at_once(folder: pathlib.Path) -> None:
+    """While the search is stopped both come; Python looks at the one with the lower number first."""
+    child = start([*LONG, "--state", "state"], folder)
+    wait_until(lambda: rounds_in(folder) > 0)
+    for number in (signal.SIGSTOP, signal.SIGINT, signal.SIGTERM, signal.SIGCONT):
+        child.send_signal(number)
+    printed, got = child.communicate(timeout=60)
+    assert (child.returncode, got) == (128 + signal.SIGINT, b"")
+    assert printed.decode() == shop_in(folder).solve(rounds_in(folder)).to_text()
+
+
 def test_a_search_that_ignores_signals_at_first_is_ended_by_them(folder: pathlib.Path) -> None:
     """As one in the background of a shell."""
     words = [sys.executable, "-m", "pfs", *LONG, "--state", "state"]
@@ -218,7 +230,11 @@ OTHER_STATES: dict[str, tuple[Callable[[dict[str, Any]], str], str]] = {
     "an earlier version": (lambda state: summed(state | {"state": "pfs search 1"}),
                            "the state of a search by another version of pfs"),
     "other rounds": (lambda state: json.dumps(state | {"rounds": 3}), DAMAGED),
+    "other cells": (lambda state: json.dumps(state | {"cells": 3}), DAMAGED),
+    "another order": (lambda state: json.dumps(state | {"order": state["order"][::-1]}), DAMAGED),
     "no checksum": (lambda state: json.dumps({name: state[name] for name in state if name != "sum"}), DAMAGED),
+    "another seed": (lambda state: summed(state | {"seed": 7}),
+                     "the state of a search with seed 7, not 0"),
     "another order's makespan": (lambda state: summed(state | {"order": state["order"][::-1]}), NOT_THE_INSTANCES),
     "another makespan": (lambda state: summed(state | {"makespan": state["makespan"] - 1}), NOT_THE_INSTANCES),
     "a job twice": (lambda state: summed(state | {"order": [state["order"][1], *state["order"][1:]]}),
@@ -356,6 +372,25 @@ def test_a_state_stays_where_a_link_leads(folder: pathlib.Path) -> None:
     assert (folder / "state").is_symlink() and rounds_in(folder) == 4
     assert (folder / "folder" / "kept").stat().st_mode & 0o777 == 0o640, "the permissions have changed"
     assert [path.name for path in (folder / "folder").iterdir()] == ["kept"]
+
+
+def test_a_state_is_on_the_disk_before_it_replaces_the_old_one(folder: pathlib.Path) -> None:
+    """The bytes before the renaming, and the name after it."""
+    strace = shutil.which("strace")
+    if strace is None:
+        pytest.skip("strace isn't installed (Debian: strace)")
+    words = [strace, "-f", "-y", "-o", "calls", "-e", "trace=openat,write,fsync,rename,renameat,renameat2,ftruncate",
+             sys.executable, "-m", "pfs", *LONG, "--rounds", "1", "--state", "state"]
+    subprocess.run(words, cwd=folder, env=environment(), check=True, stdout=subprocess.DEVNULL, timeout=60)
+    calls = [line for line in (folder / "calls").read_text().splitlines() if "ENOENT" not in line]
+    for at in [at for at, line in enumerate(calls) if " rename" in line]:
+        before, after = calls[:at], calls[at + 1:]
+        last = max(place for place, line in enumerate(before) if "write(" in line and "/state.new>" in line)
+        assert any("fsync(" in line and "/state.new>" in line for line in before[last:]), "the bytes aren't synced"
+        assert f"{folder}>" in next(line for line in after if "fsync(" in line), "the folder isn't synced"
+    assert [line for line in calls if " rename" in line], calls
+    opened = [line for line in calls if "openat(" in line and '/state"' in line.replace('"state"', '/state"')]
+    assert not any("O_WRONLY" in line or "O_RDWR" in line or "O_TRUNC" in line for line in opened), opened
 
 
 def test_the_state_of_another_instance(folder: pathlib.Path) -> None:
@@ -521,8 +556,10 @@ def test_memory_that_runs_out_is_reported_on_one_line(folder: pathlib.Path, monk
 
 
 @pytest.mark.parametrize("words", [
-    [], ["solve"], ["search"], LONG[:2], [*LONG, "--rounds", "1.5"], [*LONG, "--seconds", "-1"],
-    [*LONG, "--seconds", "nan"], [*LONG, "--seconds", "x"], ["search", "shop", "--layout", "csv"], ["plan"]])
+    [], ["solve"], ["search"], LONG[:2], [*LONG, "--rounds", "-1"], [*LONG, "--rounds", "1000001"],
+    [*LONG, "--rounds", "1.5"], [*LONG, "--seconds", "-1"], [*LONG, "--seconds", "nan"], [*LONG, "--seconds", "x"],
+    [*LONG, "--take", "0"], [*LONG, "--passes", "101"], [*LONG, "--seed", "18446744073709551616"],
+    [*LONG, "--block", "0"], ["search", "shop", "--layout", "csv"], ["plan"]])
 def test_words_that_no_command_takes(folder: pathlib.Path, words: list[str]) -> None:
     status, printed, got = ended(words, folder)
     assert (status, printed) == (3, "") and got.startswith("usage: ")
