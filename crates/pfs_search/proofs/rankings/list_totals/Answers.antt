@@ -11,8 +11,8 @@ loop-job-preserved g c =
     let listed = c.loop-job.listed.items in
     let job = c.loop-job.job in
     record {
-      jobs = rw c.in-Ok.ensures.items (listed_more listed c.total.result job c.loop-job.invariant.jobs);
-      totals = rw c.in-Ok.ensures.items (All-push (λ (entry : Listed). entry.0.0 ≡ total_of shop entry.1) listed _
+      jobs = rw c.push_reserved.ensures.items (listed_more listed c.total.result job c.loop-job.invariant.jobs);
+      totals = rw c.push_reserved.ensures.items (All-push (λ (entry : Listed). entry.0.0 ≡ total_of shop entry.1) listed _
           c.loop-job.invariant.totals c.total.ensures);
       count = first_of (search rules, grind (arith, common_steps));
       capacity = first_of (search rules, grind (arith, common_steps));

@@ -37,8 +37,8 @@ rounds-requires-clause-room g c =
       same_rounds then_shop rounds.count rounds.take rounds.passes c.requires.ready.cost,
     )
 
-pub returns-clause-found : goal.returns-clause-found
-returns-clause-found g c =
+pub returns : goal.returns
+returns g c =
     let rounds = c.args.rounds in
     let number = g.B.Span.Length.number in
     let counted = g.B.Bench.counted in
@@ -77,17 +77,15 @@ returns-clause-found g c =
     c.in_ok-rounds.ensures.still.fit.order_jobs
     ∙ ap (λ (s : FlowShop). s.jobs) (c.in_ok-rounds.ensures.still.shop ∙ c.in_ok-neh.ensures.still.shop) in
     let distinct = subst (λ n. IsSequence n kept.order) all c.len-jobs.ensures.sequence in
+    let found =
     found_is shop rounds.count rounds.take rounds.passes rounds.seed c.seed_from_u64-rng.result neh.order neh_span
     neh_cells kept.order span cells c.requires.limits.few
-    c.seed_from_u64-rng.ensures neh_done rounds_done all distinct
-
-pub returns-clause-short : goal.returns-clause-short
-returns-clause-short g c =
-    let found = returns-clause-found g c in
-    let shop = g.B.Bench.shop c.args.bench.now in
-    omega (
-      arith,
-      makespan_short shop c.rounds.new.kept.order
-          (g.met.B.Bench.within c.args.bench.now) found.all,
-      found.spanned,
-    )
+    c.seed_from_u64-rng.ensures neh_done rounds_done all distinct in
+    record {
+      found = found;
+      short = omega (
+        arith,
+        makespan_short shop kept.order (g.met.B.Bench.within c.args.bench.now) found.all,
+        found.spanned,
+      );
+    }

@@ -33,7 +33,7 @@ returns-in-Err-clause-cells g c =
 pub returns-in-Err-clause-fault : goal.returns-in-Err-clause-fault
 returns-in-Err-clause-fault g c = (
   c.loop-done-test.true,
-  ap (λ k. k.order) c.in-Err.ensures.unchanged ∙ c.loop-done.invariant.order,
+  ap (λ k. k.order) c.in-Err.ensures.order ∙ c.loop-done.invariant.order,
   rw (c.draw_words.ensures.stream, c.loop-done.invariant.stream)
       (sym (stream_group c.loop-done.done c.args.take (g.R.Rng.stream c.args.rng.now))),
 )
