@@ -1,11 +1,10 @@
 //! One round of iterated greedy, and the random words of the next.
-ghost use Rattle.std.specs.Prelude.{◌≡◌, ◌+◌, ◌<◌, ◌≤◌, ◌^◌, length, take as front, false};
-ghost use Rattle.std.specs.Prelude.{vec_len, vec_capacity, IsOk, MatchResult};
-ghost use Rattle.pfs_insert.specs.Inserter.{Counts};
+ghost use Rattle.std.specs.Prelude.{◌≡◌, ◌+◌, ◌<◌, ◌≤◌, ◌^◌, length, take as front};
+ghost use Rattle.std.specs.Prelude.{vec_len, vec_capacity, MatchResult};
 ghost use Rattle.pfs_search.specs.Costs.{round_cost_on};
-ghost use Rattle.pfs_search.specs.Greedy.{after_round, stream_after, words_of};
-ghost use Rattle.pfs_search.specs.Private.Steps.{AreTaken, CanTake};
-ghost use Rattle.pfs_search.specs.SearcherView.{IsKeptSpan, MayPlay, StillFit};
+ghost use Rattle.pfs_search.specs.Greedy.{after_round};
+ghost use Rattle.pfs_search.specs.Private.Steps.{AreNextWords, AreTaken, CanTake, Plays};
+ghost use Rattle.pfs_search.specs.SearcherView.{IsKeptSpan, MayPlay};
 
 use crate::insertions::insert_all;
 use crate::kept::Kept;
@@ -36,10 +35,9 @@ pub(crate) fn play_round<B: Bench, I: Inserter<B>>(
         (λ _. kept.new ≡ kept.old) }
     ensures span { IsKeptSpan (B.shop bench.old) (B.Span.number kept.old.span) kept.new.order
         (B.Span.number kept.new.span) }
-    ensures cells { Counts result (B.counted bench.old) (B.counted bench.new)
-        (round_cost_on I.cost (B.shop bench.old) (length words.now) passes) }
-    ensures succeeds { I.can_refuse ≡ false → IsOk result }
-    ensures still { StillFit (B.shop bench.old) (B.shop bench.new) I.sizes work.new kept.new.order }
+    ensures round { Plays result I.can_refuse (B.counted bench.old) (B.counted bench.new)
+        (round_cost_on I.cost (B.shop bench.old) (length words.now) passes)
+        (B.shop bench.old) (B.shop bench.new) I.sizes work.new kept.new.order }
 {
     take_jobs(kept.order.seq(), &mut work.seq, &mut work.queue, words);
     let rebuilt = insert_all(alloc, &mut work.inserter, bench, &mut work.seq, &work.queue)?;
@@ -77,9 +75,8 @@ fn take_jobs(order: &Seq, seq: &mut Seq, taken: &mut Vec<usize>, words: &[u32])
 /// list.
 pub(crate) fn draw_words<R: Rng>(rng: &mut R, words: &mut Vec<u32>, take: usize)
     requires { take ≤ vec_len words.old }
-    ensures words { front take words.new.items ≡ words_of take (R.stream rng.old) }
+    ensures drawn { AreNextWords take (R.stream rng.old) (R.stream rng.new) (front take words.new.items) }
     ensures len { vec_len words.new ≡ vec_len words.old }
-    ensures stream { R.stream rng.new ≡ stream_after take (R.stream rng.old) }
 {
     for place in 0..take {
         words[place] = rng.next_u32();

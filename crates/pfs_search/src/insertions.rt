@@ -2,7 +2,7 @@
 ghost use Rattle.std.specs.Prelude.{◌≡◌, ◌+◌, ◌<◌, ◌^◌, [], length, IfOk};
 ghost use Rattle.pfs_search.specs.Neh.{with_jobs};
 ghost use Rattle.pfs_search.specs.Costs.{insertions_cost};
-ghost use Rattle.pfs_search.specs.Private.Steps.{CanInsertAll, IsMade, Steps};
+ghost use Rattle.pfs_search.specs.Private.Steps.{CanInsertAll, IsBuilt, Steps};
 
 use pfs_base::{Bench, Length};
 use pfs_insert::{InsertFault, Inserter};
@@ -31,7 +31,7 @@ pub(crate) fn insert_all<B: Bench, I: Inserter<B>>(
     requires ready { CanInsertAll (B.shop bench.old) (I.sizes inserter.old) seq.old jobs.now }
     requires room { B.counted bench.old
         + insertions_cost I.cost (B.shop bench.old).machines (length seq.old.jobs) (length jobs.now) < 2 ^ 64 }
-    ensures made { IfOk result (λ span. IsMade (B.shop bench.old) seq.new.jobs
+    ensures made { IfOk result (λ span. IsBuilt (B.shop bench.old) seq.new.jobs
         (with_jobs (B.shop bench.old) seq.old.jobs jobs.now) (length seq.old.jobs + length jobs.now)
         (B.Span.number span)) }
     ensures step { Steps result I.can_refuse (B.counted bench.old) (B.counted bench.new)

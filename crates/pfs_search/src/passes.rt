@@ -2,7 +2,7 @@
 ghost use Rattle.std.specs.Prelude.{◌≡◌, ◌+◌, ◌*◌, ◌<◌, ◌^◌, IfOk};
 ghost use Rattle.pfs_search.specs.Costs.{pass_cost_on};
 ghost use Rattle.pfs_search.specs.Greedy.{after_passes, moved, pass};
-ghost use Rattle.pfs_search.specs.Private.Steps.{CanMove, CanPass, IsMade, Steps};
+ghost use Rattle.pfs_search.specs.Private.Steps.{CanMove, CanPass, IsBuilt, Steps};
 
 use pfs_base::{Bench, Length};
 use pfs_insert::{InsertFault, Inserter};
@@ -22,7 +22,7 @@ pub(crate) fn make_passes<B: Bench, I: Inserter<B>>(
 ) -> Result<B::Span, InsertFault>
     requires ready { CanPass (B.shop bench.old) (I.sizes inserter.old) seq.old (B.Span.number span) }
     requires room { B.counted bench.old + passes * pass_cost_on I.cost (B.shop bench.old) < 2 ^ 64 }
-    ensures made { IfOk result (λ span. IsMade (B.shop bench.old) seq.new.jobs
+    ensures made { IfOk result (λ span. IsBuilt (B.shop bench.old) seq.new.jobs
         (after_passes (B.shop bench.old) passes seq.old.jobs) (B.shop bench.old).jobs (B.Span.number span)) }
     ensures step { Steps result I.can_refuse (B.counted bench.old) (B.counted bench.new)
         (passes * pass_cost_on I.cost (B.shop bench.old))
@@ -46,7 +46,7 @@ fn make_pass<B: Bench, I: Inserter<B>>(
 ) -> Result<B::Span, InsertFault>
     requires ready { CanPass (B.shop bench.old) (I.sizes inserter.old) seq.old (B.Span.number span) }
     requires room { B.counted bench.old + pass_cost_on I.cost (B.shop bench.old) < 2 ^ 64 }
-    ensures made { IfOk result (λ span. IsMade (B.shop bench.old) seq.new.jobs
+    ensures made { IfOk result (λ span. IsBuilt (B.shop bench.old) seq.new.jobs
         (pass (B.shop bench.old) seq.old.jobs) (B.shop bench.old).jobs (B.Span.number span)) }
     ensures step { Steps result I.can_refuse (B.counted bench.old) (B.counted bench.new)
         (pass_cost_on I.cost (B.shop bench.old))
@@ -70,7 +70,7 @@ fn move_job<B: Bench, I: Inserter<B>>(
 ) -> Result<B::Span, InsertFault>
     requires ready { CanMove (B.shop bench.old) (I.sizes inserter.old) seq.old job }
     requires room { B.counted bench.old + I.cost (B.shop bench.old).jobs (B.shop bench.old).machines < 2 ^ 64 }
-    ensures made { IfOk result (λ span. IsMade (B.shop bench.old) seq.new.jobs
+    ensures made { IfOk result (λ span. IsBuilt (B.shop bench.old) seq.new.jobs
         (moved (B.shop bench.old) seq.old.jobs job) (B.shop bench.old).jobs (B.Span.number span)) }
     ensures step { Steps result I.can_refuse (B.counted bench.old) (B.counted bench.new)
         (I.cost (B.shop bench.old).jobs (B.shop bench.old).machines)

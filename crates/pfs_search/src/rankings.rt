@@ -2,7 +2,7 @@
 ghost use Rattle.std.specs.Prelude.{◌≡◌, ◌≤◌, length, map, vec_len, vec_capacity};
 ghost use Rattle.std.specs.List.Sorted.{IsPermutation, IsSorted};
 ghost use Rattle.std.specs.Ordering.{nat_cmp, ordering_then};
-ghost use Rattle.pfs_search.specs.Private.Steps.{AreTotals, HasKept, IsRanked};
+ghost use Rattle.pfs_search.specs.Private.Steps.{AreTotals, HasKept, HaveRoom, IsRanked};
 
 use pfs_base::{Bench, Shop};
 use std::cmp::Reverse;
@@ -14,8 +14,7 @@ pub(crate) fn rank_jobs<B: Shop>(
     ranked: &mut Vec<(Reverse<u64>, usize)>,
     jobs: &mut Vec<usize>,
 )
-    requires room { (B.shop bench.now).jobs ≤ vec_capacity ranked.old }
-    requires jobs_room { (B.shop bench.now).jobs ≤ vec_capacity jobs.old }
+    requires room { HaveRoom (B.shop bench.now).jobs ranked.old jobs.old }
     ensures ranking { IsRanked (B.shop bench.now) jobs.old jobs.new }
     ensures capacity { vec_capacity ranked.old ≤ vec_capacity ranked.new }
 {

@@ -4,6 +4,7 @@ use Rattle.std.specs.Prelude.{map, vec_len, vec_capacity}
 use Rattle.std.specs.Global.{Vec}
 use Rattle.std.specs.List.{All}
 use Rattle.std.specs.declared.cmp.Reverse.{Reverse}
+use Rattle.rand_core.specs.Stream.{Stream}
 use Rattle.pfs_base.specs.declared.limits.TheConstants.{MOST_ROUNDS, MOST_PASSES}
 use Rattle.pfs_base.specs.FlowShop.{FlowShop, total_of}
 use Rattle.pfs_base.specs.Paths.{makespan}
@@ -12,8 +13,9 @@ use Rattle.pfs_order.specs.Sequence.{IsSequence, Sequence, all_jobs}
 use Rattle.pfs_insert.specs.Inserter.{Counts, Fits, Sizes}
 use Rattle.pfs_wave.specs.Served.{IsServed, lanes_of}
 use Rattle.pfs_wave.specs.declared.served.Width.{Width}
-use Rattle.pfs_search.specs.Greedy.{jobs_left, jobs_taken}
+use Rattle.pfs_search.specs.Greedy.{jobs_left, jobs_taken, stream_after, words_of}
 use Rattle.pfs_search.specs.Ranking.{ranking}
+use Rattle.pfs_search.specs.SearcherView.{SearcherView, StillFit}
 use Rattle.pfs_search.specs.Solution.{IsFound, IsImproved}
 use Rattle.pfs_search.specs.declared.fault.SearchFault.{SearchFault}
 use Rattle.pfs_search.specs.declared.fault.SearchFault.TheVariants.{Memory}
@@ -42,7 +44,7 @@ pub record HasSpan (shop : FlowShop) (jobs : List ℕ) (count span : ℕ) : Type
   pub span_is : span ≡ makespan shop jobs
 
 -- a sequence is the one that a step of a search was to make, of `count` jobs, and its makespan
-pub record IsMade (shop : FlowShop) (jobs made : List ℕ) (count span : ℕ) : Type 0 where
+pub record IsBuilt (shop : FlowShop) (jobs made : List ℕ) (count span : ℕ) : Type 0 where
   pub jobs_are : jobs ≡ made
   pub has_span : HasSpan shop jobs count span
 
@@ -58,6 +60,19 @@ pub record Steps {A E : Type 0} (result : Result A E) (can_fail : Bool) (before 
   pub cells : Counts result before after cost
   pub succeeds : can_fail ≡ false → IsOk result
   pub still : StillFits old new inserter size
+
+-- what a round does to a bench and a searcher: it counts `cost` cells, it succeeds where no inserter can fail, and all
+-- still fits
+pub record Plays {A E I : Type 0} (result : Result A E) (can_fail : Bool) (before after cost : ℕ) (old new : FlowShop)
+    (sizes : I → Sizes) (searcher : SearcherView I) (order : List ℕ) : Type 0 where
+  pub cells : Counts result before after cost
+  pub succeeds : can_fail ≡ false → IsOk result
+  pub still : StillFit old new sizes searcher order
+
+-- the next `count` words of a stream, and the stream after them
+pub record AreNextWords (count : ℕ) (before after : Stream) (drawn : List ℕ) : Type 0 where
+  pub words_are : drawn ≡ words_of count before
+  pub stream_is : after ≡ stream_after count before
 
 -- some jobs were removed from a sequence of `count` distinct jobs: these and those that are left
 pub record AreApart (size count : ℕ) (removed left : List ℕ) : Type 0 where
@@ -98,6 +113,11 @@ pub record AreTaken (order : Sequence) (words : List ℕ) (old new : Vec ℕ) (l
   pub taken_are : new.items ≡ jobs_taken order.jobs words
   pub apart : AreApart order.size (length order.jobs) new.items left.jobs
   pub kept : HasKept old new (length words)
+
+-- two lists have room for `count` items
+pub record HaveRoom {A B : Type 0} (count : ℕ) (one : Vec A) (other : Vec B) : Type 0 where
+  pub one_room : count ≤ vec_capacity one
+  pub other_room : count ≤ vec_capacity other
 
 -- the ranking of all jobs, in a list that was written over
 pub record IsRanked (shop : FlowShop) (old new : Vec ℕ) : Type 0 where
