@@ -3,8 +3,8 @@ ghost use Rattle.std.specs.Prelude.{◌≡◌, ◌+◌, ◌<◌, ◌≤◌, ◌^
 ghost use Rattle.std.specs.Prelude.{vec_len, vec_capacity, MatchResult};
 ghost use Rattle.pfs_search.specs.Costs.{round_cost_on};
 ghost use Rattle.pfs_search.specs.Greedy.{after_round};
-ghost use Rattle.pfs_search.specs.Private.Steps.{AreNextWords, AreTaken, CanTake, Plays};
-ghost use Rattle.pfs_search.specs.SearcherView.{IsKeptSpan, MayPlay};
+ghost use Rattle.pfs_search.specs.Private.Steps.{AreNextWords, AreTaken, CanTake};
+ghost use Rattle.pfs_search.specs.SearcherView.{IsKeptSpan, MayPlay, Searches};
 
 use crate::insertions::insert_all;
 use crate::kept::Kept;
@@ -35,7 +35,7 @@ pub(crate) fn play_round<B: Bench, I: Inserter<B>>(
         (λ _. kept.new ≡ kept.old) }
     ensures span { IsKeptSpan (B.shop bench.old) (B.Span.number kept.old.span) kept.new.order
         (B.Span.number kept.new.span) }
-    ensures round { Plays result I.can_refuse (B.counted bench.old) (B.counted bench.new)
+    ensures effect { Searches result I.can_refuse (B.counted bench.old) (B.counted bench.new)
         (round_cost_on I.cost (B.shop bench.old) (length words.now) passes)
         (B.shop bench.old) (B.shop bench.new) I.sizes work.new kept.new.order }
 {

@@ -15,7 +15,6 @@ use Rattle.pfs_wave.specs.Served.{IsServed, lanes_of}
 use Rattle.pfs_wave.specs.declared.served.Width.{Width}
 use Rattle.pfs_search.specs.Greedy.{jobs_left, jobs_taken, stream_after, words_of}
 use Rattle.pfs_search.specs.Ranking.{ranking}
-use Rattle.pfs_search.specs.SearcherView.{SearcherView, StillFit}
 use Rattle.pfs_search.specs.Solution.{IsFound, IsImproved}
 use Rattle.pfs_search.specs.declared.fault.SearchFault.{SearchFault}
 use Rattle.pfs_search.specs.declared.fault.SearchFault.TheVariants.{Memory}
@@ -60,14 +59,6 @@ pub record Steps {A E : Type 0} (result : Result A E) (can_fail : Bool) (before 
   pub cells : Counts result before after cost
   pub succeeds : can_fail ≡ false → IsOk result
   pub still : StillFits old new inserter size
-
--- what a round does to a bench and a searcher: it counts `cost` cells, it succeeds where no inserter can fail, and all
--- still fits
-pub record Plays {A E I : Type 0} (result : Result A E) (can_fail : Bool) (before after cost : ℕ) (old new : FlowShop)
-    (sizes : I → Sizes) (searcher : SearcherView I) (order : List ℕ) : Type 0 where
-  pub cells : Counts result before after cost
-  pub succeeds : can_fail ≡ false → IsOk result
-  pub still : StillFit old new sizes searcher order
 
 -- the next `count` words of a stream, and the stream after them
 pub record AreNextWords (count : ℕ) (before after : Stream) (drawn : List ℕ) : Type 0 where

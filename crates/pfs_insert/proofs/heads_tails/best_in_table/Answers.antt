@@ -23,13 +23,15 @@ heads_long : (g : Over) (c : After-split_at_mut-tails g) →
     let shop = g.B.Bench.shop c.args.bench.now in
     length c.split_at_mut-heads.result.0.now ≡ shop.jobs * shop.machines
 heads_long g c =
-    rw (c.size.ensures.value, c.requires.job.size, c.machines-machines.ensures) at c.split_at_mut-heads.ensures.front_len
+    rw (c.size.ensures.value, c.requires.job.size, c.machines-machines.ensures)
+    at c.split_at_mut-heads.ensures.front_len
 
 tails_long : (g : Over) (c : After-split_at_mut-tails g) →
     let shop = g.B.Bench.shop c.args.bench.now in
     length c.split_at_mut-tails.result.0.now ≡ shop.jobs * shop.machines
 tails_long g c =
-    rw (c.size-2.ensures.value, c.requires.job.size, c.machines-machines.ensures) at c.split_at_mut-tails.ensures.front_len
+    rw (c.size-2.ensures.value, c.requires.job.size, c.machines-machines.ensures)
+    at c.split_at_mut-tails.ensures.front_len
 
 -- where the row of zeros after the tails begins, in the table and in the part after the heads
 no_tail_at : (jobs machines : ℕ) → 1 ≤ jobs → (2 * jobs - 1) * machines ≡ jobs * machines + (jobs - 1) * machines

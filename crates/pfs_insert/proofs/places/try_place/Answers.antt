@@ -52,5 +52,6 @@ makespan_by_rows-span-requires-clause-rows g c =
 
 pub returns-clause-best : goal.returns-clause-best
 returns-clause-best g c =
-    c.better.ensures (makespan_with (g.B.Bench.shop c.args.bench.now) c.args.seq.now.jobs c.args.job) c.requires.tried.best_is
+    let value = makespan_with (g.B.Bench.shop c.args.bench.now) c.args.seq.now.jobs c.args.job in
+    c.better.ensures value c.requires.tried.best_is
     (rw c.fill_head.ensures.bench.shop at c.makespan_by_rows-span.ensures.value)

@@ -14,7 +14,8 @@ rest_long g c =
     let place = c.args.place in
     let back = c.split_at_mut-front.ensures.back_len in
     let rest = c.split_at_mut-next.ensures.back_len in
-    row_fits {place = place + 2} c.machines-machines.ensures (omega (arith, c.requires.places.inside, c.requires.places.insertion.few))
+    let few = c.requires.places.insertion.few in
+    row_fits {place = place + 2} c.machines-machines.ensures (omega (arith, c.requires.places.inside))
     c.requires.tried.rows.parts.heads_long (omega arith)
 
 pub slice_bounds-fill_two_places-end-2 : goal.slice_bounds-fill_two_places-end-2
@@ -87,7 +88,8 @@ returns-clause-best g c =
     let place = c.args.place in
     let value = makespan_with (g.B.Bench.shop c.args.bench.now) c.args.seq.now.jobs c.args.job in
     let same = c.fill_two_places.ensures.bench.shop in
-    let first = c.better-best.ensures value c.requires.tried.best_is (rw same at c.makespan_by_rows-span.ensures.value) in
+    let one = rw same at c.makespan_by_rows-span.ensures.value in
+    let first = c.better-best.ensures value c.requires.tried.best_is one in
     let second = c.better.ensures value (λ some. first)
     (rw (c.makespan_by_rows-span.ensures.bench.shop, same) at c.makespan_by_rows-span-2.ensures.value) in
     let two : place + 1 + 1 ≡ place + 2 = omega arith in
@@ -114,7 +116,7 @@ returns-clause-heads g c =
     let known = c.fill_two_places.ensures.rows.head_is _ (above_known g here) in
     let split = c.split_at_mut-front.ensures in
     record {
-      head = rw append_assoc at (head_after g.B.Span.Length.number shop jobs (front ++ next) new (drop width rest) (place + 2)
-          both new_long (λ machine d lt. known machine d lt ∙ after.same machine));
+      head = rw append_assoc at (head_after g.B.Span.Length.number shop jobs (front ++ next) new (drop width rest)
+          (place + 2) both new_long (λ machine d lt. known machine d lt ∙ after.same machine));
       kept = heads_kept _ _ _ _ _ _ _ place _ wide split.value split.front_len;
     }

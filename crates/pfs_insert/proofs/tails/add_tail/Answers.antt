@@ -83,7 +83,8 @@ returns-clause-tails g c =
     let width : length new ≡ shop.machines =
     row_between (below - 1) wide (omega arith) front_long (omega (arith, new_long)) in
     let rest : post_of start k front ≡ [] = drop_all k (drop start front) (omega arith) in
-    let one = tail_next (tail_first shop jobs (place + 1)) refl (omega (arith, c.requires.place.inside)) c.at.ensures.value in
+    let inside : place < length jobs = omega (arith, c.requires.place.inside) in
+    let one = tail_next (tail_first shop jobs (place + 1)) refl inside c.at.ensures.value in
     let some = (g.met.B.Bench.within c.args.bench.now).sizes.some_machine in
     let known = row_known number shop jobs new place _ one
     (c.fill_tail.ensures.row _ (row_back number shop jobs _ (place + 1) some (below_known g here))) in

@@ -35,19 +35,21 @@ returns g c =
       is_order = c.in_ok-rounds.ensures.order;
       is_span = c.in_ok-rounds.ensures.span.span_is;
       never_rises = c.in_ok-rounds.ensures.span.never_rises;
-      counted = c.in_ok-rounds.ensures.cells.counted
+      counted = c.in_ok-rounds.ensures.effect.cells.counted
           ∙ ap (λ n. counted c.args.bench.now + n)
           (same_rounds shop rounds.count rounds.take rounds.passes c.requires.ready.cost);
     } in
+    let still = c.in_ok-rounds.ensures.effect.still in
     let all : length kept.order ≡ shop.jobs =
-    c.in_ok-rounds.ensures.still.fit.order_jobs ∙ ap (λ (s : FlowShop). s.jobs) c.in_ok-rounds.ensures.still.shop in
+    still.fit.order_jobs ∙ ap (λ (s : FlowShop). s.jobs) still.shop in
     let distinct = subst (λ n. IsSequence n kept.order) all c.len-jobs.ensures.sequence in
     let begun = c.seed_from_u64-rng.ensures in
     let advanced = c.advance.ensures ∙ ap (advance 64 multiplier_64 (c.args.first * rounds.take)) begun in
     let found =
     improved_is shop c.args.first rounds.count rounds.take rounds.passes rounds.seed generator start.order
     (number start.span) (counted c.args.bench.now) kept.order (number kept.span) (counted c.rounds.new.bench)
-    c.requires.start.limits.few advanced c.requires.start.has_span.span_is c.requires.ready.fresh rounds_done all distinct in
+    c.requires.start.limits.few advanced c.requires.start.has_span.span_is c.requires.ready.fresh rounds_done all
+    distinct in
     record {
       found = found;
       short = omega (
