@@ -89,7 +89,7 @@ AreShort {X} number row machines =
     (machine : ℕ) (d : X) → machine < machines
     → number (slice_index_or row machine d) ≤ (MOST_JOBS + MOST_MACHINES) * LONGEST_TIME
 
--- a row that other rows are computed from: a length for each machine, none above the bound
+-- a row that other rows are computed from: a length for each machine, none above that bound
 pub record IsGivenRow {X : Type 0} (number : X → ℕ) (shop : FlowShop) (row : List X) : Type 0 where
   pub width : length row ≡ shop.machines
   pub short : AreShort number row shop.machines
@@ -135,7 +135,7 @@ pub record IsPartial (shop : FlowShop) (seq : Sequence) : Type 0 where
   pub size : seq.size ≡ shop.jobs
   pub few : length seq.jobs < shop.jobs
 
--- `count` or more jobs are before a place of such a sequence
+-- at least `count` jobs of such a sequence are before a place
 pub record AreBefore (shop : FlowShop) (seq : Sequence) (count place : ℕ) : Type 0 where
   pub partial : IsPartial shop seq
   pub some : count ≤ place
@@ -171,7 +171,7 @@ pub record CanInsert (shop : FlowShop) (seq : Sequence) (job : ℕ) : Type 0 whe
   pub size : seq.size ≡ shop.jobs
   pub few : length seq.jobs < shop.jobs
 
--- a job can be inserted into a sequence, at a place of it
+-- a job can be inserted at a place of a sequence
 pub record CanInsertAt (shop : FlowShop) (seq : Sequence) (job place : ℕ) : Type 0 where
   pub insertion : CanInsert shop seq job
   pub inside : place ≤ length seq.jobs
@@ -195,13 +195,13 @@ pub record HasTableRows {X : Type 0} (number : X → ℕ) (shop : FlowShop) (job
   pub head : HasHead number shop jobs heads place
   pub backs_are : HasBacks number shop jobs backs
 
--- a job can be inserted into a sequence, and a table's parts have what the first place needs
+-- a job can be inserted into a sequence, and the parts of a table are ready for the first place
 pub record CanPlace {X : Type 0} (number : X → ℕ) (shop : FlowShop) (seq : Sequence) (job : ℕ)
     (heads backs put : List X) : Type 0 where
   pub insertion : CanInsert shop seq job
   pub rows : HasTableRows number shop seq.jobs heads backs put 0
 
--- a table's parts have what a place needs, and a length `span` and its place are the best of the places before it
+-- the parts of a table are ready for a place, and of the places before it `best` is the best, with the length `span`
 pub record HasTried {X : Type 0} (number : X → ℕ) (shop : FlowShop) (jobs : List ℕ) (job : ℕ)
     (heads backs put : List X) (place best : ℕ) (span : X) : Type 0 where
   pub rows : HasTableRows number shop jobs heads backs put place

@@ -1,4 +1,4 @@
--- What a search begins with, and what its steps keep.
+-- What searches and their steps require, and what they do.
 use Rattle.std.specs.Prelude.{◌≡◌, ℕ, ◌+◌, ◌<◌, ◌≤◌, ◌^◌, ◌++◌, Bool, false, List, length, IsOk, MatchResult, Result}
 use Rattle.std.specs.Prelude.{map, vec_len, vec_capacity}
 use Rattle.std.specs.Global.{Vec}
@@ -20,29 +20,14 @@ use Rattle.pfs_search.specs.declared.fault.SearchFault.{SearchFault}
 use Rattle.pfs_search.specs.declared.fault.SearchFault.TheVariants.{Memory}
 use Rattle.pfs_search.specs.declared.rounds.Rounds.{Rounds}
 
--- rounds after the first `first` rounds of a seed: each removes at least one job and at most all jobs of the shop, and
--- the number of rounds and that of passes are within their limits
-pub record InLimits (shop : FlowShop) (first : ℕ) (rounds : Rounds) : Type 0 where
-  pub some : 1 ≤ rounds.take
-  pub few : rounds.take ≤ shop.jobs
-  pub count : first + rounds.count ≤ MOST_ROUNDS
-  pub passes : rounds.passes ≤ MOST_PASSES
-
--- an inserter for shops of this one's sizes that has the cost of heads and tails and can't fail, and a bench that has
--- counted no cell
-pub record MayStart (shop : FlowShop) (counted : ℕ) (sizes : Sizes) (cells : ℕ → ℕ → ℕ) (can_fail : Bool) : Type 0 where
-  pub jobs : sizes.jobs ≡ shop.jobs
-  pub machines : sizes.machines ≡ shop.machines
-  pub cost : cells ≡ heads_tails_cost
-  pub sure : can_fail ≡ false
-  pub fresh : counted ≡ 0
+-- ---- steps over a sequence
 
 -- a sequence of `count` jobs, and its makespan
 pub record HasSpan (shop : FlowShop) (jobs : List ℕ) (count span : ℕ) : Type 0 where
   pub count_is : length jobs ≡ count
   pub span_is : span ≡ makespan shop jobs
 
--- a sequence is the one that a step of a search was to make, of `count` jobs, and its makespan
+-- a sequence is the one that a step of a search has to make (`made`), has `count` jobs, and has this makespan
 pub record IsBuilt (shop : FlowShop) (jobs made : List ℕ) (count span : ℕ) : Type 0 where
   pub jobs_are : jobs ≡ made
   pub has_span : HasSpan shop jobs count span
@@ -52,13 +37,32 @@ pub record StillFits (before after : FlowShop) (inserter : Sizes) (size : ℕ) :
   pub shop : after ≡ before
   pub fits : Fits after inserter size
 
--- what a step of a search does to a bench, an inserter and a sequence made for `size` jobs: it counts `cost` cells, it
--- succeeds where no inserter can fail, and all still fits
+-- what a step of a search does to a bench, an inserter and a sequence made for `size` jobs: it counts `cost` cells, or
+-- at most so many where it fails; where the inserter can't fail it succeeds; and everything still fits
 pub record Steps {A E : Type 0} (result : Result A E) (can_fail : Bool) (before after cost : ℕ) (old new : FlowShop)
     (inserter : Sizes) (size : ℕ) : Type 0 where
   pub cells : Counts result before after cost
   pub succeeds : can_fail ≡ false → IsOk result
   pub still : StillFits old new inserter size
+
+-- an inserter and a sequence fit a shop, and some jobs can be inserted one after another: no job is there twice
+pub record CanInsertAll (shop : FlowShop) (inserter : Sizes) (seq : Sequence) (jobs : List ℕ) : Type 0 where
+  pub fits : Fits shop inserter seq.size
+  pub some : 1 ≤ length jobs
+  pub together : IsSequence seq.size (jobs ++ seq.jobs)
+
+-- an inserter and a sequence fit a shop, and the sequence has all its jobs and this makespan
+pub record CanPass (shop : FlowShop) (inserter : Sizes) (seq : Sequence) (span : ℕ) : Type 0 where
+  pub fits : Fits shop inserter seq.size
+  pub has_span : HasSpan shop seq.jobs shop.jobs span
+
+-- an inserter and a sequence fit a shop, and the sequence has all its jobs, of which `job` is one
+pub record CanMove (shop : FlowShop) (inserter : Sizes) (seq : Sequence) (job : ℕ) : Type 0 where
+  pub fits : Fits shop inserter seq.size
+  pub full : length seq.jobs ≡ shop.jobs
+  pub job_is : job < shop.jobs
+
+-- ---- the jobs that a round removes, and the ranking
 
 -- the next `count` words of a stream, and the stream after them
 pub record AreNextWords (count : ℕ) (before after : Stream) (drawn : List ℕ) : Type 0 where
@@ -70,24 +74,7 @@ pub record AreApart (size count : ℕ) (removed left : List ℕ) : Type 0 where
   pub together : IsSequence size (removed ++ left)
   pub count_is : length removed + length left ≡ count
 
--- jobs of a shop can be inserted into a sequence one after another: there are some, and none is there twice
-pub record CanInsertAll (shop : FlowShop) (inserter : Sizes) (seq : Sequence) (jobs : List ℕ) : Type 0 where
-  pub fits : Fits shop inserter seq.size
-  pub some : 1 ≤ length jobs
-  pub together : IsSequence seq.size (jobs ++ seq.jobs)
-
--- a sequence has all jobs of a shop, and its makespan, and passes over it can be made
-pub record CanPass (shop : FlowShop) (inserter : Sizes) (seq : Sequence) (span : ℕ) : Type 0 where
-  pub fits : Fits shop inserter seq.size
-  pub has_span : HasSpan shop seq.jobs shop.jobs span
-
--- a sequence has all jobs of a shop, and one of them can be moved
-pub record CanMove (shop : FlowShop) (inserter : Sizes) (seq : Sequence) (job : ℕ) : Type 0 where
-  pub fits : Fits shop inserter seq.size
-  pub all_jobs_in : length seq.jobs ≡ shop.jobs
-  pub job_in : job < shop.jobs
-
--- an order can be copied to a sequence, and each word can remove one of its jobs
+-- a sequence can become a copy of an order of distinct jobs, and each word can remove one of them
 pub record CanTake (order seq : Sequence) (words : List ℕ) : Type 0 where
   pub sizes : seq.size ≡ order.size
   pub distinct : IsSequence order.size order.jobs
@@ -123,13 +110,30 @@ pub record AreTotals (shop : FlowShop) (listed : List (Reverse ℕ × ℕ)) : Ty
 
 -- ---- whole searches
 
--- rows of 104 and of 208 lanes, and a width of rows whose lanes serve the shop
+-- rounds after the first `first` rounds of a seed: each removes at least one job and at most all jobs of the shop, and
+-- the number of rounds and that of passes are within their limits
+pub record InLimits (shop : FlowShop) (first : ℕ) (rounds : Rounds) : Type 0 where
+  pub some : 1 ≤ rounds.take
+  pub few : rounds.take ≤ shop.jobs
+  pub count : first + rounds.count ≤ MOST_ROUNDS
+  pub passes : rounds.passes ≤ MOST_PASSES
+
+-- an inserter for shops of this one's sizes that has the cost of heads and tails and can't fail, and a bench that has
+-- counted no cell
+pub record MayStart (shop : FlowShop) (counted : ℕ) (sizes : Sizes) (cells : ℕ → ℕ → ℕ) (can_fail : Bool) : Type 0 where
+  pub jobs : sizes.jobs ≡ shop.jobs
+  pub machines : sizes.machines ≡ shop.machines
+  pub cost : cells ≡ heads_tails_cost
+  pub sure : can_fail ≡ false
+  pub fresh : counted ≡ 0
+
+-- the rows for 104 and 208 lanes have as many lanes, and a wavefront of the given width serves the shop
 pub record HasLanes (shop : FlowShop) (wide widest : ℕ) (width : Width) (cap : ℕ) : Type 0 where
   pub wide_is : wide ≡ 104
   pub widest_is : widest ≡ 208
   pub served : IsServed shop (lanes_of width) cap
 
--- rounds can continue from an order of all jobs and its makespan
+-- rounds within the limits can continue from an order of all jobs and its makespan
 pub record MayContinue (shop : FlowShop) (start : List ℕ) (span first : ℕ) (rounds : Rounds) : Type 0 where
   pub has_span : HasSpan shop start shop.jobs span
   pub limits : InLimits shop first rounds
@@ -145,6 +149,6 @@ pub record IsImprovedBy (shop : FlowShop) (start : List ℕ) (first : ℕ) (roun
   pub found : IsImproved shop start first rounds.count rounds.take rounds.passes rounds.seed order span cells
   pub short : span < 10 ^ 18
 
--- this holds of what a search returns, and where it fails, memory allocation failed before its first round
+-- `Holds` of what a search returns; where it fails, memory allocation failed before its first round
 abbrev pub UnlessMemory : {A : Type 0} → Result A SearchFault → (A → Type 0) → Type 0
 UnlessMemory result Holds = MatchResult result Holds (λ fault. fault ≡ Memory 0)

@@ -9,8 +9,8 @@ use Rattle.pfs_search.proofs.passes.move_job.Goals as goal
 pub place_of-place-requires : goal.place_of-place-requires
 place_of-place-requires g c =
     Contains-all c.args.seq.now.size c.args.job c.args.seq.now.jobs c.size-size.ensures.sequence
-    (c.requires.ready.all_jobs_in ∙ sym c.requires.ready.fits.seq_jobs)
-    (omega (arith, c.requires.ready.fits.seq_jobs, c.requires.ready.job_in))
+    (c.requires.ready.full ∙ sym c.requires.ready.fits.seq_jobs)
+    (omega (arith, c.requires.ready.fits.seq_jobs, c.requires.ready.job_is))
 
 pub best-requires-clause-absent : goal.best-requires-clause-absent
 best-requires-clause-absent g c =
@@ -38,7 +38,7 @@ returns-clause-made g c =
           ∙ ap (λ (s : Sequence). with_job shop s.jobs job) c.remove_at.ensures.rest
           ∙ sym (moved_is shop c.args.seq.now.size c.place_of-place.result job c.args.seq.now.jobs
           c.size-size.ensures.sequence found.within (sym found.job));
-      has_span = record { count_is = omega (arith, c.requires.ready.all_jobs_in); span_is = search rules };
+      has_span = record { count_is = omega (arith, c.requires.ready.full); span_is = search rules };
     }
 
 pub returns-clause-step : goal.returns-clause-step
@@ -46,7 +46,7 @@ returns-clause-step g c =
     let shop = g.B.Bench.shop c.args.bench.now in
     let fewer = ap (λ (s : Sequence). length s.jobs) c.remove_at.ensures.rest in
     let gone = length-remove c.args.seq.now.jobs c.place_of-place.result c.place_of-place.ensures.within in
-    let all : length c.remove_at.new.self.jobs + 1 ≡ shop.jobs = omega (arith, c.requires.ready.all_jobs_in) in
+    let all : length c.remove_at.new.self.jobs + 1 ≡ shop.jobs = omega (arith, c.requires.ready.full) in
     record {
       cells = record { counted = rw all at c.in_ok-best.ensures.cells.counted; fault_low = tt; fault_high = tt };
       succeeds = search rules;
