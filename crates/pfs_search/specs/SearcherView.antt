@@ -24,8 +24,7 @@ pub record StillFit {I : Type 0} (before after : FlowShop) (sizes : I → Sizes)
   pub shop : after ≡ before
   pub fit : AllFit after sizes searcher order
 
--- what a search does to a bench and a searcher: it counts `cost` cells, or at most so many where it fails; where the
--- inserter can't fail it succeeds; and everything still fits
+-- what a search does: its cells are counted, it succeeds if the inserter can't fail, and everything still fits
 pub record Searches {A E I : Type 0} (result : Result A E) (can_fail : Bool) (before after cost : ℕ)
     (old new : FlowShop) (sizes : I → Sizes) (searcher : SearcherView I) (order : List ℕ) : Type 0 where
   pub cells : Counts result before after cost

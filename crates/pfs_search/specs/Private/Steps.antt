@@ -37,15 +37,14 @@ pub record StillFits (before after : FlowShop) (inserter : Sizes) (size : ℕ) :
   pub shop : after ≡ before
   pub fits : Fits after inserter size
 
--- what a step of a search does to a bench, an inserter and a sequence made for `size` jobs: it counts `cost` cells, or
--- at most so many where it fails; where the inserter can't fail it succeeds; and everything still fits
+-- what a step of a search does: its cells are counted, it succeeds if the inserter can't fail, and all sizes still fit
 pub record Steps {A E : Type 0} (result : Result A E) (can_fail : Bool) (before after cost : ℕ) (old new : FlowShop)
     (inserter : Sizes) (size : ℕ) : Type 0 where
   pub cells : Counts result before after cost
   pub succeeds : can_fail ≡ false → IsOk result
   pub still : StillFits old new inserter size
 
--- an inserter and a sequence fit a shop, and some jobs can be inserted one after another: no job is there twice
+-- an inserter and a sequence fit a shop, and some jobs can be inserted one after another: no job occurs twice
 pub record CanInsertAll (shop : FlowShop) (inserter : Sizes) (seq : Sequence) (jobs : List ℕ) : Type 0 where
   pub fits : Fits shop inserter seq.size
   pub some : 1 ≤ length jobs
