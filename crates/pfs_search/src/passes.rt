@@ -1,5 +1,5 @@
 //! Passes over an order: each job in turn, by increasing number, is removed and inserted at its best place.
-ghost use Rattle.std.specs.Prelude.{◌≡◌, ◌+◌, ◌*◌, ◌<◌, ◌^◌, IfOk};
+ghost use Rattle.std.specs.Prelude.{◌+◌, ◌*◌, ◌<◌, ◌^◌, IfOk};
 ghost use Rattle.pfs_search.specs.Costs.{pass_cost_on};
 ghost use Rattle.pfs_search.specs.Greedy.{after_passes, moved, pass};
 ghost use Rattle.pfs_search.specs.Private.Steps.{CanMove, CanPass, IsBuilt, Steps};
