@@ -1,10 +1,9 @@
 //! The fast way to find the best place: heads and tails (Taillard, 1990).
-ghost use Rattle.std.specs.Prelude.{◌≡◌, ◌+◌, ◌<◌, ◌^◌, length, false, Contains, IfOk};
+ghost use Rattle.std.specs.Prelude.{◌≡◌, ◌+◌, ◌<◌, ◌^◌, length, false, IfOk};
 ghost use Rattle.pfs_insert.specs.Insertion.{heads_tails_cost};
 ghost use Rattle.pfs_insert.specs.Inserter.{IsBestPlace};
 ghost use Rattle.pfs_insert.specs.Private.Counting.{Counted};
-ghost use Rattle.pfs_insert.specs.Private.Rows.{sizes_of};
-ghost use Rattle.pfs_insert.specs.Private.Rows.{IsTable};
+ghost use Rattle.pfs_insert.specs.Private.Rows.{IsNewJob, IsTable, sizes_of};
 
 use crate::fault::InsertFault;
 use crate::inserter::{Inserter, Placed};
@@ -103,9 +102,7 @@ fn best_in_table<B: Bench>(
     job: usize,
     table: &mut [B::Span],
 ) -> Placed<B::Span>
-    requires job { job < (B.shop bench.old).jobs }
-    requires absent { Contains seq.now.jobs job → ⊥ }
-    requires size { seq.now.size ≡ (B.shop bench.old).jobs }
+    requires job { IsNewJob (B.shop bench.old) seq.now job }
     requires table { IsTable B.Span.number (sizes_of (B.shop bench.old)) table.old }
     requires room { B.counted bench.old
         + heads_tails_cost (length seq.now.jobs + 1) (B.shop bench.old).machines < 2 ^ 64 }

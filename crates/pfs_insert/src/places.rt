@@ -1,10 +1,10 @@
 //! The search for the best place of a sequence, by rows of heads and tails.
-ghost use Rattle.std.specs.Prelude.{◌≡◌, ℕ, ◌+◌, ◌-◌, ◌*◌, ◌<◌, ◌≤◌, ◌^◌, length};
+ghost use Rattle.std.specs.Prelude.{◌≡◌, ◌+◌, ◌*◌, ◌<◌, ◌^◌, length};
 ghost use Rattle.pfs_insert.specs.Insertion.{makespan_with};
 ghost use Rattle.pfs_insert.specs.Private.BestSoFar.{IsBest};
 ghost use Rattle.pfs_insert.specs.Private.Counting.{Counted};
-ghost use Rattle.pfs_insert.specs.Private.Rows.{CanInsert, HasBacks, HasHead, HasTableRows};
-ghost use Rattle.pfs_insert.specs.Private.Rows.{IsPartial, IsPut, KeepsHeads};
+ghost use Rattle.pfs_insert.specs.Private.Rows.{AddsHead, AreBefore, CanInsertAt, CanJoin, CanPlace};
+ghost use Rattle.pfs_insert.specs.Private.Rows.{HasHead, HasTried, IsHeadTable};
 
 use crate::inserter::{Placed, better};
 use crate::rows::{fill_head, fill_two_places};
@@ -23,8 +23,7 @@ pub(crate) fn best_by_rows<B: Bench>(
     backs: &[B::Span],
     put: &mut [B::Span],
 ) -> Placed<B::Span>
-    requires insertion { CanInsert (B.shop bench.old) seq.now job }
-    requires rows { HasTableRows B.Span.number (B.shop bench.old) seq.now.jobs heads.old backs.now put.old 0 }
+    requires ready { CanPlace B.Span.number (B.shop bench.old) seq.now job heads.old backs.now put.old }
     requires room { B.counted bench.old + (3 * length seq.now.jobs + 2) * (B.shop bench.old).machines < 2 ^ 64 }
     ensures best { IsBest B.Span.number (makespan_with (B.shop bench.old) seq.now.jobs job)
         (length seq.now.jobs + 1) result.place result.span }
@@ -60,16 +59,13 @@ fn try_two_places<B: Bench>(
     put: &mut [B::Span],
     best: Placed<B::Span>,
 ) -> Placed<B::Span>
-    requires insertion { CanInsert (B.shop bench.old) seq.now job }
-    requires place { place + 2 ≤ length seq.now.jobs }
-    requires rows { HasTableRows B.Span.number (B.shop bench.old) seq.now.jobs heads.old backs.now put.old place }
-    requires best { 0 < place
-        → IsBest B.Span.number (makespan_with (B.shop bench.old) seq.now.jobs job) place best.place best.span }
+    requires places { CanInsertAt (B.shop bench.old) seq.now job (place + 2) }
+    requires tried { HasTried B.Span.number (B.shop bench.old) seq.now.jobs job heads.old backs.now put.old
+        place best.place best.span }
     requires room { B.counted bench.old + 6 * (B.shop bench.old).machines < 2 ^ 64 }
     ensures best { IsBest B.Span.number (makespan_with (B.shop bench.old) seq.now.jobs job)
         (place + 2) result.place result.span }
-    ensures head { HasHead B.Span.number (B.shop bench.old) seq.now.jobs heads.new (place + 2) }
-    ensures kept { KeepsHeads B.Span.number (B.shop bench.old) seq.now.jobs heads.old heads.new place }
+    ensures heads { AddsHead B.Span.number (B.shop bench.old) seq.now.jobs heads.old heads.new place (place + 2) }
     ensures bench { Counted (B.shop bench.old) (B.shop bench.new) (B.counted bench.old) (B.counted bench.new)
         (6 * (B.shop bench.old).machines) }
 {
@@ -95,13 +91,10 @@ fn try_two_places<B: Bench>(
 // Fills the row of heads of the place after a place.
 #[inline(always)]
 fn add_head<B: Bench>(bench: &mut B, seq: &Seq, place: usize, heads: &mut [B::Span])
-    requires place { place < length seq.now.jobs }
-    requires partial { IsPartial (B.shop bench.old) seq.now }
-    requires heads { length heads.old ≡ (B.shop bench.old).jobs * (B.shop bench.old).machines }
-    requires head { HasHead B.Span.number (B.shop bench.old) seq.now.jobs heads.old place }
+    requires place { AreBefore (B.shop bench.old) seq.now 1 (place + 1) }
+    requires heads { IsHeadTable B.Span.number (B.shop bench.old) seq.now.jobs heads.old place }
     requires room { B.counted bench.old + (B.shop bench.old).machines < 2 ^ 64 }
-    ensures head { HasHead B.Span.number (B.shop bench.old) seq.now.jobs heads.new (place + 1) }
-    ensures kept { KeepsHeads B.Span.number (B.shop bench.old) seq.now.jobs heads.old heads.new place }
+    ensures heads { AddsHead B.Span.number (B.shop bench.old) seq.now.jobs heads.old heads.new place (place + 1) }
     ensures bench { Counted (B.shop bench.old) (B.shop bench.new) (B.counted bench.old) (B.counted bench.new)
         (B.shop bench.old).machines }
 {
@@ -127,11 +120,9 @@ fn try_place<B: Bench>(
     put: &mut [B::Span],
     best: Placed<B::Span>,
 ) -> Placed<B::Span>
-    requires insertion { CanInsert (B.shop bench.old) seq.now job }
-    requires place { place ≤ length seq.now.jobs }
-    requires rows { HasTableRows B.Span.number (B.shop bench.old) seq.now.jobs heads.now backs.now put.old place }
-    requires best { 0 < place
-        → IsBest B.Span.number (makespan_with (B.shop bench.old) seq.now.jobs job) place best.place best.span }
+    requires place { CanInsertAt (B.shop bench.old) seq.now job place }
+    requires tried { HasTried B.Span.number (B.shop bench.old) seq.now.jobs job heads.now backs.now put.old
+        place best.place best.span }
     requires room { B.counted bench.old + 2 * (B.shop bench.old).machines < 2 ^ 64 }
     ensures best { IsBest B.Span.number (makespan_with (B.shop bench.old) seq.now.jobs job)
         (place + 1) result.place result.span }
@@ -159,12 +150,8 @@ fn makespan_by_rows<B: Bench>(
     put: &[B::Span],
     backs: &[B::Span],
 ) -> B::Span
-    requires insertion { CanInsert (B.shop bench.old) seq.now job }
-    requires place { place ≤ length seq.now.jobs }
-    requires long { length backs.now ≡ (length seq.now.jobs + 1) * (B.shop bench.old).machines }
-    requires width { length put.now ≡ (B.shop bench.old).machines }
-    requires put { IsPut B.Span.number (B.shop bench.old) seq.now.jobs job place put.now }
-    requires backs { HasBacks B.Span.number (B.shop bench.old) seq.now.jobs backs.now }
+    requires place { CanInsertAt (B.shop bench.old) seq.now job place }
+    requires rows { CanJoin B.Span.number (B.shop bench.old) seq.now.jobs job place put.now backs.now }
     requires room { B.counted bench.old + (B.shop bench.old).machines < 2 ^ 64 }
     ensures value { B.Span.number result ≡ makespan_with (B.shop bench.old) seq.now.jobs job place }
     ensures bench { Counted (B.shop bench.old) (B.shop bench.new) (B.counted bench.old) (B.counted bench.new)

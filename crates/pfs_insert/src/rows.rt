@@ -1,17 +1,15 @@
 //! Rows of lengths, each computed from the row above or below it.
-ghost use Rattle.std.specs.Prelude.{◌≡◌, ◌+◌, ◌*◌, ◌<◌, ◌^◌, [], ◌∷◌, length};
+ghost use Rattle.std.specs.Prelude.{◌+◌, ◌*◌, ◌<◌, ◌^◌, [], ◌∷◌};
 ghost use Rattle.pfs_insert.specs.Private.Counting.{Counted};
-ghost use Rattle.pfs_insert.specs.Private.Rows.{AreHeadsAfter, AreShort, AreTailsBefore, AreThreeTails, AreTwoPlaces};
+ghost use Rattle.pfs_insert.specs.Private.Rows.{AreHeadsAfter, AreTailsBefore, AreThreeTails, AreTwoPlaces};
+ghost use Rattle.pfs_insert.specs.Private.Rows.{CanFill, CanFillThree};
 
 use pfs_base::{Bench, Length};
 
 /// Fills a job's row from the row of heads above it: its row of heads, or the row of a job that is inserted.
 #[inline(always)]
 pub(crate) fn fill_head<B: Bench>(bench: &mut B, job: usize, above: &[B::Span], row: &mut [B::Span])
-    requires job { job < (B.shop bench.old).jobs }
-    requires above_width { length above.now ≡ (B.shop bench.old).machines }
-    requires row_width { length row.old ≡ (B.shop bench.old).machines }
-    requires above_short { AreShort B.Span.number above.now (B.shop bench.old).machines }
+    requires rows { CanFill B.Span.number (B.shop bench.old) job above.now row.old }
     requires room { B.counted bench.old + (B.shop bench.old).machines < 2 ^ 64 }
     ensures row { AreHeadsAfter B.Span.number (B.shop bench.old) above.now (job ∷ []) row.new }
     ensures bench { Counted (B.shop bench.old) (B.shop bench.new) (B.counted bench.old) (B.counted bench.new)
@@ -27,10 +25,7 @@ pub(crate) fn fill_head<B: Bench>(bench: &mut B, job: usize, above: &[B::Span], 
 /// Fills a job's row of tails from the row below it, from the last machine on.
 #[inline(always)]
 pub(crate) fn fill_tail<B: Bench>(bench: &mut B, job: usize, below: &[B::Span], row: &mut [B::Span])
-    requires job { job < (B.shop bench.old).jobs }
-    requires below_width { length below.now ≡ (B.shop bench.old).machines }
-    requires row_width { length row.old ≡ (B.shop bench.old).machines }
-    requires below_short { AreShort B.Span.number below.now (B.shop bench.old).machines }
+    requires rows { CanFill B.Span.number (B.shop bench.old) job below.now row.old }
     requires room { B.counted bench.old + (B.shop bench.old).machines < 2 ^ 64 }
     ensures row { AreTailsBefore B.Span.number (B.shop bench.old) below.now (job ∷ []) row.new }
     ensures bench { Counted (B.shop bench.old) (B.shop bench.new) (B.counted bench.old) (B.counted bench.new)
@@ -55,11 +50,8 @@ pub(crate) fn fill_three_tails<B: Bench>(
     next: &mut [B::Span],
     last: &mut [B::Span],
 )
-    requires jobs { let jobs = (B.shop bench.old).jobs in (first < jobs) × (second < jobs) × (third < jobs) }
-    requires below_width { length below.now ≡ (B.shop bench.old).machines }
-    requires widths { let machines = (B.shop bench.old).machines in
-        (length row.old ≡ machines) × (length next.old ≡ machines) × (length last.old ≡ machines) }
-    requires below_short { AreShort B.Span.number below.now (B.shop bench.old).machines }
+    requires rows { CanFillThree B.Span.number (B.shop bench.old) first second third below.now
+        row.old next.old last.old }
     requires room { B.counted bench.old + 3 * (B.shop bench.old).machines < 2 ^ 64 }
     ensures rows { AreThreeTails B.Span.number (B.shop bench.old) below.now first second third
         row.new next.new last.new }
@@ -93,12 +85,8 @@ pub(crate) fn fill_two_places<B: Bench>(
     next: &mut [B::Span],
     head: &mut [B::Span],
 )
-    requires jobs { let jobs = (B.shop bench.old).jobs in (first < jobs) × (second < jobs) × (job < jobs) }
-    requires above_width { length above.now ≡ (B.shop bench.old).machines }
-    requires widths { let machines = (B.shop bench.old).machines in
-        (length row.old ≡ machines) × (length next.old ≡ machines) }
-    requires head_width { length head.old ≡ (B.shop bench.old).machines }
-    requires above_short { AreShort B.Span.number above.now (B.shop bench.old).machines }
+    requires rows { CanFillThree B.Span.number (B.shop bench.old) first second job above.now
+        row.old next.old head.old }
     requires room { B.counted bench.old + 4 * (B.shop bench.old).machines < 2 ^ 64 }
     ensures rows { AreTwoPlaces B.Span.number (B.shop bench.old) above.now first second job
         row.new next.new head.new }

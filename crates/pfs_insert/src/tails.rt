@@ -1,7 +1,7 @@
 //! The rows of tails of a sequence, filled from its last job on.
-ghost use Rattle.std.specs.Prelude.{◌≡◌, ℕ, ◌+◌, ◌-◌, ◌*◌, ◌<◌, ◌≤◌, ◌^◌, length};
+ghost use Rattle.std.specs.Prelude.{◌+◌, ◌-◌, ◌*◌, ◌<◌, ◌^◌, length};
 ghost use Rattle.pfs_insert.specs.Private.Counting.{Counted};
-ghost use Rattle.pfs_insert.specs.Private.Rows.{AreNumbersFrom, HasTails, IsPartial};
+ghost use Rattle.pfs_insert.specs.Private.Rows.{AreBefore, CanFillTails, HasTails, IsTailTable};
 
 use crate::rows::{fill_tail, fill_three_tails};
 use pfs_base::{Bench, Length};
@@ -11,10 +11,7 @@ use pfs_order::Seq;
 /// shop's jobs, and a row of zeros after them. The sequence's rows end directly before the row of zeros.
 #[inline(always)]
 pub(crate) fn fill_tails<B: Bench>(bench: &mut B, seq: &Seq, rows: &mut [B::Span])
-    requires partial { IsPartial (B.shop bench.old) seq.now }
-    requires rows { length rows.old ≡ (B.shop bench.old).jobs * (B.shop bench.old).machines }
-    requires no_tail { let shop = B.shop bench.old in
-        AreNumbersFrom B.Span.number rows.old ((shop.jobs - 1) * shop.machines) shop.machines (λ machine. 0) }
+    requires rows { CanFillTails B.Span.number (B.shop bench.old) seq.now rows.old }
     requires room { B.counted bench.old + length seq.now.jobs * (B.shop bench.old).machines < 2 ^ 64 }
     ensures tails { HasTails B.Span.number (B.shop bench.old) seq.now.jobs rows.new 0 }
     ensures bench { Counted (B.shop bench.old) (B.shop bench.new) (B.counted bench.old) (B.counted bench.new)
@@ -32,11 +29,8 @@ pub(crate) fn fill_tails<B: Bench>(bench: &mut B, seq: &Seq, rows: &mut [B::Span
 // Fills the rows of tails of the three jobs before a place, from the row of that place.
 #[inline(always)]
 fn add_three_tails<B: Bench>(bench: &mut B, seq: &Seq, rows: &mut [B::Span], from: usize)
-    requires some { 3 ≤ from }
-    requires from { from ≤ length seq.now.jobs }
-    requires partial { IsPartial (B.shop bench.old) seq.now }
-    requires rows { length rows.old ≡ (B.shop bench.old).jobs * (B.shop bench.old).machines }
-    requires tails { HasTails B.Span.number (B.shop bench.old) seq.now.jobs rows.old from }
+    requires from { AreBefore (B.shop bench.old) seq.now 3 from }
+    requires rows { IsTailTable B.Span.number (B.shop bench.old) seq.now.jobs rows.old from }
     requires room { B.counted bench.old + 3 * (B.shop bench.old).machines < 2 ^ 64 }
     ensures tails { HasTails B.Span.number (B.shop bench.old) seq.now.jobs rows.new (from - 3) }
     ensures bench { Counted (B.shop bench.old) (B.shop bench.new) (B.counted bench.old) (B.counted bench.new)
@@ -66,10 +60,8 @@ fn add_three_tails<B: Bench>(bench: &mut B, seq: &Seq, rows: &mut [B::Span], fro
 // Fills the row of tails of the job at a place, from the row after it.
 #[inline(always)]
 fn add_tail<B: Bench>(bench: &mut B, seq: &Seq, rows: &mut [B::Span], place: usize)
-    requires place { place < length seq.now.jobs }
-    requires partial { IsPartial (B.shop bench.old) seq.now }
-    requires rows { length rows.old ≡ (B.shop bench.old).jobs * (B.shop bench.old).machines }
-    requires tails { HasTails B.Span.number (B.shop bench.old) seq.now.jobs rows.old (place + 1) }
+    requires place { AreBefore (B.shop bench.old) seq.now 1 (place + 1) }
+    requires rows { IsTailTable B.Span.number (B.shop bench.old) seq.now.jobs rows.old (place + 1) }
     requires room { B.counted bench.old + (B.shop bench.old).machines < 2 ^ 64 }
     ensures tails { HasTails B.Span.number (B.shop bench.old) seq.now.jobs rows.new place }
     ensures bench { Counted (B.shop bench.old) (B.shop bench.new) (B.counted bench.old) (B.counted bench.new)

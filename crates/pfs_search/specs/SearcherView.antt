@@ -1,9 +1,9 @@
 -- A searcher in contracts.
-use Rattle.std.specs.Prelude.{◌≡◌, ℕ, ◌≤◌, List, length}
+use Rattle.std.specs.Prelude.{◌≡◌, ℕ, ◌≤◌, Bool, false, List, length, IsOk, Result}
 use Rattle.pfs_base.specs.declared.limits.TheConstants.{MOST_PASSES}
 use Rattle.pfs_base.specs.FlowShop.{FlowShop}
 use Rattle.pfs_base.specs.Paths.{makespan}
-use Rattle.pfs_insert.specs.Inserter.{Sizes}
+use Rattle.pfs_insert.specs.Inserter.{Counts, Sizes}
 
 -- the number of jobs that a searcher was made for, and its inserter
 pub record SearcherView (I : Type 0) : Type 0 where
@@ -23,6 +23,13 @@ pub record StillFit {I : Type 0} (before after : FlowShop) (sizes : I → Sizes)
     (order : List ℕ) : Type 0 where
   pub shop : after ≡ before
   pub fit : AllFit after sizes searcher order
+
+-- what a search does: its cells are counted, it succeeds if the inserter can't fail, and everything still fits
+pub record Searches {A E I : Type 0} (result : Result A E) (can_fail : Bool) (before after cost : ℕ)
+    (old new : FlowShop) (sizes : I → Sizes) (searcher : SearcherView I) (order : List ℕ) : Type 0 where
+  pub cells : Counts result before after cost
+  pub succeeds : can_fail ≡ false → IsOk result
+  pub still : StillFit old new sizes searcher order
 
 -- rounds can continue from an order, whose makespan is `span`: each removes at least one job and at most all jobs, and
 -- makes at most as many passes as the limit says

@@ -1,12 +1,10 @@
 //! One round of iterated greedy, and the random words of the next.
-ghost use Rattle.std.specs.Prelude.{◌≡◌, ℕ, ◌+◌, ◌<◌, ◌≤◌, ◌^◌, length, take as front};
-ghost use Rattle.std.specs.Prelude.{vec_len, vec_capacity, false, IsOk, OnOk, OnErr};
-ghost use Rattle.pfs_order.specs.Sequence.{IsSequence};
-ghost use Rattle.pfs_insert.specs.Inserter.{Counts};
+ghost use Rattle.std.specs.Prelude.{◌≡◌, ◌+◌, ◌<◌, ◌≤◌, ◌^◌, length, take as front};
+ghost use Rattle.std.specs.Prelude.{vec_len, vec_capacity, MatchResult};
 ghost use Rattle.pfs_search.specs.Costs.{round_cost_on};
-ghost use Rattle.pfs_search.specs.Greedy.{after_round, jobs_left, jobs_taken, stream_after, words_of};
-ghost use Rattle.pfs_search.specs.Private.Steps.{AreApart};
-ghost use Rattle.pfs_search.specs.SearcherView.{IsKeptSpan, MayPlay, StillFit};
+ghost use Rattle.pfs_search.specs.Greedy.{after_round};
+ghost use Rattle.pfs_search.specs.Private.Steps.{AreNextWords, AreTaken, CanTake};
+ghost use Rattle.pfs_search.specs.SearcherView.{IsKeptSpan, MayPlay, Searches};
 
 use crate::insertions::insert_all;
 use crate::kept::Kept;
@@ -32,14 +30,14 @@ pub(crate) fn play_round<B: Bench, I: Inserter<B>>(
         (length words.now) passes }
     requires room { B.counted bench.old
         + round_cost_on I.cost (B.shop bench.old) (length words.now) passes < 2 ^ 64 }
-    ensures order { OnOk result (kept.new.order ≡ after_round (B.shop bench.old) passes kept.old.order words.now) }
+    ensures order { MatchResult result
+        (λ _. kept.new.order ≡ after_round (B.shop bench.old) passes kept.old.order words.now)
+        (λ _. kept.new ≡ kept.old) }
     ensures span { IsKeptSpan (B.shop bench.old) (B.Span.number kept.old.span) kept.new.order
         (B.Span.number kept.new.span) }
-    ensures cells { Counts result (B.counted bench.old) (B.counted bench.new)
-        (round_cost_on I.cost (B.shop bench.old) (length words.now) passes) }
-    ensures unchanged { OnErr result (kept.new ≡ kept.old) }
-    ensures succeeds { I.can_refuse ≡ false → IsOk result }
-    ensures still { StillFit (B.shop bench.old) (B.shop bench.new) I.sizes work.new kept.new.order }
+    ensures effect { Searches result I.can_refuse (B.counted bench.old) (B.counted bench.new)
+        (round_cost_on I.cost (B.shop bench.old) (length words.now) passes)
+        (B.shop bench.old) (B.shop bench.new) I.sizes work.new kept.new.order }
 {
     take_jobs(kept.order.seq(), &mut work.seq, &mut work.queue, words);
     let rebuilt = insert_all(alloc, &mut work.inserter, bench, &mut work.seq, &work.queue)?;
@@ -60,25 +58,16 @@ pub(crate) fn play_round<B: Bench, I: Inserter<B>>(
 
 // Copies an order, and removes the jobs that the random words name from the copy.
 fn take_jobs(order: &Seq, seq: &mut Seq, taken: &mut Vec<usize>, words: &[u32])
-    requires sizes { seq.old.size ≡ order.now.size }
-    requires distinct { IsSequence order.now.size order.now.jobs }
-    requires few { length words.now ≤ length order.now.jobs }
+    requires ready { CanTake order.now seq.old words.now }
     requires room { length words.now ≤ vec_capacity taken.old }
-    ensures left { seq.new ≡ record { size = order.now.size; jobs = jobs_left order.now.jobs words.now } }
-    ensures taken { taken.new.items ≡ jobs_taken order.now.jobs words.now }
-    ensures apart { AreApart order.now.size (length order.now.jobs) taken.new.items seq.new.jobs }
-    ensures count { vec_len taken.new ≡ length words.now }
-    ensures capacity { vec_capacity taken.old ≤ vec_capacity taken.new }
+    ensures taken { AreTaken order.now words.now taken.old taken.new seq.new }
 {
     seq.copy_from(order);
     taken.clear();
     for word in words {
         let place = *word as usize % seq.len();
         let job = seq.remove_at(place);
-        match taken.push(job) {
-            Ok(()) => {}
-            Err(_) => unreachable!(),
-        }
+        taken.push_reserved(job);
     }
 }
 
@@ -86,9 +75,8 @@ fn take_jobs(order: &Seq, seq: &mut Seq, taken: &mut Vec<usize>, words: &[u32])
 /// list.
 pub(crate) fn draw_words<R: Rng>(rng: &mut R, words: &mut Vec<u32>, take: usize)
     requires { take ≤ vec_len words.old }
-    ensures words { front take words.new.items ≡ words_of take (R.stream rng.old) }
+    ensures drawn { AreNextWords take (R.stream rng.old) (R.stream rng.new) (front take words.new.items) }
     ensures len { vec_len words.new ≡ vec_len words.old }
-    ensures stream { R.stream rng.new ≡ stream_after take (R.stream rng.old) }
 {
     for place in 0..take {
         words[place] = rng.next_u32();

@@ -1,10 +1,8 @@
 //! Inserting jobs one after another, each at its best place.
-ghost use Rattle.std.specs.Prelude.{◌≡◌, ℕ, ◌+◌, ◌<◌, ◌≤◌, ◌^◌, ◌++◌, List, [], length, false, IsOk, IfOk, OnOk};
-ghost use Rattle.pfs_order.specs.Sequence.{IsSequence};
-ghost use Rattle.pfs_insert.specs.Inserter.{Counts, Fits};
+ghost use Rattle.std.specs.Prelude.{◌≡◌, ◌+◌, ◌<◌, ◌^◌, [], length, IfOk};
 ghost use Rattle.pfs_search.specs.Neh.{with_jobs};
 ghost use Rattle.pfs_search.specs.Costs.{insertions_cost};
-ghost use Rattle.pfs_search.specs.Private.Steps.{HasSpan, StillFits};
+ghost use Rattle.pfs_search.specs.Private.Steps.{CanInsertAll, IsBuilt, Steps};
 
 use pfs_base::{Bench, Length};
 use pfs_insert::{InsertFault, Inserter};
@@ -13,8 +11,7 @@ use std::alloc::Global;
 
 /// Removes all jobs from a sequence.
 pub(crate) fn clear(seq: &mut Seq)
-    ensures size { seq.new.size ≡ seq.old.size }
-    ensures jobs { seq.new.jobs ≡ [] }
+    ensures { seq.new ≡ record { size = seq.old.size; jobs = [] } }
 {
     for place in (0..seq.len()).rev() {
         seq.remove_at(place);
@@ -31,18 +28,15 @@ pub(crate) fn insert_all<B: Bench, I: Inserter<B>>(
     seq: &mut Seq,
     jobs: &[usize],
 ) -> Result<B::Span, InsertFault>
-    requires fits { Fits (B.shop bench.old) (I.sizes inserter.old) seq.old.size }
-    requires some { 1 ≤ length jobs.now }
-    requires together { IsSequence seq.old.size (jobs.now ++ seq.old.jobs) }
+    requires ready { CanInsertAll (B.shop bench.old) (I.sizes inserter.old) seq.old jobs.now }
     requires room { B.counted bench.old
         + insertions_cost I.cost (B.shop bench.old).machines (length seq.old.jobs) (length jobs.now) < 2 ^ 64 }
-    ensures jobs { OnOk result (seq.new.jobs ≡ with_jobs (B.shop bench.old) seq.old.jobs jobs.now) }
-    ensures span { IfOk result (λ span. HasSpan (B.shop bench.old) seq.new.jobs (length seq.old.jobs + length jobs.now)
+    ensures made { IfOk result (λ span. IsBuilt (B.shop bench.old) seq.new.jobs
+        (with_jobs (B.shop bench.old) seq.old.jobs jobs.now) (length seq.old.jobs + length jobs.now)
         (B.Span.number span)) }
-    ensures cells { Counts result (B.counted bench.old) (B.counted bench.new)
-        (insertions_cost I.cost (B.shop bench.old).machines (length seq.old.jobs) (length jobs.now)) }
-    ensures succeeds { I.can_refuse ≡ false → IsOk result }
-    ensures still { StillFits (B.shop bench.old) (B.shop bench.new) (I.sizes inserter.new) seq.new.size }
+    ensures step { Steps result I.can_refuse (B.counted bench.old) (B.counted bench.new)
+        (insertions_cost I.cost (B.shop bench.old).machines (length seq.old.jobs) (length jobs.now))
+        (B.shop bench.old) (B.shop bench.new) (I.sizes inserter.new) seq.new.size }
 {
     let mut span = bench.zero();
     for job in jobs {

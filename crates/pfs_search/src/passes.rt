@@ -1,9 +1,8 @@
 //! Passes over an order: each job in turn, by increasing number, is removed and inserted at its best place.
-ghost use Rattle.std.specs.Prelude.{◌≡◌, ℕ, ◌+◌, ◌*◌, ◌<◌, ◌^◌, length, false, IsOk, IfOk, OnOk};
-ghost use Rattle.pfs_insert.specs.Inserter.{Counts, Fits};
+ghost use Rattle.std.specs.Prelude.{◌+◌, ◌*◌, ◌<◌, ◌^◌, IfOk};
 ghost use Rattle.pfs_search.specs.Costs.{pass_cost_on};
 ghost use Rattle.pfs_search.specs.Greedy.{after_passes, moved, pass};
-ghost use Rattle.pfs_search.specs.Private.Steps.{HasSpan, StillFits};
+ghost use Rattle.pfs_search.specs.Private.Steps.{CanMove, CanPass, IsBuilt, Steps};
 
 use pfs_base::{Bench, Length};
 use pfs_insert::{InsertFault, Inserter};
@@ -21,16 +20,13 @@ pub(crate) fn make_passes<B: Bench, I: Inserter<B>>(
     span: B::Span,
     passes: u32,
 ) -> Result<B::Span, InsertFault>
-    requires fits { Fits (B.shop bench.old) (I.sizes inserter.old) seq.old.size }
-    requires span { HasSpan (B.shop bench.old) seq.old.jobs (B.shop bench.old).jobs (B.Span.number span) }
+    requires ready { CanPass (B.shop bench.old) (I.sizes inserter.old) seq.old (B.Span.number span) }
     requires room { B.counted bench.old + passes * pass_cost_on I.cost (B.shop bench.old) < 2 ^ 64 }
-    ensures jobs { OnOk result (seq.new.jobs ≡ after_passes (B.shop bench.old) passes seq.old.jobs) }
-    ensures span { IfOk result (λ span.
-        HasSpan (B.shop bench.old) seq.new.jobs (B.shop bench.old).jobs (B.Span.number span)) }
-    ensures cells { Counts result (B.counted bench.old) (B.counted bench.new)
-        (passes * pass_cost_on I.cost (B.shop bench.old)) }
-    ensures succeeds { I.can_refuse ≡ false → IsOk result }
-    ensures still { StillFits (B.shop bench.old) (B.shop bench.new) (I.sizes inserter.new) seq.new.size }
+    ensures made { IfOk result (λ span. IsBuilt (B.shop bench.old) seq.new.jobs
+        (after_passes (B.shop bench.old) passes seq.old.jobs) (B.shop bench.old).jobs (B.Span.number span)) }
+    ensures step { Steps result I.can_refuse (B.counted bench.old) (B.counted bench.new)
+        (passes * pass_cost_on I.cost (B.shop bench.old))
+        (B.shop bench.old) (B.shop bench.new) (I.sizes inserter.new) seq.new.size }
 {
     let mut span = span;
     for _done in 0..passes {
@@ -48,16 +44,13 @@ fn make_pass<B: Bench, I: Inserter<B>>(
     seq: &mut Seq,
     span: B::Span,
 ) -> Result<B::Span, InsertFault>
-    requires fits { Fits (B.shop bench.old) (I.sizes inserter.old) seq.old.size }
-    requires span { HasSpan (B.shop bench.old) seq.old.jobs (B.shop bench.old).jobs (B.Span.number span) }
+    requires ready { CanPass (B.shop bench.old) (I.sizes inserter.old) seq.old (B.Span.number span) }
     requires room { B.counted bench.old + pass_cost_on I.cost (B.shop bench.old) < 2 ^ 64 }
-    ensures jobs { OnOk result (seq.new.jobs ≡ pass (B.shop bench.old) seq.old.jobs) }
-    ensures span { IfOk result (λ span.
-        HasSpan (B.shop bench.old) seq.new.jobs (B.shop bench.old).jobs (B.Span.number span)) }
-    ensures cells { Counts result (B.counted bench.old) (B.counted bench.new)
-        (pass_cost_on I.cost (B.shop bench.old)) }
-    ensures succeeds { I.can_refuse ≡ false → IsOk result }
-    ensures still { StillFits (B.shop bench.old) (B.shop bench.new) (I.sizes inserter.new) seq.new.size }
+    ensures made { IfOk result (λ span. IsBuilt (B.shop bench.old) seq.new.jobs
+        (pass (B.shop bench.old) seq.old.jobs) (B.shop bench.old).jobs (B.Span.number span)) }
+    ensures step { Steps result I.can_refuse (B.counted bench.old) (B.counted bench.new)
+        (pass_cost_on I.cost (B.shop bench.old))
+        (B.shop bench.old) (B.shop bench.new) (I.sizes inserter.new) seq.new.size }
 {
     let mut span = span;
     for job in 0..seq.size() {
@@ -75,17 +68,13 @@ fn move_job<B: Bench, I: Inserter<B>>(
     seq: &mut Seq,
     job: usize,
 ) -> Result<B::Span, InsertFault>
-    requires fits { Fits (B.shop bench.old) (I.sizes inserter.old) seq.old.size }
-    requires all_jobs { length seq.old.jobs ≡ (B.shop bench.old).jobs }
-    requires job { job < (B.shop bench.old).jobs }
+    requires ready { CanMove (B.shop bench.old) (I.sizes inserter.old) seq.old job }
     requires room { B.counted bench.old + I.cost (B.shop bench.old).jobs (B.shop bench.old).machines < 2 ^ 64 }
-    ensures jobs { OnOk result (seq.new.jobs ≡ moved (B.shop bench.old) seq.old.jobs job) }
-    ensures span { IfOk result (λ span.
-        HasSpan (B.shop bench.old) seq.new.jobs (B.shop bench.old).jobs (B.Span.number span)) }
-    ensures cells { Counts result (B.counted bench.old) (B.counted bench.new)
-        (I.cost (B.shop bench.old).jobs (B.shop bench.old).machines) }
-    ensures succeeds { I.can_refuse ≡ false → IsOk result }
-    ensures still { StillFits (B.shop bench.old) (B.shop bench.new) (I.sizes inserter.new) seq.new.size }
+    ensures made { IfOk result (λ span. IsBuilt (B.shop bench.old) seq.new.jobs
+        (moved (B.shop bench.old) seq.old.jobs job) (B.shop bench.old).jobs (B.Span.number span)) }
+    ensures step { Steps result I.can_refuse (B.counted bench.old) (B.counted bench.new)
+        (I.cost (B.shop bench.old).jobs (B.shop bench.old).machines)
+        (B.shop bench.old) (B.shop bench.new) (I.sizes inserter.new) seq.new.size }
 {
     // Called for its contract, which says that the jobs of a sequence are distinct.
     let _size = seq.size();

@@ -1,12 +1,11 @@
 //! The searcher: NEH and rounds of iterated greedy.
-ghost use Rattle.std.specs.Prelude.{◌≡◌, ℕ, ◌+◌, ◌*◌, ◌<◌, ◌≤◌, ◌^◌, length, false, IsOk, IfOk, OnOk, OnErr, IfErr};
+ghost use Rattle.std.specs.Prelude.{◌≡◌, ◌+◌, ◌*◌, ◌<◌, ◌≤◌, ◌^◌, length, IfOk, OnOk, OnErr, IfErr};
 ghost use Rattle.pfs_base.specs.Paths.{makespan};
-ghost use Rattle.pfs_insert.specs.Inserter.{Counts};
 ghost use Rattle.pfs_search.specs.Neh.{neh_order};
 ghost use Rattle.pfs_search.specs.Costs.{neh_cost_on, round_cost_on};
 ghost use Rattle.pfs_search.specs.Greedy.{after_round, after_rounds, stream_after, words_of};
 ghost use Rattle.pfs_search.specs.RoundsStop.{RoundsStop};
-ghost use Rattle.pfs_search.specs.SearcherView.{AllFit, IsKeptSpan, MayPlay, StillFit};
+ghost use Rattle.pfs_search.specs.SearcherView.{AllFit, IsKeptSpan, MayPlay, Searches};
 
 use crate::fault::SearchFault;
 use crate::greedy::{draw_words, play_round};
@@ -97,12 +96,11 @@ impl<I> Searcher<I> {
         requires room { B.counted bench.old + neh_cost_on I.cost (B.shop bench.old) < 2 ^ 64 }
         ensures order { OnOk result (kept.new.order ≡ neh_order (B.shop bench.old)) }
         ensures span { OnOk result (B.Span.number kept.new.span ≡ makespan (B.shop bench.old) kept.new.order) }
-        ensures cells { Counts result (B.counted bench.old) (B.counted bench.new)
-            (neh_cost_on I.cost (B.shop bench.old)) }
+        ensures effect { Searches result I.can_refuse (B.counted bench.old) (B.counted bench.new)
+            (neh_cost_on I.cost (B.shop bench.old))
+            (B.shop bench.old) (B.shop bench.new) I.sizes self.new kept.new.order }
         ensures fault { IfErr result (λ fault. fault ≡ SearchFault.Memory 0) }
         ensures unchanged { OnErr result (kept.new ≡ kept.old) }
-        ensures succeeds { I.can_refuse ≡ false → IsOk result }
-        ensures still { StillFit (B.shop bench.old) (B.shop bench.new) I.sizes self.new kept.new.order }
     {
         let work = &mut self.work;
         rank_jobs(bench, &mut self.ranked, &mut work.queue);
@@ -139,12 +137,11 @@ impl<I> Searcher<I> {
         ensures order { OnOk result (kept.new.order ≡ after_round (B.shop bench.old) passes kept.old.order words.now) }
         ensures span { IsKeptSpan (B.shop bench.old) (B.Span.number kept.old.span) kept.new.order
             (B.Span.number kept.new.span) }
-        ensures cells { Counts result (B.counted bench.old) (B.counted bench.new)
-            (round_cost_on I.cost (B.shop bench.old) (length words.now) passes) }
+        ensures effect { Searches result I.can_refuse (B.counted bench.old) (B.counted bench.new)
+            (round_cost_on I.cost (B.shop bench.old) (length words.now) passes)
+            (B.shop bench.old) (B.shop bench.new) I.sizes self.new kept.new.order }
         ensures fault { IfErr result (λ fault. fault ≡ SearchFault.Memory 0) }
         ensures unchanged { OnErr result (kept.new ≡ kept.old) }
-        ensures succeeds { I.can_refuse ≡ false → IsOk result }
-        ensures still { StillFit (B.shop bench.old) (B.shop bench.new) I.sizes self.new kept.new.order }
     {
         match play_round(alloc, &mut self.work, bench, kept, words, passes) {
             Ok(()) => Ok(()),
@@ -175,13 +172,12 @@ impl<I> Searcher<I> {
             kept.old.order (words_of (count * take) (R.stream rng.old))) }
         ensures span { IsKeptSpan (B.shop bench.old) (B.Span.number kept.old.span) kept.new.order
             (B.Span.number kept.new.span) }
-        ensures cells { Counts result (B.counted bench.old) (B.counted bench.new)
-            (count * round_cost_on I.cost (B.shop bench.old) take passes) }
+        ensures effect { Searches result I.can_refuse (B.counted bench.old) (B.counted bench.new)
+            (count * round_cost_on I.cost (B.shop bench.old) take passes)
+            (B.shop bench.old) (B.shop bench.new) I.sizes self.new kept.new.order }
         ensures words { OnOk result (R.stream rng.new ≡ stream_after (count * take) (R.stream rng.old)) }
         ensures fault { IfErr result (RoundsStop (B.shop bench.old) passes count take
             kept.old.order kept.new.order (R.stream rng.old) (R.stream rng.new)) }
-        ensures succeeds { I.can_refuse ≡ false → IsOk result }
-        ensures still { StillFit (B.shop bench.old) (B.shop bench.new) I.sizes self.new kept.new.order }
     {
         for done in 0..count {
             draw_words(rng, &mut self.words, take);

@@ -1,10 +1,10 @@
 //! The order that a search finds, and the order that some of its rounds find from a given one.
-ghost use Rattle.std.specs.Prelude.{◌≡◌, ℕ, ◌+◌, ◌<◌, ◌≤◌, ◌^◌, length, false, IfOk, IfErr};
+ghost use Rattle.std.specs.Prelude.{◌≡◌, ◌+◌, ◌<◌, ◌≤◌, ◌^◌, length, IfOk, IfErr};
 ghost use Rattle.pfs_base.specs.Paths.{makespan as makespan_of};
-ghost use Rattle.pfs_insert.specs.Insertion.{heads_tails_cost};
-ghost use Rattle.pfs_wave.specs.Served.{IsServed, lanes_of};
+ghost use Rattle.pfs_wave.specs.Served.{IsServed};
 ghost use Rattle.pfs_search.specs.Solution.{IsFound, IsImproved};
-ghost use Rattle.pfs_search.specs.Private.Steps.{HasSpan, InLimits, MayStart};
+ghost use Rattle.pfs_search.specs.Private.Steps.{HasLanes, InLimits, IsFoundBy, IsImprovedBy};
+ghost use Rattle.pfs_search.specs.Private.Steps.{MayContinue, MayStart, UnlessMemory};
 
 use crate::fault::SearchFault;
 use crate::kept::Kept;
@@ -125,11 +125,8 @@ fn solve_by_rows(
     rounds: Rounds,
 ) -> Result<Solution, SearchFault>
     requires limits { InLimits instance.now.shop 0 rounds }
-    ensures found { IfOk result (λ found.
-        IsFound instance.now.shop rounds.count rounds.take rounds.passes rounds.seed
-        found.order found.makespan found.cells) }
-    ensures short { IfOk result (λ found. found.makespan < 10 ^ 18) }
-    ensures fault { IfErr result (λ fault. fault ≡ SearchFault.Memory 0) }
+    ensures { UnlessMemory result (λ found.
+        IsFoundBy instance.now.shop rounds found.order found.makespan found.cells) }
 {
     let mut bench = instance.metered();
     let Ok(inserter) = HeadsTails::new(alloc, &bench) else {
@@ -150,15 +147,10 @@ fn solve_in_width<W: Lanes, X: Lanes<Band = W::Band>>(
     width: Width,
     rounds: Rounds,
 ) -> Result<Solution, SearchFault>
-    requires wide { W.WIDTH ≡ 104 }
-    requires widest { X.WIDTH ≡ 208 }
-    requires served { IsServed instance.now.shop (lanes_of width) W.Band.CAP }
+    requires lanes { HasLanes instance.now.shop W.WIDTH X.WIDTH width W.Band.CAP }
     requires limits { InLimits instance.now.shop 0 rounds }
-    ensures found { IfOk result (λ found.
-        IsFound instance.now.shop rounds.count rounds.take rounds.passes rounds.seed
-        found.order found.makespan found.cells) }
-    ensures short { IfOk result (λ found. found.makespan < 10 ^ 18) }
-    ensures fault { IfErr result (λ fault. fault ≡ SearchFault.Memory 0) }
+    ensures { UnlessMemory result (λ found.
+        IsFoundBy instance.now.shop rounds found.order found.makespan found.cells) }
 {
     match width {
         Width::Lanes8 => solve_in_lanes::<OneBand<W::Band>>(alloc, instance, rounds),
@@ -179,11 +171,8 @@ fn solve_in_lanes<L: Lanes>(
 ) -> Result<Solution, SearchFault>
     requires served { IsServed instance.now.shop L.WIDTH L.Band.CAP }
     requires limits { InLimits instance.now.shop 0 rounds }
-    ensures found { IfOk result (λ found.
-        IsFound instance.now.shop rounds.count rounds.take rounds.passes rounds.seed
-        found.order found.makespan found.cells) }
-    ensures short { IfOk result (λ found. found.makespan < 10 ^ 18) }
-    ensures fault { IfErr result (λ fault. fault ≡ SearchFault.Memory 0) }
+    ensures { UnlessMemory result (λ found.
+        IsFoundBy instance.now.shop rounds found.order found.makespan found.cells) }
 {
     let Ok(mut bench) = MeteredLanes::<L>::new(alloc, instance) else {
         return Err(SearchFault::Memory { done: 0 });
@@ -207,13 +196,9 @@ fn improve_by_rows(
     first: u32,
     rounds: Rounds,
 ) -> Result<Solution, SearchFault>
-    requires start { HasSpan instance.now.shop start.order instance.now.shop.jobs start.span }
-    requires limits { InLimits instance.now.shop first rounds }
-    ensures found { IfOk result (λ found.
-        IsImproved instance.now.shop start.order first rounds.count rounds.take rounds.passes rounds.seed
-        found.order found.makespan found.cells) }
-    ensures short { IfOk result (λ found. found.makespan < 10 ^ 18) }
-    ensures fault { IfErr result (λ fault. fault ≡ SearchFault.Memory 0) }
+    requires start { MayContinue instance.now.shop start.order start.span first rounds }
+    ensures { UnlessMemory result (λ found.
+        IsImprovedBy instance.now.shop start.order first rounds found.order found.makespan found.cells) }
 {
     let mut bench = instance.metered();
     let Ok(inserter) = HeadsTails::new(alloc, &bench) else {
@@ -236,16 +221,10 @@ fn improve_in_width<W: Lanes, X: Lanes<Band = W::Band>>(
     first: u32,
     rounds: Rounds,
 ) -> Result<Solution, SearchFault>
-    requires wide { W.WIDTH ≡ 104 }
-    requires widest { X.WIDTH ≡ 208 }
-    requires served { IsServed instance.now.shop (lanes_of width) W.Band.CAP }
-    requires start { HasSpan instance.now.shop start.order instance.now.shop.jobs start.span }
-    requires limits { InLimits instance.now.shop first rounds }
-    ensures found { IfOk result (λ found.
-        IsImproved instance.now.shop start.order first rounds.count rounds.take rounds.passes rounds.seed
-        found.order found.makespan found.cells) }
-    ensures short { IfOk result (λ found. found.makespan < 10 ^ 18) }
-    ensures fault { IfErr result (λ fault. fault ≡ SearchFault.Memory 0) }
+    requires lanes { HasLanes instance.now.shop W.WIDTH X.WIDTH width W.Band.CAP }
+    requires start { MayContinue instance.now.shop start.order start.span first rounds }
+    ensures { UnlessMemory result (λ found.
+        IsImprovedBy instance.now.shop start.order first rounds found.order found.makespan found.cells) }
 {
     match width {
         Width::Lanes8 => improve_in_lanes::<OneBand<W::Band>>(
@@ -277,13 +256,9 @@ fn improve_in_lanes<L: Lanes>(
     rounds: Rounds,
 ) -> Result<Solution, SearchFault>
     requires served { IsServed instance.now.shop L.WIDTH L.Band.CAP }
-    requires start { HasSpan instance.now.shop start.order instance.now.shop.jobs start.span }
-    requires limits { InLimits instance.now.shop first rounds }
-    ensures found { IfOk result (λ found.
-        IsImproved instance.now.shop start.order first rounds.count rounds.take rounds.passes rounds.seed
-        found.order found.makespan found.cells) }
-    ensures short { IfOk result (λ found. found.makespan < 10 ^ 18) }
-    ensures fault { IfErr result (λ fault. fault ≡ SearchFault.Memory 0) }
+    requires start { MayContinue instance.now.shop start.order start.span first rounds }
+    ensures { UnlessMemory result (λ found.
+        IsImprovedBy instance.now.shop start.order first rounds found.order found.makespan found.cells) }
 {
     let Ok(mut bench) = MeteredLanes::<L>::new(alloc, instance) else {
         return Err(SearchFault::Memory { done: 0 });
@@ -309,11 +284,8 @@ fn search<B: Shop, I: Inserter<B> + Drop>(
 ) -> Result<Kept<B::Span>, SearchFault>
     requires ready { MayStart (B.shop bench.old) (B.counted bench.old) (I.sizes inserter) I.cost I.can_refuse }
     requires limits { InLimits (B.shop bench.old) 0 rounds }
-    ensures found { IfOk result (λ kept.
-        IsFound (B.shop bench.old) rounds.count rounds.take rounds.passes rounds.seed
-        kept.order (B.Span.number kept.span) (B.counted bench.new)) }
-    ensures short { IfOk result (λ kept. B.Span.number kept.span < 10 ^ 18) }
-    ensures fault { IfErr result (λ fault. fault ≡ SearchFault.Memory 0) }
+    ensures { UnlessMemory result (λ kept.
+        IsFoundBy (B.shop bench.old) rounds kept.order (B.Span.number kept.span) (B.counted bench.new)) }
 {
     let Ok(order) = Order::identity(alloc, bench.jobs()) else {
         return Err(SearchFault::Memory { done: 0 });
@@ -339,9 +311,8 @@ fn search<B: Shop, I: Inserter<B> + Drop>(
 // An order with its makespan, whose cells are counted on another bench.
 fn measure(alloc: Global, instance: &Instance, order: Order) -> Result<Kept<Span>, SearchFault>
     requires order_jobs { length order ≡ instance.now.shop.jobs }
-    ensures order { IfOk result (λ kept. kept.order ≡ order) }
-    ensures span { IfOk result (λ kept. kept.span ≡ makespan_of instance.now.shop order) }
-    ensures fault { IfErr result (λ fault. fault ≡ SearchFault.Memory 0) }
+    ensures { UnlessMemory result (λ kept.
+        kept ≡ record { order = order; span = makespan_of instance.now.shop order }) }
 {
     let mut bench = instance.metered();
     let Ok(span) = makespan(alloc, &mut bench, order.seq()) else {
@@ -362,13 +333,9 @@ fn continue_search<B: Shop, I: Inserter<B> + Drop>(
     rounds: Rounds,
 ) -> Result<Kept<B::Span>, SearchFault>
     requires ready { MayStart (B.shop bench.old) (B.counted bench.old) (I.sizes inserter) I.cost I.can_refuse }
-    requires start { HasSpan (B.shop bench.old) start.order (B.shop bench.old).jobs (B.Span.number start.span) }
-    requires limits { InLimits (B.shop bench.old) first rounds }
-    ensures found { IfOk result (λ kept.
-        IsImproved (B.shop bench.old) start.order first rounds.count rounds.take rounds.passes rounds.seed
+    requires start { MayContinue (B.shop bench.old) start.order (B.Span.number start.span) first rounds }
+    ensures { UnlessMemory result (λ kept. IsImprovedBy (B.shop bench.old) start.order first rounds
         kept.order (B.Span.number kept.span) (B.counted bench.new)) }
-    ensures short { IfOk result (λ kept. B.Span.number kept.span < 10 ^ 18) }
-    ensures fault { IfErr result (λ fault. fault ≡ SearchFault.Memory 0) }
 {
     let mut kept = start;
     let mut searcher = Searcher::new(alloc, bench.jobs(), inserter)?;

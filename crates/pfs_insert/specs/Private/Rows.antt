@@ -1,5 +1,6 @@
 -- Rows of lengths, each computed from the row above or below it.
 use Rattle.std.specs.Prelude.{◌≡◌, ℕ, zero, suc, ◌+◌, ◌-◌, ◌*◌, ◌<◌, ◌≤◌, max, List, [], ◌∷◌, length, map, fold, insert}
+use Rattle.std.specs.Prelude.{Contains}
 use Rattle.std.specs.List.{range_with_len, slice_index_or}
 use Rattle.pfs_base.specs.declared.limits.TheConstants.{MOST_JOBS, MOST_MACHINES, LONGEST_TIME}
 use Rattle.pfs_base.specs.FlowShop.{FlowShop, time_of}
@@ -7,6 +8,8 @@ use Rattle.pfs_base.specs.Paths.{greatest}
 use Rattle.pfs_order.specs.Sequence.{Sequence}
 use Rattle.pfs_insert.specs.Exchange.{heaviest_front, heaviest_back}
 use Rattle.pfs_insert.specs.Inserter.{Sizes}
+use Rattle.pfs_insert.specs.Insertion.{makespan_with}
+use Rattle.pfs_insert.specs.Private.BestSoFar.{IsBest}
 
 -- the row after a row: the value at a machine is the greater of the value above it and the value before it, plus the
 -- time on the machine; before the first machine the value is 0
@@ -86,6 +89,28 @@ AreShort {X} number row machines =
     (machine : ℕ) (d : X) → machine < machines
     → number (slice_index_or row machine d) ≤ (MOST_JOBS + MOST_MACHINES) * LONGEST_TIME
 
+-- a row that other rows are computed from: a length for each machine, none above that bound
+pub record IsGivenRow {X : Type 0} (number : X → ℕ) (shop : FlowShop) (row : List X) : Type 0 where
+  pub width : length row ≡ shop.machines
+  pub short : AreShort number row shop.machines
+
+-- a job, the row that its row is computed from, and a row to fill
+pub record CanFill {X : Type 0} (number : X → ℕ) (shop : FlowShop) (job : ℕ) (given row : List X) : Type 0 where
+  pub job_is : job < shop.jobs
+  pub given_is : IsGivenRow number shop given
+  pub width : length row ≡ shop.machines
+
+-- three jobs, the row that their rows are computed from, and three rows to fill
+pub record CanFillThree {X : Type 0} (number : X → ℕ) (shop : FlowShop) (first second third : ℕ)
+    (given row next last : List X) : Type 0 where
+  pub first_is : first < shop.jobs
+  pub second_is : second < shop.jobs
+  pub third_is : third < shop.jobs
+  pub given_is : IsGivenRow number shop given
+  pub row_width : length row ≡ shop.machines
+  pub next_width : length next ≡ shop.machines
+  pub last_width : length last ≡ shop.machines
+
 -- the time at which the jobs before a place of the sequence are done on a machine, where each operation begins as soon
 -- as it can
 abbrev pub head_of : FlowShop → List ℕ → ℕ → ℕ → ℕ
@@ -110,11 +135,46 @@ pub record IsPartial (shop : FlowShop) (seq : Sequence) : Type 0 where
   pub size : seq.size ≡ shop.jobs
   pub few : length seq.jobs < shop.jobs
 
+-- at least `count` jobs of such a sequence are before a place
+pub record AreBefore (shop : FlowShop) (seq : Sequence) (count place : ℕ) : Type 0 where
+  pub partial : IsPartial shop seq
+  pub some : count ≤ place
+  pub inside : place ≤ length seq.jobs
+
+-- a table with as many rows as the shop has jobs contains the row of heads of a place
+pub record IsHeadTable {X : Type 0} (number : X → ℕ) (shop : FlowShop) (jobs : List ℕ) (rows : List X) (place : ℕ)
+    : Type 0 where
+  pub long : length rows ≡ shop.jobs * shop.machines
+  pub head : HasHead number shop jobs rows place
+
+-- a table with as many rows as the shop has jobs contains the rows of tails from a place on
+pub record IsTailTable {X : Type 0} (number : X → ℕ) (shop : FlowShop) (jobs : List ℕ) (rows : List X) (from : ℕ)
+    : Type 0 where
+  pub long : length rows ≡ shop.jobs * shop.machines
+  pub tails : HasTails number shop jobs rows from
+
+-- a sequence whose rows of tails can be filled, and a table for them with a row of zeros at its end
+pub record CanFillTails {X : Type 0} (number : X → ℕ) (shop : FlowShop) (seq : Sequence) (rows : List X) : Type 0 where
+  pub partial : IsPartial shop seq
+  pub long : length rows ≡ shop.jobs * shop.machines
+  pub no_tail : AreNumbersFrom number rows ((shop.jobs - 1) * shop.machines) shop.machines (λ machine. 0)
+
+-- a job of the shop that isn't in a sequence made for the number of the shop's jobs
+pub record IsNewJob (shop : FlowShop) (seq : Sequence) (job : ℕ) : Type 0 where
+  pub job_is : job < shop.jobs
+  pub absent : Contains seq.jobs job → ⊥
+  pub size : seq.size ≡ shop.jobs
+
 -- a sequence made for the number of the shop's jobs that has room for at least one more, and a job of the shop
 pub record CanInsert (shop : FlowShop) (seq : Sequence) (job : ℕ) : Type 0 where
   pub job_is : job < shop.jobs
   pub size : seq.size ≡ shop.jobs
   pub few : length seq.jobs < shop.jobs
+
+-- a job can be inserted at a place of a sequence
+pub record CanInsertAt (shop : FlowShop) (seq : Sequence) (job place : ℕ) : Type 0 where
+  pub insertion : CanInsert shop seq job
+  pub inside : place ≤ length seq.jobs
 
 -- `rows` begins with the rows of tails of a sequence, one for each place
 pub record HasBacks {X : Type 0} (number : X → ℕ) (shop : FlowShop) (jobs : List ℕ) (rows : List X) : Type 0 where
@@ -135,10 +195,28 @@ pub record HasTableRows {X : Type 0} (number : X → ℕ) (shop : FlowShop) (job
   pub head : HasHead number shop jobs heads place
   pub backs_are : HasBacks number shop jobs backs
 
+-- a job can be inserted into a sequence, and the parts of a table are ready for the first place
+pub record CanPlace {X : Type 0} (number : X → ℕ) (shop : FlowShop) (seq : Sequence) (job : ℕ)
+    (heads backs put : List X) : Type 0 where
+  pub insertion : CanInsert shop seq job
+  pub rows : HasTableRows number shop seq.jobs heads backs put 0
+
+-- the parts of a table are ready for a place, and of the places before it `best` is the best, with the length `span`
+pub record HasTried {X : Type 0} (number : X → ℕ) (shop : FlowShop) (jobs : List ℕ) (job : ℕ)
+    (heads backs put : List X) (place best : ℕ) (span : X) : Type 0 where
+  pub rows : HasTableRows number shop jobs heads backs put place
+  pub best_is : 0 < place → IsBest number (makespan_with shop jobs job) place best span
+
 -- each row of heads up to the row of `place` that is in the table `old` is in the table `new`
 abbrev pub KeepsHeads : {X : Type 0} → (X → ℕ) → FlowShop → List ℕ → List X → List X → ℕ → Type 0
 KeepsHeads {X} number shop jobs old new place =
     (row : ℕ) → row ≤ place → HasHead number shop jobs old row → HasHead number shop jobs new row
+
+-- the new table contains the row of heads of `place`, and each row up to `from` that the old one contains
+pub record AddsHead {X : Type 0} (number : X → ℕ) (shop : FlowShop) (jobs : List ℕ) (old new : List X) (from place : ℕ)
+    : Type 0 where
+  pub head : HasHead number shop jobs new place
+  pub kept : KeepsHeads number shop jobs old new from
 
 -- a table of 2n + 1 rows for n jobs, whose first row and last row but one are rows of zeros
 pub record IsTable {X : Type 0} (number : X → ℕ) (sizes : Sizes) (lengths : List X) : Type 0 where
@@ -150,6 +228,14 @@ pub record IsTable {X : Type 0} (number : X → ℕ) (sizes : Sizes) (lengths : 
 pub record IsPut {X : Type 0} (number : X → ℕ) (shop : FlowShop) (jobs : List ℕ) (job place : ℕ) (row : List X)
     : Type 0 where
   pub row_is : AreNumbers number row shop.machines (heaviest_front shop (insert jobs place job) place)
+
+-- the inserted row of a place and the rows of tails of a sequence, with their sizes
+pub record CanJoin {X : Type 0} (number : X → ℕ) (shop : FlowShop) (jobs : List ℕ) (job place : ℕ) (put backs : List X)
+    : Type 0 where
+  pub put_long : length put ≡ shop.machines
+  pub put_is : IsPut number shop jobs job place put
+  pub backs_long : length backs ≡ (length jobs + 1) * shop.machines
+  pub backs_are : HasBacks number shop jobs backs
 
 -- the sizes of a shop
 abbrev pub sizes_of : FlowShop → Sizes

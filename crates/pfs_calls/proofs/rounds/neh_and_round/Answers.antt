@@ -16,7 +16,7 @@ pub round-requires-clause-room : goal.round-requires-clause-room
 round-requires-clause-room c =
     let bench = c.metered-bench.result in
     let after = c.neh.new.bench in
-    let same = c.neh.ensures.still.shop ∙ c.metered-bench.ensures.shop in
+    let same = c.neh.ensures.effect.still.shop ∙ c.metered-bench.ensures.shop in
     let jobs = ap (λ (s : FlowShop). s.jobs) same in
     let machines = ap (λ (s : FlowShop). s.machines) same in
     let old_jobs = ap (λ (s : FlowShop). s.jobs) c.metered-bench.ensures.shop in
@@ -25,4 +25,4 @@ round-requires-clause-room c =
     (omega (arith, c.requires.jobs)) in
     let more = small_round_of_passes afresh_small after.machines (omega (arith, c.requires.machines)) after.jobs
     (length c.args.words.now) c.args.passes (omega (arith, c.requires.jobs)) (omega arith) c.requires.passes in
-    omega (arith, c.metered-bench.ensures.counted, c.in_ok-neh.ensures.cells.counted)
+    omega (arith, c.metered-bench.ensures.counted, c.in_ok-neh.ensures.effect.cells.counted)

@@ -13,9 +13,9 @@ use Rattle.pfs_insert.proofs.heads_tails.best_in_table.Goals as goal
 few_jobs : (g : Over) (c : After-split_at_mut-tails g) →
     length c.args.seq.now.jobs < (g.B.Bench.shop c.args.bench.now).jobs
 few_jobs g c =
-    let size = c.requires.size in
-    let less = length-lt-size c.args.seq.now.size c.args.job c.args.seq.now.jobs (omega (arith, c.requires.job))
-    c.requires.absent c.size.ensures.sequence in
+    let size = c.requires.job.size in
+    let less = length-lt-size c.args.seq.now.size c.args.job c.args.seq.now.jobs (omega (arith, c.requires.job.job_is))
+    c.requires.job.absent c.size.ensures.sequence in
     omega arith
 
 -- the lengths of the part of the table with the rows of heads, and of the part with the rows of tails
@@ -23,13 +23,15 @@ heads_long : (g : Over) (c : After-split_at_mut-tails g) →
     let shop = g.B.Bench.shop c.args.bench.now in
     length c.split_at_mut-heads.result.0.now ≡ shop.jobs * shop.machines
 heads_long g c =
-    rw (c.size.ensures.value, c.requires.size, c.machines-machines.ensures) at c.split_at_mut-heads.ensures.front_len
+    rw (c.size.ensures.value, c.requires.job.size, c.machines-machines.ensures)
+    at c.split_at_mut-heads.ensures.front_len
 
 tails_long : (g : Over) (c : After-split_at_mut-tails g) →
     let shop = g.B.Bench.shop c.args.bench.now in
     length c.split_at_mut-tails.result.0.now ≡ shop.jobs * shop.machines
 tails_long g c =
-    rw (c.size-2.ensures.value, c.requires.size, c.machines-machines.ensures) at c.split_at_mut-tails.ensures.front_len
+    rw (c.size-2.ensures.value, c.requires.job.size, c.machines-machines.ensures)
+    at c.split_at_mut-tails.ensures.front_len
 
 -- where the row of zeros after the tails begins, in the table and in the part after the heads
 no_tail_at : (jobs machines : ℕ) → 1 ≤ jobs → (2 * jobs - 1) * machines ≡ jobs * machines + (jobs - 1) * machines
@@ -38,19 +40,14 @@ no_tail_at jobs machines some = row_split (2 * jobs - 1) jobs (jobs - 1) machine
 last_fits : (jobs machines : ℕ) → 1 ≤ jobs → (jobs - 1) * machines + machines ≡ jobs * machines
 last_fits jobs machines some = let all = row_split jobs (jobs - 1) 1 machines (omega arith) in omega arith
 
-pub fill_tails-requires-clause-partial : goal.fill_tails-requires-clause-partial
-fill_tails-requires-clause-partial g c =
-    let less = few_jobs g (goal.at.fill_tails-requires-clause-partial g c).After-split_at_mut-tails in
-    record { size = c.requires.size; few = less }
-
-pub fill_tails-requires-clause-no_tail : goal.fill_tails-requires-clause-no_tail
-fill_tails-requires-clause-no_tail g c =
+pub fill_tails-requires-clause-rows : goal.fill_tails-requires-clause-rows
+fill_tails-requires-clause-rows g c =
     let number = g.B.Span.Length.number in
     let shop = g.B.Bench.shop c.args.bench.now in
     let machines = shop.machines in
     let none : ℕ → ℕ = λ machine. 0 in
     let some = (g.met.B.Bench.within c.args.bench.now).sizes.some_job in
-    let here = (goal.at.fill_tails-requires-clause-no_tail g c).After-split_at_mut-tails in
+    let here = (goal.at.fill_tails-requires-clause-rows g c).After-split_at_mut-tails in
     let start = (shop.jobs - 1) * machines in
     let begin = no_tail_at shop.jobs machines some in
     let fits = last_fits shop.jobs machines some in
@@ -58,29 +55,28 @@ fill_tails-requires-clause-no_tail g c =
     ((2 * shop.jobs - 1) * machines) start (omega (arith, heads_long g here))
     (rw c.split_at_mut-heads.ensures.value at c.requires.table.no_tail) in
     let tails = c.split_at_mut-tails.result.0.now in
-    rw append-nil at (row_in_front number machines none tails c.split_at_mut-tails.result.1.now [] start
-    (omega (arith, tails_long g here)) (rw c.split_at_mut-tails.ensures.value at rest))
-
-pub best_by_rows-requires-clause-insertion : goal.best_by_rows-requires-clause-insertion
-best_by_rows-requires-clause-insertion g c =
-    let less = few_jobs g (goal.at.best_by_rows-requires-clause-insertion g c).After-split_at_mut-tails in
-    rw c.fill_tails.ensures.bench.shop (record { job_is = c.requires.job; size = c.requires.size; few = less })
+    record {
+      partial = record { size = c.requires.job.size; few = few_jobs g here };
+      long = tails_long g here;
+      no_tail = rw append-nil at (row_in_front number machines none tails c.split_at_mut-tails.result.1.now [] start
+          (omega (arith, tails_long g here)) (rw c.split_at_mut-tails.ensures.value at rest));
+    }
 
 pub overflow_sub-first-2 : goal.overflow_sub-first-2
 overflow_sub-first-2 g c =
     let less = few_jobs g (goal.at.overflow_sub-first-2 g c).After-split_at_mut-tails in
-    omega (arith, c.size-3.ensures.value, c.len.ensures.value, c.requires.size)
+    omega (arith, c.size-3.ensures.value, c.len.ensures.value, c.requires.job.size)
 
 -- the part with the rows of tails ends with those of the sequence and the row of zeros
 rows_of_all : (jobs len machines : ℕ) → len < jobs
     → jobs * machines ≡ (jobs - 1 - len) * machines + (len + 1) * machines
 rows_of_all jobs len machines inside = row_split jobs (jobs - 1 - len) (len + 1) machines (omega arith)
 
-pub best_by_rows-requires-clause-rows : goal.best_by_rows-requires-clause-rows
-best_by_rows-requires-clause-rows g c =
+pub best_by_rows-requires-clause-ready : goal.best_by_rows-requires-clause-ready
+best_by_rows-requires-clause-ready g c =
     let number = g.B.Span.Length.number in
     let shop = g.B.Bench.shop c.args.bench.now in
-    let here = (goal.at.best_by_rows-requires-clause-rows g c).After-split_at_mut-tails in
+    let here = (goal.at.best_by_rows-requires-clause-ready g c).After-split_at_mut-tails in
     let len = length c.args.seq.now.jobs in
     let rows = c.fill_tails.new.rows in
     let start = (shop.jobs - 1 - len) * shop.machines in
@@ -93,34 +89,37 @@ best_by_rows-requires-clause-rows g c =
     let some = (g.met.B.Bench.within c.args.bench.now).sizes.some_job in
     let first = row_le 1 shop.jobs shop.machines some in
     let front = c.split_at_mut-heads.result.0.now in
-    let backs = backs_taken number shop c.args.seq.now.jobs rows _ _ refl (omega arith)
+    let backs = backs_taken number shop c.args.seq.now.jobs rows start (length rows - start) refl (omega arith)
     (omega arith) c.fill_tails.ensures.tails in
     let whole = take_all (length rows - start) (drop start rows) (omega arith) in
     rw (
       c.fill_tails.ensures.bench.shop,
       c.size-3.ensures.value,
-      c.requires.size,
+      c.requires.job.size,
       c.len.ensures.value,
       c.machines-machines.ensures,
     ) (record {
-      parts = rw whole (record {
-        heads_long = heads;
-        backs_long = omega arith;
-        put_long = omega (
-          arith,
-          c.requires.table.size,
-          c.split_at_mut-heads.ensures.back_len,
-          c.split_at_mut-tails.ensures.back_len,
-        );
-      });
-      head = record {
-        row_is = λ machine d lt.
-            let at : 0 * shop.machines + machine ≡ machine = omega arith in
-            let read = get_or_append_left front c.split_at_mut-heads.result.1.now d machine (omega arith) in
-            let known = rw c.split_at_mut-heads.ensures.value at (c.requires.table.no_head machine d lt) in
-            rw at (ap number (sym read) ∙ known);
+      insertion = record { job_is = c.requires.job.job_is; size = refl; few = few_jobs g here };
+      rows = record {
+        parts = rw whole (record {
+          heads_long = heads;
+          backs_long = omega arith;
+          put_long = omega (
+            arith,
+            c.requires.table.size,
+            c.split_at_mut-heads.ensures.back_len,
+            c.split_at_mut-tails.ensures.back_len,
+          );
+        });
+        head = record {
+          row_is = λ machine d lt.
+              let at : 0 * shop.machines + machine ≡ machine = omega arith in
+              let read = get_or_append_left front c.split_at_mut-heads.result.1.now d machine (omega arith) in
+              let known = rw c.split_at_mut-heads.ensures.value at (c.requires.table.no_head machine d lt) in
+              rw at (ap number (sym read) ∙ known);
+        };
+        backs_are = backs;
       };
-      backs_are = backs;
     })
 
 -- the cells of one insertion are those of the tails and those of the places

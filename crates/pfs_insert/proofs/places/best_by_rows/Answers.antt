@@ -25,8 +25,8 @@ loop-pair-preserved g c =
     record {
       same_shop = ensures.bench.shop ∙ same;
       counted = omega (arith, invariant.counted);
-      no_head = (rw same at ensures.kept) 0 (omega arith) invariant.no_head;
-      head = rw (same, two) at ensures.head;
+      no_head = (rw same at ensures.heads.kept) 0 (omega arith) invariant.no_head;
+      head = rw (same, two) at ensures.heads.head;
       best = λ _. rw (same, two) at ensures.best;
     }
 
@@ -68,7 +68,7 @@ returns-clause-no_head g c =
     let invariant = c.loop-pair.invariant in
     elim c.if-len-eq1.branch [
       | then-len-eq1 w ↦
-          let kept = rw (w.try_place-best.ensures.bench.shop ∙ invariant.same_shop) at w.add_head.ensures.kept in
+          let kept = rw (w.try_place-best.ensures.bench.shop ∙ invariant.same_shop) at w.add_head.ensures.heads.kept in
           rw w.heads-is (kept 0 (omega arith) invariant.no_head)
       | else-len-eq1 w ↦ rw w.heads-is invariant.no_head
     ]

@@ -10,7 +10,7 @@ loop-machine-preserved g c =
     let row_is = c.loop-machine.invariant.row_is in
     let same = c.loop-machine.invariant.same_shop in
     let over = head_above number shop above c.loop-machine.machine c.index-above-machine.result (omega arith)
-    c.requires.above_short c.index-above-machine.is in
+    c.requires.rows.given_is.short c.index-above-machine.is in
     let new = head_step number shop above over row_is.latest c.step-before.ensures.value same
     (g.met.B.Bench.within c.args.bench.now) in
     record {

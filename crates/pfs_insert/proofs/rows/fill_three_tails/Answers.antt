@@ -10,11 +10,11 @@ loop-machine-preserved g c =
     let below = c.args.below.now in
     let left = c.loop-machine.machine in
     let some = c.loop-machine-test.true in
-    let most : left ≤ shop.machines = omega (arith, c.loop-machine.auto.machine, c.requires.below_width) in
+    let most : left ≤ shop.machines = omega (arith, c.loop-machine.auto.machine, c.requires.rows.given_is.width) in
     let invariant = c.loop-machine.invariant in
     let same_one = c.step-one.ensures.shop ∙ invariant.same_shop in
     let same_two = c.step-two.ensures.shop ∙ same_one in
-    let over = tail_below number shop below left c.index-below-machine.result some most c.requires.below_short
+    let over = tail_below number shop below left c.index-below-machine.result some most c.requires.rows.given_is.short
     c.index-below-machine.is in
     let one = tail_step number shop below some most over invariant.row_is.latest c.step-one.ensures.value
     invariant.same_shop within in
@@ -32,12 +32,12 @@ loop-machine-preserved g c =
         invariant.counted,
       );
       row_is = tail_stored number shop below (c.args.first ∷ []) some most invariant.row_is one
-          (c.loop-machine.auto.row ∙ c.requires.widths.0);
+          (c.loop-machine.auto.row ∙ c.requires.rows.row_width);
       next_is = tail_stored number shop below (c.args.second ∷ c.args.first ∷ []) some most invariant.next_is two
-          (c.loop-machine.auto.next ∙ c.requires.widths.1);
+          (c.loop-machine.auto.next ∙ c.requires.rows.next_width);
       last_is = tail_stored number shop below (c.args.third ∷ c.args.second ∷ c.args.first ∷ []) some most
           invariant.last_is three
-          (c.loop-machine.auto.last ∙ c.requires.widths.2);
+          (c.loop-machine.auto.last ∙ c.requires.rows.last_width);
     }
 
 pub returns-clause-rows : goal.returns-clause-rows

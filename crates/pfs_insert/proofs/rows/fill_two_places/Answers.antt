@@ -9,16 +9,16 @@ loop-machine-preserved g c =
     let within = g.met.B.Bench.within c.args.bench.now in
     let above = c.args.above.now in
     let machine = c.loop-machine.machine in
-    let width = c.requires.above_width in
+    let width = c.requires.rows.given_is.width in
     let inside : machine < shop.machines = omega (arith, c.loop-machine-test.true) in
     let invariant = c.loop-machine.invariant in
     let same_put = c.step-put.ensures.shop ∙ invariant.same_shop in
     let same_one = c.step-one.ensures.shop ∙ same_put in
     let same_next = c.step-put_next.ensures.shop ∙ same_one in
-    let over = head_above number shop above machine c.index-above-machine.result inside c.requires.above_short
+    let over = head_above number shop above machine c.index-above-machine.result inside c.requires.rows.given_is.short
     c.index-above-machine.is in
     let over_one = head_above number shop above machine c.index-above-machine-in-loop-machine.result inside
-    c.requires.above_short c.index-above-machine-in-loop-machine.is in
+    c.requires.rows.given_is.short c.index-above-machine-in-loop-machine.is in
     let put = head_step number shop above over invariant.row_is.latest c.step-put.ensures.value
     invariant.same_shop within in
     let one = head_step number shop above over_one invariant.one_is c.step-one.ensures.value same_put within in
@@ -35,18 +35,18 @@ loop-machine-preserved g c =
         invariant.counted,
       );
       row_is = head_stored number shop above (c.args.job ∷ []) invariant.row_is put
-          (omega (arith, c.loop-machine.auto.row, c.requires.widths.0));
+          (omega (arith, c.loop-machine.auto.row, c.requires.rows.row_width));
       one_is = one;
       next_is = head_stored number shop above (c.args.job ∷ c.args.first ∷ []) invariant.next_is next
-          (omega (arith, c.loop-machine.auto.next, c.requires.widths.1));
+          (omega (arith, c.loop-machine.auto.next, c.requires.rows.next_width));
       head_is = head_stored number shop above (c.args.second ∷ c.args.first ∷ []) invariant.head_is two
-          (omega (arith, c.loop-machine.auto.head, c.requires.head_width));
+          (omega (arith, c.loop-machine.auto.head, c.requires.rows.last_width));
     }
 
 pub returns-clause-rows : goal.returns-clause-rows
 returns-clause-rows g c =
     let all = c.loop-machine-test.false in
-    let width = c.requires.above_width in
+    let width = c.requires.rows.given_is.width in
     let invariant = c.loop-machine.invariant in
     record {
       row_is = λ heads known m d lt. invariant.row_is.is heads known m d (omega arith);

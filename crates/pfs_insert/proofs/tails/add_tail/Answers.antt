@@ -1,4 +1,4 @@
-use Rattle.std.proofs.Common.{◌≡◌, ◌+◌, ◌-◌, ◌*◌, ◌<◌, ◌≤◌, [], length, take, drop, refl, ◌∙◌, arith}
+use Rattle.std.proofs.Common.{◌≡◌, ◌+◌, ◌-◌, ◌*◌, ◌<◌, ◌≤◌, [], length, take, drop, refl, ◌∙◌, arith, rules}
 use Rattle.std.proofs.lemmas.List.{length-take-le, length-drop, drop_all, append-nil, append_assoc}
 use borrow.Rule.Slice.PartMut.{post_of}
 use Rattle.pfs_insert.proofs.FlatRows.{row_le, row_fits, row_between}
@@ -23,24 +23,19 @@ split_is g c =
     let below = c.size.result - c.len.result + c.args.place in
     let wide = c.machines-machines.ensures in
     let split = c.split_at_mut-front.ensures in
-    let few = c.requires.partial.few in
+    let few = c.requires.place.partial.few in
     let below_is : below ≡ shop.jobs - 1 - length c.args.seq.now.jobs + (c.args.place + 1) =
-    omega (arith, c.size.ensures.value, c.len.ensures.value, c.requires.partial.size) in
-    let inside : below < shop.jobs = omega (arith, c.requires.place) in
+    omega (arith, c.size.ensures.value, c.len.ensures.value, c.requires.place.partial.size) in
+    let inside : below < shop.jobs = omega (arith, c.requires.place.inside) in
     record {
       below_is = below_is;
-      back_long = row_fits wide inside c.requires.rows split.back_len;
+      back_long = row_fits wide inside c.requires.rows.long split.back_len;
       tails = tails_after _ shop _ _ _ _ (c.args.place + 1) split.value (rw (below_is, wide) at split.front_len)
-          c.requires.tails;
+          c.requires.rows.tails;
     }
 
 pub slice_bounds-fill_tail-end : goal.slice_bounds-fill_tail-end
 slice_bounds-fill_tail-end g c = (split_is g c).back_long
-
-pub fill_tail-requires-clause-below_width : goal.fill_tail-requires-clause-below_width
-fill_tail-requires-clause-below_width g c =
-    let is = split_is g (goal.at.fill_tail-requires-clause-below_width g c).After-at in
-    length-take-le _ _ is.back_long ∙ c.machines-machines.ensures
 
 -- the row below the one that is filled
 below_known : (g : Over) (c : After-at g) →
@@ -48,14 +43,21 @@ below_known : (g : Over) (c : After-at g) →
     (take c.machines-machines.result c.split_at_mut-front.result.1.now) (c.args.place + 1)
 below_known g c =
     first_tails _ (g.B.Bench.shop c.args.bench.now) c.args.seq.now.jobs _ (c.args.place + 1) c.machines-machines.result
-    (omega (arith, c.machines-machines.ensures)) (omega (arith, c.requires.place)) (split_is g c).tails
+    (omega (arith, c.machines-machines.ensures)) (omega (arith, c.requires.place.inside)) (split_is g c).tails
 
-pub fill_tail-requires-clause-below_short : goal.fill_tail-requires-clause-below_short
-fill_tail-requires-clause-below_short g c =
+pub fill_tail-requires-clause-rows : goal.fill_tail-requires-clause-rows
+fill_tail-requires-clause-rows g c =
     let shop = g.B.Bench.shop c.args.bench.now in
-    short_tails g.B.Span.Length.number shop c.args.seq.now.jobs (g.met.B.Bench.within c.args.bench.now)
-    (omega (arith, c.requires.partial.few)) (c.args.place + 1) _
-    (below_known g (goal.at.fill_tail-requires-clause-below_short g c).After-at)
+    let here = (goal.at.fill_tail-requires-clause-rows g c).After-at in
+    record {
+      job_is = search rules;
+      given_is = record {
+        width = length-take-le _ _ (split_is g here).back_long ∙ c.machines-machines.ensures;
+        short = short_tails g.B.Span.Length.number shop c.args.seq.now.jobs (g.met.B.Bench.within c.args.bench.now)
+            (omega (arith, c.requires.place.partial.few)) (c.args.place + 1) _ (below_known g here);
+      };
+      width = search rules;
+    }
 
 pub returns-clause-tails : goal.returns-clause-tails
 returns-clause-tails g c =
@@ -81,7 +83,8 @@ returns-clause-tails g c =
     let width : length new ≡ shop.machines =
     row_between (below - 1) wide (omega arith) front_long (omega (arith, new_long)) in
     let rest : post_of start k front ≡ [] = drop_all k (drop start front) (omega arith) in
-    let one = tail_next (tail_first shop jobs (place + 1)) refl c.requires.place c.at.ensures.value in
+    let inside : place < length jobs = omega (arith, c.requires.place.inside) in
+    let one = tail_next (tail_first shop jobs (place + 1)) refl inside c.at.ensures.value in
     let some = (g.met.B.Bench.within c.args.bench.now).sizes.some_machine in
     let known = row_known number shop jobs new place _ one
     (c.fill_tail.ensures.row _ (row_back number shop jobs _ (place + 1) some (below_known g here))) in

@@ -1,4 +1,4 @@
-use Rattle.std.proofs.Common.{◌≡◌, ◌+◌, ◌-◌, ◌<◌, ◌≤◌, length, take, sym, ◌∙◌, arith}
+use Rattle.std.proofs.Common.{◌≡◌, ◌+◌, ◌-◌, ◌<◌, ◌≤◌, length, take, sym, ◌∙◌, arith, rules}
 use Rattle.std.proofs.lemmas.List.{length-take-le, append_assoc}
 use Rattle.pfs_insert.proofs.FlatRows.{row_fits, row_between}
 use Rattle.pfs_insert.proofs.TailRows.{tail_first, tail_next}
@@ -23,13 +23,13 @@ split_is g c =
     let wide = c.machines-machines.ensures in
     let split = c.split_at_mut-front.ensures in
     let below_is : below ≡ shop.jobs - 1 - length c.args.seq.now.jobs + c.args.from =
-    omega (arith, c.size.ensures.value, c.len.ensures.value, c.requires.partial.size) in
-    let inside : below < shop.jobs = omega (arith, c.requires.partial.few, c.requires.from) in
+    omega (arith, c.size.ensures.value, c.len.ensures.value, c.requires.from.partial.size) in
+    let inside : below < shop.jobs = omega (arith, c.requires.from.partial.few, c.requires.from.inside) in
     record {
       below_is = below_is;
-      back_long = row_fits wide inside c.requires.rows split.back_len;
+      back_long = row_fits wide inside c.requires.rows.long split.back_len;
       tails = tails_after _ shop _ _ _ _ c.args.from split.value (rw (below_is, wide) at split.front_len)
-          c.requires.tails;
+          c.requires.rows.tails;
     }
 
 pub slice_bounds-fill_three_tails-end : goal.slice_bounds-fill_three_tails-end
@@ -40,29 +40,19 @@ pub slice_bounds-fill_three_tails-end-2 : goal.slice_bounds-fill_three_tails-end
 slice_bounds-fill_three_tails-end-2 g c =
     sym (length-take-le _ _ (split_is g (goal.at.slice_bounds-fill_three_tails-end-2 g c).After-at-third).back_long)
 
-pub fill_three_tails-requires-clause-below_width : goal.fill_three_tails-requires-clause-below_width
-fill_three_tails-requires-clause-below_width g c =
-    let is = split_is g (goal.at.fill_three_tails-requires-clause-below_width g c).After-at-third in
-    length-take-le _ _ is.back_long ∙ c.machines-machines.ensures
-
 -- the row below the three
 below_known : (g : Over) (c : After-at-third g) →
     HoldsTails g.B.Span.Length.number (g.B.Bench.shop c.args.bench.now) c.args.seq.now.jobs
     (take c.machines-machines.result c.split_at_mut-front.result.1.now) c.args.from
 below_known g c =
     first_tails _ (g.B.Bench.shop c.args.bench.now) c.args.seq.now.jobs _ c.args.from c.machines-machines.result
-    (omega (arith, c.machines-machines.ensures)) c.requires.from (split_is g c).tails
+    (omega (arith, c.machines-machines.ensures)) c.requires.from.inside (split_is g c).tails
 
-pub fill_three_tails-requires-clause-below_short : goal.fill_three_tails-requires-clause-below_short
-fill_three_tails-requires-clause-below_short g c =
+pub fill_three_tails-requires-clause-rows : goal.fill_three_tails-requires-clause-rows
+fill_three_tails-requires-clause-rows g c =
     let shop = g.B.Bench.shop c.args.bench.now in
-    short_tails g.B.Span.Length.number shop c.args.seq.now.jobs (g.met.B.Bench.within c.args.bench.now)
-    (omega (arith, c.requires.partial.few)) c.args.from _
-    (below_known g (goal.at.fill_three_tails-requires-clause-below_short g c).After-at-third)
-
-pub fill_three_tails-requires-clause-widths : goal.fill_three_tails-requires-clause-widths
-fill_three_tails-requires-clause-widths g c =
-    let is = split_is g (goal.at.fill_three_tails-requires-clause-widths g c).After-at-third in
+    let here = (goal.at.fill_three_tails-requires-clause-rows g c).After-at-third in
+    let is = split_is g here in
     let below = c.size.result - 1 - c.len.result + c.args.from in
     let wide = c.machines-machines.ensures in
     let split = c.split_at_mut-front.ensures in
@@ -70,13 +60,22 @@ fill_three_tails-requires-clause-widths g c =
     let third = c.split_at_mut-front-3.ensures in
     let fourth = c.split_at_mut-last.ensures in
     let below_is = is.below_is in
-    let inside = c.requires.from in
-    let enough = c.requires.some in
-    let few = c.requires.partial.few in (
-      row_between (below - 1) wide (omega arith) split.front_len second.back_len,
-      row_between (below - 2) wide (omega arith) second.front_len third.back_len,
-      row_between (below - 3) wide (omega arith) third.front_len fourth.back_len,
-    )
+    let inside = c.requires.from.inside in
+    let enough = c.requires.from.some in
+    let few = c.requires.from.partial.few in
+    record {
+      first_is = search rules;
+      second_is = search rules;
+      third_is = search rules;
+      given_is = record {
+        width = length-take-le _ _ is.back_long ∙ wide;
+        short = short_tails g.B.Span.Length.number shop c.args.seq.now.jobs (g.met.B.Bench.within c.args.bench.now)
+            (omega arith) c.args.from _ (below_known g here);
+      };
+      row_width = row_between (below - 1) wide (omega arith) split.front_len second.back_len;
+      next_width = row_between (below - 2) wide (omega arith) second.front_len third.back_len;
+      last_width = row_between (below - 3) wide (omega arith) third.front_len fourth.back_len;
+    }
 
 pub returns-clause-tails : goal.returns-clause-tails
 returns-clause-tails g c =
@@ -97,10 +96,10 @@ returns-clause-tails g c =
     let second = c.split_at_mut-front-2.ensures in
     let third = c.split_at_mut-front-3.ensures in
     let fourth = c.split_at_mut-last.ensures in
-    let inside = c.requires.from in
-    let enough = c.requires.some in
+    let inside = c.requires.from.inside in
+    let enough = c.requires.from.some in
     let below_is = is.below_is in
-    let few = c.requires.partial.few in
+    let few = c.requires.from.partial.few in
     let row_long = same.row ∙ row_between (below - 1) wide (omega arith) split.front_len second.back_len in
     let next_long = same.next ∙ row_between (below - 2) wide (omega arith) second.front_len third.back_len in
     let last_long = same.last ∙ row_between (below - 3) wide (omega arith) third.front_len fourth.back_len in

@@ -16,7 +16,7 @@ loop-word-preserved c =
       jobs = first_of (search rules, grind (arith, common_steps));
       left = first_of (search rules, grind (arith, common_steps));
       taken = first_of (search rules, grind (arith, common_steps));
-      together = rw (c.in-Ok.ensures.items, rest) (taken_more size done jobs _ c.remove_at-job.result
+      together = rw (c.push_reserved.ensures.items, rest) (taken_more size done jobs _ c.remove_at-job.result
           (omega (arith, c.len.ensures.value)) c.remove_at-job.ensures.job c.loop-word.invariant.together);
       count = first_of (search rules, grind (arith, common_steps));
       capacity = first_of (search rules, grind (arith, common_steps));

@@ -1,4 +1,4 @@
-use Rattle.std.proofs.Common.{◌≡◌, length, get_or, insert, arith, ap, sym, ◌∙◌}
+use Rattle.std.proofs.Common.{◌≡◌, length, get_or, insert, arith, rules, ap, sym, ◌∙◌}
 use Rattle.std.proofs.lemmas.List.{at_drop_more}
 use Rattle.std.proofs.lemmas.List.Edits.{length-insert}
 use Rattle.pfs_order.specs.Sequence.{Sequence}
@@ -22,15 +22,19 @@ best-requires-clause-room g c =
     let room = c.requires.room in
     rw (c.loop-job.invariant.same_shop, c.loop-job.invariant.count) (omega arith)
 
-pub returns-in-Err-clause-cells : goal.returns-in-Err-clause-cells
-returns-in-Err-clause-cells g c =
+pub returns-in-Err-clause-step : goal.returns-in-Err-clause-step
+returns-in-Err-clause-step g c =
     let before = length c.args.seq.now.jobs in
     let fits = insertions_within g.I.Inserter.cost (g.B.Bench.shop c.args.bench.now).machines before
     (length c.args.jobs.now) c.loop-job.job-index c.loop-job-test.true in
     let counted = c.loop-job.invariant.counted in
     let low = c.in-Err.ensures.cells.fault_low in
     let high = rw (c.loop-job.invariant.same_shop, c.loop-job.invariant.count) at c.in-Err.ensures.cells.fault_high in
-    record { counted = tt; fault_low = omega arith; fault_high = omega arith }
+    record {
+      cells = record { counted = tt; fault_low = omega arith; fault_high = omega arith };
+      succeeds = search rules;
+      still = search rules;
+    }
 
 pub insert_at-requires-clause-in_range : goal.insert_at-requires-clause-in_range
 insert_at-requires-clause-in_range g c =

@@ -9,12 +9,12 @@ loop-job-preserved g c =
     let job = c.loop-job.job in
     let invariant = c.loop-job.invariant in
     let gives = c.in_ok-span.ensures in
-    let counted = rw invariant.same_shop at gives.cells.counted in
+    let counted = rw invariant.same_shop at gives.step.cells.counted in
     record {
-      same_shop = gives.still.shop ∙ invariant.same_shop;
-      fits = gives.still.fits;
+      same_shop = gives.step.still.shop ∙ invariant.same_shop;
+      fits = gives.step.still.fits;
       counted = omega (arith, invariant.counted);
-      order = rw (gives.jobs, invariant.same_shop, invariant.order)
+      order = rw (gives.made.jobs_are, invariant.same_shop, invariant.order)
           (sym (fold_more (moved shop) c.args.seq.now.jobs job));
-      span = rw (← invariant.same_shop) gives.span;
+      span = rw (← invariant.same_shop) gives.made.has_span;
     }

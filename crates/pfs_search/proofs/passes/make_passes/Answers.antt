@@ -7,12 +7,12 @@ loop-done-preserved g c =
     let shop = g.B.Bench.shop c.args.bench.now in
     let invariant = c.loop-done.invariant in
     let gives = c.in_ok-span.ensures in
-    let counted = rw invariant.same_shop at gives.cells.counted in
+    let counted = rw invariant.same_shop at gives.step.cells.counted in
     record {
-      same_shop = gives.still.shop ∙ invariant.same_shop;
-      fits = gives.still.fits;
+      same_shop = gives.step.still.shop ∙ invariant.same_shop;
+      fits = gives.step.still.fits;
       counted = omega (arith, invariant.counted);
-      order = rw (gives.jobs, invariant.same_shop, invariant.order)
+      order = rw (gives.made.jobs_are, invariant.same_shop, invariant.order)
           (sym (passes_more shop c.loop-done._done c.args.seq.now.jobs));
-      span = rw (← invariant.same_shop) gives.span;
+      span = rw (← invariant.same_shop) gives.made.has_span;
     }

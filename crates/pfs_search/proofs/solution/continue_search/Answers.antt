@@ -11,17 +11,17 @@ use Rattle.pfs_search.proofs.solution.continue_search.Goals as goal
 pub rounds-requires-clause-room : goal.rounds-requires-clause-room
 rounds-requires-clause-room g c =
     let rounds = c.args.rounds in
-    let short : rounds.count ≤ MOST_ROUNDS = omega (arith, c.requires.limits.count) in
+    let short : rounds.count ≤ MOST_ROUNDS = omega (arith, c.requires.start.limits.count) in
     omega (
       arith,
       rounds_room (g.B.Bench.shop c.args.bench.now) rounds.count rounds.take rounds.passes
-          (g.met.B.Bench.within c.args.bench.now) c.requires.limits.few short c.requires.limits.passes,
+          (g.met.B.Bench.within c.args.bench.now) c.requires.start.limits.few short c.requires.start.limits.passes,
       c.requires.ready.fresh,
       same_rounds (g.B.Bench.shop c.args.bench.now) rounds.count rounds.take rounds.passes c.requires.ready.cost,
     )
 
-pub returns-clause-found : goal.returns-clause-found
-returns-clause-found g c =
+pub returns : goal.returns
+returns g c =
     let rounds = c.args.rounds in
     let number = g.B.Span.Length.number in
     let counted = g.B.Bench.counted in
@@ -35,25 +35,26 @@ returns-clause-found g c =
       is_order = c.in_ok-rounds.ensures.order;
       is_span = c.in_ok-rounds.ensures.span.span_is;
       never_rises = c.in_ok-rounds.ensures.span.never_rises;
-      counted = c.in_ok-rounds.ensures.cells.counted
+      counted = c.in_ok-rounds.ensures.effect.cells.counted
           ∙ ap (λ n. counted c.args.bench.now + n)
           (same_rounds shop rounds.count rounds.take rounds.passes c.requires.ready.cost);
     } in
+    let still = c.in_ok-rounds.ensures.effect.still in
     let all : length kept.order ≡ shop.jobs =
-    c.in_ok-rounds.ensures.still.fit.order_jobs ∙ ap (λ (s : FlowShop). s.jobs) c.in_ok-rounds.ensures.still.shop in
+    still.fit.order_jobs ∙ ap (λ (s : FlowShop). s.jobs) still.shop in
     let distinct = subst (λ n. IsSequence n kept.order) all c.len-jobs.ensures.sequence in
     let begun = c.seed_from_u64-rng.ensures in
     let advanced = c.advance.ensures ∙ ap (advance 64 multiplier_64 (c.args.first * rounds.take)) begun in
+    let found =
     improved_is shop c.args.first rounds.count rounds.take rounds.passes rounds.seed generator start.order
     (number start.span) (counted c.args.bench.now) kept.order (number kept.span) (counted c.rounds.new.bench)
-    c.requires.limits.few advanced c.requires.start.span_is c.requires.ready.fresh rounds_done all distinct
-
-pub returns-clause-short : goal.returns-clause-short
-returns-clause-short g c =
-    let found = returns-clause-found g c in
-    let shop = g.B.Bench.shop c.args.bench.now in
-    omega (
-      arith,
-      makespan_short shop c.rounds.new.kept.order (g.met.B.Bench.within c.args.bench.now) found.all,
-      found.spanned,
-    )
+    c.requires.start.limits.few advanced c.requires.start.has_span.span_is c.requires.ready.fresh rounds_done all
+    distinct in
+    record {
+      found = found;
+      short = omega (
+        arith,
+        makespan_short shop kept.order (g.met.B.Bench.within c.args.bench.now) found.all,
+        found.spanned,
+      );
+    }

@@ -1,4 +1,9 @@
+use Rattle.std.proofs.Common.{rules}
 use Rattle.pfs_search.proofs.solution.improve.Goals as goal
 
-pub improve_in_width-requires-clause-served : goal.improve_in_width-requires-clause-served
-improve_in_width-requires-clause-served c = c.method_for.ensures.short c.in-Wavefront16.width c.in-Wavefront16.is
+pub improve_in_width-requires-clause-lanes : goal.improve_in_width-requires-clause-lanes
+improve_in_width-requires-clause-lanes c = record {
+  wide_is = search rules;
+  widest_is = search rules;
+  served = c.method_for.ensures.short c.in-Wavefront16.width c.in-Wavefront16.is;
+}

@@ -23,7 +23,7 @@ rounds-requires-clause-room g c =
     let rounds = c.args.rounds in
     let shop = g.B.Bench.shop c.args.bench.now in
     let then_shop = g.B.Bench.shop c.neh.new.bench in
-    let jobs = ap (λ (s : FlowShop). s.jobs) c.in_ok-neh.ensures.still.shop in
+    let jobs = ap (λ (s : FlowShop). s.jobs) c.in_ok-neh.ensures.effect.still.shop in
     let few : rounds.take ≤ then_shop.jobs = omega (arith, c.requires.limits.few) in
     let short : rounds.count ≤ MOST_ROUNDS = omega (arith, c.requires.limits.count) in
     omega (
@@ -32,13 +32,13 @@ rounds-requires-clause-room g c =
       rounds_room then_shop rounds.count rounds.take rounds.passes
           (g.met.B.Bench.within c.neh.new.bench) few short c.requires.limits.passes,
       c.requires.ready.fresh,
-      c.in_ok-neh.ensures.cells.counted,
+      c.in_ok-neh.ensures.effect.cells.counted,
       same_neh shop c.requires.ready.cost,
       same_rounds then_shop rounds.count rounds.take rounds.passes c.requires.ready.cost,
     )
 
-pub returns-clause-found : goal.returns-clause-found
-returns-clause-found g c =
+pub returns : goal.returns
+returns g c =
     let rounds = c.args.rounds in
     let number = g.B.Span.Length.number in
     let counted = g.B.Bench.counted in
@@ -57,37 +57,35 @@ returns-clause-found g c =
       counted = omega (
         arith,
         c.requires.ready.fresh,
-        c.in_ok-neh.ensures.cells.counted,
+        c.in_ok-neh.ensures.effect.cells.counted,
         same_neh shop c.requires.ready.cost,
       );
     } in
     let rounds_done : RoundsDone shop rounds.count rounds.take rounds.passes stream neh.order neh_span neh_cells
     kept.order span cells =
     subst (λ s. RoundsDone s rounds.count rounds.take rounds.passes stream neh.order neh_span neh_cells
-    kept.order span cells) c.in_ok-neh.ensures.still.shop
+    kept.order span cells) c.in_ok-neh.ensures.effect.still.shop
     (record {
       is_order = c.in_ok-rounds.ensures.order;
       is_span = c.in_ok-rounds.ensures.span.span_is;
       never_rises = c.in_ok-rounds.ensures.span.never_rises;
-      counted = c.in_ok-rounds.ensures.cells.counted
+      counted = c.in_ok-rounds.ensures.effect.cells.counted
           ∙ ap (λ n. neh_cells + n)
           (same_rounds (g.B.Bench.shop c.neh.new.bench) rounds.count rounds.take rounds.passes c.requires.ready.cost);
     }) in
+    let still = c.in_ok-rounds.ensures.effect.still in
     let all : length kept.order ≡ shop.jobs =
-    c.in_ok-rounds.ensures.still.fit.order_jobs
-    ∙ ap (λ (s : FlowShop). s.jobs) (c.in_ok-rounds.ensures.still.shop ∙ c.in_ok-neh.ensures.still.shop) in
+    still.fit.order_jobs ∙ ap (λ (s : FlowShop). s.jobs) (still.shop ∙ c.in_ok-neh.ensures.effect.still.shop) in
     let distinct = subst (λ n. IsSequence n kept.order) all c.len-jobs.ensures.sequence in
+    let found =
     found_is shop rounds.count rounds.take rounds.passes rounds.seed c.seed_from_u64-rng.result neh.order neh_span
     neh_cells kept.order span cells c.requires.limits.few
-    c.seed_from_u64-rng.ensures neh_done rounds_done all distinct
-
-pub returns-clause-short : goal.returns-clause-short
-returns-clause-short g c =
-    let found = returns-clause-found g c in
-    let shop = g.B.Bench.shop c.args.bench.now in
-    omega (
-      arith,
-      makespan_short shop c.rounds.new.kept.order
-          (g.met.B.Bench.within c.args.bench.now) found.all,
-      found.spanned,
-    )
+    c.seed_from_u64-rng.ensures neh_done rounds_done all distinct in
+    record {
+      found = found;
+      short = omega (
+        arith,
+        makespan_short shop kept.order (g.met.B.Bench.within c.args.bench.now) found.all,
+        found.spanned,
+      );
+    }

@@ -1,4 +1,4 @@
-use Rattle.std.proofs.Common.{◌≡◌, ℕ, ◌+◌, ◌*◌, ◌<◌, ◌≤◌, length, take as front, ap, sym, ◌∙◌, arith}
+use Rattle.std.proofs.Common.{◌≡◌, ℕ, ◌+◌, ◌*◌, ◌<◌, ◌≤◌, length, take as front, ap, sym, ◌∙◌, arith, rules}
 use Rattle.std.proofs.Math.Nat.{mul-le-mul_right, le_trans, lt_of_le_of_lt}
 use Rattle.std.proofs.lemmas.List.{length-take-le}
 use Rattle.pfs_search.specs.Greedy.{words_of, stream_after}
@@ -17,24 +17,28 @@ play_round-requires-clause-room g c =
     rw (long, invariant.same_shop) (lt_of_le_of_lt (next_fits _ (g.B.Bench.counted c.loop-done.bench) _ c.loop-done.done
     c.args.count c.loop-done-test.true invariant.counted) c.requires.room)
 
-pub returns-in-Err-clause-cells : goal.returns-in-Err-clause-cells
-returns-in-Err-clause-cells g c =
+pub returns-in-Err-clause-effect : goal.returns-in-Err-clause-effect
+returns-in-Err-clause-effect g c =
     let invariant = c.loop-done.invariant in
     let long = length-take-le c.args.take c.deref.result.now (omega (arith, invariant.words)) in
-    let failed = c.in-Err.ensures.cells in
+    let failed = c.in-Err.ensures.effect.cells in
     record {
-      counted = tt;
-      fault_low = omega (arith, failed.fault_low, invariant.counted);
-      fault_high = le_trans (rw (long, invariant.same_shop) at failed.fault_high)
-          (next_fits (g.B.Bench.counted c.args.bench.now) _ _ c.loop-done.done c.args.count
-          c.loop-done-test.true invariant.counted);
+      cells = record {
+        counted = tt;
+        fault_low = omega (arith, failed.fault_low, invariant.counted);
+        fault_high = le_trans (rw (long, invariant.same_shop) at failed.fault_high)
+            (next_fits (g.B.Bench.counted c.args.bench.now) _ _ c.loop-done.done c.args.count
+            c.loop-done-test.true invariant.counted);
+      };
+      succeeds = search rules;
+      still = search rules;
     }
 
 pub returns-in-Err-clause-fault : goal.returns-in-Err-clause-fault
 returns-in-Err-clause-fault g c = (
   c.loop-done-test.true,
-  ap (λ k. k.order) c.in-Err.ensures.unchanged ∙ c.loop-done.invariant.order,
-  rw (c.draw_words.ensures.stream, c.loop-done.invariant.stream)
+  ap (λ k. k.order) c.in-Err.ensures.order ∙ c.loop-done.invariant.order,
+  rw (c.draw_words.ensures.drawn.stream_is, c.loop-done.invariant.stream)
       (sym (stream_group c.loop-done.done c.args.take (g.R.Rng.stream c.args.rng.now))),
 )
 
@@ -47,15 +51,16 @@ loop-done-preserved g c =
     let invariant = c.loop-done.invariant in
     let gives = c.in-Ok.ensures in
     let drawn : front take c.deref.result.now ≡ words_of take (stream_after (done * take) s) =
-    ap (front take) c.deref.ensures.value ∙ c.draw_words.ensures.words ∙ ap (words_of take) invariant.stream in
+    ap (front take) c.deref.ensures.value ∙ c.draw_words.ensures.drawn.words_are
+    ∙ ap (words_of take) invariant.stream in
     let long : length (front take c.deref.result.now) ≡ take = rw drawn (length-words_of take _) in
-    let counted = rw (long, invariant.same_shop) at gives.cells.counted in
+    let counted = rw (long, invariant.same_shop) at gives.effect.cells.counted in
     let falls = gives.span.never_rises in
     record {
-      same_shop = gives.still.shop ∙ invariant.same_shop;
+      same_shop = gives.effect.still.shop ∙ invariant.same_shop;
       ranked = invariant.ranked;
       words = omega (arith, c.draw_words.ensures.len, invariant.words);
-      fit = gives.still.fit;
+      fit = gives.effect.still.fit;
       counted = omega (arith, invariant.counted);
       order = rw (gives.order, invariant.same_shop, drawn, invariant.order)
           (sym (rounds_more shop c.args.passes take done c.args.kept.now.order s));
@@ -63,5 +68,5 @@ loop-done-preserved g c =
         span_is = rw (← invariant.same_shop) gives.span.span_is;
         never_rises = omega (arith, invariant.span.never_rises);
       };
-      stream = rw (c.draw_words.ensures.stream, invariant.stream) (sym (stream_group done take s));
+      stream = rw (c.draw_words.ensures.drawn.stream_is, invariant.stream) (sym (stream_group done take s));
     }
