@@ -179,7 +179,7 @@ module _ (layout : Layout) (problem : Problem) (is : IsInstance limits problem) 
   abbrev between : List (List ℕ)
   between = lines (preamble_of layout).after
 
-  -- the text is a file, if the line before is no number line, and no line after has a digit
+  -- the text is a file, if the line before is not a number line, and no line after has a digit
   file_is : (n : ℕ) → row_count layout problem.shop ≡ n + 1 → 0 < row_width layout problem.shop
       → is_number_line title ≡ false → list_all (λ line. not (is_mixed line)) between ≡ true
       → flat_map numbers between ≡ []
