@@ -1,6 +1,6 @@
 //! Time tables of orders.
 ghost use Rattle.std.specs.Prelude.{◌≡◌, ◌+◌, ◌*◌, ◌<◌, ◌≤◌, [], ◌∷◌, ◌++◌, length, slice_index, IfOk};
-ghost use Rattle.std.specs.Prelude.{vec_len, vec_capacity};
+ghost use Rattle.std.specs.Prelude.{vec_capacity};
 ghost use Rattle.pfs_base.specs.Paths.{makespan};
 ghost use Rattle.pfs_audit.specs.Schedule.{EndsBy, IsLeastSchedule, NoneEndsBefore, least_end, least_start};
 ghost use Rattle.pfs_audit.specs.Schedule.{start_in, end_in, EndsInTime, last_end, IsWhole};
@@ -146,7 +146,7 @@ fn copy_of(alloc: Global, order: &Order) -> Result<Vec<usize>, AuditFault>
         Err(AllocError) => return Err(AuditFault::Memory),
     };
     for row in 0..order.len() {
-        add(&mut jobs, order.at(row));
+        jobs.push_reserved(order.at(row));
     }
     Ok(jobs)
 }
@@ -194,19 +194,7 @@ fn add_row(
         };
         let start = before.max(above);
         before = start + u64::from(instance.time(job, machine));
-        add(starts, start);
-        add(ends, before);
-    }
-}
-
-// Adds an item to a list that has room.
-fn add<T: Drop>(list: &mut Vec<T>, item: T)
-    requires { vec_len list.old < vec_capacity list.old }
-    ensures items { list.new.items ≡ list.old.items ++ item ∷ [] }
-    ensures room { vec_capacity list.old ≤ vec_capacity list.new }
-{
-    match list.push(item) {
-        Ok(()) => {}
-        Err(_) => unreachable!(),
+        starts.push_reserved(start);
+        ends.push_reserved(before);
     }
 }

@@ -1,7 +1,8 @@
 -- The blocks of an instance file: what a size line states, the numbers that are due in a body, and the state
 -- that lines lead to.
 use Rattle.std.specs.Prelude.{ℕ, ◌*◌, ◌/◌, ◌%◌, Bool, false, ◌&&◌, ◌==◌, nat_lt, nat_le, List, [], ◌∷◌, map, flat_map}
-use Rattle.std.specs.Prelude.{Option, Some, None, if◌then◌else◌, ◌+◌, ◌++◌, length, fold, slice_index}
+use Rattle.std.specs.Prelude.{Option, Some, None, if◌then◌else◌, ◌+◌, ◌++◌, length, fold, slice_index, codes}
+use Rattle.std.specs.Bool.{then_some}
 use Rattle.std.specs.List.{list_all, enumerate_from}
 use Rattle.pfs_base.specs.declared.limits.TheConstants.{MOST_JOBS, MOST_MACHINES, LONGEST_TIME, GREATEST_NOTE}
 use Rattle.pfs_base.specs.FlowShop.{FlowShop, time_of}
@@ -13,10 +14,33 @@ use Rattle.pfs_layout.specs.declared.body.Due.{Due}
 pub use Rattle.pfs_layout.specs.declared.size_line.Size.{Size}
 use Rattle.pfs_layout.specs.Lines.{is_mixed, is_number_line, numbers}
 
--- the size with these numbers, in the order of Taillard's size lines
-abbrev pub sized : ℕ → ℕ → ℕ → ℕ → ℕ → Size
-sized jobs machines seed upper lower =
-    record { jobs = jobs; machines = machines; notes = record { seed = seed; upper = upper; lower = lower } }
+-- what a layout says of the lines before a body
+pub record Preamble : Type 0 where
+  -- how many numbers a size line has
+  pub size_numbers : ℕ
+  -- what is written before the size line, and after it
+  pub before : List ℕ
+  pub after : List ℕ
+
+abbrev pub preamble_of : Layout → Preamble
+preamble_of Taillard = record {
+  size_numbers = 5;
+  before = codes "number of jobs, number of machines, initial seed, upper bound and lower bound :\n";
+  after = codes "processing times :\n";
+}
+preamble_of OrLib = record { size_numbers = 2; before = codes "flow shop instance\n"; after = [] }
+
+-- the size with these numbers, in the order of Taillard's size lines; numbers that are missing are 0
+abbrev pub size_from : List ℕ → Size
+size_from numbers = record {
+  jobs = slice_index numbers 0;
+  machines = slice_index numbers 1;
+  notes = record { seed = slice_index numbers 2; upper = slice_index numbers 3; lower = slice_index numbers 4 };
+}
+
+-- all numbers of a size, in this order
+abbrev pub numbers_of : Size → List ℕ
+numbers_of size = size.jobs ∷ size.machines ∷ size.notes.seed ∷ size.notes.upper ∷ size.notes.lower ∷ []
 
 -- what the size line of a problem's block states
 abbrev pub size_of : Problem → Size
@@ -57,10 +81,7 @@ due layout shop = flat_map (due_row layout shop) (below (row_count layout shop))
 -- the size that the numbers of a size line state, if their count is that of the layout; in the OR-Library's
 -- layout the notes are 0
 unfoldable pub stated_size : Layout → List ℕ → Option Size
-stated_size Taillard (jobs ∷ machines ∷ seed ∷ upper ∷ lower ∷ []) = Some (sized jobs machines seed upper lower)
-stated_size Taillard others = None
-stated_size OrLib (jobs ∷ machines ∷ []) = Some (sized jobs machines 0 0 0)
-stated_size OrLib others = None
+stated_size layout numbers = then_some (length numbers == (preamble_of layout).size_numbers) (size_from numbers)
 
 -- how many numbers of a body are needed for this many times: one each, or a pair each
 abbrev pub numbers_for : Layout → ℕ → ℕ

@@ -1,7 +1,7 @@
 -- Some instance files, and the problems in them.
 use Rattle.std.specs.Prelude.{ℕ, List, [], ◌∷◌, ◌++◌, codes, flat_map, if◌then◌else◌}
 use Rattle.pfs_base.specs.Problem.{Problem}
-use Rattle.pfs_layout.specs.Block.{problem_of, sized}
+use Rattle.pfs_layout.specs.Block.{problem_of, size_from}
 use Rattle.pfs_layout.specs.Lines.{is_line_end}
 
 -- the first line of a file in Taillard's layout
@@ -34,4 +34,4 @@ abbrev pub two_blocks_file : List ℕ
 two_blocks_file = codes "+++\ninstance one 1\n+++\nfirst\n1 1\n0 7\n+++\nsecond\n3 2\n0 3 1 2\n0 2 1 5\n0 4 1 1\n+++\n"
 
 abbrev pub one_job_problem : Problem
-one_job_problem = problem_of (sized 1 1 0 0 0) (λ job machine. 7)
+one_job_problem = problem_of (size_from (1 ∷ 1 ∷ [])) (λ job machine. 7)

@@ -1,7 +1,7 @@
 -- Taillard's generator of instances (1993): its seeds are products modulo a prime.
-use Rattle.std.specs.Prelude.{ℕ, zero, suc, ◌+◌, ◌*◌, ◌/◌, ◌%◌, ◌<◌}
+use Rattle.std.specs.Prelude.{ℕ, zero, suc, ◌+◌, ◌*◌, ◌/◌, ◌%◌, ◌<◌, [], ◌∷◌}
 use Rattle.pfs_base.specs.Problem.{Problem}
-use Rattle.pfs_layout.specs.Block.{problem_of, sized}
+use Rattle.pfs_layout.specs.Block.{problem_of, size_from}
 
 abbrev pub prime : ℕ
 prime = 2147483647
@@ -22,5 +22,5 @@ drawn_time seed = 1 + seed * 99 / prime
 -- the times are drawn machine by machine, and within a machine job by job; the first seed itself gives no time
 unfoldable pub generated : ℕ → ℕ → ℕ → Problem
 unfolding seed_after
-generated jobs machines seed = problem_of (sized jobs machines seed 0 0)
+generated jobs machines seed = problem_of (size_from (jobs ∷ machines ∷ seed ∷ []))
     (λ job machine. drawn_time (seed_after (machine * jobs + job + 1) seed))

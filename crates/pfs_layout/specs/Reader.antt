@@ -71,10 +71,11 @@ pub record FollowsLine (last : Line) (text : List ℕ) : Type 0 where
   pub has_digit : last.kinds.has_digit ≡ list_any is_digit (open_line text)
   pub has_word : last.kinds.has_word ≡ list_any is_word_byte (open_line text)
 
--- the count of these numbers, and the first five of them, each at most the ceiling
+-- the count of these numbers, and the first five of them, each at most the ceiling; if there are fewer, the other
+-- values are 0
 pub record HoldsNumbers (line : SizeLine) (numbers : List ℕ) : Type 0 where
   pub count : line.count ≡ length numbers
-  pub values : (i : ℕ) → i < length numbers → i < 5 → slice_index line.values i ≡ min CEILING (slice_index numbers i)
+  pub values : (i : ℕ) → i < 5 → slice_index line.values i ≡ min CEILING (slice_index numbers i)
 
 -- the body of a block of this size, of which `count` numbers were read, and the job and machine of the next time
 pub record FollowsBody (layout : Layout) (size : Size) (count : ℕ) (body : Body) : Type 0 where

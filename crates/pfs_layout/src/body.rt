@@ -86,9 +86,10 @@ impl Body {
         requires { self.validated < self.due }
         ensures { result ≡ then_machine self }
     {
-        let mut body = self;
-        body.validated += 1;
-        body
+        Body {
+            validated: self.validated + 1,
+            ..self
+        }
     }
 
     /// The body after one more time. In Taillard's layout the next time is of the same machine's next job, or

@@ -1,9 +1,10 @@
 //! A line that may be a size line.
 ghost use Rattle.std.specs.Prelude.{◌≡◌, ◌≤◌, true, Some, IfOk, IfErr, IsTrue};
-ghost use Rattle.pfs_layout.specs.Block.{is_within_limits, sized};
+ghost use Rattle.pfs_layout.specs.Block.{is_within_limits};
 ghost use Rattle.pfs_layout.specs.Rejection.{size_fault};
 ghost use Rattle.pfs_layout.specs.Private.Step.{no_numbers, with_number, stated_by};
 
+use crate::layout::preamble_of;
 use crate::scan::CEILING;
 use crate::{Layout, LayoutFault};
 use pfs_base::{LONGEST_INPUT, MOST_JOBS, MOST_MACHINES, Notes};
@@ -13,7 +14,7 @@ use pfs_base::{LONGEST_INPUT, MOST_JOBS, MOST_MACHINES, Notes};
 pub struct SizeLine {
     /// How many numbers were read.
     pub count: usize,
-    /// The first five numbers, each at most the ceiling. Entries of numbers that were not read yet may have any value.
+    /// The first five numbers, each at most the ceiling. Entries of numbers that were not read yet are 0.
     pub values: [u64; 5],
 }
 
@@ -53,51 +54,26 @@ impl SizeLine {
 
     /// What the complete line states in this layout. `line` is its number in the input, from 1, for the fault:
     /// `SizeCount` if the count of numbers is wrong, else `SizeRange` if one of them is outside its limits.
+    #[tactic(auto, unfolding(crate::specs::Private::Step::stated_by))]
     pub fn stated(self, layout: Layout, line: usize) -> Result<Size, LayoutFault>
         ensures stated { IfOk result (λ stated. stated_by layout self ≡ Some stated) }
         ensures within { IfOk result (λ stated. is_within_limits stated ≡ true) }
         ensures fault { IfErr result (λ fault. size_fault (stated_by layout self) line ≡ Some fault) }
     {
-        match layout {
-            Layout::Taillard => {
-                if self.count != 5 {
-                    return Err(LayoutFault::SizeCount { line });
-                }
-                let [jobs, machines, seed, upper, lower] = self.values;
-                in_range(jobs, machines, seed, upper, lower, line)
-            }
-            Layout::OrLib => {
-                if self.count != 2 {
-                    return Err(LayoutFault::SizeCount { line });
-                }
-                in_range(self.values[0], self.values[1], 0, 0, 0, line)
-            }
+        if self.count != preamble_of(layout).size_numbers {
+            return Err(LayoutFault::SizeCount { line });
         }
-    }
-}
-
-// What these numbers state, or `SizeRange` if one of them is outside its limits. They are on this line, counted from 1.
-fn in_range(
-    jobs: u64,
-    machines: u64,
-    seed: u64,
-    upper: u64,
-    lower: u64,
-    line: usize,
-) -> Result<Size, LayoutFault>
-    ensures stated { IfOk result (λ stated. stated ≡ sized jobs machines seed upper lower) }
-    ensures within { IfOk result (λ stated. is_within_limits stated ≡ true) }
-    ensures fault { IfErr result (λ fault.
-        size_fault (Some (sized jobs machines seed upper lower)) line ≡ Some fault) }
-{
-    let fits = 1 <= jobs
-        && jobs <= MOST_JOBS as u64
-        && 1 <= machines
-        && machines <= MOST_MACHINES as u64
-        && seed < CEILING
-        && upper < CEILING
-        && lower < CEILING;
-    if fits {
+        let [jobs, machines, seed, upper, lower] = self.values;
+        let fits = 1 <= jobs
+            && jobs <= MOST_JOBS as u64
+            && 1 <= machines
+            && machines <= MOST_MACHINES as u64
+            && seed < CEILING
+            && upper < CEILING
+            && lower < CEILING;
+        if !fits {
+            return Err(LayoutFault::SizeRange { line });
+        }
         Ok(Size {
             jobs: jobs as usize,
             machines: machines as usize,
@@ -107,7 +83,5 @@ fn in_range(
                 lower: lower as u32,
             },
         })
-    } else {
-        Err(LayoutFault::SizeRange { line })
     }
 }

@@ -4,7 +4,7 @@ ghost use Rattle.pfs_base.specs.Sends.{Prints, Sends};
 ghost use Rattle.pfs_layout.specs.Block.{due_row, row_count};
 ghost use Rattle.pfs_layout.specs.CanonicalText.{head_lines, row_line, row_lines, canonical_text};
 
-use crate::layout::Layout;
+use crate::layout::{Layout, preamble_of};
 use pfs_base::print::{put_entry, put_numbers};
 use pfs_base::{Instance, Notes, Sink, WriteFault, put};
 
@@ -43,24 +43,14 @@ fn put_head<W: Sink>(
     ensures { Sends (W.written writer.old) (W.written writer.new) (W.has_failed writer.new) 0
         (head_lines layout (record { jobs = jobs; machines = machines; notes = notes })) result }
 {
-    match layout {
-        Layout::Taillard => {
-            let sent = put(
-                writer,
-                b"number of jobs, number of machines, initial seed, upper bound and lower bound :\n",
-                0,
-            )?;
-            let seed = notes.seed as u64;
-            let upper = notes.upper as u64;
-            let lower = notes.lower as u64;
-            let sent = put_numbers(writer, &[jobs, machines, seed, upper, lower], sent)?;
-            put(writer, b"processing times :\n", sent)
-        }
-        Layout::OrLib => {
-            let sent = put(writer, b"flow shop instance\n", 0)?;
-            put_numbers(writer, &[jobs, machines], sent)
-        }
-    }
+    let preamble = preamble_of(layout);
+    let sent = put(writer, preamble.before, 0)?;
+    let seed = notes.seed as u64;
+    let upper = notes.upper as u64;
+    let lower = notes.lower as u64;
+    let numbers = [jobs, machines, seed, upper, lower];
+    let sent = put_numbers(writer, &numbers[..preamble.size_numbers], sent)?;
+    put(writer, preamble.after, sent)
 }
 
 // Writes the rows of the body.

@@ -62,7 +62,7 @@ impl Seq {
             return Err(OrderFault::Memory);
         };
         for job in jobs {
-            push_in_room(&mut list, *job as usize);
+            list.push_reserved(*job as usize);
         }
         Ok(Seq { size, jobs: list })
     }
@@ -150,8 +150,6 @@ impl Seq {
         requires { self.old.size ≡ other.now.size }
         ensures { self.new ≡ other.now }
     {
-        // The proof needs the invariant of the other sequence, which this read gives: its jobs have room here.
-        let _size = other.size;
         copy_in_room(&mut self.jobs, &other.jobs);
     }
 }
@@ -164,19 +162,6 @@ fn put_in_room(jobs: &mut Vec<usize>, place: usize, job: usize)
     ensures capacity { vec_capacity jobs.old ≤ vec_capacity jobs.new }
 {
     match jobs.insert(place, job) {
-        Ok(()) => {}
-        Err(_) => unreachable!(),
-    }
-}
-
-// Appends a job to a list that has room.
-#[inline(always)]
-fn push_in_room(jobs: &mut Vec<usize>, job: usize)
-    requires room { vec_len jobs.old < vec_capacity jobs.old }
-    ensures items { jobs.new.items ≡ jobs.old.items ++ (job ∷ []) }
-    ensures capacity { vec_capacity jobs.old ≤ vec_capacity jobs.new }
-{
-    match jobs.push(job) {
         Ok(()) => {}
         Err(_) => unreachable!(),
     }

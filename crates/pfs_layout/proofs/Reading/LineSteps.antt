@@ -1,18 +1,18 @@
 -- The end of a line: the fault that it has, or what the fields mean after it.
-use Rattle.pfs_layout.proofs.Words.{◌≡◌, ◌≢◌, ℕ, ◌+◌, ◌<◌, min, Bool, true, false, List, [], ◌∷◌, ◌++◌, length, refl}
+use Rattle.pfs_layout.proofs.Words.{◌≡◌, ◌≢◌, ℕ, ◌+◌, ◌<◌, min, Bool, true, false, List, [], ◌++◌, length, refl}
 use Rattle.pfs_layout.proofs.Words.{◌∙◌, ap, arith, Option, Some, None, if◌then◌else◌, inl, inr, option_map, list_any}
 use Rattle.pfs_layout.proofs.Words.{lt-ltb, le-ltb, eq-eqb, ne_eqb, and_parts, cases_Bool, cases_lt, nat_tests}
-use Rattle.pfs_layout.proofs.Words.{append-nil, length-append, length_push, slice_get-push, Layout, Taillard, OrLib}
+use Rattle.pfs_layout.proofs.Words.{append-nil, length-append, length_push, slice_get-push, Layout}
 use Rattle.pfs_layout.proofs.Words.{CEILING, SizeLine, Phase, Blocks, is_word_byte, Size, is_within_limits, is_mixed}
 use Rattle.pfs_layout.proofs.Words.{is_number_line, numbers, due_count, stated_size, are_due, Block, seeking, inside}
 use Rattle.pfs_layout.proofs.Words.{stand_after, standing, completed, instance_of, begun, with_line, size_fault}
-use Rattle.pfs_layout.proofs.Words.{no_numbers, line_ended, block_of, HoldsNumbers, FollowsBlocks}
+use Rattle.pfs_layout.proofs.Words.{line_ended, block_of, HoldsNumbers, FollowsBlocks}
 use Rattle.std.proofs.lemmas.Bool.{not-true}
 use Rattle.pfs_layout.specs.declared.blocks.Phase.TheVariants as phases
 use Rattle.pfs_layout.specs.Block.{after_size}
 use Rattle.pfs_layout.specs.Private.Step.{stated_by, block_begun, size_validated, at_next_line, line_ended_in}
 use Rattle.pfs_layout.proofs.Files.DueLemmas.{size_within}
-use Rattle.pfs_layout.proofs.Reading.NumberSteps.{Outcome}
+use Rattle.pfs_layout.proofs.Reading.NumberSteps.{Outcome, holds_none}
 
 -- ---- what a size line states
 
@@ -34,11 +34,8 @@ Clips kept stated = kept ≡ option_map clipped stated
 
 pub clips : (layout : Layout) (line : SizeLine) (ns : List ℕ) → HoldsNumbers line ns
     → Clips (stated_by layout line) (stated_size layout ns)
-unfolding stated_size
-clips Taillard line (a ∷ b ∷ c ∷ d ∷ e ∷ []) h = rw h.count (grind (arith, h.values))
-clips Taillard line others h = rw (ne_eqb line.count 5 (λ z. omega arith))
-clips OrLib line (a ∷ b ∷ []) h = rw h.count (grind (arith, h.values))
-clips OrLib line others h = rw (ne_eqb line.count 2 (λ z. omega arith))
+unfolding stated_size stated_by
+clips layout line ns h = grind (arith, h.values)
 
 pub same_within : (size : Size) → is_within_limits (clipped size) ≡ is_within_limits size
 same_within size =
@@ -72,9 +69,6 @@ begun_follows r complete size f few within =
       instance = rw (f.complete, lt-ltb _ _ least) (grind arith);
       held = rw (none, lt-ltb _ _ least) (grind arith);
     }
-
-holds_none : HoldsNumbers no_numbers []
-holds_none = record { count = refl; values = λ i low few. absurd (omega arith) }
 
 -- the next block is sought on the next line too, of which no number was read
 seeks_on : {has_word : Bool} (r : Blocks) (complete : List Block) (more : List ℕ)

@@ -8,7 +8,7 @@ use Rattle.pfs_layout.proofs.Words.{lt-ltb, nat_tests, length_push, append_assoc
 use Rattle.pfs_layout.proofs.Words.{mod-mul-add, Problem, CEILING, SizeLine, is_due}
 use Rattle.pfs_layout.proofs.Words.{due_at, Stand, Block, Now, seeking, inside, lost, standing, rejected}
 use Rattle.pfs_layout.proofs.Words.{body_validated, number_ended, time_count, HoldsNumbers}
-use Rattle.pfs_layout.proofs.Words.{FollowsBody, is_live, block_begun_by, block_of, FollowsBlocks}
+use Rattle.pfs_layout.proofs.Words.{FollowsBody, is_live, block_begun_by, block_of, FollowsBlocks, no_numbers}
 use Rattle.pfs_layout.proofs.Words.{LayoutFault, Blocks, misfit}
 use Rattle.std.proofs.Math.ListN.{set}
 use Rattle.std.proofs.Math.Nat.{mul_comm}
@@ -83,11 +83,14 @@ instance_of-machine size ns v even =
 
 -- ---- a line that may be a size line
 
+pub holds_none : HoldsNumbers no_numbers []
+holds_none = record { count = refl; values = λ i few. get_or-replicate 5 i 0 0 few }
+
 pub holds_push : (line : SizeLine) (ns : List ℕ) (v : ℕ) → length line.values ≡ 5 → HoldsNumbers line ns
     → HoldsNumbers (with_number line (min CEILING v)) (ns ++ v ∷ [])
 holds_push line ns v five h = record {
   count = omega (arith, h.count, length_push ns v);
-  values = λ i low few. grind (arith, common_steps, h.count, h.values);
+  values = λ i few. grind (arith, common_steps, h.count, h.values);
 }
 
 -- ---- the next number of a body

@@ -48,7 +48,7 @@ live_end r text f live =
           let keeps = carries r.blocks r.last 10 live in
           let m = made r.layout (lines text) in
           let follows = rw (none, ← stand_lines r.layout text good) at outcome in
-          grind (arith, nat_tests, f.some, faults, keeps, follows.complete, follows.instance, follows.now, m.fits)
+          grind (arith, nat_tests, f.some, faults, keeps, follows.complete, follows.instance, m.fits)
     ]
 
 -- a reader in this phase

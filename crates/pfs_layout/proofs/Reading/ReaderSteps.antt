@@ -20,7 +20,7 @@ use Rattle.pfs_layout.proofs.Published.PlaceLemmas.{byte_fault-push}
 use Rattle.pfs_layout.proofs.Files.GoodLemmas.{ended_none, fault_within_limit, place_fault, GoodNow, stand_of, sound}
 use Rattle.pfs_layout.proofs.Files.GoodLemmas.{stand_of-on, stand_of-end, open_line-on, open_line-end}
 use Rattle.pfs_layout.proofs.Files.DueLemmas.{size_within}
-use Rattle.pfs_layout.proofs.Reading.NumberSteps.{IsRejection, Outcome, keeping_of}
+use Rattle.pfs_layout.proofs.Reading.NumberSteps.{IsRejection, Outcome, keeping_of, holds_none}
 use Rattle.pfs_layout.proofs.Words.{after_byte}
 use Rattle.pfs_layout.proofs.Reading.ByteSteps.{live_few, valid_gap, byte_on, end_byte, live-memory}
 use Rattle.pfs_layout.proofs.Reading.ByteSteps.{keeps_last, line_end_keeps}
@@ -85,7 +85,7 @@ new_has_read last r line some is = rw is (record {
     complete = refl;
     now = record {
       phase = rw (lt-ltb 0 r.wanted some);
-      numbers = λ plain. record { count = refl; values = λ i low few. absurd (omega arith) };
+      numbers = λ plain. holds_none;
     };
     instance = grind arith;
     held = grind arith;

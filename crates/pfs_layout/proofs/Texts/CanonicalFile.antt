@@ -4,11 +4,13 @@ use Rattle.pfs_layout.proofs.Words.{list_all-append, AllByRecursion, canonical_t
 use Rattle.pfs_layout.proofs.Words.{length-append, LONGEST_INPUT, flat_map_more, is_word_byte, stated_size, is_line_end}
 use Rattle.pfs_layout.proofs.Words.{is_no_digit, ended_parts, mul-le-mul, IsInstance, row_count, row_lines, nat_tests}
 use Rattle.pfs_layout.proofs.Words.{open_part, flat_map, FlowShop, Taillard, row_line, list_any, list_all, is_mixed, ℕ}
-use Rattle.pfs_layout.proofs.Words.{due_row, add-one, Problem, IsBlock, numbers, size_of, length, limits, spaced, codes}
-use Rattle.pfs_layout.proofs.Words.{Layout, arith, below, OrLib, false, lines, List, Size, Bool, true, ◌++◌, Some, refl}
+use Rattle.pfs_layout.proofs.Words.{due_row, add-one, Problem, numbers, size_of, length, limits, spaced}
+use Rattle.pfs_layout.proofs.Words.{Layout, arith, below, OrLib, false, lines, List, Size, Bool, true, ◌++◌, refl}
 use Rattle.pfs_layout.proofs.Words.{suc, ◌+◌, ◌*◌, ◌<◌, ◌≤◌, ◌∷◌, map, ◌≡◌, ◌-◌, not, sym, All, due, get_or, ◌/◌}
+use Rattle.pfs_layout.proofs.Words.{zero, take, length-take, all_but_last}
 use Rattle.std.proofs.Common.{◌^◌, lit<, decimal}
-use Rattle.pfs_layout.specs.CanonicalText.{head_lines, as_written}
+use Rattle.pfs_layout.specs.CanonicalText.{head_lines, as_written, size_numbers}
+use Rattle.pfs_layout.specs.Block.{numbers_of, preamble_of}
 use Rattle.pfs_layout.specs.Laws.{CanonicalLaw, CanonicalTextsFit}
 use Rattle.pfs_layout.proofs.Files.VerdictLemmas.{all_of}
 use Rattle.std.proofs.lemmas.Fmt.{length-decimal-le, decimal_is_IsNumeral}
@@ -39,25 +41,17 @@ length-spaced (n ∷ m ∷ ns) fit =
 
 -- ---- the lines before the rows
 
--- the title, the numbers of the size line, and the line after it
-abbrev pub title : Layout → List ℕ
-title Taillard = codes "number of jobs, number of machines, initial seed, upper bound and lower bound :"
-title OrLib = codes "flow shop instance"
-
-abbrev pub size_numbers : Layout → Size → List ℕ
-size_numbers Taillard size = size.jobs ∷ size.machines ∷ size.notes.seed ∷ size.notes.upper ∷ size.notes.lower ∷ []
-size_numbers OrLib size = size.jobs ∷ size.machines ∷ []
-
-abbrev pub times_title : List ℕ
-times_title = codes "processing times :"
+fit_front : (n : ℕ) (ns : List ℕ) → NumeralsFit ns → NumeralsFit (take n ns)
+fit_front zero ns fit = tt
+fit_front (suc n) [] fit = tt
+fit_front (suc n) (m ∷ ns) fit = (fit.0, fit_front n ns fit.1)
 
 -- the length of the lines before the body, if all numbers of the size are less than 2 ^ 64
-pub length-head_lines : (layout : Layout) (size : Size) → NumeralsFit (size_numbers Taillard size)
+pub length-head_lines : (layout : Layout) (size : Size) → NumeralsFit (numbers_of size)
     → length (head_lines layout size) ≤ 1000
-length-head_lines Taillard size fit =
-    grind (arith, length-append {A = ℕ}, length-spaced (size_numbers Taillard size) fit)
-length-head_lines OrLib size fit =
-    omega (arith, length-append {A = ℕ}, length-spaced (size_numbers OrLib size) (fit.0, (fit.1.0, tt)))
+length-head_lines layout size fit =
+    let short = length-spaced (size_numbers layout size) (fit_front _ (numbers_of size) fit) in
+    grind (arith, length-append {A = ℕ}, length-take {A = ℕ}, short)
 
 -- ---- the rows
 
@@ -89,6 +83,16 @@ length-row_lines layout shop within =
     let each = sum_by-le (λ row. length (row_line layout shop row)) (21 * row_width layout shop + 1)
     (below (row_count layout shop)) (λ k d h. length-row_line layout shop _ within) in
     omega (arith, rw count at each, length-flat_map (row_line layout shop) (below (row_count layout shop)))
+
+numbers_fit : (problem : Problem) → IsInstance limits problem → NumeralsFit (numbers_of (size_of problem))
+numbers_fit problem is = omega arith
+
+pub canonical_texts_fit : CanonicalTextsFit
+unfolding canonical_text
+canonical_texts_fit layout problem is =
+    let head = length-head_lines layout (size_of problem) (numbers_fit problem is) in
+    let rows = length-row_lines layout problem.shop is.within in
+    omega (arith, length-append (head_lines layout (size_of problem)) (row_lines layout problem.shop))
 
 -- ---- a canonical text is an instance file
 
@@ -168,75 +172,70 @@ module _ (layout : Layout) (problem : Problem) (is : IsInstance limits problem) 
   rows_numbers [] = refl
   rows_numbers (row ∷ rows) = rw (numbers_spaced (due_row layout problem.shop row) (fits row), rows_numbers rows)
 
-  -- a title, a size line, lines without numbers, and the rows
-  block_is : (heading sizes : List ℕ) (between : List (List ℕ)) (n : ℕ) → row_count layout problem.shop ≡ n + 1
-      → 0 < row_width layout problem.shop → is_number_line heading ≡ false → NumeralsFit sizes → 0 < length sizes
-      → stated_size layout sizes ≡ Some (size_of problem) → list_all (λ line. not (is_mixed line)) between ≡ true
-      → flat_map numbers between ≡ [] → IsBlock limits layout problem (heading ∷ spaced sizes
-      ∷ (between ++ map (row_numerals layout problem.shop) (below (row_count layout problem.shop))))
-  unfolding due
-  block_is heading sizes between n rows columns plain fit some states unmixed none =
+  -- the line that is written before the size line, and the lines that are written after it
+  abbrev title : List ℕ
+  title = all_but_last (preamble_of layout).before
+
+  abbrev between : List (List ℕ)
+  between = lines (preamble_of layout).after
+
+  -- the text is a file, if the line before is not a number line, and no line after has a digit
+  file_is : (n : ℕ) → row_count layout problem.shop ≡ n + 1 → 0 < row_width layout problem.shop
+      → is_number_line title ≡ false → list_all (λ line. not (is_mixed line)) between ≡ true
+      → flat_map numbers between ≡ []
+      → ((text : List ℕ) → lines ((preamble_of layout).before ++ text) ≡ title ∷ lines text)
+      → ((text : List ℕ) → lines ((preamble_of layout).after ++ text) ≡ between ++ lines text)
+      → IsInstanceFile limits layout (canonical_text layout problem) 1 (as_written layout problem)
+  unfolding canonical_text stated_size due
+  file_is n rows columns plain unmixed none before after =
+      let sizes : List ℕ = size_numbers layout (size_of problem) in
+      let fit : NumeralsFit sizes = fit_front _ (numbers_of (size_of problem)) (numbers_fit problem is) in
       let row : ℕ → List ℕ = row_numerals layout problem.shop in
+      let body : List ℕ = row_lines layout problem.shop in
       let last : List ℕ = due_row layout problem.shop n in
       let joined = flat_map-append numbers between (map row (below n)) in
       let all_rows = flat_map_more (due_row layout problem.shop) n in
       record {
-        skipped = heading ∷ [];
-        size_line = spaced sizes;
-        front = between ++ map row (below n);
-        last = row n;
-        parts =
-            rw (rows, map-range_with_len_more row 0 n n (omega arith), append_assoc between (map row (below n)));
-        no_numbers = rw plain;
-        number_line = number_line sizes some fit;
-        states = rw (numbers_spaced sizes fit) states;
-        front_unmixed = rw (list_all-append, unmixed) (rows_unmixed (below n));
-        last_numbers = number_line last (omega (arith, length_due_row layout problem.shop n)) (fits n);
-        holds = rw (joined, none, rows_numbers (below n), numbers_spaced last (fits n), rows, add-one) (sym all_rows);
-        within = is;
+        front = all_of (canonical_text layout problem) (canonical_texts_fit layout problem is);
+        blocks = record {
+          earlier = [];
+          own = title ∷ spaced sizes ∷ (between ++ map row (below (row_count layout problem.shop)));
+          parts =
+              rw (
+                append_assoc _ _ body,
+                append_assoc _ _ ((preamble_of layout).after ++ body),
+                before,
+                more_lines (spaced sizes) _ (no_line_end sizes fit) refl,
+                after,
+              )
+              (rw (rows_are (below (row_count layout problem.shop))));
+          count = refl;
+          each = tt;
+          is_own = record {
+            skipped = title ∷ [];
+            size_line = spaced sizes;
+            front = between ++ map row (below n);
+            last = row n;
+            parts =
+                rw (rows, map-range_with_len_more row 0 n n (omega arith), append_assoc between (map row (below n)));
+            no_numbers = rw plain;
+            number_line = number_line sizes (grind (arith, length-take {A = ℕ})) fit;
+            states = rw (numbers_spaced sizes fit) (grind arith);
+            front_unmixed = rw (list_all-append, unmixed) (rows_unmixed (below n));
+            last_numbers = number_line last (omega (arith, length_due_row layout problem.shop n)) (fits n);
+            holds =
+                rw (joined, none, rows_numbers (below n), numbers_spaced last (fits n), rows, add-one) (sym all_rows);
+            within = grind (arith, is.within, is.seed, is.upper, is.lower);
+          };
+        };
       }
 
-numbers_fit : (problem : Problem) → IsInstance limits problem → NumeralsFit (size_numbers Taillard (size_of problem))
-numbers_fit problem is = omega arith
-
-pub canonical_texts_fit : CanonicalTextsFit
-unfolding canonical_text
-canonical_texts_fit layout problem is =
-    let head = length-head_lines layout (size_of problem) (numbers_fit problem is) in
-    let rows = length-row_lines layout problem.shop is.within in
-    omega (arith, length-append (head_lines layout (size_of problem)) (row_lines layout problem.shop))
-
-file_is : (layout : Layout) (problem : Problem) → IsInstance limits problem → (own : List (List ℕ))
-    → lines (canonical_text layout problem) ≡ own → IsBlock limits layout problem own
-    → IsInstanceFile limits layout (canonical_text layout problem) 1 problem
-file_is layout problem is own are block = record {
-  front = all_of (canonical_text layout problem) (canonical_texts_fit layout problem is);
-  blocks = record { earlier = []; own = own; parts = are; count = refl; each = tt; is_own = block };
-}
-
 pub canonical_law : CanonicalLaw
-unfolding canonical_text stated_size numbers
+unfolding numbers lines ended_parts open_part
 canonical_law Taillard problem is =
-    let sizes : List ℕ = size_numbers Taillard (size_of problem) in
-    let fit = numbers_fit problem is in
-    let rows = rows_are Taillard problem is (below problem.shop.machines) in
-    file_is Taillard problem is _
-    (rw (append_assoc (with_line_end (title Taillard)) (with_line_end (spaced sizes) ++ with_line_end times_title))
-    (rw (append_assoc (with_line_end (spaced sizes)) (with_line_end times_title))
-    (more_lines _ _ refl (more_lines _ _ (no_line_end sizes fit) (more_lines _ _ refl rows)))))
-    (block_is Taillard problem is (title Taillard) sizes (times_title ∷ []) (problem.shop.machines - 1)
-    (omega (arith, is.within.sizes.some_machine)) (omega (arith, is.within.sizes.some_job)) refl fit (omega arith)
-    refl refl refl)
+    file_is Taillard problem is (problem.shop.machines - 1) (omega (arith, is.within.sizes.some_machine))
+    (omega (arith, is.within.sizes.some_job)) refl refl refl (λ text. more_lines _ text refl refl)
+    (λ text. more_lines _ text refl refl)
 canonical_law OrLib problem is =
-    let sizes : List ℕ = size_numbers OrLib (size_of problem) in
-    let all = numbers_fit problem is in
-    let fit : NumeralsFit sizes = (all.0, (all.1.0, tt)) in
-    let written : IsInstance limits (as_written OrLib problem) =
-    record { within = is.within; seed = omega arith; upper = omega arith; lower = omega arith } in
-    let rows = rows_are OrLib (as_written OrLib problem) written (below problem.shop.jobs) in
-    file_is OrLib (as_written OrLib problem) written _
-    (rw (append_assoc (with_line_end (title OrLib)) (with_line_end (spaced sizes)))
-    (more_lines _ _ refl (more_lines _ _ (no_line_end sizes fit) rows)))
-    (block_is OrLib (as_written OrLib problem) written (title OrLib) sizes [] (problem.shop.jobs - 1)
-    (omega (arith, is.within.sizes.some_job)) (omega (arith, is.within.sizes.some_machine)) refl fit (omega arith)
-    refl refl refl)
+    file_is OrLib problem is (problem.shop.jobs - 1) (omega (arith, is.within.sizes.some_job))
+    (omega (arith, is.within.sizes.some_machine)) refl refl refl (λ text. more_lines _ text refl refl) (λ text. refl)

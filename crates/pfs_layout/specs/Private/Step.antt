@@ -16,8 +16,8 @@ use Rattle.pfs_layout.specs.declared.body.Due.{Due}
 use Rattle.pfs_layout.specs.declared.blocks.Phase.{Phase}
 use Rattle.pfs_layout.specs.declared.blocks.Blocks.{Blocks}
 use Rattle.pfs_layout.specs.Lines.{is_digit, is_blank, is_line_end, ended_lines}
-use Rattle.pfs_layout.specs.Block.{Layout, Size, is_within_limits, problem_of, sized, numbers_for, times_in, is_due}
-use Rattle.pfs_layout.specs.Block.{due_by, stand}
+use Rattle.pfs_layout.specs.Block.{Layout, Size, preamble_of, is_within_limits, problem_of, size_from, numbers_for}
+use Rattle.pfs_layout.specs.Block.{times_in, is_due, due_by, stand}
 use Rattle.pfs_layout.specs.Rejection.{LayoutFault, fault_of_due}
 use Rattle.pfs_layout.specs.Reader.{EndsWantedSize, Fields, FollowsLine, HasRead, is_live}
 
@@ -50,12 +50,8 @@ abbrev pub no_numbers : SizeLine
 no_numbers = record { count = 0; values = replicate 5 0 }
 
 -- the size that the numbers state, if their count is that of the layout
-abbrev pub stated_by : Layout → SizeLine → Option Size
-stated_by Layout.Taillard line = then_some (line.count == 5)
-    (sized (slice_index line.values 0) (slice_index line.values 1) (slice_index line.values 2)
-    (slice_index line.values 3) (slice_index line.values 4))
-stated_by Layout.OrLib line =
-    then_some (line.count == 2) (sized (slice_index line.values 0) (slice_index line.values 1) 0 0 0)
+unfoldable pub stated_by : Layout → SizeLine → Option Size
+stated_by layout line = then_some (line.count == (preamble_of layout).size_numbers) (size_from line.values)
 
 -- ---- the body of a block
 

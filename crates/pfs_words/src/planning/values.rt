@@ -66,10 +66,8 @@ pub(super) fn number_in_if(matches: &ArgMatches<'_>, id: &str) -> Option<usize>
     requires { MayHaveNumber matches.now id.now }
     ensures { SaysMaybeNumber (rows_of (found_of matches.now)) id.now result }
 {
-    match text_if(matches, id) {
-        Some(text) => Some(text.parse().unwrap()),
-        None => None,
-    }
+    let text = text_if(matches, id)?;
+    Some(text.parse().unwrap())
 }
 
 /// Returns whether a flag was used.

@@ -63,10 +63,10 @@ loop-machine-preserved c =
     let machine = c.loop-machine.machine in
     let at = (goal.at.loop-machine-preserved c).After-from in
     record {
-      starts = rw c.add.ensures.items (entry_added (least_start shop order) shop.machines row machine _
+      starts = rw c.push_reserved.ensures.items (entry_added (least_start shop order) shop.machines row machine _
           c.loop-machine.starts.items c.loop-machine.invariant.starts (starts_at at));
-      ends = rw c.add-in-loop-machine.ensures.items (entry_added (least_end shop order) shop.machines row machine _
-          c.loop-machine.ends.items c.loop-machine.invariant.ends (ends_at at));
+      ends = rw c.push_reserved-in-loop-machine.ensures.items (entry_added (least_end shop order) shop.machines row
+          machine _ c.loop-machine.ends.items c.loop-machine.invariant.ends (ends_at at));
       room_of_starts = omega arith;
       room_of_ends = omega arith;
       kept_starts = omega arith;

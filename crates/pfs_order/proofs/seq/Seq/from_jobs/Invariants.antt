@@ -1,4 +1,4 @@
-use Rattle.std.proofs.Common.{◌≡◌, ◌≤◌, take, length, vec_capacity}
+use Rattle.std.proofs.Common.{◌≡◌, ◌≤◌, take, vec_capacity}
 use Rattle.pfs_order.proofs.seq.Seq.from_jobs.Given as goal
 
 abbrev pub invariant-loop-job : goal.invariant-loop-job
