@@ -1,6 +1,6 @@
 """Computations over a bench are inlined where the bench is a value, so that its count stays in a register. In a
 function that is called, each cell of a table would read and write the count in memory. The loops of a wavefront are
-separate functions, which call nothing, or `memset` for each block of steps. Those of up to 24 lanes of 16 bits keep no
+separate functions, which call nothing, or `memset` for each block of steps. Those of up to 16 lanes of 16 bits keep no
 lanes on the stack."""
 import re
 import subprocess
@@ -59,7 +59,8 @@ def test_a_loop_of_a_wavefront_calls_nothing(pfs: Program, loop: str) -> None:
 
 @pytest.mark.parametrize("loop", ["times::fill_times", "kernels::fill_tails", "kernels::fill_sums"])
 def test_a_loop_of_a_wavefront_stays_in_registers(pfs: Program, loop: str) -> None:
-    """Three widths of 16 bits have at most 24 lanes. A program without symbols can't be tested and passes."""
+    """Those with 8 and 16 lanes of 16 bits and with 8 lanes of 32 do. The sums of 24 lanes of 16 bits keep only two
+    bands of the job's times on the stack. A program without symbols can't be tested and passes."""
     functions = loops(pfs, loop)
     if functions is None:
         return
