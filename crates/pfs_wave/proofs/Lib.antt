@@ -1,8 +1,5 @@
-pub mod AllTails
 pub mod BandSteps
 pub mod BestFound
-pub mod BlockSums
-pub mod BlockTails
 pub mod CappedLeast
 pub mod EightLanes
 pub mod FilledSteps
@@ -19,7 +16,10 @@ pub mod SmallLanes
 pub mod Steps
 pub mod PaddedTables
 pub mod PastRows
+pub mod PutParts
 pub mod TakenSteps
 pub mod VectorLemmas
 pub mod WavefrontLaws
 pub mod WideRows
+pub mod WideSums
+pub mod WideTails

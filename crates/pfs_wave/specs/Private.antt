@@ -1,6 +1,6 @@
 pub mod Blending
-pub mod Blocks
 pub mod HeldRows
 pub mod SkewedBand
 pub mod ShopTimes
 pub mod WideRows
+pub mod WideSteps

@@ -4,10 +4,10 @@ ghost use Rattle.std.proofs.Common.{arith, ◌∙◌};
 ghost use Rattle.std.proofs.lemmas.List.{length-append};
 
 use crate::band::Band;
-use crate::blocks::Front;
 use crate::kernels::{fill_sums, fill_tails};
 use crate::lanes::Lanes;
 use crate::whole_row::{Part, WholeRow};
+use crate::wide_steps::Front;
 
 /// The lanes of `a`, and after them those of `b`.
 #[derive(Drop)]
@@ -151,7 +151,7 @@ impl<A: Part, B: Part<Band = A::Band>> Lanes for Joined<A, B> {
     }
 
     #[inline(always)]
-    fn fill_tails(times: &[Joined<A, B>], tails: &mut [Joined<A, B>], _work: &mut [A::Band]) {
+    fn fill_tails(times: &[Joined<A, B>], tails: &mut [Joined<A, B>]) {
         fill_tails(times, tails);
     }
 
@@ -161,7 +161,7 @@ impl<A: Part, B: Part<Band = A::Band>> Lanes for Joined<A, B> {
         tails: &[Joined<A, B>],
         job: &Joined<A, B>,
         sums: &mut [<A::Band as Band>::Number],
-        _work: &mut [Front<A::Band>],
+        _fronts: &mut [Front<A::Band>],
     ) -> Joined<A, B> {
         fill_sums(times, tails, job, sums)
     }

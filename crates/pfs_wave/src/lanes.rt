@@ -4,7 +4,7 @@ ghost use Rattle.std.specs.List.{slice_index_or};
 ghost use Rattle.pfs_wave.specs.Lanes.{zeros, rows_of, tails_at, sums_at};
 
 use crate::band::Band;
-use crate::blocks::Front;
+use crate::wide_steps::Front;
 
 /// A row of lanes, in bands of eight, and the two passes of an insertion over one such row for each step. Sums stop at
 /// the greatest value of a lane.
@@ -39,32 +39,30 @@ pub trait Lanes: Drop {
         ensures { lanes self.new
             ≡ take (8 * band) (lanes self.old) ++ (Self.Band.lanes values ++ drop (8 * band + 8) (lanes self.old)) };
 
-    /// Fills the tails of all steps, from the last step to the first. Rows of bands overwrite `work`.
-    fn fill_tails(times: &[Self], tails: &mut [Self], work: &mut [Self::Band])
+    /// Fills the tails of all steps, from the last step to the first.
+    fn fill_tails(times: &[Self], tails: &mut [Self])
         requires small { length times.now < 2 ^ 32 }
         requires steps { length tails.old ≡ length times.now }
-        requires work { 8 * length work.old ≡ 256 + WIDTH }
         ensures steps { length tails.new ≡ length times.now }
-        ensures work { length work.new ≡ length work.old }
         ensures tails { (step : ℕ) → step < length times.now → rows_of (map lanes tails.new) step
             ≡ tails_at Self.Band.CAP (rows_of (map lanes times.now)) WIDTH (length times.now)
             (length times.now - step) };
 
     /// Computes the heads, the inserted rows and the sums of all steps, and keeps the last sum of each step. It returns
-    /// the sums after the last step. Rows of bands overwrite `work`.
+    /// the sums after the last step. Wide rows overwrite `fronts`.
     fn fill_sums(
         times: &[Self],
         tails: &[Self],
         job: &Self,
         sums: &mut [<Self::Band as Band>::Number],
-        work: &mut [Front<Self::Band>],
+        fronts: &mut [Front<Self::Band>],
     ) -> Self
         requires small { length times.now < 2 ^ 32 }
         requires tails { length tails.now ≡ length times.now }
         requires sums { length sums.old ≡ length times.now }
-        requires work { 8 * length work.old ≡ 256 + WIDTH }
+        requires fronts { 8 * length fronts.old ≡ WIDTH }
         ensures steps { length sums.new ≡ length times.now }
-        ensures work { length work.new ≡ length work.old }
+        ensures fronts { length fronts.new ≡ length fronts.old }
         ensures sums { (step : ℕ) → step < length times.now → slice_index_or (map Self.Band.number sums.new) step 0
             ≡ slice_index_or (sums_at Self.Band.CAP (rows_of (map lanes times.now)) (rows_of (map lanes tails.now))
             (lanes job.now) WIDTH (step + 1)) (WIDTH - 1) 0 }

@@ -116,8 +116,7 @@ impl<'a, L: Lanes> LaneBench for MeteredLanes<'a, L> {
         let cells = seq.len() as u64 * machines as u64;
         self.bench.count(cells);
         self.skewed.hold(seq.as_slice());
-        self.skewed
-            .fill_tails(machines, &mut tables.tails, &mut tables.bands);
+        self.skewed.fill_tails(machines, &mut tables.tails);
     }
 
     #[inline(always)]

@@ -3,10 +3,10 @@ ghost use Rattle.std.specs.Prelude.{◌≡◌, ℕ, ◌+◌, ◌-◌, ◌*◌, �
 ghost use Rattle.std.proofs.Common.{arith, refl};
 
 use crate::band::Band;
-use crate::blocks::Front;
 use crate::kernels::{fill_sums, fill_tails};
 use crate::lanes::Lanes;
 use crate::whole_row::WholeRow;
+use crate::wide_steps::Front;
 
 /// Eight lanes, in one band.
 #[derive(Drop)]
@@ -123,7 +123,7 @@ impl<B: Band> Lanes for OneBand<B> {
     }
 
     #[inline(always)]
-    fn fill_tails(times: &[OneBand<B>], tails: &mut [OneBand<B>], _work: &mut [B]) {
+    fn fill_tails(times: &[OneBand<B>], tails: &mut [OneBand<B>]) {
         fill_tails(times, tails);
     }
 
@@ -133,7 +133,7 @@ impl<B: Band> Lanes for OneBand<B> {
         tails: &[OneBand<B>],
         job: &OneBand<B>,
         sums: &mut [B::Number],
-        _work: &mut [Front<B>],
+        _fronts: &mut [Front<B>],
     ) -> OneBand<B> {
         fill_sums(times, tails, job, sums)
     }

@@ -9,24 +9,22 @@ ghost use Rattle.pfs_wave.specs.Lanes.{rows_of};
 ghost use Rattle.pfs_wave.specs.Wavefront.{AreSkewed, FitsLanes, HoldTails, IsJobRow, step_count};
 
 use crate::band::Band;
-use crate::blocks::Front;
 use crate::lanes::Lanes;
 use crate::least::Found;
+use crate::wide_steps::Front;
 
 /// Fills the tails of a sequence from its skewed times.
 #[inline(always)]
-pub(crate) fn fill_front<L: Lanes>(times: &[L], tails: &mut [L], work: &mut [L::Band])
+pub(crate) fn fill_front<L: Lanes>(times: &[L], tails: &mut [L])
     requires small { length times.now < 2 ^ 32 }
     requires tails { length times.now ≤ length tails.old }
-    requires work { 8 * length work.old ≡ 256 + L.WIDTH }
     ensures tails { length tails.new ≡ length tails.old }
-    ensures work { length work.new ≡ length work.old }
     ensures filled { (shop : FlowShop) (jobs : List ℕ) → FitsLanes shop L.WIDTH
         → AreSkewed shop jobs L.WIDTH (rows_of (map L.lanes times.now))
         → length times.now ≡ step_count shop jobs
         → HoldTails L.Band.CAP shop jobs L.WIDTH (rows_of (map L.lanes tails.new)) }
 {
-    L::fill_tails(times, &mut tails[..times.len()], work);
+    L::fill_tails(times, &mut tails[..times.len()]);
 }
 
 // Writes a row from its last lane to its first. The sums of the last places have not come to the last lane after all
@@ -53,7 +51,7 @@ pub(crate) fn best_place<L: Lanes>(
     job: &L,
     machines: usize,
     sums: &mut [<L::Band as Band>::Number],
-    work: &mut [Front<L::Band>],
+    fronts: &mut [Front<L::Band>],
 ) -> Found
     requires some { 1 ≤ machines }
     requires few { machines ≤ L.WIDTH }
@@ -61,9 +59,9 @@ pub(crate) fn best_place<L: Lanes>(
     requires small { length times.now ≤ 2 ^ 16 }
     requires tails { length times.now ≤ length tails.now }
     requires sums { length times.now + L.WIDTH ≤ length sums.old + 1 }
-    requires work { 8 * length work.old ≡ 256 + L.WIDTH }
+    requires fronts { 8 * length fronts.old ≡ L.WIDTH }
     ensures sums { length sums.new ≡ length sums.old }
-    ensures work { length work.new ≡ length work.old }
+    ensures fronts { length fronts.new ≡ length fronts.old }
     ensures best { (shop : FlowShop) (jobs : List ℕ) (inserted : ℕ) → FitsLanes shop L.WIDTH
         → shop.machines ≡ machines
         → AreSkewed shop jobs L.WIDTH (rows_of (map L.lanes times.now))
@@ -73,7 +71,7 @@ pub(crate) fn best_place<L: Lanes>(
         → IsBestPlace shop jobs inserted result.place result.sum }
 {
     let steps = times.len();
-    let row = L::fill_sums(times, &tails[..steps], job, &mut sums[..steps], work);
+    let row = L::fill_sums(times, &tails[..steps], job, &mut sums[..steps], fronts);
     write_reversed(&row, &mut sums[steps - 1..steps - 1 + L::WIDTH]);
     L::Band::first_least(&sums[L::WIDTH - 1..steps - machines + L::WIDTH])
 }

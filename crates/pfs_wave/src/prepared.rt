@@ -113,7 +113,7 @@ fn best_in_tables<L: Lanes>(
     ensures tables { tables.new.jobs ≡ tables.old.jobs }
 {
     skewed.hold(sequence);
-    skewed.fill_tails(machines, &mut tables.tails, &mut tables.bands);
+    skewed.fill_tails(machines, &mut tables.tails);
     let found = skewed.best_place(
         job,
         machines,

@@ -9,7 +9,6 @@ ghost use Rattle.pfs_wave.specs.Wavefront.{AreSkewed, FitsLanes, HasRows, HoldTa
 ghost use Rattle.pfs_wave.specs.Private.HeldRows.{HeldTimes, IsHolding};
 
 use crate::band::Band;
-use crate::blocks::Front;
 use crate::changes::{kept_rows, write_rows};
 use crate::lanes::Lanes;
 use crate::least::Found;
@@ -17,6 +16,7 @@ use crate::passes::{best_place, fill_front};
 use crate::rows::shop_rows;
 use crate::tables::rows_of_zeros;
 use crate::times::{Changed, fill_times, move_back};
+use crate::wide_steps::Front;
 use pfs_base::{Instance, MOST_JOBS};
 use std::alloc::{AllocError, Global};
 use std::marker::Model;
@@ -99,17 +99,15 @@ impl<L: Lanes> SkewedTimes<L> {
 
     /// Fills the tails of the sequence, for a shop of this number of machines.
     #[inline(always)]
-    pub fn fill_tails(&self, machines: usize, tails: &mut [L], work: &mut [L::Band])
+    pub fn fill_tails(&self, machines: usize, tails: &mut [L])
         requires machines { machines ≤ L.WIDTH }
         requires tails { length self.now.jobs + L.WIDTH ≤ length tails.old }
-        requires work { 8 * length work.old ≡ 256 + L.WIDTH }
         ensures length { length tails.new ≡ length tails.old }
-        ensures work { length work.new ≡ length work.old }
         ensures tails { (shop : FlowShop) → FitsLanes shop L.WIDTH → shop.machines ≡ machines
             → HasRows shop L.WIDTH self.now.rows
             → HoldTails L.Band.CAP shop self.now.jobs L.WIDTH (rows_of (map L.lanes tails.new)) }
     {
-        fill_front(self.times(machines), tails, work);
+        fill_front(self.times(machines), tails);
     }
 
     /// The best place of a job in the sequence, and the makespan with the job there, for a shop of this number of
@@ -121,16 +119,16 @@ impl<L: Lanes> SkewedTimes<L> {
         machines: usize,
         tails: &[L],
         sums: &mut [<L::Band as Band>::Number],
-        work: &mut [Front<L::Band>],
+        fronts: &mut [Front<L::Band>],
     ) -> Found
         requires job { job < length self.now.rows }
         requires some { 1 ≤ machines }
         requires machines { machines ≤ L.WIDTH }
         requires tails { length self.now.jobs + L.WIDTH ≤ length tails.now }
         requires sums { length self.now.jobs + 2 * L.WIDTH ≤ length sums.old }
-        requires work { 8 * length work.old ≡ 256 + L.WIDTH }
+        requires fronts { 8 * length fronts.old ≡ L.WIDTH }
         ensures length { length sums.new ≡ length sums.old }
-        ensures work { length work.new ≡ length work.old }
+        ensures fronts { length fronts.new ≡ length fronts.old }
         ensures best { (shop : FlowShop) → FitsLanes shop L.WIDTH → shop.machines ≡ machines
             → HasRows shop L.WIDTH self.now.rows → job < shop.jobs
             → HoldTails L.Band.CAP shop self.now.jobs L.WIDTH (rows_of (map L.lanes tails.now))
@@ -143,7 +141,7 @@ impl<L: Lanes> SkewedTimes<L> {
             &self.rows[job],
             machines,
             sums,
-            work,
+            fronts,
         )
     }
 }

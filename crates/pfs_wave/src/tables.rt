@@ -4,8 +4,8 @@ ghost use Rattle.pfs_wave.specs.Lanes.{zeros};
 ghost use Rattle.pfs_wave.specs.Tables.{WaveTables};
 
 use crate::band::Band;
-use crate::blocks::{BLOCK, Front};
 use crate::lanes::Lanes;
+use crate::wide_steps::Front;
 use pfs_base::MOST_JOBS;
 use std::alloc::{AllocError, Global};
 use std::marker::Model;
@@ -17,8 +17,7 @@ pub struct Tables<L: Lanes> {
     pub(crate) jobs: usize,
     pub(crate) tails: Vec<L>,
     pub(crate) sums: Vec<<L::Band as Band>::Number>,
-    // Room for the passes over wide rows.
-    pub(crate) bands: Vec<L::Band>,
+    // A front for each band of a row, for the passes over wide rows.
     pub(crate) fronts: Vec<Front<L::Band>>,
 }
 
@@ -38,13 +37,12 @@ impl<L: Lanes> Model for Tables<L> {
       few : a.jobs ≤ MOST_JOBS;
       tails : length a.tails.items ≡ a.jobs + L.WIDTH;
       sums : length a.sums.items ≡ a.jobs + 2 * L.WIDTH;
-      bands : 8 * length a.bands.items ≡ 256 + L.WIDTH;
-      fronts : 8 * length a.fronts.items ≡ 256 + L.WIDTH;
+      fronts : 8 * length a.fronts.items ≡ L.WIDTH;
     } };
 }
 
 impl<L: Lanes> Tables<L> {
-    /// Tables of zeros for shops of this number of jobs. It reserves four vectors, and returns `AllocError` where that
+    /// Tables of zeros for shops of this number of jobs. It reserves three vectors, and returns `AllocError` where that
     /// fails.
     pub fn new(alloc: Global, jobs: usize) -> Result<Tables<L>, AllocError>
         requires { jobs ≤ MOST_JOBS }
@@ -55,18 +53,14 @@ impl<L: Lanes> Tables<L> {
         let mut sums = Vec::new(alloc);
         sums.reserve_exact(steps + L::WIDTH)?;
         sums.resize(steps + L::WIDTH, L::Band::nothing())?;
-        let room = BLOCK + L::WIDTH / 8;
-        let mut bands = Vec::new(alloc);
-        bands.reserve_exact(room)?;
-        bands.resize(room, L::Band::zeros())?;
+        let bands = L::WIDTH / 8;
         let mut fronts = Vec::new(alloc);
-        fronts.reserve_exact(room)?;
-        fronts.resize(room, Front::none())?;
+        fronts.reserve_exact(bands)?;
+        fronts.resize(bands, Front::none())?;
         Ok(Tables {
             jobs,
             tails,
             sums,
-            bands,
             fronts,
         })
     }

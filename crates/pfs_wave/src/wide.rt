@@ -4,9 +4,9 @@ ghost use Rattle.std.proofs.Common.{arith};
 ghost use Rattle.pfs_wave.specs.Private.WideRows.{all_lanes, row_wide};
 
 use crate::band::Band;
-use crate::blocks::{Bands, Front, fill_sums, fill_tails};
 use crate::lanes::Lanes;
 use crate::long::Long;
+use crate::wide_steps::{Bands, Front, fill_sums, fill_tails};
 
 /// A number of bands that a wide row may have.
 pub trait BandCount<const N: usize> {
@@ -30,7 +30,7 @@ impl BandCount<26> for Counts {
     ghost few = { Prim.omega arith };
 }
 
-/// `N` bands of eight lanes of 32 bits. The passes compute a block of steps at a time, one band after the other.
+/// `N` bands of eight lanes of 32 bits. In each step the passes compute one band after the other.
 #[derive(Drop)]
 pub struct Wide<const N: usize> {
     bands: [Long; N],
@@ -47,9 +47,13 @@ where
 
     ghost WIDTH = { 8 * N };
 
+    const WIDTH: usize = 8 * N;
+
     ghost wide = { λ row. row_wide ⟦<Long as Band>⟧.lanes (λ band. band.eight) N row.bands row.count };
 
     ghost some = { Prim.omega arith };
+
+    ghost whole = { Prim.omega arith };
 
     #[inline(always)]
     fn none() -> Wide<N> {
@@ -110,8 +114,8 @@ where
     }
 
     #[inline(always)]
-    fn fill_tails(times: &[Wide<N>], tails: &mut [Wide<N>], work: &mut [Long]) {
-        fill_tails(times, tails, work);
+    fn fill_tails(times: &[Wide<N>], tails: &mut [Wide<N>]) {
+        fill_tails(times, tails);
     }
 
     #[inline(always)]
@@ -120,8 +124,8 @@ where
         tails: &[Wide<N>],
         job: &Wide<N>,
         sums: &mut [u32],
-        work: &mut [Front<Long>],
+        fronts: &mut [Front<Long>],
     ) -> Wide<N> {
-        fill_sums(times, tails, job, sums, work)
+        fill_sums(times, tails, job, sums, fronts)
     }
 }

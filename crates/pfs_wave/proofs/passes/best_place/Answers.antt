@@ -4,7 +4,7 @@ use Rattle.std.proofs.lemmas.List.{length-drop, length-take-le, length-append, l
 use Rattle.std.proofs.lemmas.List.{get_or_append_left}
 use borrow.Rule.Slice.PartMut.{put_mid}
 use Rattle.pfs_wave.specs.Lanes.{rows_of, sums_at}
-use Rattle.pfs_wave.proofs.AllTails.{put_inside, put_before, put_long}
+use Rattle.pfs_wave.proofs.PutParts.{put_inside, put_before, put_long}
 use Rattle.pfs_wave.proofs.TakenSteps.{same_tails, taken_rows}
 use Rattle.pfs_wave.proofs.BestFound.{found, number_of_part}
 use Rattle.pfs_wave.proofs.passes.best_place.Goals as goal

@@ -1,7 +1,7 @@
 use Rattle.std.proofs.Common.{inl, inr, ◌≡◌, ◌+◌, ◌-◌, ◌*◌, ◌<◌, ◌≤◌, length, map, drop, get_or, ap, ◌∙◌, arith}
 use Rattle.std.proofs.lemmas.Bool.{cases_lt}
 use Rattle.std.proofs.lemmas.List.{get_or-take, get_or-drop, length-take-le, length-drop}
-use Rattle.pfs_wave.proofs.AllTails.{put_inside, put_after, put_long}
+use Rattle.pfs_wave.proofs.PutParts.{put_inside, put_after, put_long}
 use Rattle.pfs_wave.proofs.passes.write_reversed.Goals as goal
 
 pub loop-band-preserved : goal.loop-band-preserved

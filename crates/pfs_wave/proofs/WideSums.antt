@@ -1,18 +1,15 @@
--- A block of heads, inserted rows and sums, one band after the other.
+-- The heads, the inserted rows and the sums of a step, one band after the other.
 use Rattle.std.proofs.Common.{inl, inr, ◌≡◌, ℕ, zero, suc, ◌+◌, ◌-◌, ◌*◌, ◌<◌, ◌≤◌, List, [], ◌∷◌, max, length}
 use Rattle.std.proofs.Common.{take, drop, map, get_or, refl, ap, ◌∙◌, sym, arith, add-one, slice_set, subst}
 use Rattle.std.specs.Simd.Lanes.{zip2}
 use Rattle.std.proofs.lemmas.Bool.{cases_lt}
 use Rattle.std.proofs.lemmas.List.{get_or-set_same, get_or-set_other, length-set, length-map, map-set, get_or-take, get_or-drop}
-use Rattle.std.proofs.lemmas.List.{take-map, drop-map, map-append, length-take-le, length-drop, get_or_append_left}
-use Rattle.std.proofs.lemmas.List.{get_or-append_right, take-replicate, drop-replicate}
-use Rattle.std.proofs.lemmas.Slice.{take-put_mid}
-use borrow.Rule.Slice.PartMut.{put_mid}
+use Rattle.std.proofs.lemmas.List.{take-replicate, drop-replicate}
 use Rattle.pfs_wave.specs.Lanes.{rows_of, capped_add, heads_step, sums_step, zeros}
 use Rattle.pfs_wave.specs.Private.SkewedBand.{eight_from}
-use Rattle.pfs_wave.specs.Private.Blocks.{WavePass, AreWide, IsStepBlock, IsBandAfter, IsCarry, AreCarries, heads_after, inserted_after}
-use Rattle.pfs_wave.specs.Private.Blocks.{sums_after}
-use Rattle.pfs_wave.specs.declared.blocks.Front.{Front}
+use Rattle.pfs_wave.specs.Private.WideSteps.{WavePass, AreWide, IsBandAfter, IsCarry, AreFronts, heads_after, inserted_after}
+use Rattle.pfs_wave.specs.Private.WideSteps.{sums_after}
+use Rattle.pfs_wave.specs.declared.wide_steps.Front.{Front}
 use Rattle.pfs_wave.proofs.WavefrontLaws.{heads_next, heads_first, inserted_next, inserted_first, sums_next, sums_first}
 use Rattle.pfs_wave.proofs.Steps.{length-zeros, length-heads_step, length-sums_step}
 
@@ -163,63 +160,12 @@ module _ (cap width : ℕ) (pass : WavePass) (wide : AreWide width pass) where
               ∙ ap (eight_from first) (sym (sums_next cap pass.times width pass.tails pass.job step)));
         }
 
--- a band of a block after some of its steps: `carries` has the front of this band before each of these steps, and that
--- of the band before for the other steps
-pub record IsBandSoFar {B N : Type 0} (lanes : B → List ℕ) (cap width : ℕ) (pass : WavePass) (first at count done : ℕ)
-    (now : Front B N) (carries : List (Front B N)) : Type 0 where
-  pub front : IsBandAfter lanes cap width pass first (at + done) now
-  pub carried : AreCarries lanes cap width pass (first + 8) at done carries
-  pub rest : (step : ℕ) (other : Front B N) → done ≤ step → step < count
-      → IsCarry lanes cap width pass first (at + step) (get_or carries step other)
-
-module _ {B N : Type 0} (lanes : B → List ℕ) (cap width : ℕ) (pass : WavePass) (wide : AreWide width pass)
-    (first at count : ℕ) (fits : first + 8 ≤ width) where
-  pub band_none : (front : Front B N) (carries : List (Front B N)) → IsBandAfter lanes cap width pass first at front
-      → AreCarries lanes cap width pass first at count carries
-      → IsBandSoFar lanes cap width pass first at count 0 front carries
-  band_none front carries is are = record {
-    front = subst (λ n. IsBandAfter lanes cap width pass first n front) here is;
-    carried = λ step other lt. absurd (omega arith);
-    rest = λ step other le lt. are step other lt;
-  }
-    where
-      here : at ≡ at + 0
-      here = omega arith
-
-  pub band_more : (done : ℕ) (now new : Front B N) (carries : List (Front B N))
-      → IsBandSoFar lanes cap width pass first at count done now carries → done < count → count ≤ length carries
-      → IsBandAfter lanes cap width pass first (at + (done + 1)) new
-      → IsBandSoFar lanes cap width pass first at count (done + 1) new (slice_set carries done now)
-  band_more done now new carries so_far lt room is = record {
-    front = is;
-    carried = λ step other less.
-        elim (cases_lt step done) [
-          | inl earlier ↦
-              rw (get_or-set_other carries done step now other (omega arith)) (so_far.carried step other earlier)
-          | inr later ↦
-              let e : step ≡ done = omega arith in
-              rw (e, get_or-set_same carries done now other (omega arith))
-              (carry_of cap width pass wide lanes first fits (at + done) now so_far.front)
-        ];
-    rest = λ step other le less.
-        rw (get_or-set_other carries done step now other (omega arith)) (so_far.rest step other (omega arith) less);
-  }
-
 -- fronts of zeros
 abbrev pub AreZeros : {B N : Type 0} → (B → List ℕ) → ℕ → List (Front B N) → Type 0
 AreZeros {B} {N} lanes count carries =
     (step : ℕ) (other : Front B N) → step < count
     → (lanes (get_or carries step other).head ≡ zeros 8) × (lanes (get_or carries step other).inserted ≡ zeros 8)
     × (lanes (get_or carries step other).sum ≡ zeros 8)
-
--- a block after some of its bands
-pub record AreSoFar {B N : Type 0} (lanes : B → List ℕ) (cap width : ℕ) (pass : WavePass) (at count bands : ℕ)
-    (fronts carries : List (Front B N)) : Type 0 where
-  pub done : (band : ℕ) (other : Front B N) → band < bands
-      → IsBandAfter lanes cap width pass (8 * band) (at + count) (get_or fronts band other)
-  pub rest : (band : ℕ) (other : Front B N) → bands ≤ band → band < length fronts
-      → IsBandAfter lanes cap width pass (8 * band) at (get_or fronts band other)
-  pub carried : AreCarries lanes cap width pass (8 * bands) at count carries
 
 module _ {B N : Type 0} (lanes : B → List ℕ) where
   pub zeros_more : (count : ℕ) (new : Front B N) (carries : List (Front B N)) → AreZeros lanes count carries
@@ -234,45 +180,53 @@ module _ {B N : Type 0} (lanes : B → List ℕ) where
             rw (e, get_or-set_same carries count new other room) (head, inserted, sum)
       ]
 
-  module _ (cap width : ℕ) (pass : WavePass) (at count : ℕ) where
-    pub bands_none : (fronts carries : List (Front B N))
-        → ((band : ℕ) (other : Front B N) → band < length fronts
-        → IsBandAfter lanes cap width pass (8 * band) at (get_or fronts band other))
-        → AreZeros lanes count carries → AreSoFar lanes cap width pass at count 0 fronts carries
-    bands_none fronts carries are none = record {
-      done = λ band other lt. absurd (omega arith);
-      rest = λ band other le lt. are band other lt;
-      carried = λ step other lt.
-          let is = none step other lt in
-          record {
-            head = ap (λ l. get_or l 7 0) is.0;
-            inserted = ap (λ l. get_or l 7 0) is.1;
-            sum = ap (λ l. get_or l 7 0) is.2;
-          };
-    }
+-- a step, of which the first bands are done; `carry` is the front of the last of these bands before the step
+pub record AreSoFar {B N : Type 0} (lanes : B → List ℕ) (cap width : ℕ) (pass : WavePass) (step bands : ℕ)
+    (fronts : List (Front B N)) (carry : Front B N) : Type 0 where
+  pub done : (band : ℕ) (other : Front B N) → band < bands
+      → IsBandAfter lanes cap width pass (8 * band) (step + 1) (get_or fronts band other)
+  pub rest : (band : ℕ) (other : Front B N) → bands ≤ band → band < length fronts
+      → IsBandAfter lanes cap width pass (8 * band) step (get_or fronts band other)
+  pub carried : IsCarry lanes cap width pass (8 * bands) step carry
 
-    pub bands_more : (band : ℕ) (new : Front B N) (fronts carries others : List (Front B N))
-        → AreSoFar lanes cap width pass at count band fronts carries → band < length fronts
-        → IsBandAfter lanes cap width pass (8 * band) (at + count) new
-        → AreCarries lanes cap width pass (8 * band + 8) at count others
-        → AreSoFar lanes cap width pass at count (band + 1) (slice_set fronts band new) others
-    bands_more band new fronts carries others so_far lt is are =
-        let long = length-set fronts band new in
-        let next : 8 * band + 8 ≡ 8 * (band + 1) = omega arith in
-        record {
-          done = λ part other less.
-              elim (cases_lt part band) [
-                | inl earlier ↦
-                    rw (get_or-set_other fronts band part new other (omega arith)) (so_far.done part other earlier)
-                | inr later ↦
-                    let e : part ≡ band = omega arith in
-                    rw (e, get_or-set_same fronts band new other lt) is
-              ];
-          rest = λ part other le less.
-              rw (get_or-set_other fronts band part new other (omega arith))
-              (so_far.rest part other (omega arith) (omega arith));
-          carried = subst (λ n. AreCarries lanes cap width pass n at count others) next are;
-        }
+module _ {B N : Type 0} (lanes : B → List ℕ) (cap width : ℕ) (pass : WavePass) (step : ℕ) where
+  pub bands_none : (fronts : List (Front B N)) (carry : Front B N) → AreFronts lanes cap width pass step fronts
+      → lanes carry.head ≡ zeros 8 → lanes carry.inserted ≡ zeros 8 → lanes carry.sum ≡ zeros 8
+      → AreSoFar lanes cap width pass step 0 fronts carry
+  bands_none fronts carry are head inserted sum = record {
+    done = λ band other lt. absurd (omega arith);
+    rest = λ band other le lt. are band other lt;
+    carried = record {
+      head = ap (λ l. get_or l 7 0) head;
+      inserted = ap (λ l. get_or l 7 0) inserted;
+      sum = ap (λ l. get_or l 7 0) sum;
+    };
+  }
+
+  pub bands_more : (band : ℕ) (old new carry : Front B N) (fronts : List (Front B N)) → AreWide width pass
+      → step < pass.steps → 8 * length fronts ≡ width
+      → AreSoFar lanes cap width pass step band fronts carry → band < length fronts
+      → IsBandAfter lanes cap width pass (8 * band) step old
+      → IsBandAfter lanes cap width pass (8 * band) (step + 1) new
+      → AreSoFar lanes cap width pass step (band + 1) (slice_set fronts band new) old
+  bands_more band old new carry fronts wide inside all so_far lt before is =
+      let long = length-set fronts band new in
+      let next : 8 * band + 8 ≡ 8 * (band + 1) = omega arith in
+      record {
+        done = λ part other less.
+            elim (cases_lt part band) [
+              | inl earlier ↦
+                  rw (get_or-set_other fronts band part new other (omega arith)) (so_far.done part other earlier)
+              | inr later ↦
+                  let e : part ≡ band = omega arith in
+                  rw (e, get_or-set_same fronts band new other lt) is
+            ];
+        rest = λ part other le less.
+            rw (get_or-set_other fronts band part new other (omega arith))
+            (so_far.rest part other (omega arith) (omega arith));
+        carried = subst (λ n. IsCarry lanes cap width pass n step old) next
+            (carry_of cap width pass wide lanes (8 * band) (omega arith) step old before);
+      }
 
 -- the pass over tables of these times and tails
 abbrev pub whole_pass : List (List ℕ) → List (List ℕ) → List ℕ → WavePass
@@ -282,36 +236,6 @@ whole_pass times tails job = record {
   tails = rows_of tails;
   job = job;
 }
-
--- numbers written over a part of a list
-pub put_part : {N : Type 0} (number : N → ℕ) (a k n : ℕ) (xs ys : List N) (value : ℕ → ℕ) → a ≤ length xs
-    → n ≡ a + length ys → ((step : ℕ) → step < a → get_or (map number xs) step 0 ≡ value step)
-    → ((step : ℕ) → step < length ys → get_or (map number ys) step 0 ≡ value (a + step))
-    → (step : ℕ) → step < n → get_or (map number (put_mid a k xs ys)) step 0 ≡ value step
-put_part number a k n xs ys value inside is before after step lt =
-    let front = map number (take a xs) in
-    let front_long : length front ≡ a = length-map (take a xs) number ∙ length-take-le a xs inside in
-    let ys_long = length-map ys number in
-    sym (get_or-take n (map number (put_mid a k xs ys)) step 0 lt)
-    ∙ ap (λ l. get_or l step 0) (take-map number n (put_mid a k xs ys)
-    ∙ ap (map number) (take-put_mid a k xs ys n is inside) ∙ map-append number (take a xs) ys)
-    ∙ elim (cases_lt step a) [
-      | inl low ↦
-          get_or_append_left front (map number ys) 0 step (omega arith)
-          ∙ ap (λ l. get_or l step 0) (sym (take-map number a xs)) ∙ get_or-take a (map number xs) step 0 low
-          ∙ before step low
-      | inr high ↦
-          let there : a + (step - a) ≡ step = omega arith in
-          get_or-append_right front (map number ys) a step 0 front_long (omega arith)
-          ∙ after (step - a) (omega arith) ∙ ap value there
-    ]
-
--- the rows of a block
-pub part_rows : {X : Type 0} (lanes : X → List ℕ) (a k : ℕ) (rows : List X) (step : ℕ) → step < k
-    → get_or (map lanes (take k (drop a rows))) step [] ≡ rows_of (map lanes rows) (a + step)
-part_rows lanes a k rows step lt =
-    ap (λ l. get_or l step []) (sym (take-map lanes k (drop a rows)) ∙ ap (take k) (sym (drop-map lanes a rows)))
-    ∙ get_or-take k (drop a (map lanes rows)) step [] lt ∙ get_or-drop a (map lanes rows) step []
 
 module _ {X : Type 0} (lanes : X → List ℕ) (width : ℕ) (wide : (row : X) → length (lanes row) ≡ width) where
   pub rows_wide : (rows : List X) (step : ℕ) → step < length (map lanes rows)
@@ -327,21 +251,6 @@ module _ {X : Type 0} (lanes : X → List ℕ) (width : ℕ) (wide : (row : X) �
       tails = λ step lt. rows_wide tails step (omega (arith, same, length-map times lanes, length-map tails lanes));
       job = wide job;
     }
-
-    pub part_block : (a k : ℕ) → a + k ≤ length times
-        → IsStepBlock width (whole_pass (map lanes times) (map lanes tails) (lanes job)) a
-        (map lanes (take k (drop a times))) (map lanes (take k (drop a tails)))
-    part_block a k inside =
-        let times_long = length-map (take k (drop a times)) lanes in
-        let tails_long = length-map (take k (drop a tails)) lanes in
-        let times_part = length-take-le k (drop a times) (omega (arith, length-drop a times)) in
-        let tails_part = length-take-le k (drop a tails) (omega (arith, length-drop a tails)) in
-        record {
-          wide = pass_wide;
-          inside = omega (arith, times_long, times_part, length-map times lanes);
-          times_are = λ step lt. part_rows lanes a k times step (omega arith);
-          tails_are = λ step lt. part_rows lanes a k tails step (omega arith);
-        }
 
 pub eight_zeros : (width first : ℕ) → first + 8 ≤ width → eight_from first (zeros width) ≡ zeros 8
 eight_zeros width first fits =
@@ -363,11 +272,12 @@ pub lane_last : (row : List ℕ) (width : ℕ) → 1 ≤ width → get_or (0 ∷
 lane_last row zero some = absurd (omega arith)
 lane_last row (suc width) some = ap (λ n. get_or row n 0) {x = width} (omega arith)
 
--- the last sums of a block, from the fronts before each of its steps and the last front after it
-pub block_sums : {B N : Type 0} (lanes : B → List ℕ) (cap width : ℕ) (pass : WavePass) → AreWide width pass
-    → (at count last : ℕ) (front : Front B N) → 8 * last + 8 ≡ width
-    → IsBandAfter lanes cap width pass (8 * last) (at + count) front → at + count ≤ pass.steps
-    → get_or (lanes front.sum) 7 0 ≡ get_or (0 ∷ sums_after cap width pass (at + count)) width 0
-block_sums lanes cap width pass wide at count last front all is inside =
-    (carry_of cap width pass wide lanes (8 * last) (omega arith) (at + count) front is).sum
-    ∙ ap (λ n. get_or (0 ∷ sums_after cap width pass (at + count)) n 0) all
+-- the last sum of a step, from the last front after it
+pub last_sum : {B N : Type 0} (lanes : B → List ℕ) (cap width : ℕ) (pass : WavePass) → AreWide width pass
+    → (step last : ℕ) (front : Front B N) → 8 * last + 8 ≡ width
+    → IsBandAfter lanes cap width pass (8 * last) step front
+    → get_or (lanes front.sum) 7 0 ≡ get_or (sums_after cap width pass step) (width - 1) 0
+last_sum lanes cap width pass wide step last front all is =
+    (carry_of cap width pass wide lanes (8 * last) (omega arith) step front is).sum
+    ∙ ap (λ n. get_or (0 ∷ sums_after cap width pass step) n 0) all
+    ∙ lane_last (sums_after cap width pass step) width (omega arith)

@@ -1,5 +1,5 @@
 use Rattle.pfs_wave.proofs.OneBandLemmas.{heads_one, sums_one}
-use Rattle.pfs_wave.proofs.blocks.Front.next.Goals as goal
+use Rattle.pfs_wave.proofs.wide_steps.Front.next.Goals as goal
 
 pub returns-clause-inserted : goal.returns-clause-inserted
 returns-clause-inserted g c =

@@ -1,6 +1,6 @@
 use Rattle.std.proofs.Common.{ℕ, List, ◌≡◌, ◌*◌, ◌<◌, length, take, get_or}
 use Rattle.pfs_wave.specs.Private.SkewedBand.{eight_from}
-use Rattle.pfs_wave.proofs.blocks.row_of_sums.Given as goal
+use Rattle.pfs_wave.proofs.wide_steps.row_of_sums.Given as goal
 
 -- the bands so far
 abbrev pub invariant-loop-band : goal.invariant-loop-band

@@ -2,7 +2,7 @@ use Rattle.std.proofs.Common.{◌≡◌, ◌+◌, ◌*◌, ◌≤◌, ◌++◌, 
 use Rattle.std.proofs.Math.Seq.{take-add}
 use Rattle.pfs_wave.specs.Private.SkewedBand.{eight_from}
 use Rattle.pfs_wave.proofs.BandSteps.{put_band, put_kept}
-use Rattle.pfs_wave.proofs.blocks.row_of_sums.Goals as goal
+use Rattle.pfs_wave.proofs.wide_steps.row_of_sums.Goals as goal
 
 pub loop-band-preserved : goal.loop-band-preserved
 loop-band-preserved g c sums long are =
