@@ -1,7 +1,7 @@
 """Computations over a bench are inlined where the bench is a value, so that its count stays in a register. In a
 function that is called, each cell of a table would read and write the count in memory. The loops of a wavefront are
-separate functions, which call nothing, or `memset` for each block of steps. Those of up to 16 lanes of 16 bits keep no
-lanes on the stack."""
+separate functions, which call nothing, or for rows of zeros `memset`. Those of up to 16 lanes of 16 bits keep no lanes
+on the stack."""
 import re
 import subprocess
 
@@ -35,10 +35,10 @@ def loops(pfs: Program, loop: str) -> list[str] | None:
     return re.findall(rf"^[0-9a-f]+ <pfs_wave::{loop}\b.*>:\n((?:.+\n)+)", done.stdout, re.MULTILINE)
 
 
-# The numbers of instances of the loops. The program has seven widths with lanes of 16 bits and with lanes of 32; two of
-# the latter are computed in blocks.
-LOOPS = {"times::fill_times": 14, "kernels::fill_tails": 12, "kernels::fill_sums": 12, "blocks::fill_tails": 2,
-         "blocks::fill_sums": 2}
+# The numbers of instances of the loops. The program has seven widths with lanes of 16 bits and with lanes of 32; four of
+# the latter are computed one band after the other.
+LOOPS = {"times::fill_times": 14, "kernels::fill_tails": 10, "kernels::fill_sums": 10, "wide_steps::fill_tails": 4,
+         "wide_steps::fill_sums": 4}
 
 
 @pytest.mark.parametrize("loop", LOOPS)

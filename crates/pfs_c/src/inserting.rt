@@ -15,8 +15,7 @@ use pfs_base::{Instance, MOST_MACHINES};
 use pfs_insert::{HeadsTails, Inserter, Placed};
 use pfs_order::Seq;
 use pfs_wave::{
-    EightBands, FiveBands, Lanes, MeteredLanes, Method, OneBand, Short, ThirteenBands, ThreeBands,
-    TwentySixBands, TwoBands, Wavefront, Wide, Width, method_for,
+    Bits16, Bits32, LaneSize, Lanes, MeteredLanes, Method, Wavefront, Width, method_for,
 };
 use std::alloc::Global;
 
@@ -94,12 +93,12 @@ pub(crate) fn best_place(
     match method_for(instance) {
         Method::HeadsTails => best_by_rows(alloc, instance, sequence, job),
         Method::Wavefront16(width) => {
-            best_in_width::<ThirteenBands<Short>, TwentySixBands<Short>>(
+            best_in_width::<Bits16>(
                 alloc, instance, width, sequence, job,
             )
         }
         Method::Wavefront32(width) => {
-            best_in_width::<Wide<13>, Wide<26>>(alloc, instance, width, sequence, job)
+            best_in_width::<Bits32>(alloc, instance, width, sequence, job)
         }
     }
 }
@@ -134,17 +133,15 @@ pub(crate) fn best_by_rows(
     })
 }
 
-// `best_place` by a wavefront of a given width, with the rows for 104 and 208 lanes.
-fn best_in_width<W: Lanes, X: Lanes<Band = W::Band>>(
+// `best_place` by a wavefront of a given width.
+fn best_in_width<S: LaneSize>(
     alloc: Global,
     instance: &Instance,
     width: Width,
     sequence: &Seq,
     job: usize,
 ) -> Result<Placed<u64>, CallFault>
-    requires wide { W.WIDTH ≡ 104 }
-    requires widest { X.WIDTH ≡ 208 }
-    requires served { IsServed instance.now.shop (lanes_of width) W.Band.CAP }
+    requires served { IsServed instance.now.shop (lanes_of width) S.Band.CAP }
     requires size { sequence.now.size ≡ instance.now.shop.jobs }
     requires job { job < instance.now.shop.jobs }
     requires absent { Contains sequence.now.jobs job → ⊥ }
@@ -153,13 +150,13 @@ fn best_in_width<W: Lanes, X: Lanes<Band = W::Band>>(
     ensures memory { IfErr result (λ why. why ≡ CallFault.Memory) }
 {
     match width {
-        Width::Lanes8 => best_in_lanes::<OneBand<W::Band>>(alloc, instance, sequence, job),
-        Width::Lanes16 => best_in_lanes::<TwoBands<W::Band>>(alloc, instance, sequence, job),
-        Width::Lanes24 => best_in_lanes::<ThreeBands<W::Band>>(alloc, instance, sequence, job),
-        Width::Lanes40 => best_in_lanes::<FiveBands<W::Band>>(alloc, instance, sequence, job),
-        Width::Lanes64 => best_in_lanes::<EightBands<W::Band>>(alloc, instance, sequence, job),
-        Width::Lanes104 => best_in_lanes::<W>(alloc, instance, sequence, job),
-        Width::Lanes208 => best_in_lanes::<X>(alloc, instance, sequence, job),
+        Width::Lanes8 => best_in_lanes::<S::Lanes8>(alloc, instance, sequence, job),
+        Width::Lanes16 => best_in_lanes::<S::Lanes16>(alloc, instance, sequence, job),
+        Width::Lanes24 => best_in_lanes::<S::Lanes24>(alloc, instance, sequence, job),
+        Width::Lanes40 => best_in_lanes::<S::Lanes40>(alloc, instance, sequence, job),
+        Width::Lanes64 => best_in_lanes::<S::Lanes64>(alloc, instance, sequence, job),
+        Width::Lanes104 => best_in_lanes::<S::Lanes104>(alloc, instance, sequence, job),
+        Width::Lanes208 => best_in_lanes::<S::Lanes208>(alloc, instance, sequence, job),
     }
 }
 

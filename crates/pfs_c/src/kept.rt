@@ -37,8 +37,8 @@ pub(crate) enum KeptTables {
     Long8(Box<PreparedLanes<OneBand<Long>>>),
     Long16(Box<PreparedLanes<TwoBands<Long>>>),
     Long24(Box<PreparedLanes<ThreeBands<Long>>>),
-    Long40(Box<PreparedLanes<FiveBands<Long>>>),
-    Long64(Box<PreparedLanes<EightBands<Long>>>),
+    Long40(Box<PreparedLanes<Wide<5>>>),
+    Long64(Box<PreparedLanes<Wide<8>>>),
     Long104(Box<PreparedLanes<Wide<13>>>),
     Long208(Box<PreparedLanes<Wide<26>>>),
 }

@@ -13,8 +13,7 @@ use pfs_base::{Bench, Instance, Length, MOST_PASSES};
 use pfs_insert::{HeadsTails, Inserter};
 use pfs_order::Seq;
 use pfs_wave::{
-    EightBands, FiveBands, Lanes, MeteredLanes, Method, OneBand, Short, ThirteenBands, ThreeBands,
-    TwentySixBands, TwoBands, Wavefront, Wide, Width, method_for,
+    Bits16, Bits32, LaneSize, Lanes, MeteredLanes, Method, Wavefront, Width, method_for,
 };
 use std::alloc::Global;
 
@@ -39,11 +38,11 @@ pub(crate) fn make_visits(
     match method_for(instance) {
         Method::HeadsTails => visit_by_rows(alloc, instance, seq, list, passes),
         Method::Wavefront16(width) => {
-            visit_in_width::<ThirteenBands<Short>, TwentySixBands<Short>>(
+            visit_in_width::<Bits16>(
                 alloc, instance, width, seq, list, passes,
             )
         }
-        Method::Wavefront32(width) => visit_in_width::<Wide<13>, Wide<26>>(
+        Method::Wavefront32(width) => visit_in_width::<Bits32>(
             alloc, instance, width, seq, list, passes,
         ),
     }
@@ -75,8 +74,8 @@ fn visit_by_rows(
     }
 }
 
-// What `make_visits` does, by a wavefront of a given width, with the rows for 104 and 208 lanes.
-fn visit_in_width<W: Lanes, X: Lanes<Band = W::Band>>(
+// What `make_visits` does, by a wavefront of a given width.
+fn visit_in_width<S: LaneSize>(
     alloc: Global,
     instance: &Instance,
     width: Width,
@@ -84,9 +83,7 @@ fn visit_in_width<W: Lanes, X: Lanes<Band = W::Band>>(
     list: &[u32],
     passes: u32,
 ) -> Result<Option<u64>, CallFault>
-    requires wide { W.WIDTH ≡ 104 }
-    requires widest { X.WIDTH ≡ 208 }
-    requires served { IsServed instance.now.shop (lanes_of width) W.Band.CAP }
+    requires served { IsServed instance.now.shop (lanes_of width) S.Band.CAP }
     requires size { seq.old.size ≡ instance.now.shop.jobs }
     requires jobs { All (λ job. job < instance.now.shop.jobs) list.now }
     requires few { length list.now ≤ instance.now.shop.jobs }
@@ -96,13 +93,13 @@ fn visit_in_width<W: Lanes, X: Lanes<Band = W::Band>>(
     ensures memory { IfErr result (λ why. why ≡ CallFault.Memory) }
 {
     match width {
-        Width::Lanes8 => visit_in_lanes::<OneBand<W::Band>>(alloc, instance, seq, list, passes),
-        Width::Lanes16 => visit_in_lanes::<TwoBands<W::Band>>(alloc, instance, seq, list, passes),
-        Width::Lanes24 => visit_in_lanes::<ThreeBands<W::Band>>(alloc, instance, seq, list, passes),
-        Width::Lanes40 => visit_in_lanes::<FiveBands<W::Band>>(alloc, instance, seq, list, passes),
-        Width::Lanes64 => visit_in_lanes::<EightBands<W::Band>>(alloc, instance, seq, list, passes),
-        Width::Lanes104 => visit_in_lanes::<W>(alloc, instance, seq, list, passes),
-        Width::Lanes208 => visit_in_lanes::<X>(alloc, instance, seq, list, passes),
+        Width::Lanes8 => visit_in_lanes::<S::Lanes8>(alloc, instance, seq, list, passes),
+        Width::Lanes16 => visit_in_lanes::<S::Lanes16>(alloc, instance, seq, list, passes),
+        Width::Lanes24 => visit_in_lanes::<S::Lanes24>(alloc, instance, seq, list, passes),
+        Width::Lanes40 => visit_in_lanes::<S::Lanes40>(alloc, instance, seq, list, passes),
+        Width::Lanes64 => visit_in_lanes::<S::Lanes64>(alloc, instance, seq, list, passes),
+        Width::Lanes104 => visit_in_lanes::<S::Lanes104>(alloc, instance, seq, list, passes),
+        Width::Lanes208 => visit_in_lanes::<S::Lanes208>(alloc, instance, seq, list, passes),
     }
 }
 

@@ -9,8 +9,7 @@ use pfs_insert::{HeadsTails, Inserter};
 use pfs_order::Seq;
 use pfs_tests::shops::shop;
 use pfs_wave::{
-    Band, EightBands, FiveBands, Lanes, Long, MeteredLanes, OneBand, Short, ThirteenBands,
-    ThreeBands, TwentySixBands, TwoBands, Wavefront, Wide, Width, is_served, method_for,
+    Band, Bits16, Bits32, LaneSize, Lanes, MeteredLanes, Wavefront, Width, is_served, method_for,
 };
 
 /// Inserts the jobs of a shop into a sequence in the order of their numbers, each at its best place. The arguments are
@@ -21,50 +20,32 @@ pub(crate) fn wavefronts_call(rt: &HostRuntime, words: &[String]) -> Result<(), 
     let times = numbers(rt, words, 2)?;
     let instance = shop(rt.alloc(), number(words, 0)?, number(words, 1)?, &times)?;
     println!(rt; "{:?}", method_for(&instance))?;
-    insert_in_widths::<Short>(rt, &instance)?;
-    insert_in_short_rows(rt, &instance)?;
-    insert_in_widths::<Long>(rt, &instance)?;
-    insert_in_long_rows(rt, &instance)
+    insert_in_widths::<Bits16>(rt, &instance)?;
+    insert_in_widths::<Bits32>(rt, &instance)
 }
 
-// Inserts all jobs with each width of at most 64 lanes that serves the shop.
-fn insert_in_widths<B: Band>(rt: &HostRuntime, instance: &Instance) -> Result<(), Stop> {
-    if is_served(instance, Width::Lanes8, B::CAP) {
-        insert_all::<OneBand<B>>(rt, instance)?;
+// Inserts all jobs with each width that serves the shop.
+fn insert_in_widths<S: LaneSize>(rt: &HostRuntime, instance: &Instance) -> Result<(), Stop> {
+    if is_served(instance, Width::Lanes8, S::Band::CAP) {
+        insert_all::<S::Lanes8>(rt, instance)?;
     }
-    if is_served(instance, Width::Lanes16, B::CAP) {
-        insert_all::<TwoBands<B>>(rt, instance)?;
+    if is_served(instance, Width::Lanes16, S::Band::CAP) {
+        insert_all::<S::Lanes16>(rt, instance)?;
     }
-    if is_served(instance, Width::Lanes24, B::CAP) {
-        insert_all::<ThreeBands<B>>(rt, instance)?;
+    if is_served(instance, Width::Lanes24, S::Band::CAP) {
+        insert_all::<S::Lanes24>(rt, instance)?;
     }
-    if is_served(instance, Width::Lanes40, B::CAP) {
-        insert_all::<FiveBands<B>>(rt, instance)?;
+    if is_served(instance, Width::Lanes40, S::Band::CAP) {
+        insert_all::<S::Lanes40>(rt, instance)?;
     }
-    if is_served(instance, Width::Lanes64, B::CAP) {
-        insert_all::<EightBands<B>>(rt, instance)?;
+    if is_served(instance, Width::Lanes64, S::Band::CAP) {
+        insert_all::<S::Lanes64>(rt, instance)?;
     }
-    Ok(())
-}
-
-// Inserts all jobs with 104 and 208 lanes of 16 bits, where they serve the shop.
-fn insert_in_short_rows(rt: &HostRuntime, instance: &Instance) -> Result<(), Stop> {
-    if is_served(instance, Width::Lanes104, Short::CAP) {
-        insert_all::<ThirteenBands<Short>>(rt, instance)?;
+    if is_served(instance, Width::Lanes104, S::Band::CAP) {
+        insert_all::<S::Lanes104>(rt, instance)?;
     }
-    if is_served(instance, Width::Lanes208, Short::CAP) {
-        insert_all::<TwentySixBands<Short>>(rt, instance)?;
-    }
-    Ok(())
-}
-
-// Inserts all jobs with 104 and 208 lanes of 32 bits, where they serve the shop.
-fn insert_in_long_rows(rt: &HostRuntime, instance: &Instance) -> Result<(), Stop> {
-    if is_served(instance, Width::Lanes104, Long::CAP) {
-        insert_all::<Wide<13>>(rt, instance)?;
-    }
-    if is_served(instance, Width::Lanes208, Long::CAP) {
-        insert_all::<Wide<26>>(rt, instance)?;
+    if is_served(instance, Width::Lanes208, S::Band::CAP) {
+        insert_all::<S::Lanes208>(rt, instance)?;
     }
     Ok(())
 }

@@ -1,9 +1,9 @@
 //! The order that a search finds, and the order that some of its rounds find from a given one.
 ghost use Rattle.std.specs.Prelude.{◌≡◌, ◌+◌, ◌<◌, ◌≤◌, ◌^◌, length, IfOk, IfErr};
 ghost use Rattle.pfs_base.specs.Paths.{makespan as makespan_of};
-ghost use Rattle.pfs_wave.specs.Served.{IsServed};
+ghost use Rattle.pfs_wave.specs.Served.{IsServed, lanes_of};
 ghost use Rattle.pfs_search.specs.Solution.{IsFound, IsImproved};
-ghost use Rattle.pfs_search.specs.Private.Steps.{HasLanes, InLimits, IsFoundBy, IsImprovedBy};
+ghost use Rattle.pfs_search.specs.Private.Steps.{InLimits, IsFoundBy, IsImprovedBy};
 ghost use Rattle.pfs_search.specs.Private.Steps.{MayContinue, MayStart, UnlessMemory};
 
 use crate::fault::SearchFault;
@@ -15,8 +15,7 @@ use pfs_base::{Bench, Instance, Length, MOST_PASSES, MOST_ROUNDS, Shop, Span};
 use pfs_insert::{HeadsTails, Inserter};
 use pfs_order::Order;
 use pfs_wave::{
-    EightBands, FiveBands, Lanes, MeteredLanes, Method, OneBand, Short, ThirteenBands, ThreeBands,
-    TwentySixBands, TwoBands, Wavefront, Wide, Width, method_for,
+    Bits16, Bits32, LaneSize, Lanes, MeteredLanes, Method, Wavefront, Width, method_for,
 };
 use rand_core::SeedableRng;
 use rand_pcg::Pcg32;
@@ -64,12 +63,12 @@ pub fn solve(
     match method_for(instance) {
         Method::HeadsTails => solve_by_rows(alloc, instance, rounds),
         Method::Wavefront16(width) => {
-            solve_in_width::<ThirteenBands<Short>, TwentySixBands<Short>>(
+            solve_in_width::<Bits16>(
                 alloc, instance, width, rounds,
             )
         }
         Method::Wavefront32(width) => {
-            solve_in_width::<Wide<13>, Wide<26>>(alloc, instance, width, rounds)
+            solve_in_width::<Bits32>(alloc, instance, width, rounds)
         }
     }
 }
@@ -108,11 +107,11 @@ pub fn improve(
     match method_for(instance) {
         Method::HeadsTails => improve_by_rows(alloc, instance, start, first, rounds),
         Method::Wavefront16(width) => {
-            improve_in_width::<ThirteenBands<Short>, TwentySixBands<Short>>(
+            improve_in_width::<Bits16>(
                 alloc, instance, width, start, first, rounds,
             )
         }
-        Method::Wavefront32(width) => improve_in_width::<Wide<13>, Wide<26>>(
+        Method::Wavefront32(width) => improve_in_width::<Bits32>(
             alloc, instance, width, start, first, rounds,
         ),
     }
@@ -140,26 +139,26 @@ fn solve_by_rows(
     })
 }
 
-// `solve` by a wavefront of a given width, with the rows for 104 and 208 lanes.
-fn solve_in_width<W: Lanes, X: Lanes<Band = W::Band>>(
+// `solve` by a wavefront of a given width.
+fn solve_in_width<S: LaneSize>(
     alloc: Global,
     instance: &Instance,
     width: Width,
     rounds: Rounds,
 ) -> Result<Solution, SearchFault>
-    requires lanes { HasLanes instance.now.shop W.WIDTH X.WIDTH width W.Band.CAP }
+    requires served { IsServed instance.now.shop (lanes_of width) S.Band.CAP }
     requires limits { InLimits instance.now.shop 0 rounds }
     ensures { UnlessMemory result (λ found.
         IsFoundBy instance.now.shop rounds found.order found.makespan found.cells) }
 {
     match width {
-        Width::Lanes8 => solve_in_lanes::<OneBand<W::Band>>(alloc, instance, rounds),
-        Width::Lanes16 => solve_in_lanes::<TwoBands<W::Band>>(alloc, instance, rounds),
-        Width::Lanes24 => solve_in_lanes::<ThreeBands<W::Band>>(alloc, instance, rounds),
-        Width::Lanes40 => solve_in_lanes::<FiveBands<W::Band>>(alloc, instance, rounds),
-        Width::Lanes64 => solve_in_lanes::<EightBands<W::Band>>(alloc, instance, rounds),
-        Width::Lanes104 => solve_in_lanes::<W>(alloc, instance, rounds),
-        Width::Lanes208 => solve_in_lanes::<X>(alloc, instance, rounds),
+        Width::Lanes8 => solve_in_lanes::<S::Lanes8>(alloc, instance, rounds),
+        Width::Lanes16 => solve_in_lanes::<S::Lanes16>(alloc, instance, rounds),
+        Width::Lanes24 => solve_in_lanes::<S::Lanes24>(alloc, instance, rounds),
+        Width::Lanes40 => solve_in_lanes::<S::Lanes40>(alloc, instance, rounds),
+        Width::Lanes64 => solve_in_lanes::<S::Lanes64>(alloc, instance, rounds),
+        Width::Lanes104 => solve_in_lanes::<S::Lanes104>(alloc, instance, rounds),
+        Width::Lanes208 => solve_in_lanes::<S::Lanes208>(alloc, instance, rounds),
     }
 }
 
@@ -212,8 +211,8 @@ fn improve_by_rows(
     })
 }
 
-// `improve` by a wavefront of a given width, with the rows for 104 and 208 lanes, from an order and its makespan.
-fn improve_in_width<W: Lanes, X: Lanes<Band = W::Band>>(
+// `improve` by a wavefront of a given width, from an order and its makespan.
+fn improve_in_width<S: LaneSize>(
     alloc: Global,
     instance: &Instance,
     width: Width,
@@ -221,29 +220,29 @@ fn improve_in_width<W: Lanes, X: Lanes<Band = W::Band>>(
     first: u32,
     rounds: Rounds,
 ) -> Result<Solution, SearchFault>
-    requires lanes { HasLanes instance.now.shop W.WIDTH X.WIDTH width W.Band.CAP }
+    requires served { IsServed instance.now.shop (lanes_of width) S.Band.CAP }
     requires start { MayContinue instance.now.shop start.order start.span first rounds }
     ensures { UnlessMemory result (λ found.
         IsImprovedBy instance.now.shop start.order first rounds found.order found.makespan found.cells) }
 {
     match width {
-        Width::Lanes8 => improve_in_lanes::<OneBand<W::Band>>(
+        Width::Lanes8 => improve_in_lanes::<S::Lanes8>(
             alloc, instance, start, first, rounds,
         ),
-        Width::Lanes16 => improve_in_lanes::<TwoBands<W::Band>>(
+        Width::Lanes16 => improve_in_lanes::<S::Lanes16>(
             alloc, instance, start, first, rounds,
         ),
-        Width::Lanes24 => improve_in_lanes::<ThreeBands<W::Band>>(
+        Width::Lanes24 => improve_in_lanes::<S::Lanes24>(
             alloc, instance, start, first, rounds,
         ),
-        Width::Lanes40 => improve_in_lanes::<FiveBands<W::Band>>(
+        Width::Lanes40 => improve_in_lanes::<S::Lanes40>(
             alloc, instance, start, first, rounds,
         ),
-        Width::Lanes64 => improve_in_lanes::<EightBands<W::Band>>(
+        Width::Lanes64 => improve_in_lanes::<S::Lanes64>(
             alloc, instance, start, first, rounds,
         ),
-        Width::Lanes104 => improve_in_lanes::<W>(alloc, instance, start, first, rounds),
-        Width::Lanes208 => improve_in_lanes::<X>(alloc, instance, start, first, rounds),
+        Width::Lanes104 => improve_in_lanes::<S::Lanes104>(alloc, instance, start, first, rounds),
+        Width::Lanes208 => improve_in_lanes::<S::Lanes208>(alloc, instance, start, first, rounds),
     }
 }
 

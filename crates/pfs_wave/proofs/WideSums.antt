@@ -180,6 +180,32 @@ module _ {B N : Type 0} (lanes : B → List ℕ) where
             rw (e, get_or-set_same carries count new other room) (head, inserted, sum)
       ]
 
+module _ {B N : Type 0} (lanes : B → List ℕ) (cap width : ℕ) (pass : WavePass) (step : ℕ) where
+  -- nothing is carried into the first lane
+  no_carry : (carry : Front B N)
+      → lanes carry.head ≡ zeros 8 → lanes carry.inserted ≡ zeros 8 → lanes carry.sum ≡ zeros 8
+      → IsCarry lanes cap width pass (8 * 0) step carry
+  no_carry carry head inserted sum = record {
+    head = ap (λ l. get_or l 7 0) head;
+    inserted = ap (λ l. get_or l 7 0) inserted;
+    sum = ap (λ l. get_or l 7 0) sum;
+  }
+
+  -- one more band is after the step
+  set_done : (band : ℕ) (new : Front B N) (fronts : List (Front B N)) → band < length fronts
+      → ((part : ℕ) (other : Front B N) → part < band
+      → IsBandAfter lanes cap width pass (8 * part) step (get_or fronts part other))
+      → IsBandAfter lanes cap width pass (8 * band) step new
+      → (part : ℕ) (other : Front B N) → part < band + 1
+      → IsBandAfter lanes cap width pass (8 * part) step (get_or (slice_set fronts band new) part other)
+  set_done band new fronts lt done is part other less =
+      elim (cases_lt part band) [
+        | inl earlier ↦ rw (get_or-set_other fronts band part new other (omega arith)) (done part other earlier)
+        | inr later ↦
+            let e : part ≡ band = omega arith in
+            rw (e, get_or-set_same fronts band new other lt) is
+      ]
+
 -- a step, of which the first bands are done; `carry` is the front of the last of these bands before the step
 pub record AreSoFar {B N : Type 0} (lanes : B → List ℕ) (cap width : ℕ) (pass : WavePass) (step bands : ℕ)
     (fronts : List (Front B N)) (carry : Front B N) : Type 0 where
@@ -196,11 +222,7 @@ module _ {B N : Type 0} (lanes : B → List ℕ) (cap width : ℕ) (pass : WaveP
   bands_none fronts carry are head inserted sum = record {
     done = λ band other lt. absurd (omega arith);
     rest = λ band other le lt. are band other lt;
-    carried = record {
-      head = ap (λ l. get_or l 7 0) head;
-      inserted = ap (λ l. get_or l 7 0) inserted;
-      sum = ap (λ l. get_or l 7 0) sum;
-    };
+    carried = no_carry lanes cap width pass step carry head inserted sum;
   }
 
   pub bands_more : (band : ℕ) (old new carry : Front B N) (fronts : List (Front B N)) → AreWide width pass
@@ -213,19 +235,57 @@ module _ {B N : Type 0} (lanes : B → List ℕ) (cap width : ℕ) (pass : WaveP
       let long = length-set fronts band new in
       let next : 8 * band + 8 ≡ 8 * (band + 1) = omega arith in
       record {
-        done = λ part other less.
-            elim (cases_lt part band) [
-              | inl earlier ↦
-                  rw (get_or-set_other fronts band part new other (omega arith)) (so_far.done part other earlier)
-              | inr later ↦
-                  let e : part ≡ band = omega arith in
-                  rw (e, get_or-set_same fronts band new other lt) is
-            ];
+        done = set_done lanes cap width pass (step + 1) band new fronts lt so_far.done is;
         rest = λ part other le less.
             rw (get_or-set_other fronts band part new other (omega arith))
             (so_far.rest part other (omega arith) (omega arith));
         carried = subst (λ n. IsCarry lanes cap width pass n step old) next
             (carry_of cap width pass wide lanes (8 * band) (omega arith) step old before);
+      }
+
+-- two steps, of which the first bands are done; `carry` and `between` are the fronts of the last of these bands before
+-- the first step and between the two
+pub record AreTwoSoFar {B N : Type 0} (lanes : B → List ℕ) (cap width : ℕ) (pass : WavePass) (step bands : ℕ)
+    (fronts : List (Front B N)) (carry between : Front B N) : Type 0 where
+  pub done : (band : ℕ) (other : Front B N) → band < bands
+      → IsBandAfter lanes cap width pass (8 * band) (step + 2) (get_or fronts band other)
+  pub rest : (band : ℕ) (other : Front B N) → bands ≤ band → band < length fronts
+      → IsBandAfter lanes cap width pass (8 * band) step (get_or fronts band other)
+  pub carried : IsCarry lanes cap width pass (8 * bands) step carry
+  pub carried_between : IsCarry lanes cap width pass (8 * bands) (step + 1) between
+
+module _ {B N : Type 0} (lanes : B → List ℕ) (cap width : ℕ) (pass : WavePass) (step : ℕ) where
+  pub two_none : (fronts : List (Front B N)) (carry between : Front B N) → AreFronts lanes cap width pass step fronts
+      → lanes carry.head ≡ zeros 8 → lanes carry.inserted ≡ zeros 8 → lanes carry.sum ≡ zeros 8
+      → lanes between.head ≡ zeros 8 → lanes between.inserted ≡ zeros 8 → lanes between.sum ≡ zeros 8
+      → AreTwoSoFar lanes cap width pass step 0 fronts carry between
+  two_none fronts carry between are head inserted sum head_between inserted_between sum_between = record {
+    done = λ band other lt. absurd (omega arith);
+    rest = λ band other le lt. are band other lt;
+    carried = no_carry lanes cap width pass step carry head inserted sum;
+    carried_between = no_carry lanes cap width pass (step + 1) between head_between inserted_between sum_between;
+  }
+
+  pub two_more : (band : ℕ) (old middle new carry between : Front B N) (fronts : List (Front B N)) → AreWide width pass
+      → step + 1 < pass.steps → 8 * length fronts ≡ width
+      → AreTwoSoFar lanes cap width pass step band fronts carry between → band < length fronts
+      → IsBandAfter lanes cap width pass (8 * band) step old
+      → IsBandAfter lanes cap width pass (8 * band) (step + 1) middle
+      → IsBandAfter lanes cap width pass (8 * band) (step + 2) new
+      → AreTwoSoFar lanes cap width pass step (band + 1) (slice_set fronts band new) old middle
+  two_more band old middle new carry between fronts wide inside all so_far lt before is_middle is =
+      let long = length-set fronts band new in
+      let next : 8 * band + 8 ≡ 8 * (band + 1) = omega arith in
+      let fits : 8 * band + 8 ≤ width = omega arith in
+      record {
+        done = set_done lanes cap width pass (step + 2) band new fronts lt so_far.done is;
+        rest = λ part other le less.
+            rw (get_or-set_other fronts band part new other (omega arith))
+            (so_far.rest part other (omega arith) (omega arith));
+        carried = subst (λ n. IsCarry lanes cap width pass n step old) next
+            (carry_of cap width pass wide lanes (8 * band) fits step old before);
+        carried_between = subst (λ n. IsCarry lanes cap width pass n (step + 1) middle) next
+            (carry_of cap width pass wide lanes (8 * band) fits (step + 1) middle is_middle);
       }
 
 -- the pass over tables of these times and tails

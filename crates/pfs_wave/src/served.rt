@@ -103,11 +103,8 @@ pub fn method_for(instance: &Instance) -> Method
 fn is_fast_long(instance: &Instance, width: Width) -> bool
     ensures { IsTrue result ↔ IsFastLong instance.now.shop (lanes_of width) }
 {
-    let jobs = instance.jobs();
     let lanes = width.lanes();
-    2 * lanes <= jobs
-        && (lanes <= 24
-            || (104 <= lanes && 4 * lanes <= jobs && 6 * lanes <= 7 * instance.machines()))
+    2 * lanes <= instance.jobs() && (lanes <= 104 || 2 * lanes <= 3 * instance.machines())
 }
 
 // The least width with a lane for each machine.

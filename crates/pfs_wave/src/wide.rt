@@ -18,6 +18,18 @@ pub trait BandCount<const N: usize> {
 /// The numbers of bands of wide rows.
 pub struct Counts;
 
+impl BandCount<5> for Counts {
+    ghost some = { Prim.omega arith };
+
+    ghost few = { Prim.omega arith };
+}
+
+impl BandCount<8> for Counts {
+    ghost some = { Prim.omega arith };
+
+    ghost few = { Prim.omega arith };
+}
+
 impl BandCount<13> for Counts {
     ghost some = { Prim.omega arith };
 

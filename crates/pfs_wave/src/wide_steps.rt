@@ -4,7 +4,7 @@ ghost use Rattle.std.specs.Prelude.{◌≡◌, ℕ, ◌+◌, ◌-◌, ◌*◌, �
 ghost use Rattle.std.specs.List.{slice_index_or};
 ghost use Rattle.pfs_wave.specs.Lanes.{rows_of, tails_at, tails_step, heads_step, sums_step, sums_at, zeros};
 ghost use Rattle.pfs_wave.specs.Private.SkewedBand.{eight_from};
-ghost use Rattle.pfs_wave.specs.Private.WideSteps.{WavePass, AreWide, AreFronts};
+ghost use Rattle.pfs_wave.specs.Private.WideSteps.{WavePass, AreWide, AreFronts, IsCarry};
 
 use crate::band::Band;
 
@@ -106,6 +106,45 @@ fn next_fronts<L: Bands>(fronts: &mut [Front<L::Band>], times: &L, tails: &L, jo
     }
 }
 
+// The fronts of all bands after two more steps, in place of those before them. It returns the front of the last band
+// between the two steps. Each band is loaded and stored once for both.
+#[inline(always)]
+fn next_two_fronts<L: Bands>(
+    fronts: &mut [Front<L::Band>],
+    times: &L,
+    tails: &L,
+    next_times: &L,
+    next_tails: &L,
+    job: &L,
+) -> Front<L::Band>
+    requires bands { 8 * length fronts.old ≡ L.WIDTH }
+    ensures bands { length fronts.new ≡ length fronts.old }
+    ensures fronts { (pass : WavePass) (step : ℕ) → AreWide L.WIDTH pass → step + 1 < pass.steps
+        → L.lanes times.now ≡ pass.times step → L.lanes tails.now ≡ pass.tails step
+        → L.lanes next_times.now ≡ pass.times (step + 1) → L.lanes next_tails.now ≡ pass.tails (step + 1)
+        → L.lanes job.now ≡ pass.job
+        → AreFronts L.Band.lanes L.Band.CAP L.WIDTH pass step fronts.old
+        → AreFronts L.Band.lanes L.Band.CAP L.WIDTH pass (step + 2) fronts.new
+        × IsCarry L.Band.lanes L.Band.CAP L.WIDTH pass L.WIDTH (step + 1) result }
+{
+    let mut carry = Front::none();
+    let mut between = Front::none();
+    for band in 0..fronts.len() {
+        let front = fronts[band];
+        let times_of_job = job.band(band);
+        let middle = front.next(times.band(band), tails.band(band), times_of_job, carry);
+        fronts[band] = middle.next(
+            next_times.band(band),
+            next_tails.band(band),
+            times_of_job,
+            between,
+        );
+        carry = front;
+        between = middle;
+    }
+    between
+}
+
 // The row of the sums of all bands.
 fn row_of_sums<L: Bands>(fronts: &[Front<L::Band>]) -> L
     requires bands { 8 * length fronts.now ≡ L.WIDTH }
@@ -148,9 +187,24 @@ pub fn fill_sums<L: Bands>(
         fronts[band] = Front::none();
     }
     let last = fronts.len() - 1;
-    for step in 0..times.len() {
-        next_fronts(fronts, &times[step], &tails[step], job);
-        sums[step] = fronts[last].sum.last();
+    let steps = times.len();
+    for pair in 0..steps / 2 {
+        let step = 2 * pair;
+        let next = step + 1;
+        let between = next_two_fronts(
+            fronts,
+            &times[step],
+            &tails[step],
+            &times[next],
+            &tails[next],
+            job,
+        );
+        sums[step] = between.sum.last();
+        sums[next] = fronts[last].sum.last();
+    }
+    if steps % 2 == 1 {
+        next_fronts(fronts, &times[steps - 1], &tails[steps - 1], job);
+        sums[steps - 1] = fronts[last].sum.last();
     }
     row_of_sums(fronts)
 }

@@ -126,12 +126,6 @@ pub record MayStart (shop : FlowShop) (counted : ℕ) (sizes : Sizes) (cells : �
   pub sure : can_fail ≡ false
   pub fresh : counted ≡ 0
 
--- the rows for 104 and 208 lanes have as many lanes, and a wavefront of the given width serves the shop
-pub record HasLanes (shop : FlowShop) (wide widest : ℕ) (width : Width) (cap : ℕ) : Type 0 where
-  pub wide_is : wide ≡ 104
-  pub widest_is : widest ≡ 208
-  pub served : IsServed shop (lanes_of width) cap
-
 -- rounds within the limits can continue from an order of all jobs and its makespan
 pub record MayContinue (shop : FlowShop) (start : List ℕ) (span first : ℕ) (rounds : Rounds) : Type 0 where
   pub has_span : HasSpan shop start shop.jobs span

@@ -11,8 +11,9 @@ invariant-loop-band g l =
       zeros : AreZeros g.L.Band.Band.lanes l.band l.fronts;
     }
 
-abbrev pub invariant-loop-step : goal.invariant-loop-step
-invariant-loop-step g l =
+-- the steps of the pairs so far
+abbrev pub invariant-loop-pair : goal.invariant-loop-pair
+invariant-loop-pair g l =
     let lanes = g.L.Bands.lanes in
     let cap = g.L.Band.Band.CAP in
     let width = g.L.Bands.WIDTH in
@@ -20,7 +21,7 @@ invariant-loop-step g l =
     let tails = map lanes l.tails in
     record {
       bands : 8 * length l.fronts ≡ width;
-      fronts : AreFronts g.L.Band.Band.lanes cap width (whole_pass times tails (lanes l.job)) l.step l.fronts;
-      sums_are : (step : ℕ) → step < l.step → get_or (map g.L.Band.Band.number l.sums) step 0
+      fronts : AreFronts g.L.Band.Band.lanes cap width (whole_pass times tails (lanes l.job)) (2 * l.pair) l.fronts;
+      sums_are : (step : ℕ) → step < 2 * l.pair → get_or (map g.L.Band.Band.number l.sums) step 0
           ≡ get_or (sums_at cap (rows_of times) (rows_of tails) (lanes l.job) width (step + 1)) (width - 1) 0;
     }

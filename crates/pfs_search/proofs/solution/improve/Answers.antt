@@ -1,9 +1,0 @@
-use Rattle.std.proofs.Common.{rules}
-use Rattle.pfs_search.proofs.solution.improve.Goals as goal
-
-pub improve_in_width-requires-clause-lanes : goal.improve_in_width-requires-clause-lanes
-improve_in_width-requires-clause-lanes c = record {
-  wide_is = search rules;
-  widest_is = search rules;
-  served = c.method_for.ensures.short c.in-Wavefront16.width c.in-Wavefront16.is;
-}

@@ -1,0 +1,115 @@
+//! The sizes of lanes, and the rows of each width.
+ghost use Rattle.std.specs.Prelude.{◌≡◌};
+ghost use Rattle.std.proofs.Common.{refl};
+
+use crate::band::Band;
+use crate::bands::{EightBands, FiveBands, ThirteenBands, ThreeBands, TwentySixBands, TwoBands};
+use crate::lanes::Lanes;
+use crate::long::Long;
+use crate::one_band::OneBand;
+use crate::short::Short;
+use crate::wide::Wide;
+
+/// A size of lanes: its bands, and its rows of each width. The name of a row says how many lanes it has.
+pub trait LaneSize {
+    /// Eight lanes.
+    type Band: Band;
+
+    type Lanes8: Lanes<Band = Self::Band>;
+
+    type Lanes16: Lanes<Band = Self::Band>;
+
+    type Lanes24: Lanes<Band = Self::Band>;
+
+    type Lanes40: Lanes<Band = Self::Band>;
+
+    type Lanes64: Lanes<Band = Self::Band>;
+
+    type Lanes104: Lanes<Band = Self::Band>;
+
+    type Lanes208: Lanes<Band = Self::Band>;
+
+    ghost eight: { Self.Lanes8.WIDTH ≡ 8 };
+
+    ghost sixteen: { Self.Lanes16.WIDTH ≡ 16 };
+
+    ghost twenty_four: { Self.Lanes24.WIDTH ≡ 24 };
+
+    ghost forty: { Self.Lanes40.WIDTH ≡ 40 };
+
+    ghost sixty_four: { Self.Lanes64.WIDTH ≡ 64 };
+
+    ghost hundred_four: { Self.Lanes104.WIDTH ≡ 104 };
+
+    ghost two_hundred_eight: { Self.Lanes208.WIDTH ≡ 208 };
+}
+
+/// Lanes of 16 bits.
+pub struct Bits16;
+
+impl LaneSize for Bits16 {
+    type Band = Short;
+
+    type Lanes8 = OneBand<Short>;
+
+    type Lanes16 = TwoBands<Short>;
+
+    type Lanes24 = ThreeBands<Short>;
+
+    type Lanes40 = FiveBands<Short>;
+
+    type Lanes64 = EightBands<Short>;
+
+    type Lanes104 = ThirteenBands<Short>;
+
+    type Lanes208 = TwentySixBands<Short>;
+
+    ghost eight = { refl };
+
+    ghost sixteen = { refl };
+
+    ghost twenty_four = { refl };
+
+    ghost forty = { refl };
+
+    ghost sixty_four = { refl };
+
+    ghost hundred_four = { refl };
+
+    ghost two_hundred_eight = { refl };
+}
+
+/// Lanes of 32 bits. Up to 24 of them stay in registers; the bands of wider rows are in memory.
+pub struct Bits32;
+
+impl LaneSize for Bits32 {
+    type Band = Long;
+
+    type Lanes8 = OneBand<Long>;
+
+    type Lanes16 = TwoBands<Long>;
+
+    type Lanes24 = ThreeBands<Long>;
+
+    type Lanes40 = Wide<5>;
+
+    type Lanes64 = Wide<8>;
+
+    type Lanes104 = Wide<13>;
+
+    type Lanes208 = Wide<26>;
+
+    ghost eight = { refl };
+
+    ghost sixteen = { refl };
+
+    ghost twenty_four = { refl };
+
+    ghost forty = { refl };
+
+    ghost sixty_four = { refl };
+
+    ghost hundred_four = { refl };
+
+    ghost two_hundred_eight = { refl };
+}
