@@ -85,7 +85,8 @@ SHOPS: dict[str, tuple[Instance, str]] = {
     "16 jobs for 8 lanes of 32 bits": (drawn(16, 5, 1_000_000), "Wavefront32(Lanes8)"),
     "31 jobs for 16 lanes of 32 bits": (drawn(31, 12, 1_000_000), "HeadsTails"),
     "32 jobs for 16 lanes of 32 bits": (drawn(32, 12, 1_000_000), "Wavefront32(Lanes16)"),
-    "80 jobs for 40 lanes of 32 bits": (drawn(80, 25, 1_000_000), "HeadsTails"),
+    "79 jobs for 40 lanes of 32 bits": (drawn(79, 25, 1_000_000), "HeadsTails"),
+    "80 jobs for 40 lanes of 32 bits": (drawn(80, 25, 1_000_000), "Wavefront32(Lanes40)"),
     "one time of 10^9": (with_one_long_time(9, 5, 1_000_000_000), "HeadsTails"),
     "40 jobs": (drawn(40, 6, 30), "Wavefront16(Lanes8)"),
     "21 jobs on 11 machines": (drawn(21, 11, 500), "Wavefront16(Lanes16)"),
@@ -96,9 +97,10 @@ SHOPS: dict[str, tuple[Instance, str]] = {
 # wavefront serves.
 FEWEST_JOBS = {41: 70, 65: 119, 105: 405, 200: 111}
 
-# The same for 104 lanes of 32 bits, and the method at these sizes.
-WIDE_32 = {(415, 90): "HeadsTails", (416, 89): "HeadsTails", (416, 90): "Wavefront32(Lanes104)",
-           (416, 104): "Wavefront32(Lanes104)"}
+# The same for 64, 104 and 208 lanes of 32 bits, and the method at these sizes.
+WIDE_32 = {(127, 41): "HeadsTails", (128, 41): "Wavefront32(Lanes64)", (207, 65): "HeadsTails",
+           (208, 65): "Wavefront32(Lanes104)", (415, 139): "HeadsTails", (416, 138): "HeadsTails",
+           (416, 139): "Wavefront32(Lanes208)"}
 
 
 def longest_path(shop: Instance) -> int:
@@ -112,10 +114,10 @@ def is_served(shop: Instance, width: int, most: int) -> bool:
 
 
 def is_fast(shop: Instance, width: int, most: int) -> bool:
-    """A wavefront of 32 bits is faster than heads and tails with two jobs for each lane on at most 24 lanes. On 104 and
-    208 lanes it is with four jobs for each, and machines for six of seven."""
-    wide = width >= 104 and shop.jobs >= 4 * width and 7 * shop.machines >= 6 * width
-    return most == 65_535 or shop.jobs >= 2 * width and (width <= 24 or wide)
+    """A wavefront of 32 bits is faster than heads and tails with two jobs for each lane, and with more than 104 lanes
+    only with machines for two of three."""
+    full = width <= 104 or 3 * shop.machines >= 2 * width
+    return most == 65_535 or shop.jobs >= 2 * width and full
 
 
 def test_a_search_uses_the_narrowest_method_that_can_compute_it() -> None:
@@ -180,7 +182,7 @@ def test_each_method_finds_the_first_best_places(pfs_calls: Program, folder: pat
 @pytest.mark.parametrize("jobs, machines", WIDE_32)
 def test_wide_lanes_of_32_bits_are_used_from_these_sizes_on(pfs_calls: Program, folder: pathlib.Path, jobs: int,
                                                             machines: int) -> None:
-    shop = drawn(jobs, machines, 200)
+    shop = drawn(jobs, machines, 1_000)
     method, *lines = lines_of(pfs_calls, folder, shop)
     assert method == WIDE_32[jobs, machines]
     methods = [method for method, lanes in WAVEFRONTS.items() if is_served(shop, *lanes)]

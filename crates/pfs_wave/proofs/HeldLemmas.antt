@@ -158,7 +158,7 @@ module _ (rows : List (List ℕ)) (order others held seq : List ℕ) (none front
       ∙ sym (get_or_past seq row none past_seq))
 
   -- a sequence that keeps no row at its end
-  pub outside_none : HoldOutside rows others front (max (length held) (length seq)) 0 width times
+  pub outside_none : HoldOutside rows others front (max (length held) (length seq)) (length times) 0 width times
   outside_none =
       let in_held = kept.in_held in
       record {
@@ -168,11 +168,13 @@ module _ (rows : List (List ℕ)) (order others held seq : List ℕ) (none front
         back = λ row lane after low lt inside.
             old.times_are row lane low lt inside
             ∙ same_row rows order others row row lane (none_job row (omega arith) (omega arith) (omega arith));
+        later = λ row lane after low lt inside. absurd (omega arith);
         none_before = old.none_before;
       }
 
   -- a sequence that is at most as long as the one before
-  pub outside_kept : length seq ≤ length held → HoldOutside rows others front (length held - back) 0 width times
+  pub outside_kept : length seq ≤ length held
+      → HoldOutside rows others front (length held - back) (length times) 0 width times
   outside_kept no_more =
       let in_held = kept.in_held in
       record {
@@ -191,42 +193,50 @@ module _ (rows : List (List ℕ)) (order others held seq : List ℕ) (none front
                   ap (λ n. get_or order n 0) (sym zero_by)
                   ∙ back_job row (omega arith) (omega arith) (omega arith) (omega arith)
             ]);
+        later = λ row lane after low lt inside. absurd (omega arith);
         none_before = old.none_before;
       }
 
   -- a sequence that grew
-  pub outside_moved : length held < length seq → length seq + width ≤ length times
-      → AreMoved (length seq - back + width) (length seq + width) (length seq - length held) times new
-      → HoldOutside rows others front (length seq - back + width) 0 width new
-  outside_moved longer room moved =
-      let in_held = kept.in_held in
-      let in_seq = kept.in_seq in
-      let by = length seq - length held in
-      let start = length seq - back + width in
-      let all = moved.steps in
-      record {
-        front = λ row lane before low lt inside.
-            ap (λ l. get_or l lane 0) (moved.before (row + lane) (omega arith))
-            ∙ old.times_are row lane low lt (omega arith)
-            ∙ same_row rows order others row row lane (front_job row before (omega arith));
-        back = λ row lane after low lt inside.
-            elim (cases_lt (row + lane) (length seq + width)) [
-              | inl within ↦
-                  let at : row + lane - by ≡ (row - by) + lane = omega arith in
-                  ap (λ l. get_or l lane 0) (moved.moved (row + lane) (omega arith) within)
-                  ∙ ap (λ n. get_or (get_or times n []) lane 0) at
-                  ∙ old.times_are (row - by) lane low lt (omega arith)
-                  ∙ same_row rows order others row (row - by) lane
-                  (back_job row (omega arith) (omega arith) (omega arith) (omega arith))
-              | inr beyond ↦
-                  ap (λ l. get_or l lane 0) (moved.after (row + lane) beyond)
-                  ∙ old.times_are row lane low lt (omega arith)
-                  ∙ same_row rows order others row row lane (none_job row (omega arith) (omega arith) (omega arith))
-            ];
-        none_before = λ step lane early low lt inside.
-            ap (λ l. get_or l lane 0) (moved.before step (omega arith))
-            ∙ old.none_before step lane early low lt (omega arith);
-      }
+  module _ (longer : length held < length seq) (room : length seq + width ≤ length times)
+      (moved : AreMoved (length seq - back + width) (length seq + width) (length seq - length held) times new) where
+    at_later_steps : (row lane : ℕ) → length seq - back + width ≤ row + lane → lane < width → row + lane < length new
+        → get_or (get_or new (row + lane) []) lane 0 ≡ row_lane rows others row lane
+    at_later_steps row lane after lt inside =
+        let in_held = kept.in_held in
+        let in_seq = kept.in_seq in
+        let by = length seq - length held in
+        let all = moved.steps in
+        elim (cases_lt (row + lane) (length seq + width)) [
+          | inl within ↦
+              let at : row + lane - by ≡ (row - by) + lane = omega arith in
+              ap (λ l. get_or l lane 0) (moved.moved (row + lane) (omega arith) within)
+              ∙ ap (λ n. get_or (get_or times n []) lane 0) at
+              ∙ old.times_are (row - by) lane (omega arith) lt (omega arith)
+              ∙ same_row rows order others row (row - by) lane
+              (back_job row (omega arith) (omega arith) (omega arith) (omega arith))
+          | inr beyond ↦
+              ap (λ l. get_or l lane 0) (moved.after (row + lane) beyond)
+              ∙ old.times_are row lane (omega arith) lt (omega arith)
+              ∙ same_row rows order others row row lane (none_job row (omega arith) (omega arith) (omega arith))
+        ]
+
+    pub outside_moved : HoldOutside rows others front (length seq - back + width) (length seq - back + width) 0 width new
+    outside_moved =
+        let in_held = kept.in_held in
+        let in_seq = kept.in_seq in
+        let all = moved.steps in
+        record {
+          front = λ row lane before low lt inside.
+              ap (λ l. get_or l lane 0) (moved.before (row + lane) (omega arith))
+              ∙ old.times_are row lane low lt (omega arith)
+              ∙ same_row rows order others row row lane (front_job row before (omega arith));
+          back = λ row lane after low lt inside. at_later_steps row lane (omega arith) lt inside;
+          later = λ row lane after low lt inside. at_later_steps row lane after lt inside;
+          none_before = λ step lane early low lt inside.
+              ap (λ l. get_or l lane 0) (moved.before step (omega arith))
+              ∙ old.none_before step lane early low lt (omega arith);
+        }
 
 -- steps that are moved keep the width of a row
 pub moved_wide : (from to by width : ℕ) (times new : List (List ℕ)) → AreMoved from to by times new

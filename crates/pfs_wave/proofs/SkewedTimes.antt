@@ -24,9 +24,9 @@ band_lane rows order first row part lane few is =
     eight_lane (get_or rows (get_or order row 0) []) first part lane few is
 
 -- one more band contains the rows of the sequence
-module _ (rows : List (List ℕ)) (order : List ℕ) (first from to end width : ℕ) (old times : List (List ℕ))
+module _ (rows : List (List ℕ)) (order : List ℕ) (first from to stop end width : ℕ) (old times : List (List ℕ))
     (filled : IsBandFilled (band_rows rows order first) first from end old times)
-    (ends : min (to + 7) (length old - first) ≤ end) where
+    (ends : min (min to (stop - first) + 7) (length old - first) ≤ end) where
   low_lane : (step lane : ℕ) → lane < first → get_or (get_or times step []) lane 0 ≡ get_or (get_or old step []) lane 0
   low_lane step lane lt =
       sym (get_or-take first (get_or times step []) lane 0 lt) ∙ ap (λ l. get_or l lane 0) (filled.lower step)
@@ -49,7 +49,7 @@ module _ (rows : List (List ℕ)) (order : List ℕ) (first from to end width : 
       ∙ ap (λ l. get_or l part 0) (filled.bands_are step le lt)
       ∙ diagonal_lane (past_at (band_rows rows order first) (step + 1 - first)) part few
 
-  pub band_below : HoldLanes rows order 0 first old → HoldOutside rows order from to first width old → first + 8 ≤ width
+  pub band_below : HoldLanes rows order 0 first old → HoldOutside rows order from to stop first width old → first + 8 ≤ width
       → HoldLanes rows order 0 (first + 8) times
   band_below below outside fits =
       let steps = filled.steps in
@@ -69,7 +69,10 @@ module _ (rows : List (List ℕ)) (order : List ℕ) (first from to end width : 
                       ∙ band_lane rows order first row part lane (omega arith) (omega arith)
                   | inr after ↦
                       ap (λ l. get_or l lane 0) (filled.after (row + lane) after)
-                      ∙ outside.back row lane (omega arith) here (omega arith) (omega arith)
+                      ∙ elim (cases_lt row to) [
+                        | inl early ↦ outside.later row lane (omega arith) here (omega arith) (omega arith)
+                        | inr past ↦ outside.back row lane past here (omega arith) (omega arith)
+                      ]
                 ]
               ]
             ];
@@ -93,8 +96,8 @@ module _ (rows : List (List ℕ)) (order : List ℕ) (first from to end width : 
             ];
       }
 
-  pub band_above : HoldOutside rows order from to first width old
-      → HoldOutside rows order from to (first + 8) width times
+  pub band_above : HoldOutside rows order from to stop first width old
+      → HoldOutside rows order from to stop (first + 8) width times
   band_above outside =
       let steps = filled.steps in
       record {
@@ -102,6 +105,8 @@ module _ (rows : List (List ℕ)) (order : List ℕ) (first from to end width : 
             high_lane (row + lane) lane le ∙ outside.front row lane before (omega arith) lt (omega arith);
         back = λ row lane after le lt inside.
             high_lane (row + lane) lane le ∙ outside.back row lane after (omega arith) lt (omega arith);
+        later = λ row lane after le lt inside.
+            high_lane (row + lane) lane le ∙ outside.later row lane after (omega arith) lt (omega arith);
         none_before = λ step lane early le lt inside.
             high_lane step lane le ∙ outside.none_before step lane early (omega arith) lt (omega arith);
       }

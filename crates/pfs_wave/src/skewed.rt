@@ -15,7 +15,7 @@ use crate::least::Found;
 use crate::passes::{best_place, fill_front};
 use crate::rows::shop_rows;
 use crate::tables::rows_of_zeros;
-use crate::times::{Changed, fill_times, move_back};
+use crate::times::{fill_times, move_back};
 use crate::wide_steps::Front;
 use pfs_base::{Instance, MOST_JOBS};
 use std::alloc::{AllocError, Global};
@@ -160,10 +160,6 @@ fn hold_steps<L: Lanes>(rows: &[L], order: &mut [usize], times: &mut [L], len: u
     let longest = len.max(seq.len());
     let kept = kept_rows(&order[..len], seq);
     write_rows(order, seq, rows.len() - 1, kept.front, longest);
-    let to = move_back(times, len, seq.len(), kept.back);
-    let changed = Changed {
-        from: kept.front,
-        to,
-    };
+    let changed = move_back(times, len, seq.len(), kept);
     fill_times(rows, order, times, changed);
 }

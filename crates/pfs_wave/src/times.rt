@@ -8,13 +8,15 @@ ghost use Rattle.pfs_wave.specs.Private.SkewedBand.{IsBandFilled, band_rows};
 
 use crate::band::Band;
 use crate::blends::Blends;
+use crate::changes::Kept;
 use crate::lanes::Lanes;
 
-/// The rows from `from` to before `to`.
+/// The rows from `from` to before `to`, at the steps before `end`.
 #[derive(Clone, Copy, Debug, PartialEq, Eq)]
 pub struct Changed {
     pub from: usize,
     pub to: usize,
+    pub end: usize,
 }
 
 // One band of a row of the sequence.
@@ -44,19 +46,21 @@ fn blends_before<L: Lanes>(rows: &[L], order: &[usize], row: usize, band: usize)
     last
 }
 
-// The row before which a band is filled, of at most `room` rows. The steps of the seven rows after those that changed
-// contain these too. The number of rows is rounded up to fours where there is room: then no row is left after the turns
+// The row before which the band from lane `first` on is filled, of at most `room` rows. The steps of the seven rows after
+// those that changed contain these too. The number of rows is rounded up to fours where there is room: then no row is left after the turns
 // of the loop, whose number seldom changes from one sequence to the next.
 #[inline(always)]
-fn band_end(changed: Changed, room: usize) -> usize
+fn band_end(changed: Changed, first: usize, room: usize) -> usize
     requires from { changed.from ≤ changed.to }
+    requires steps { first + changed.from ≤ changed.end }
     requires room { changed.from ≤ room }
     requires few { changed.to + 10 < 2 ^ 64 }
     ensures from { changed.from ≤ result }
-    ensures enough { min (changed.to + 7) room ≤ result }
+    ensures enough { min (min changed.to (changed.end - first) + 7) room ≤ result }
     ensures within { result ≤ room }
 {
-    let end = (changed.to + 7).min(room);
+    let to = changed.to.min(changed.end - first);
+    let end = (to + 7).min(room);
     let fours = changed.from + (end - changed.from + 3) / 4 * 4;
     if fours <= room { fours } else { end }
 }
@@ -104,18 +108,21 @@ pub fn fill_times<L: Lanes>(rows: &[L], order: &[usize], times: &mut [L], change
     requires from { changed.from ≤ changed.to }
     requires to { changed.to ≤ length order.now }
     requires room { changed.from + L.WIDTH ≤ length order.now }
+    requires end { changed.from + L.WIDTH ≤ changed.end }
     requires steps { length times.old ≡ length order.now }
     ensures steps { length times.new ≡ length times.old }
     ensures wide { (step : ℕ)
         → length (rows_of (map L.lanes times.new) step) ≡ length (rows_of (map L.lanes times.old) step) }
-    ensures held { HoldOutside (map L.lanes rows.now) order.now changed.from changed.to 0 L.WIDTH
+    ensures held { HoldOutside (map L.lanes rows.now) order.now changed.from changed.to changed.end 0 L.WIDTH
         (map L.lanes times.old)
         → HoldLanes (map L.lanes rows.now) order.now 0 L.WIDTH (map L.lanes times.new) }
 {
     for band in 0..L::WIDTH / 8 {
+        let first = 8 * band;
         let filled = Changed {
             from: changed.from,
-            to: band_end(changed, order.len() - 8 * band),
+            to: band_end(changed, first, order.len() - first),
+            end: order.len(),
         };
         fill_band(rows, order, times, filled, band);
     }
@@ -135,26 +142,35 @@ pub fn move_steps<L: Lanes>(times: &mut [L], from: usize, to: usize, by: usize)
     }
 }
 
-/// Moves the last `back` rows of a sequence that grew from `old` to `new` jobs to their new steps. Returns the row from
-/// which on the steps are right. A step has rows of both parts up to WIDTH steps after the first row that moves, so the
-/// function moves only the steps after that.
+/// Moves the rows that are kept at the end of a sequence that grew from `old` to `new` jobs to their new steps. Returns
+/// the rows that are not right yet. A step has rows of both parts up to WIDTH steps after the first row that moves, so
+/// the function moves only the steps after that.
 #[inline(always)]
-pub fn move_back<L: Lanes>(times: &mut [L], old: usize, new: usize, back: usize) -> usize
-    requires old { back ≤ old }
+pub fn move_back<L: Lanes>(times: &mut [L], old: usize, new: usize, kept: Kept) -> Changed
+    requires old { kept.back ≤ old }
     requires new { new + L.WIDTH ≤ length times.old }
     requires old_room { old + L.WIDTH ≤ length times.old }
-    ensures none { back ≡ 0 → (result ≡ max old new) × (map L.lanes times.new ≡ map L.lanes times.old) }
-    ensures kept { new ≤ old → (result ≡ old - back) × (map L.lanes times.new ≡ map L.lanes times.old) }
-    ensures moved { 0 < back → old < new → (result ≡ new - back + L.WIDTH)
-        × AreMoved result (new + L.WIDTH) (new - old) (map L.lanes times.old) (map L.lanes times.new) }
+    ensures from { result.from ≡ kept.front }
+    ensures none { kept.back ≡ 0 → (result.to ≡ max old new) × (result.end ≡ length times.old)
+        × (map L.lanes times.new ≡ map L.lanes times.old) }
+    ensures kept { new ≤ old → (result.to ≡ old - kept.back) × (result.end ≡ length times.old)
+        × (map L.lanes times.new ≡ map L.lanes times.old) }
+    ensures moved { 0 < kept.back → old < new → (result.to ≡ new - kept.back + L.WIDTH)
+        × (result.end ≡ new - kept.back + L.WIDTH)
+        × AreMoved (new - kept.back + L.WIDTH) (new + L.WIDTH) (new - old) (map L.lanes times.old)
+        (map L.lanes times.new) }
 {
-    if back == 0 {
-        return old.max(new);
+    let from = kept.front;
+    if kept.back == 0 || new <= old {
+        let to = old.max(new) - kept.back;
+        let end = times.len();
+        return Changed { from, to, end };
     }
-    if new <= old {
-        return old - back;
+    let moved = new - kept.back + L::WIDTH;
+    move_steps(times, moved, new + L::WIDTH, new - old);
+    Changed {
+        from,
+        to: moved,
+        end: moved,
     }
-    let from = new - back + L::WIDTH;
-    move_steps(times, from, new + L::WIDTH, new - old);
-    from
 }

@@ -34,13 +34,15 @@ pub record HoldLanes (rows : List (List ℕ)) (order : List ℕ) (from to : ℕ)
   pub none_before : (step lane : ℕ) → step < lane → from ≤ lane → lane < to → step < length times
       → lane_of (rows_of times) step lane ≡ 0
 
--- the lanes from `from` to before `to` contain the times of the sequence, skewed, in the rows before `first` and in
--- those from `last` on
-pub record HoldOutside (rows : List (List ℕ)) (order : List ℕ) (first last from to : ℕ) (times : List (List ℕ)) :
+-- the lanes from `from` to before `to` contain the times of the sequence, skewed, in the rows before `first`, in those
+-- from `last` on, and at the steps from `end` on
+pub record HoldOutside (rows : List (List ℕ)) (order : List ℕ) (first last end from to : ℕ) (times : List (List ℕ)) :
     Type 0 where
   pub front : (row lane : ℕ) → row < first → from ≤ lane → lane < to → row + lane < length times
       → lane_of (rows_of times) (row + lane) lane ≡ row_lane rows order row lane
   pub back : (row lane : ℕ) → last ≤ row → from ≤ lane → lane < to → row + lane < length times
+      → lane_of (rows_of times) (row + lane) lane ≡ row_lane rows order row lane
+  pub later : (row lane : ℕ) → end ≤ row + lane → from ≤ lane → lane < to → row + lane < length times
       → lane_of (rows_of times) (row + lane) lane ≡ row_lane rows order row lane
   pub none_before : (step lane : ℕ) → step < lane → from ≤ lane → lane < to → step < length times
       → lane_of (rows_of times) step lane ≡ 0

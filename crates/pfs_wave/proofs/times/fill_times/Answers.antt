@@ -22,6 +22,7 @@ loop-band-preserved g c =
     let order = c.args.order.now in
     let from = c.args.changed.from in
     let to = c.args.changed.to in
+    let stop = c.args.changed.end in
     let band = c.loop-band.band in
     let old = map lanes c.loop-band.times in
     let times = map lanes c.fill_band.new.times in
@@ -35,18 +36,18 @@ loop-band-preserved g c =
     let end = c.band_end.result in
     let steps : length c.args.order.now ≡ length old =
     sym c.requires.steps ∙ sym so_far.steps ∙ sym (length-map c.loop-band.times lanes) in
-    let ends : min (to + 7) (length old - 8 * band) ≤ end = rw steps at c.band_end.ensures.enough in
+    let ends : min (min to (stop - 8 * band) + 7) (length old - 8 * band) ≤ end = rw steps at c.band_end.ensures.enough in
     record {
       steps = sym (length-map c.fill_band.new.times lanes) ∙ filled.steps ∙ length-map c.loop-band.times lanes
           ∙ so_far.steps;
       wide = λ step. filled.wide step ∙ so_far.wide step;
       below = λ outside.
           subst (λ n. HoldLanes rows order 0 n times) next
-          (band_below rows order (8 * band) from to end width old times filled ends (so_far.below outside)
+          (band_below rows order (8 * band) from to stop end width old times filled ends (so_far.below outside)
           (so_far.above outside) fits);
       above = λ outside.
-          subst (λ n. HoldOutside rows order from to n width times) next
-          (band_above rows order (8 * band) from to end width old times filled ends (so_far.above outside));
+          subst (λ n. HoldOutside rows order from to stop n width times) next
+          (band_above rows order (8 * band) from to stop end width old times filled ends (so_far.above outside));
     }
 
 pub returns-clause-held : goal.returns-clause-held

@@ -14,8 +14,8 @@ invariant-loop-band g l =
     record {
       steps : length l.times ≡ length l.fn.times;
       wide : (step : ℕ) → length (rows_of times step) ≡ length (rows_of old step);
-      below : HoldOutside rows l.order l.changed.from l.changed.to 0 width old
+      below : HoldOutside rows l.order l.changed.from l.changed.to l.changed.end 0 width old
           → HoldLanes rows l.order 0 (8 * l.band) times;
-      above : HoldOutside rows l.order l.changed.from l.changed.to 0 width old
-          → HoldOutside rows l.order l.changed.from l.changed.to (8 * l.band) width times;
+      above : HoldOutside rows l.order l.changed.from l.changed.to l.changed.end 0 width old
+          → HoldOutside rows l.order l.changed.from l.changed.to l.changed.end (8 * l.band) width times;
     }
