@@ -90,6 +90,9 @@ SHOPS = {
     "500x20": (500, 20, 1368624604),
     "500x40": (500, 40, 2),
     "500x60": (500, 60, 3),
+    # Paths of up to 85,041, which fit into 32 bits but not into 16. Times to 99, as in the instances of this size of
+    # Vallada, Ruiz and Framinan (2015).
+    "800x60": (800, 60, 4),
     "1000x100": (1000, 100, 1),
     "2000x200": (2000, 200, 1),
     "5000x200": (5000, 200, 1),

@@ -93,9 +93,7 @@ pub(crate) fn best_place(
     match method_for(instance) {
         Method::HeadsTails => best_by_rows(alloc, instance, sequence, job),
         Method::Wavefront16(width) => {
-            best_in_width::<Bits16>(
-                alloc, instance, width, sequence, job,
-            )
+            best_in_width::<Bits16>(alloc, instance, width, sequence, job)
         }
         Method::Wavefront32(width) => {
             best_in_width::<Bits32>(alloc, instance, width, sequence, job)

@@ -38,9 +38,7 @@ pub(crate) fn make_visits(
     match method_for(instance) {
         Method::HeadsTails => visit_by_rows(alloc, instance, seq, list, passes),
         Method::Wavefront16(width) => {
-            visit_in_width::<Bits16>(
-                alloc, instance, width, seq, list, passes,
-            )
+            visit_in_width::<Bits16>(alloc, instance, width, seq, list, passes)
         }
         Method::Wavefront32(width) => visit_in_width::<Bits32>(
             alloc, instance, width, seq, list, passes,

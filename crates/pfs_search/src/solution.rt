@@ -62,14 +62,8 @@ pub fn solve(
     };
     match method_for(instance) {
         Method::HeadsTails => solve_by_rows(alloc, instance, rounds),
-        Method::Wavefront16(width) => {
-            solve_in_width::<Bits16>(
-                alloc, instance, width, rounds,
-            )
-        }
-        Method::Wavefront32(width) => {
-            solve_in_width::<Bits32>(alloc, instance, width, rounds)
-        }
+        Method::Wavefront16(width) => { solve_in_width::<Bits16>(alloc, instance, width, rounds) }
+        Method::Wavefront32(width) => { solve_in_width::<Bits32>(alloc, instance, width, rounds) }
     }
 }
 
@@ -107,9 +101,7 @@ pub fn improve(
     match method_for(instance) {
         Method::HeadsTails => improve_by_rows(alloc, instance, start, first, rounds),
         Method::Wavefront16(width) => {
-            improve_in_width::<Bits16>(
-                alloc, instance, width, start, first, rounds,
-            )
+            improve_in_width::<Bits16>(alloc, instance, width, start, first, rounds)
         }
         Method::Wavefront32(width) => improve_in_width::<Bits32>(
             alloc, instance, width, start, first, rounds,
@@ -226,21 +218,11 @@ fn improve_in_width<S: LaneSize>(
         IsImprovedBy instance.now.shop start.order first rounds found.order found.makespan found.cells) }
 {
     match width {
-        Width::Lanes8 => improve_in_lanes::<S::Lanes8>(
-            alloc, instance, start, first, rounds,
-        ),
-        Width::Lanes16 => improve_in_lanes::<S::Lanes16>(
-            alloc, instance, start, first, rounds,
-        ),
-        Width::Lanes24 => improve_in_lanes::<S::Lanes24>(
-            alloc, instance, start, first, rounds,
-        ),
-        Width::Lanes40 => improve_in_lanes::<S::Lanes40>(
-            alloc, instance, start, first, rounds,
-        ),
-        Width::Lanes64 => improve_in_lanes::<S::Lanes64>(
-            alloc, instance, start, first, rounds,
-        ),
+        Width::Lanes8 => improve_in_lanes::<S::Lanes8>(alloc, instance, start, first, rounds),
+        Width::Lanes16 => improve_in_lanes::<S::Lanes16>(alloc, instance, start, first, rounds),
+        Width::Lanes24 => improve_in_lanes::<S::Lanes24>(alloc, instance, start, first, rounds),
+        Width::Lanes40 => improve_in_lanes::<S::Lanes40>(alloc, instance, start, first, rounds),
+        Width::Lanes64 => improve_in_lanes::<S::Lanes64>(alloc, instance, start, first, rounds),
         Width::Lanes104 => improve_in_lanes::<S::Lanes104>(alloc, instance, start, first, rounds),
         Width::Lanes208 => improve_in_lanes::<S::Lanes208>(alloc, instance, start, first, rounds),
     }

@@ -11,8 +11,6 @@ use Rattle.pfs_base.specs.Paths.{makespan}
 use Rattle.pfs_insert.specs.Insertion.{heads_tails_cost}
 use Rattle.pfs_order.specs.Sequence.{IsSequence, Sequence, all_jobs}
 use Rattle.pfs_insert.specs.Inserter.{Counts, Fits, Sizes}
-use Rattle.pfs_wave.specs.Served.{IsServed, lanes_of}
-use Rattle.pfs_wave.specs.declared.served.Width.{Width}
 use Rattle.pfs_search.specs.Greedy.{jobs_left, jobs_taken, stream_after, words_of}
 use Rattle.pfs_search.specs.Ranking.{ranking}
 use Rattle.pfs_search.specs.Solution.{IsFound, IsImproved}
