@@ -1,7 +1,6 @@
 """Computations over a bench are inlined where the bench is a value, so that its count stays in a register. In a
 function that is called, each cell of a table would read and write the count in memory. The loops of a wavefront are
-separate functions, which call nothing, or for rows of zeros `memset`. Those of up to 16 lanes of 16 bits keep no lanes
-on the stack."""
+separate functions, whose loops call nothing. Those of up to 16 lanes of 16 bits keep no lanes on the stack."""
 import re
 import subprocess
 
@@ -35,26 +34,41 @@ def loops(pfs: Program, loop: str) -> list[str] | None:
     return re.findall(rf"^[0-9a-f]+ <pfs_wave::{loop}\b.*>:\n((?:.+\n)+)", done.stdout, re.MULTILINE)
 
 
-# The numbers of instances of the loops. The program has seven widths with lanes of 16 bits and with lanes of 32; four of
-# the latter are computed one band after the other.
+# The numbers of instances of the loops. The program has seven widths with lanes of 16 bits and with lanes of 32; four
+# of the latter are computed one band after the other.
 LOOPS = {"times::fill_times": 14, "kernels::fill_tails": 10, "kernels::fill_sums": 10, "wide_steps::fill_tails": 4,
          "wide_steps::fill_sums": 4}
 
 
+def calls(body: str) -> list[tuple[str, bool]]:
+    """The calls of a function, and whether each can come again after itself, as in a loop."""
+    lines = [(int(at, 16), text) for at, text in re.findall(r"^ *([0-9a-f]+):\t(.+)$", body, re.MULTILINE)]
+    following: dict[int, set[int]] = {}
+    for (at, text), (after, _) in zip(lines, lines[1:]):
+        jump = re.match(r"(j\w+) +([0-9a-f]+) ", text)
+        following[at] = ({int(jump[2], 16)} if jump else set()) | (set() if re.match("jmp|ret", text) else {after})
+
+    def comes_again(call: int) -> bool:
+        seen, new = set[int](), set(following.get(call, ()))
+        while new:
+            seen |= new
+            new = set().union(*(following.get(at, ()) for at in new)) - seen
+        return call in seen
+
+    return [(text, comes_again(at)) for at, text in lines if text.startswith("call")]
+
+
 @pytest.mark.parametrize("loop", LOOPS)
 def test_a_loop_of_a_wavefront_calls_nothing(pfs: Program, loop: str) -> None:
-    """Except that a loop over blocks of steps clears a list by `memset` for each block, and copies the last row of sums
-    by `memcpy` after all blocks. A program without symbols can't be tested and passes."""
+    """Functions with bands in memory clear rows by `memset` before their loops, and copy a row by `memcpy` after them.
+    A program without symbols can't be tested and passes."""
     functions = loops(pfs, loop)
     if functions is None:
         return
     assert len(functions) == LOOPS[loop]
     for body in functions:
-        called = re.findall(r"\tcall +\S+ <(.+)>", body)
-        while loop == "blocks::fill_sums" and called[-1] == "memcpy@plt":
-            called.pop()
-        assert set(called) <= ({"memset@plt"} if loop.startswith("blocks") else set())
-    assert not any(re.search(r"\tcall +\*", body) for body in functions)
+        for call, again in calls(body):
+            assert not again and loop.startswith("wide_steps") and re.search(r"<mem(set|cpy)@plt>$", call), call
 
 
 @pytest.mark.parametrize("loop", ["times::fill_times", "kernels::fill_tails", "kernels::fill_sums"])
