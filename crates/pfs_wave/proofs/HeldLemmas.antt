@@ -221,7 +221,8 @@ module _ (rows : List (List ℕ)) (order others held seq : List ℕ) (none front
               ∙ same_row rows order others row row lane (none_job row (omega arith) (omega arith) (omega arith))
         ]
 
-    pub outside_moved : HoldOutside rows others front (length seq - back + width) (length seq - back + width) 0 width new
+    pub outside_moved :
+        HoldOutside rows others front (length seq - back + width) (length seq - back + width) 0 width new
     outside_moved =
         let in_held = kept.in_held in
         let in_seq = kept.in_seq in

@@ -49,7 +49,8 @@ module _ (rows : List (List ℕ)) (order : List ℕ) (first from to stop end wid
       ∙ ap (λ l. get_or l part 0) (filled.bands_are step le lt)
       ∙ diagonal_lane (past_at (band_rows rows order first) (step + 1 - first)) part few
 
-  pub band_below : HoldLanes rows order 0 first old → HoldOutside rows order from to stop first width old → first + 8 ≤ width
+  pub band_below : HoldLanes rows order 0 first old → HoldOutside rows order from to stop first width old
+      → first + 8 ≤ width
       → HoldLanes rows order 0 (first + 8) times
   band_below below outside fits =
       let steps = filled.steps in

@@ -3,11 +3,13 @@ use Rattle.std.proofs.Common.{inl, inr, ◌≡◌, ℕ, zero, suc, ◌+◌, ◌-
 use Rattle.std.proofs.Common.{take, drop, map, get_or, refl, ap, ◌∙◌, sym, arith, add-one, slice_set, subst}
 use Rattle.std.specs.Simd.Lanes.{zip2}
 use Rattle.std.proofs.lemmas.Bool.{cases_lt}
-use Rattle.std.proofs.lemmas.List.{get_or-set_same, get_or-set_other, length-set, length-map, map-set, get_or-take, get_or-drop}
+use Rattle.std.proofs.lemmas.List.{get_or-set_same, get_or-set_other, length-set, length-map, map-set, get_or-take}
+use Rattle.std.proofs.lemmas.List.{get_or-drop}
 use Rattle.std.proofs.lemmas.List.{take-replicate, drop-replicate}
 use Rattle.pfs_wave.specs.Lanes.{rows_of, capped_add, heads_step, sums_step, zeros}
 use Rattle.pfs_wave.specs.Private.SkewedBand.{eight_from}
-use Rattle.pfs_wave.specs.Private.WideSteps.{WavePass, AreWide, IsBandAfter, IsCarry, AreFronts, heads_after, inserted_after}
+use Rattle.pfs_wave.specs.Private.WideSteps.{WavePass, AreWide, IsBandAfter, IsCarry, AreFronts, heads_after}
+use Rattle.pfs_wave.specs.Private.WideSteps.{inserted_after}
 use Rattle.pfs_wave.specs.Private.WideSteps.{sums_after}
 use Rattle.pfs_wave.specs.declared.wide_steps.Front.{Front}
 use Rattle.pfs_wave.proofs.WavefrontLaws.{heads_next, heads_first, inserted_next, inserted_first, sums_next, sums_first}

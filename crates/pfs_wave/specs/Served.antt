@@ -18,8 +18,8 @@ pub record IsServed (shop : FlowShop) (width cap : ℕ) : Type 0 where
   pub full : 24 < width → (shop.jobs + width) * width ≤ 3 * shop.jobs * shop.machines
   pub short : longest_path shop < cap
 
--- in lanes of 32 bits an insertion is faster than by rows: there are two jobs for each lane, and more than 104 lanes have
--- machines for two of three
+-- in lanes of 32 bits an insertion is faster than by rows: there are two jobs for each lane, and more than 104 lanes
+-- have machines for two of three
 pub record IsFastLong (shop : FlowShop) (width : ℕ) : Type 0 where
   pub many : 2 * width ≤ shop.jobs
   pub full : 104 < width → 2 * width ≤ 3 * shop.machines

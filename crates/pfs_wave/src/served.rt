@@ -69,8 +69,8 @@ pub fn is_served(instance: &Instance, width: Width, cap: u32) -> bool
         && operations * u64::from(longest_time(instance)) < u64::from(cap)
 }
 
-/// The narrowest wavefront of 16 bits that serves an instance; or that of 32 bits where none of 16 does, if it is faster
-/// than heads and tails by rows (`IsFastLong`); or heads and tails.
+/// The narrowest wavefront of 16 bits that serves an instance; or that of 32 bits where none of 16 does, if it is
+/// faster than heads and tails by rows (`IsFastLong`); or heads and tails.
 pub fn method_for(instance: &Instance) -> Method
     ensures heads_tails { (result ≡ HeadsTails)
         ↔ (((width : Width) → ¬ IsServed instance.now.shop (lanes_of width) 65535)

@@ -46,9 +46,9 @@ fn blends_before<L: Lanes>(rows: &[L], order: &[usize], row: usize, band: usize)
     last
 }
 
-// The row before which the band from lane `first` on is filled, of at most `room` rows. The steps of the seven rows after
-// those that changed contain these too. The number of rows is rounded up to fours where there is room: then no row is left after the turns
-// of the loop, whose number seldom changes from one sequence to the next.
+// The row before which the band from lane `first` on is filled, of at most `room` rows. The steps of the seven rows
+// after those that changed contain these too. The number of rows is rounded up to fours where there is room: then no row
+// is left after the turns of the loop, whose number seldom changes from one sequence to the next.
 #[inline(always)]
 fn band_end(changed: Changed, first: usize, room: usize) -> usize
     requires from { changed.from ≤ changed.to }

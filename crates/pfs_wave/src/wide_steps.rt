@@ -1,5 +1,5 @@
-//! Loops over the steps of a wavefront of wide rows, and in each step over the bands. The lanes of all bands don't fit in
-//! registers, so a step loads those of the step before, a band at a time, and stores its own.
+//! Loops over the steps of a wavefront of wide rows, and in each step over the bands. The lanes of all bands don't fit
+//! in registers, so a step loads those of the step before, a band at a time, and stores its own.
 ghost use Rattle.std.specs.Prelude.{◌≡◌, ℕ, ◌+◌, ◌-◌, ◌*◌, ◌%◌, ◌^◌, ◌<◌, ◌≤◌, List, ◌++◌, length, map, take, drop};
 ghost use Rattle.std.specs.List.{slice_index_or};
 ghost use Rattle.pfs_wave.specs.Lanes.{rows_of, tails_at, tails_step, heads_step, sums_step, sums_at, zeros};

@@ -36,7 +36,8 @@ loop-band-preserved g c =
     let end = c.band_end.result in
     let steps : length c.args.order.now ≡ length old =
     sym c.requires.steps ∙ sym so_far.steps ∙ sym (length-map c.loop-band.times lanes) in
-    let ends : min (min to (stop - 8 * band) + 7) (length old - 8 * band) ≤ end = rw steps at c.band_end.ensures.enough in
+    let ends : min (min to (stop - 8 * band) + 7) (length old - 8 * band) ≤ end =
+    rw steps at c.band_end.ensures.enough in
     record {
       steps = sym (length-map c.fill_band.new.times lanes) ∙ filled.steps ∙ length-map c.loop-band.times lanes
           ∙ so_far.steps;

@@ -1,6 +1,7 @@
 use Rattle.std.proofs.Common.{ℕ, List, [], ◌≡◌, ◌+◌, ◌-◌, ◌<◌, ◌++◌, length, map, get_or, slice_set, ap, ◌∙◌}
 use Rattle.std.proofs.Common.{sym, refl, arith}
-use Rattle.std.proofs.lemmas.List.{length-map, map-set, set-append_left, get_or-append_right, get_or-set_same, length-set}
+use Rattle.std.proofs.lemmas.List.{length-map, map-set, set-append_left, get_or-append_right, get_or-set_same}
+use Rattle.std.proofs.lemmas.List.{length-set}
 use Rattle.pfs_wave.specs.Lanes.{rows_of, tails_step}
 use Rattle.pfs_wave.proofs.FilledSteps.{IsFilled, none_filled_rows, more_filled_rows, row_read}
 use Rattle.pfs_wave.proofs.wide_steps.fill_tails.Goals as goal

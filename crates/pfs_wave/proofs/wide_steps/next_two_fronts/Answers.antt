@@ -66,5 +66,6 @@ returns-clause-fronts g c pass step wide lt times tails next_times next_tails jo
     let outside = c.loop-band-test.false in
     let last : 8 * c.loop-band.band ≡ width = omega arith in (
       λ band other less. until.done band other (omega (arith, so_far.bands)),
-      subst (λ n. IsCarry lanes g.L.Band.Band.CAP width pass n (step + 1) c.loop-band.between) last until.carried_between,
+      subst (λ n. IsCarry lanes g.L.Band.Band.CAP width pass n (step + 1) c.loop-band.between) last
+          until.carried_between,
     )
