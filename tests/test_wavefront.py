@@ -15,6 +15,10 @@ from support.second_program import Instance
 WAVEFRONTS = {f"Wavefront{bits}(Lanes{width})": (width, most) for bits, most in ((16, 65_535), (32, 2**31 - 1))
               for width in (8, 16, 24, 40, 64, 104, 208)}
 
+# The wavefronts with which the test program inserts: each of them, and those of 32 bits once more, with lanes of 16 bits
+# for the insertions whose makespan is known to fit.
+WITH_MIXED = [*WAVEFRONTS.values(), *(lanes for lanes in WAVEFRONTS.values() if lanes[1] > 65_535)]
+
 # The most cubes of jobs on all machines of a shop whose search has three rounds. The second program takes seconds for
 # three rounds of a larger one, so its search has one. A round inserts each job, so it uses all tables again and again.
 MOST_CUBES = 1_000_000
@@ -88,6 +92,13 @@ SHOPS: dict[str, tuple[Instance, str]] = {
     "79 jobs for 40 lanes of 32 bits": (drawn(79, 25, 1_000_000), "HeadsTails"),
     "80 jobs for 40 lanes of 32 bits": (drawn(80, 25, 1_000_000), "Wavefront32(Lanes40)"),
     "one time of 10^9": (with_one_long_time(9, 5, 1_000_000_000), "HeadsTails"),
+    "16 jobs, in all 65,534": (shop_of(16, 1, [4_096] * 14 + [4_095] * 2), "Wavefront32(Lanes8)"),
+    "16 jobs, in all 65,535": (shop_of(16, 1, [4_096] * 15 + [4_095]), "Wavefront32(Lanes8)"),
+    "makespans from 5,000 to 100,000": (drawn(24, 3, 8_000), "Wavefront32(Lanes8)"),
+    "makespans to 70,000 on 9 machines": (drawn(40, 9, 3_000), "Wavefront32(Lanes16)"),
+    "a long job in lanes of 32 bits": (with_long_job(24, 8, 6_000), "Wavefront32(Lanes8)"),
+    "20 times of 13,107 are 4 times 65,535": (equal(18, 1, 13_107), "Wavefront32(Lanes8)"),
+    "20 times of 13,108": (equal(18, 1, 13_108), "Wavefront32(Lanes8)"),
     "40 jobs": (drawn(40, 6, 30), "Wavefront16(Lanes8)"),
     "21 jobs on 11 machines": (drawn(21, 11, 500), "Wavefront16(Lanes16)"),
     "22 jobs on 20 machines": (drawn(22, 20, 1_000), "Wavefront16(Lanes24)"),
@@ -170,7 +181,7 @@ def test_each_method_finds_the_first_best_places(pfs_calls: Program, folder: pat
     shop, method = SHOPS[name]
     lines = [method]
     places = insertions(shop)
-    for lanes in WAVEFRONTS.values():
+    for lanes in WITH_MIXED:
         cells = 0
         for jobs, (place, makespan) in enumerate(places, 1):
             for _ in range(2 if is_served(shop, *lanes) else 0):
@@ -185,8 +196,8 @@ def test_wide_lanes_of_32_bits_are_used_from_these_sizes_on(pfs_calls: Program, 
     shop = drawn(jobs, machines, 1_000)
     method, *lines = lines_of(pfs_calls, folder, shop)
     assert method == WIDE_32[jobs, machines]
-    methods = [method for method, lanes in WAVEFRONTS.items() if is_served(shop, *lanes)]
-    assert len(lines) == 2 * jobs * len(methods)
+    served = [lanes for lanes in WITH_MIXED if is_served(shop, *lanes)]
+    assert len(lines) == 2 * jobs * len(served)
     assert [line.split()[:2] for line in lines[::2]] == [line.split()[:2] for line in lines[1::2]]
 
 
@@ -201,7 +212,7 @@ def test_a_wide_wavefront_finds_what_heads_and_tails_do(pfs_calls: Program, fold
     method, *lines = lines_of(pfs_calls, folder, shop)
     methods = [method for method, lanes in WAVEFRONTS.items() if is_served(shop, *lanes)]
     assert method == (methods[0] if most == 99 else "HeadsTails")
-    assert len(lines) == 2 * jobs * len(methods)
+    assert len(lines) == 2 * jobs * sum(is_served(shop, *lanes) for lanes in WITH_MIXED)
     for by_rows, by_wavefront in zip(lines[::2], lines[1::2]):
         assert by_rows.split()[:2] == by_wavefront.split()[:2]
 

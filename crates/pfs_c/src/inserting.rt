@@ -176,7 +176,7 @@ fn best_in_lanes<L: Lanes>(
     // Called for their contracts: the instance and the sequence are within the limits.
     let _jobs = instance.jobs();
     let _len = sequence.len();
-    let Ok(mut bench) = MeteredLanes::<L>::new(alloc, instance) else {
+    let Ok(mut bench) = MeteredLanes::<L, L>::new(alloc, instance) else {
         return Err(CallFault::Memory);
     };
     let Ok(mut inserter) = Wavefront::new(alloc, &bench) else {

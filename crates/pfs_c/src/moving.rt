@@ -118,7 +118,7 @@ fn visit_in_lanes<L: Lanes>(
     ensures span { IfOk result (λ last. IfSome last (λ span. span ≡ makespan instance.now.shop seq.new.jobs)) }
     ensures memory { IfErr result (λ why. why ≡ CallFault.Memory) }
 {
-    let Ok(mut bench) = MeteredLanes::<L>::new(alloc, instance) else {
+    let Ok(mut bench) = MeteredLanes::<L, L>::new(alloc, instance) else {
         return Err(CallFault::Memory);
     };
     let Ok(mut inserter) = Wavefront::new(alloc, &bench) else {

@@ -15,46 +15,51 @@ use pfs_wave::{
 /// Inserts the jobs of a shop into a sequence in the order of their numbers, each at its best place. The arguments are
 /// the numbers of jobs and machines, and the times, job by job. Prints the method that a search of the shop uses.
 /// Then, for each width of a wavefront that serves the shop, it prints what heads and tails and the wavefront return
-/// for each job. Both run on one bench, and each inserter is the same for all jobs.
+/// for each job. Both run on one bench, and each inserter is the same for all jobs. The widths with lanes of 16 bits
+/// come first, then those of 32 bits, and then mixed benches with both.
 pub(crate) fn wavefronts_call(rt: &HostRuntime, words: &[String]) -> Result<(), Stop> {
     let times = numbers(rt, words, 2)?;
     let instance = shop(rt.alloc(), number(words, 0)?, number(words, 1)?, &times)?;
     println!(rt; "{:?}", method_for(&instance))?;
-    insert_in_widths::<Bits16>(rt, &instance)?;
-    insert_in_widths::<Bits32>(rt, &instance)
+    insert_in_widths::<Bits16, Bits16>(rt, &instance)?;
+    insert_in_widths::<Bits32, Bits32>(rt, &instance)?;
+    insert_in_widths::<Bits16, Bits32>(rt, &instance)
 }
 
-// Inserts all jobs with each width that serves the shop.
-fn insert_in_widths<S: LaneSize>(rt: &HostRuntime, instance: &Instance) -> Result<(), Stop> {
+// Inserts all jobs with each width that serves the shop, on mixed benches with lanes of these sizes.
+fn insert_in_widths<N: LaneSize, S: LaneSize>(
+    rt: &HostRuntime,
+    instance: &Instance,
+) -> Result<(), Stop> {
     if is_served(instance, Width::Lanes8, S::Band::CAP) {
-        insert_all::<S::Lanes8>(rt, instance)?;
+        insert_all::<N::Lanes8, S::Lanes8>(rt, instance)?;
     }
     if is_served(instance, Width::Lanes16, S::Band::CAP) {
-        insert_all::<S::Lanes16>(rt, instance)?;
+        insert_all::<N::Lanes16, S::Lanes16>(rt, instance)?;
     }
     if is_served(instance, Width::Lanes24, S::Band::CAP) {
-        insert_all::<S::Lanes24>(rt, instance)?;
+        insert_all::<N::Lanes24, S::Lanes24>(rt, instance)?;
     }
     if is_served(instance, Width::Lanes40, S::Band::CAP) {
-        insert_all::<S::Lanes40>(rt, instance)?;
+        insert_all::<N::Lanes40, S::Lanes40>(rt, instance)?;
     }
     if is_served(instance, Width::Lanes64, S::Band::CAP) {
-        insert_all::<S::Lanes64>(rt, instance)?;
+        insert_all::<N::Lanes64, S::Lanes64>(rt, instance)?;
     }
     if is_served(instance, Width::Lanes104, S::Band::CAP) {
-        insert_all::<S::Lanes104>(rt, instance)?;
+        insert_all::<N::Lanes104, S::Lanes104>(rt, instance)?;
     }
     if is_served(instance, Width::Lanes208, S::Band::CAP) {
-        insert_all::<S::Lanes208>(rt, instance)?;
+        insert_all::<N::Lanes208, S::Lanes208>(rt, instance)?;
     }
     Ok(())
 }
 
-fn insert_all<L: Lanes>(rt: &HostRuntime, instance: &Instance) -> Result<(), Stop>
+fn insert_all<N: Lanes, L: Lanes>(rt: &HostRuntime, instance: &Instance) -> Result<(), Stop>
     requires { IsServed instance.now.shop L.WIDTH L.Band.CAP }
 {
     let mut seq = Seq::new(rt.alloc(), instance.jobs())?;
-    let mut bench = MeteredLanes::<L>::new(rt.alloc(), instance)?;
+    let mut bench = MeteredLanes::<N, L>::mixed(rt.alloc(), instance)?;
     let mut rows = HeadsTails::new(rt.alloc(), &bench)?;
     let mut lanes = Wavefront::new(rt.alloc(), &bench)?;
     for job in 0..instance.jobs() {
@@ -73,9 +78,9 @@ fn insert_all<L: Lanes>(rt: &HostRuntime, instance: &Instance) -> Result<(), Sto
 }
 
 // Prints a place, the makespan with the job there, and the number of cells that were counted by then.
-fn print_best<L: Lanes>(
+fn print_best<N: Lanes, L: Lanes>(
     rt: &HostRuntime,
-    bench: &MeteredLanes<'_, L>,
+    bench: &MeteredLanes<'_, N, L>,
     place: usize,
     span: Span,
 ) -> Result<(), Stop> {

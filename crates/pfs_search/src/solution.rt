@@ -62,8 +62,12 @@ pub fn solve(
     };
     match method_for(instance) {
         Method::HeadsTails => solve_by_rows(alloc, instance, rounds),
-        Method::Wavefront16(width) => { solve_in_width::<Bits16>(alloc, instance, width, rounds) }
-        Method::Wavefront32(width) => { solve_in_width::<Bits32>(alloc, instance, width, rounds) }
+        Method::Wavefront16(width) => {
+            solve_in_width::<Bits16, Bits16>(alloc, instance, width, rounds)
+        }
+        Method::Wavefront32(width) => {
+            solve_in_width::<Bits16, Bits32>(alloc, instance, width, rounds)
+        }
     }
 }
 
@@ -101,9 +105,9 @@ pub fn improve(
     match method_for(instance) {
         Method::HeadsTails => improve_by_rows(alloc, instance, start, first, rounds),
         Method::Wavefront16(width) => {
-            improve_in_width::<Bits16>(alloc, instance, width, start, first, rounds)
+            improve_in_width::<Bits16, Bits16>(alloc, instance, width, start, first, rounds)
         }
-        Method::Wavefront32(width) => improve_in_width::<Bits32>(
+        Method::Wavefront32(width) => improve_in_width::<Bits16, Bits32>(
             alloc, instance, width, start, first, rounds,
         ),
     }
@@ -131,8 +135,8 @@ fn solve_by_rows(
     })
 }
 
-// `solve` by a wavefront of a given width.
-fn solve_in_width<S: LaneSize>(
+// `solve` by a wavefront of a given width, with narrow lanes of size `N` beside those of size `S`.
+fn solve_in_width<N: LaneSize, S: LaneSize>(
     alloc: Global,
     instance: &Instance,
     width: Width,
@@ -144,18 +148,18 @@ fn solve_in_width<S: LaneSize>(
         IsFoundBy instance.now.shop rounds found.order found.makespan found.cells) }
 {
     match width {
-        Width::Lanes8 => solve_in_lanes::<S::Lanes8>(alloc, instance, rounds),
-        Width::Lanes16 => solve_in_lanes::<S::Lanes16>(alloc, instance, rounds),
-        Width::Lanes24 => solve_in_lanes::<S::Lanes24>(alloc, instance, rounds),
-        Width::Lanes40 => solve_in_lanes::<S::Lanes40>(alloc, instance, rounds),
-        Width::Lanes64 => solve_in_lanes::<S::Lanes64>(alloc, instance, rounds),
-        Width::Lanes104 => solve_in_lanes::<S::Lanes104>(alloc, instance, rounds),
-        Width::Lanes208 => solve_in_lanes::<S::Lanes208>(alloc, instance, rounds),
+        Width::Lanes8 => solve_in_lanes::<N::Lanes8, S::Lanes8>(alloc, instance, rounds),
+        Width::Lanes16 => solve_in_lanes::<N::Lanes16, S::Lanes16>(alloc, instance, rounds),
+        Width::Lanes24 => solve_in_lanes::<N::Lanes24, S::Lanes24>(alloc, instance, rounds),
+        Width::Lanes40 => solve_in_lanes::<N::Lanes40, S::Lanes40>(alloc, instance, rounds),
+        Width::Lanes64 => solve_in_lanes::<N::Lanes64, S::Lanes64>(alloc, instance, rounds),
+        Width::Lanes104 => solve_in_lanes::<N::Lanes104, S::Lanes104>(alloc, instance, rounds),
+        Width::Lanes208 => solve_in_lanes::<N::Lanes208, S::Lanes208>(alloc, instance, rounds),
     }
 }
 
 // `solve` by a wavefront.
-fn solve_in_lanes<L: Lanes>(
+fn solve_in_lanes<N: Lanes, L: Lanes>(
     alloc: Global,
     instance: &Instance,
     rounds: Rounds,
@@ -165,7 +169,7 @@ fn solve_in_lanes<L: Lanes>(
     ensures { UnlessMemory result (λ found.
         IsFoundBy instance.now.shop rounds found.order found.makespan found.cells) }
 {
-    let Ok(mut bench) = MeteredLanes::<L>::new(alloc, instance) else {
+    let Ok(mut bench) = MeteredLanes::<N, L>::mixed(alloc, instance) else {
         return Err(SearchFault::Memory { done: 0 });
     };
     let Ok(inserter) = Wavefront::new(alloc, &bench) else {
@@ -203,8 +207,9 @@ fn improve_by_rows(
     })
 }
 
-// `improve` by a wavefront of a given width, from an order and its makespan.
-fn improve_in_width<S: LaneSize>(
+// `improve` by a wavefront of a given width, with narrow lanes of size `N` beside those of size `S`, from an order and
+// its makespan.
+fn improve_in_width<N: LaneSize, S: LaneSize>(
     alloc: Global,
     instance: &Instance,
     width: Width,
@@ -218,18 +223,32 @@ fn improve_in_width<S: LaneSize>(
         IsImprovedBy instance.now.shop start.order first rounds found.order found.makespan found.cells) }
 {
     match width {
-        Width::Lanes8 => improve_in_lanes::<S::Lanes8>(alloc, instance, start, first, rounds),
-        Width::Lanes16 => improve_in_lanes::<S::Lanes16>(alloc, instance, start, first, rounds),
-        Width::Lanes24 => improve_in_lanes::<S::Lanes24>(alloc, instance, start, first, rounds),
-        Width::Lanes40 => improve_in_lanes::<S::Lanes40>(alloc, instance, start, first, rounds),
-        Width::Lanes64 => improve_in_lanes::<S::Lanes64>(alloc, instance, start, first, rounds),
-        Width::Lanes104 => improve_in_lanes::<S::Lanes104>(alloc, instance, start, first, rounds),
-        Width::Lanes208 => improve_in_lanes::<S::Lanes208>(alloc, instance, start, first, rounds),
+        Width::Lanes8 => improve_in_lanes::<N::Lanes8, S::Lanes8>(
+            alloc, instance, start, first, rounds,
+        ),
+        Width::Lanes16 => improve_in_lanes::<N::Lanes16, S::Lanes16>(
+            alloc, instance, start, first, rounds,
+        ),
+        Width::Lanes24 => improve_in_lanes::<N::Lanes24, S::Lanes24>(
+            alloc, instance, start, first, rounds,
+        ),
+        Width::Lanes40 => improve_in_lanes::<N::Lanes40, S::Lanes40>(
+            alloc, instance, start, first, rounds,
+        ),
+        Width::Lanes64 => improve_in_lanes::<N::Lanes64, S::Lanes64>(
+            alloc, instance, start, first, rounds,
+        ),
+        Width::Lanes104 => improve_in_lanes::<N::Lanes104, S::Lanes104>(
+            alloc, instance, start, first, rounds,
+        ),
+        Width::Lanes208 => improve_in_lanes::<N::Lanes208, S::Lanes208>(
+            alloc, instance, start, first, rounds,
+        ),
     }
 }
 
 // `improve` by a wavefront, from an order and its makespan.
-fn improve_in_lanes<L: Lanes>(
+fn improve_in_lanes<N: Lanes, L: Lanes>(
     alloc: Global,
     instance: &Instance,
     start: Kept<Span>,
@@ -241,7 +260,7 @@ fn improve_in_lanes<L: Lanes>(
     ensures { UnlessMemory result (λ found.
         IsImprovedBy instance.now.shop start.order first rounds found.order found.makespan found.cells) }
 {
-    let Ok(mut bench) = MeteredLanes::<L>::new(alloc, instance) else {
+    let Ok(mut bench) = MeteredLanes::<N, L>::mixed(alloc, instance) else {
         return Err(SearchFault::Memory { done: 0 });
     };
     let Ok(wavefront) = Wavefront::new(alloc, &bench) else {

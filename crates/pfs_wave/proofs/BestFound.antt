@@ -53,16 +53,18 @@ module _ (cap : ℕ) (shop : FlowShop) (order : List ℕ) (job width : ℕ) (tim
             ∙ sums_are (width - 1) (omega arith) (omega arith) (omega arith) (omega arith)
       ]
 
-  -- where every makespan is below the cap, the first place of the least sum is the best place
+  -- where the makespan with the job at another place is below the cap, the first place of the least sum is the best
+  -- place
   pub found : {count place least : ℕ} → IsLeastSoFar (λ place. slice_index_or sums place 0) count place least
       → count ≡ length order + 1
-      → ((place : ℕ) → place ≤ length order → makespan_with shop order job place < cap)
+      → (other : ℕ) → other ≤ length order → makespan_with shop order job other < cap
       → IsBestPlace shop order job place least
-  found {count} {place} {least} so_far many short =
+  found {count} {place} {least} so_far many other among short =
       let here = so_far.value_is in
       let first = rw many at so_far.first in
       let inside : place < length order + 1 = first.within in
-      let least_is = sum_at place inside in
+      let other_is = sum_at other (omega arith) in
+      let no_more = first.least other (omega arith) in
       let capped_is = capped_least_law cap (makespan_with shop order job) (λ at. slice_index_or sums at 0)
-      (length order + 1) place sum_at first (omega (arith, least_is, short place (omega arith))) in
+      (length order + 1) place sum_at first (omega (arith, other_is, no_more, short)) in
       best_place_found shop order job capped_is.0 (here ∙ capped_is.1)

@@ -8,6 +8,7 @@ pub mod JoinedRows
 pub mod LeastKey
 pub mod LoadedTimes
 pub mod Longest
+pub mod NarrowLemmas
 pub mod OneBandLemmas
 pub mod ServedPaths
 pub mod ShopRows
@@ -15,6 +16,8 @@ pub mod SkewedTimes
 pub mod SmallLanes
 pub mod Steps
 pub mod PaddedTables
+pub mod PartLaws
+pub mod PartOf
 pub mod PastRows
 pub mod PutParts
 pub mod TakenSteps

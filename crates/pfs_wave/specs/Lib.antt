@@ -1,5 +1,7 @@
 pub mod Lanes
 pub mod Least
+pub mod Narrow
+pub mod Parts
 pub mod Private
 pub mod Served
 pub mod Tables

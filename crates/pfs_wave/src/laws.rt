@@ -1,6 +1,7 @@
 //! Laws of the definitions: which values the lanes of a wavefront contain.
 ghost use Rattle.pfs_wave.specs.Wavefront.{TailsLaw, HeadsLaw, InsertedRowsLaw, SumsLaw};
 ghost use Rattle.pfs_wave.specs.Wavefront.{CappedLeastLaw, LongestWithLaw};
+ghost use Rattle.pfs_wave.specs.Parts.{PartLaw, AppendedLaw};
 
 /// The lanes of tails contain the tails of the sequence, capped.
 pub fn tails()
@@ -32,4 +33,14 @@ pub fn least()
 /// time.
 pub fn longest_with()
     ensures { LongestWithLaw }
+{}
+
+/// Leaving jobs out of a sequence doesn't make its makespan longer.
+pub fn parts()
+    ensures { PartLaw }
+{}
+
+/// With a job after all others the makespan grows by at most the job's total time.
+pub fn appended()
+    ensures { AppendedLaw }
 {}

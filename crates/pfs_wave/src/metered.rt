@@ -1,13 +1,17 @@
 //! A bench over an instance that also computes in lanes.
-ghost use Rattle.std.specs.Prelude.{◌≡◌, ℕ, ◌+◌, ◌*◌, ◌<◌, length, IfOk};
+ghost use Rattle.std.specs.Prelude.{◌≡◌, ◌<◌, Contains, IfOk};
 ghost use Rattle.pfs_base.specs.Limits.{limits};
 ghost use Rattle.pfs_base.specs.FlowShop.{IsWithin};
+ghost use Rattle.pfs_insert.specs.Inserter.{IsBestPlace};
+ghost use Rattle.pfs_wave.specs.Narrow.{HasNarrow};
 ghost use Rattle.pfs_wave.specs.Served.{IsServed};
 ghost use Rattle.pfs_wave.specs.Wavefront.{HasRows};
 
 use crate::band::Band;
 use crate::bench::LaneBench;
+use crate::insertion::best_in_tables;
 use crate::lanes::Lanes;
+use crate::narrow::{Narrow, narrow_lanes};
 use crate::skewed::SkewedTimes;
 use crate::tables::Tables;
 use pfs_base::{Bench, Instance, Length, Metered, Shop, Span};
@@ -16,29 +20,80 @@ use pfs_order::Seq;
 use std::alloc::{AllocError, Global};
 use std::marker::Model;
 
-/// A metered bench over an instance that a wavefront serves, with the times of each job in lanes.
+/// A metered bench over an instance that a wavefront serves, with the times of each job in lanes. A mixed bench also has
+/// narrow lanes, with fewer bits, for the insertions whose makespan is known to fit in them.
 #[derive(Drop)]
-pub struct MeteredLanes<'a, L: Lanes> {
+pub struct MeteredLanes<'a, N: Lanes, L: Lanes> {
     bench: Metered<'a>,
     skewed: SkewedTimes<L>,
+    narrow: Option<Narrow<N>>,
     ghost within: { IsWithin limits (⟦<Metered<'static> as Bench>⟧.shop bench) },
     ghost served: { IsServed (⟦<Metered<'static> as Bench>⟧.shop bench) L.WIDTH L.Band.CAP },
     ghost rows: { HasRows (⟦<Metered<'static> as Bench>⟧.shop bench) L.WIDTH skewed.rows },
+    ghost tables: { HasNarrow (⟦<Metered<'static> as Bench>⟧.shop bench) N.WIDTH narrow },
 }
 
-impl<'a, L: Lanes> MeteredLanes<'a, L> {
+impl<'a, N: Lanes, L: Lanes> MeteredLanes<'a, N, L> {
     /// A bench over an instance, with a count of 0 cells. It reserves memory for the rows of its jobs and for the times
     /// of a sequence, and returns `AllocError` where that fails.
-    pub fn new(alloc: Global, instance: &'a Instance) -> Result<MeteredLanes<'a, L>, AllocError>
+    pub fn new(alloc: Global, instance: &'a Instance) -> Result<MeteredLanes<'a, N, L>, AllocError>
         requires { IsServed instance.now.shop L.WIDTH L.Band.CAP }
-        ensures shop { IfOk result (λ made. ⟦<MeteredLanes<'a, L> as Bench>⟧.shop made ≡ instance.now.shop) }
-        ensures counted { IfOk result (λ made. ⟦<MeteredLanes<'a, L> as Bench>⟧.counted made ≡ 0) }
+        ensures shop { IfOk result (λ made. ⟦<MeteredLanes<'a, N, L> as Bench>⟧.shop made ≡ instance.now.shop) }
+        ensures counted { IfOk result (λ made. ⟦<MeteredLanes<'a, N, L> as Bench>⟧.counted made ≡ 0) }
     {
         let skewed = SkewedTimes::new(alloc, instance)?;
         Ok(MeteredLanes {
             bench: instance.metered(),
             skewed,
+            narrow: None,
         })
+    }
+
+    /// A mixed bench over an instance, with a count of 0 cells, for one insertion after another. It has narrow lanes
+    /// where their bits are fewer and they often serve the instance (`IsOftenShort`). It also reserves the memory of
+    /// these insertions, and returns `AllocError` where allocation fails.
+    pub fn mixed(
+        alloc: Global,
+        instance: &'a Instance,
+    ) -> Result<MeteredLanes<'a, N, L>, AllocError>
+        requires { IsServed instance.now.shop L.WIDTH L.Band.CAP }
+        ensures shop { IfOk result (λ made. ⟦<MeteredLanes<'a, N, L> as Bench>⟧.shop made ≡ instance.now.shop) }
+        ensures counted { IfOk result (λ made. ⟦<MeteredLanes<'a, N, L> as Bench>⟧.counted made ≡ 0) }
+    {
+        let skewed = SkewedTimes::new(alloc, instance)?;
+        let narrow = narrow_lanes(alloc, instance, L::Band::CAP)?;
+        Ok(MeteredLanes {
+            bench: instance.metered(),
+            skewed,
+            narrow,
+        })
+    }
+
+    // The best place for a job in a sequence, and the makespan with the job there, in the narrow lanes where they serve
+    // the insertion. It counts no cells.
+    #[inline(always)]
+    fn find(&mut self, seq: &Seq, job: usize, tables: &mut Tables<L>) -> Placed<u64>
+        requires size { seq.now.size ≡ (⟦<MeteredLanes<'a, N, L> as Bench>⟧.shop self.old).jobs }
+        requires job { job < (⟦<MeteredLanes<'a, N, L> as Bench>⟧.shop self.old).jobs }
+        requires absent { Contains seq.now.jobs job → ⊥ }
+        requires tables { tables.old.jobs ≡ (⟦<MeteredLanes<'a, N, L> as Bench>⟧.shop self.old).jobs }
+        ensures best { IsBestPlace (⟦<MeteredLanes<'a, N, L> as Bench>⟧.shop self.old) seq.now.jobs job
+            result.place result.span }
+        ensures tables { tables.new.jobs ≡ tables.old.jobs }
+        ensures counted { ⟦<MeteredLanes<'a, N, L> as Bench>⟧.counted self.new
+            ≡ ⟦<MeteredLanes<'a, N, L> as Bench>⟧.counted self.old }
+        ensures shop { ⟦<MeteredLanes<'a, N, L> as Bench>⟧.shop self.new
+            ≡ ⟦<MeteredLanes<'a, N, L> as Bench>⟧.shop self.old }
+    {
+        let machines = self.bench.machines();
+        // Benches of lanes of one size are compiled without this branch.
+        if N::Band::CAP < L::Band::CAP {
+            if let Some(narrow) = &mut self.narrow {
+                let total = self.bench.total(job);
+                return narrow.best_or_wide(&mut self.skewed, tables, seq, job, total);
+            }
+        }
+        best_in_tables(&mut self.skewed, tables, seq.as_slice(), job, machines)
     }
 
     /// The length as a number, for printing. It counts no cells.
@@ -49,7 +104,7 @@ impl<'a, L: Lanes> MeteredLanes<'a, L> {
     }
 }
 
-impl<'a, L: Lanes> Bench for MeteredLanes<'a, L> {
+impl<'a, N: Lanes, L: Lanes> Bench for MeteredLanes<'a, N, L> {
     type Span = Span;
 
     ghost shop = { λ b. ⟦<Metered<'static> as Bench>⟧.shop b.bench };
@@ -97,43 +152,23 @@ impl<'a, L: Lanes> Bench for MeteredLanes<'a, L> {
     }
 }
 
-impl<L: Lanes> Shop for MeteredLanes<'_, L> {
+impl<N: Lanes, L: Lanes> Shop for MeteredLanes<'_, N, L> {
     fn total(&self, job: usize) -> u64 {
         self.bench.total(job)
     }
 }
 
-impl<'a, L: Lanes> LaneBench for MeteredLanes<'a, L> {
+impl<'a, N: Lanes, L: Lanes> LaneBench for MeteredLanes<'a, N, L> {
     type Lanes = L;
-
-    ghost held = { λ b. b.skewed.jobs };
-
-    ghost served = { λ b. b.served };
-
-    #[inline(always)]
-    fn fill_tails(&mut self, seq: &Seq, tables: &mut Tables<L>) {
-        let machines = self.bench.machines();
-        let cells = seq.len() as u64 * machines as u64;
-        self.bench.count(cells);
-        self.skewed.hold(seq.as_slice());
-        self.skewed.fill_tails(machines, &mut tables.tails);
-    }
 
     #[inline(always)]
     fn best_place(&mut self, seq: &Seq, job: usize, tables: &mut Tables<L>) -> Placed<Span> {
-        let machines = self.bench.machines();
-        let cells = (3 * seq.len() as u64 + 2) * machines as u64;
+        let cells = (4 * seq.len() as u64 + 2) * self.bench.machines() as u64;
         self.bench.count(cells);
-        let found = self.skewed.best_place(
-            job,
-            machines,
-            &tables.tails,
-            &mut tables.sums,
-            &mut tables.fronts,
-        );
+        let best = self.find(seq, job, tables);
         Placed {
-            place: found.place,
-            span: self.bench.length(u64::from(found.sum)),
+            place: best.place,
+            span: self.bench.length(best.span),
         }
     }
 }

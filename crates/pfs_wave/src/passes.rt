@@ -62,12 +62,13 @@ pub(crate) fn best_place<L: Lanes>(
     requires fronts { 8 * length fronts.old ≡ L.WIDTH }
     ensures sums { length sums.new ≡ length sums.old }
     ensures fronts { length fronts.new ≡ length fronts.old }
+    ensures within { result.place + machines ≤ length times.now }
     ensures best { (shop : FlowShop) (jobs : List ℕ) (inserted : ℕ) → FitsLanes shop L.WIDTH
         → shop.machines ≡ machines
         → AreSkewed shop jobs L.WIDTH (rows_of (map L.lanes times.now))
         → HoldTails L.Band.CAP shop jobs L.WIDTH (rows_of (map L.lanes tails.now))
         → IsJobRow shop inserted L.WIDTH (L.lanes job.now) → length times.now ≡ step_count shop jobs
-        → ((place : ℕ) → place ≤ length jobs → makespan_with shop jobs inserted place < L.Band.CAP)
+        → (other : ℕ) → other ≤ length jobs → makespan_with shop jobs inserted other < L.Band.CAP
         → IsBestPlace shop jobs inserted result.place result.sum }
 {
     let steps = times.len();

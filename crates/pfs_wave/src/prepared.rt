@@ -1,12 +1,11 @@
 //! Insertions by a wavefront whose memory is kept from one to the next.
-ghost use Rattle.std.specs.Prelude.{◌≡◌, ◌+◌, ◌<◌, ◌≤◌, length, take, IfOk};
+ghost use Rattle.std.specs.Prelude.{◌≡◌, ◌<◌, ◌≤◌, length, take, IfOk};
 ghost use Rattle.std.specs.List.{All};
-ghost use Rattle.pfs_base.specs.FlowShop.{FlowShop};
 ghost use Rattle.pfs_insert.specs.Inserter.{IsBestPlace};
 ghost use Rattle.pfs_wave.specs.Served.{IsServed};
-ghost use Rattle.pfs_wave.specs.Wavefront.{HasRows};
 
 use crate::band::Band;
+use crate::insertion::best_in_tables;
 use crate::lanes::Lanes;
 use crate::skewed::SkewedTimes;
 use crate::tables::Tables;
@@ -87,42 +86,5 @@ fn copy_jobs(jobs: &[u32], list: &mut [usize])
 {
     for place in 0..jobs.len() {
         list[place] = jobs[place] as usize;
-    }
-}
-
-// The best place for a job in a sequence, and the makespan with the job there.
-#[inline(always)]
-fn best_in_tables<L: Lanes>(
-    skewed: &mut SkewedTimes<L>,
-    tables: &mut Tables<L>,
-    sequence: &[usize],
-    job: usize,
-    machines: usize,
-) -> Placed<u64>
-    requires jobs { All (λ other. other + 1 < length skewed.old.rows) sequence.now }
-    requires few { length sequence.now ≤ tables.old.jobs }
-    requires tables { tables.old.jobs < length skewed.old.rows }
-    requires job { job < length skewed.old.rows }
-    requires some { 1 ≤ machines }
-    requires machines { machines ≤ L.WIDTH }
-    ensures best { (shop : FlowShop) → IsServed shop L.WIDTH L.Band.CAP → shop.machines ≡ machines
-        → HasRows shop L.WIDTH skewed.old.rows
-        → length sequence.now < shop.jobs → job < shop.jobs
-        → IsBestPlace shop sequence.now job result.place result.span }
-    ensures rows { skewed.new.rows ≡ skewed.old.rows }
-    ensures tables { tables.new.jobs ≡ tables.old.jobs }
-{
-    skewed.hold(sequence);
-    skewed.fill_tails(machines, &mut tables.tails);
-    let found = skewed.best_place(
-        job,
-        machines,
-        &tables.tails,
-        &mut tables.sums,
-        &mut tables.fronts,
-    );
-    Placed {
-        place: found.place,
-        span: u64::from(found.sum),
     }
 }

@@ -124,8 +124,8 @@ fn width_for(machines: usize) -> Width
     }
 }
 
-// The longest time of an instance.
-fn longest_time(instance: &Instance) -> u32
+/// The longest time of an instance.
+pub(crate) fn longest_time(instance: &Instance) -> u32
     ensures { result ≡ greatest instance.now.shop.times }
 {
     let mut longest = 0;

@@ -129,10 +129,11 @@ impl<L: Lanes> SkewedTimes<L> {
         requires fronts { 8 * length fronts.old ≡ L.WIDTH }
         ensures length { length sums.new ≡ length sums.old }
         ensures fronts { length fronts.new ≡ length fronts.old }
+        ensures within { result.place ≤ length self.now.jobs }
         ensures best { (shop : FlowShop) → FitsLanes shop L.WIDTH → shop.machines ≡ machines
             → HasRows shop L.WIDTH self.now.rows → job < shop.jobs
             → HoldTails L.Band.CAP shop self.now.jobs L.WIDTH (rows_of (map L.lanes tails.now))
-            → ((place : ℕ) → place ≤ length self.now.jobs → makespan_with shop self.now.jobs job place < L.Band.CAP)
+            → (other : ℕ) → other ≤ length self.now.jobs → makespan_with shop self.now.jobs job other < L.Band.CAP
             → IsBestPlace shop self.now.jobs job result.place result.sum }
     {
         best_place(

@@ -55,9 +55,6 @@ impl<B: LaneBench> Inserter<B> for Wavefront<B> {
         seq: &Seq,
         job: usize,
     ) -> Result<Placed<B::Span>, InsertFault> {
-        // Called for its contract, which says that the jobs of a sequence are distinct.
-        let _size = seq.size();
-        bench.fill_tails(seq, &mut self.tables);
         Ok(bench.best_place(seq, job, &mut self.tables))
     }
 }

@@ -10,7 +10,7 @@ use Rattle.pfs_wave.proofs.BestFound.{found, number_of_part}
 use Rattle.pfs_wave.proofs.passes.best_place.Goals as goal
 
 pub returns-clause-best : goal.returns-clause-best
-returns-clause-best g c shop jobs inserted fits machines skewed holds is_job steps short =
+returns-clause-best g c shop jobs inserted fits machines skewed holds is_job steps other among short =
     let lanes = g.L.Lanes.lanes in
     let width = g.L.Lanes.WIDTH in
     let cap = g.L.Band.Band.CAP in
@@ -79,4 +79,4 @@ returns-clause-best g c shop jobs inserted fits machines skewed holds is_job ste
     ∙ ap (λ n. get_or (map number written) n 0) here
     ∙ c.write_reversed.ensures.lanes lane (omega arith)
     ∙ ap (λ n. get_or row (n - 1 - place) 0) steps)
-    c.first_least.ensures (places_long ∙ omega arith) short
+    c.first_least.ensures (places_long ∙ omega arith) other among short

@@ -5,7 +5,7 @@ use Rattle.pfs_wave.proofs.FilledSteps.{row_read}
 use Rattle.pfs_wave.proofs.skewed.SkewedTimes.best_place.Goals as goal
 
 pub returns-clause-best : goal.returns-clause-best
-returns-clause-best g c shop fits machines has job holds short =
+returns-clause-best g c shop fits machines has job holds other among short =
     let lanes = g.L.Lanes.lanes in
     let width = g.L.Lanes.WIDTH in
     let rows = c.self.inside.rows.items in
@@ -15,4 +15,4 @@ returns-clause-best g c shop fits machines has job holds short =
     rw (row_read lanes rows c.args.job c.index.result.now inside c.index.ensures, view) (has.jobs_are c.args.job job) in
     let steps = c.times.ensures.steps in
     c.best_place.ensures.best shop c.args.self.now.jobs c.args.job fits machines
-    (c.times.ensures.skewed shop machines has) holds is_job (omega arith) short
+    (c.times.ensures.skewed shop machines has) holds is_job (omega arith) other among short

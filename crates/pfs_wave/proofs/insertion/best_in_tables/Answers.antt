@@ -1,14 +1,11 @@
 use Rattle.std.proofs.Common.{◌≡◌, length, drop, arith}
 use Rattle.std.proofs.lemmas.List.{take_at}
-use Rattle.pfs_wave.specs.Wavefront.{FitsLanes}
-use Rattle.pfs_wave.proofs.ServedPaths.{served_path}
-use Rattle.pfs_wave.proofs.prepared.best_in_tables.Goals as goal
+use Rattle.pfs_wave.proofs.insertion.best_in_tables.Goals as goal
 
 pub returns-clause-best : goal.returns-clause-best
-returns-clause-best g c shop served machines rows few job =
+returns-clause-best g c shop fits machines rows job other among short =
     let tails = c.fill_tails.new.tails in
     let old = c.tables.inside.tails.items in
-    let fits : FitsLanes shop g.L.Lanes.WIDTH = record { some = served.some; few = served.few } in
     let filled = rw (c.hold.ensures.jobs, c.hold.ensures.rows) at c.fill_tails.ensures.tails in
     let best = rw (c.hold.ensures.jobs, c.hold.ensures.rows, c.deref.ensures.value) at c.best_place-found.ensures.best
     in
@@ -17,5 +14,4 @@ returns-clause-best g c shop served machines rows few job =
     rw c.from.ensures
     (best shop fits machines rows job
     (rw (take_at tails (drop (length tails) old) c.tables.inside.tails.len long) (filled shop fits machines rows))
-    (λ place within. served_path shop g.L.Lanes.WIDTH g.L.Band.Band.CAP served c.args.sequence.now c.args.job place few
-    within))
+    other among short)
