@@ -16,6 +16,7 @@ MOST_GROWTHS = 1_000
 GROWING = [
     "solve --layout taillard --rounds 5 --take 2 --seed 7 --passes 1 --cells three",
     "solve --layout taillard --rounds 5 --take 2 --seed 7 --passes 1 --cells eight",
+    "solve --layout taillard --cells sixteen",
     "value --layout orlib --block 2 two_blocks.or",
     "check --layout taillard three best",
     "table --layout taillard three best",

@@ -30,6 +30,7 @@ FILES = {
     "ones": taillard(b"3 2 0 0 0", b"1 1 1", b"1 1 1"),
     "one": taillard(b"1 1 0 0 0", b"0"),
     "eight": generated(8, 3, 873654221),
+    "sixteen": taillard(b"16 1 0 0 0", b" ".join([b"4096"] * 16)),
     "empty": b"",
     "mixed": taillard(b"3 2 0 0 0", b"3 2 4", b"2 5x 1"),
     "extra": taillard(b"3 2 0 0 0", b"3 2 4", b"2 5 1 7"),

@@ -47,6 +47,9 @@ ANSWERS: dict[str, Ran] = {
     "solve --layout taillard --cells eight": Ran(b"order2 8 3\n3 1 5 8 4 2 6 7\nmakespan 564\ncells 384\n", b"", 0),
     "solve --layout taillard --rounds 5 --take 2 --seed 7 --passes 1 --cells eight": Ran(
         b"order2 8 3\n3 5 8 1 4 2 7 6\nmakespan 564\ncells 4824\n", b"", 0),
+    # Of places with the same makespan the first is the best.
+    "solve --layout taillard --cells sixteen": Ran(
+        b"order2 16 1\n16 15 14 13 12 11 10 9 8 7 6 5 4 3 2 1\nmakespan 65536\ncells 512\n", b"", 0),
     "solve --layout taillard --take 4 three": Ran(b"", b"pfs: take 4 exceeds 3 jobs\n", 3),
     "solve --layout taillard --take 4 --rounds 5 three": Ran(b"", b"pfs: take 4 exceeds 3 jobs\n", 3),
     "solve --layout taillard --take 4 mixed": Ran(b"", b"pfs: mixed line at 118\n", 2),
