@@ -1,12 +1,17 @@
 -- Narrow tables after an insertion.
-use Rattle.std.proofs.Common.{◌≡◌, ℕ, Bool, true, false, Some, insert, nat_lt, if◌then◌else◌, subst, arith}
+use Rattle.std.proofs.Common.{◌≡◌, ℕ, ◌+◌, ◌<◌, ◌≤◌, Bool, true, false, List, Some, length, nat_eq, nat_le, nat_lt}
+use Rattle.std.proofs.Common.{if◌then◌else◌, subst, arith}
 use Rattle.std.specs.Option.{IfSome}
 use Rattle.pfs_base.specs.FlowShop.{FlowShop}
 use Rattle.pfs_insert.specs.Inserter.{IsBestPlace}
+use Rattle.pfs_insert.specs.Insertion.{makespan_with}
 use Rattle.pfs_order.specs.Sequence.{Sequence}
-use Rattle.pfs_wave.specs.Narrow.{AreNarrow, HasNarrow, NarrowTables, after_best}
+use Rattle.pfs_wave.specs.Narrow.{AreNarrow, HasNarrow, IsKnown, IsShort, KnownSequence, NarrowTables, after_best}
+use Rattle.pfs_wave.specs.Narrow.{known_with}
+use Rattle.pfs_wave.proofs.PartLaws.{part_law, appended_law}
+use Rattle.pfs_base.specs.FlowShop.{total_of}
 
-either : (P : NarrowTables → Type 0) (first : Bool) (one other : NarrowTables) → P one → P other
+either : {T : Type 0} (P : T → Type 0) (first : Bool) (one other : T) → P one → P other
     → P (if first then one else other)
 either P true one other is_one is_other = is_one
 either P false one other is_one is_other = is_other
@@ -16,17 +21,38 @@ pub narrow_after : (shop : FlowShop) (width cap : ℕ) (tables : NarrowTables) (
     → AreNarrow shop width tables → seq.size ≡ shop.jobs → IsBestPlace shop seq.jobs job place span
     → AreNarrow shop width (after_best cap tables seq job place span)
 narrow_after shop width cap tables seq job place span are size best =
+    let with_job = known_with seq job place span in
+    let is_known : IsKnown shop with_job = record { size = size; bound = omega (arith, best.span_is) } in
+    let all = nat_eq (length seq.jobs + 1) tables.jobs in
+    let no_longer = nat_le span tables.kept.span in
+    let kept = if no_longer then with_job else tables.kept in
     either (AreNarrow shop width) (nat_lt span cap)
-    (record tables { known = record seq { jobs = insert seq.jobs place job }; span = span }) tables
+    (record tables { last = with_job; kept = if all then kept else tables.kept }) tables
     (record {
       fits = are.fits;
       rows = are.rows;
       jobs = are.jobs;
       machines = are.machines;
-      size = size;
-      span = omega (arith, best.span_is);
+      last = is_known;
+      kept =
+          either (IsKnown shop) all kept tables.kept
+          (either (IsKnown shop) no_longer with_job tables.kept is_known are.kept) are.kept;
     })
     are
+
+-- where a known sequence says so, the makespan with a job after all others is below the cap
+pub short_after : (shop : FlowShop) (known : KnownSequence) (jobs : List ℕ) (job total cap : ℕ) → 1 ≤ shop.machines
+    → IsKnown shop known → IsShort known jobs total cap → total ≡ total_of shop job
+    → makespan_with shop jobs job (length jobs) < cap
+short_after shop known jobs job total cap some is_known is_short total_is =
+    omega (
+      arith,
+      part_law shop jobs known.seq.jobs some is_short.part,
+      appended_law shop jobs job some,
+      is_known.bound,
+      is_short.fits,
+      total_is,
+    )
 
 -- narrow tables that a bench has
 pub has_narrow : (shop : FlowShop) (width : ℕ) (tables : NarrowTables) → AreNarrow shop width tables

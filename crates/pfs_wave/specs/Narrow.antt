@@ -1,19 +1,42 @@
 -- Lanes of fewer bits, for the insertions whose makespan is known to fit in them.
-use Rattle.std.specs.Prelude.{ℕ, ◌≡◌, ◌+◌, ◌*◌, ◌≤◌, List, Option, insert, nat_lt, if◌then◌else◌}
+use Rattle.std.specs.Prelude.{ℕ, ◌≡◌, ◌+◌, ◌*◌, ◌<◌, ◌≤◌, List, Option, length, insert, nat_eq, nat_le, nat_lt}
+use Rattle.std.specs.Prelude.{if◌then◌else◌}
 use Rattle.std.specs.Option.{ForSome}
 use Rattle.pfs_base.specs.FlowShop.{FlowShop}
 use Rattle.pfs_base.specs.Paths.{greatest, makespan}
 use Rattle.pfs_order.specs.Sequence.{Sequence}
+use Rattle.pfs_wave.specs.Parts.{IsPart}
 use Rattle.pfs_wave.specs.Wavefront.{FitsLanes, HasRows}
 
--- the rows of times of all jobs, the numbers of jobs and machines of the shops that the tables were made for, a
--- sequence, and a bound on its makespan
+-- a sequence, and a bound on its makespan
+pub record KnownSequence : Type 0 where
+  pub seq : Sequence
+  pub span : ℕ
+
+-- a known sequence of a shop
+pub record IsKnown (shop : FlowShop) (known : KnownSequence) : Type 0 where
+  pub size : known.seq.size ≡ shop.jobs
+  pub bound : makespan shop known.seq.jobs ≤ known.span
+
+-- the jobs are those of the known sequence, or some of them left out, and with another job of this total time after all
+-- others the makespan of the known sequence is below `cap`
+pub record IsShort (known : KnownSequence) (jobs : List ℕ) (total cap : ℕ) : Type 0 where
+  pub fits : known.span + total < cap
+  pub part : IsPart jobs known.seq.jobs
+
+-- the sequence with a job at a place, where its makespan is `span`
+abbrev pub known_with : Sequence → ℕ → ℕ → ℕ → KnownSequence
+known_with seq job place span =
+    record { seq = record seq { jobs = insert seq.jobs place job }; span = span }
+
+-- the rows of times of all jobs, the numbers of jobs and machines of the shops that the tables were made for, the last
+-- sequence that is known, and the one of all jobs that is kept
 pub record NarrowTables : Type 0 where
   pub rows : List (List ℕ)
   pub jobs : ℕ
   pub machines : ℕ
-  pub known : Sequence
-  pub span : ℕ
+  pub last : KnownSequence
+  pub kept : KnownSequence
 
 -- narrow tables of a shop
 pub record AreNarrow (shop : FlowShop) (width : ℕ) (tables : NarrowTables) : Type 0 where
@@ -21,15 +44,21 @@ pub record AreNarrow (shop : FlowShop) (width : ℕ) (tables : NarrowTables) : T
   pub rows : HasRows shop width tables.rows
   pub jobs : tables.jobs ≡ shop.jobs
   pub machines : tables.machines ≡ shop.machines
-  pub size : tables.known.size ≡ shop.jobs
-  pub span : makespan shop tables.known.jobs ≤ tables.span
+  pub last : IsKnown shop tables.last
+  pub kept : IsKnown shop tables.kept
 
--- the tables after a job was inserted into a sequence at its best place: where its makespan fits, they know the sequence
--- with the job
+-- the tables after a job was inserted into a sequence at its best place: where its makespan fits, the sequence with the
+-- job is the last known one, and it is kept if it has all jobs and is not longer than the one that was kept
 abbrev pub after_best : ℕ → NarrowTables → Sequence → ℕ → ℕ → ℕ → NarrowTables
 after_best cap tables seq job place span =
     if nat_lt span cap
-    then record tables { known = record seq { jobs = insert seq.jobs place job }; span = span }
+    then record tables {
+      last = known_with seq job place span;
+      kept =
+          if nat_eq (length seq.jobs + 1) tables.jobs
+          then (if nat_le span tables.kept.span then known_with seq job place span else tables.kept)
+          else tables.kept;
+    }
     else tables
 
 -- the narrow tables of a shop, if there are any

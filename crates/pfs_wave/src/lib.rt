@@ -10,6 +10,7 @@ mod changes;
 mod insertion;
 mod joined;
 mod kernels;
+mod known;
 mod lanes;
 pub mod laws;
 mod least;

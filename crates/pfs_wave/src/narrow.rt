@@ -1,18 +1,17 @@
 //! Lanes of fewer bits, for the insertions whose makespan is known to fit in them.
-ghost use Rattle.std.specs.Prelude.{◌≡◌, ℕ, ◌+◌, ◌<◌, ◌≤◌, ◌↔◌, length, Contains, IsTrue, IfOk, IsSome};
+ghost use Rattle.std.specs.Prelude.{◌≡◌, ℕ, ◌+◌, ◌<◌, ◌≤◌, ◌↔◌, ◌⊎◌, length, Contains, IsTrue, IfOk, IsSome};
 ghost use Rattle.std.specs.List.{All};
 ghost use Rattle.pfs_base.specs.FlowShop.{FlowShop, total_of};
 ghost use Rattle.pfs_insert.specs.Inserter.{IsBestPlace};
 ghost use Rattle.pfs_insert.specs.Insertion.{makespan_with};
-ghost use Rattle.pfs_wave.specs.Narrow.{AreNarrow, HasNarrow, IsOftenShort, after_best};
-ghost use Rattle.pfs_wave.specs.Parts.{IsPart};
+ghost use Rattle.pfs_wave.specs.Narrow.{AreNarrow, HasNarrow, IsOftenShort, IsShort, after_best};
 ghost use Rattle.pfs_wave.specs.Served.{IsServed};
 ghost use Rattle.pfs_wave.specs.Wavefront.{HasRows};
 
 use crate::band::Band;
 use crate::insertion::best_in_tables;
+use crate::known::Known;
 use crate::lanes::Lanes;
-use crate::parts::is_part;
 use crate::served::longest_time;
 use crate::skewed::SkewedTimes;
 use crate::tables::Tables;
@@ -22,16 +21,16 @@ use pfs_order::Seq;
 use std::alloc::{AllocError, Global};
 use std::marker::Model;
 
-/// The times of an instance in narrow lanes, the tables of an insertion, and a sequence whose makespan is known to fit
-/// in a lane.
+/// The times of an instance in narrow lanes, the tables of an insertion, and two sequences whose makespans are known to
+/// fit in a lane: the last one, and the order of all jobs with the shortest makespan so far, of equal ones the last.
+/// A search goes on from one of them.
 #[derive(Drop)]
 pub struct Narrow<N: Lanes> {
     skewed: SkewedTimes<N>,
     tables: Tables<N>,
-    known: Seq,
-    // The makespan of the known sequence, or a greater number.
-    span: u64,
     machines: usize,
+    last: Known,
+    kept: Known,
 }
 
 impl<N: Lanes> Model for Narrow<N> {
@@ -44,11 +43,14 @@ impl<N: Lanes> Model for Narrow<N> {
       rows = a.skewed.rows;
       jobs = a.tables.jobs;
       machines = a.machines;
-      known = a.known;
-      span = a.span;
+      last = a.last;
+      kept = a.kept;
     } };
 
-    ghost invariant = { λ a. a.span ≤ N.Band.CAP };
+    ghost invariant = { λ a. record {
+      last : a.last.span ≤ N.Band.CAP;
+      kept : a.kept.span ≤ N.Band.CAP;
+    } };
 }
 
 impl<N: Lanes> Narrow<N> {
@@ -62,41 +64,42 @@ impl<N: Lanes> Narrow<N> {
         let jobs = instance.jobs();
         let skewed = SkewedTimes::new(alloc, instance)?;
         let tables = Tables::new(alloc, jobs)?;
-        let Ok(known) = Seq::new(alloc, jobs) else {
-            return Err(AllocError);
-        };
+        let last = Known::new(alloc, jobs, 0)?;
+        let kept = Known::new(alloc, jobs, u64::from(N::Band::CAP))?;
         Ok(Narrow {
             skewed,
             tables,
-            known,
-            span: 0,
             machines: instance.machines(),
+            last,
+            kept,
         })
     }
 
-    // Whether the narrow lanes serve the insertion of a job of this total time into a sequence: the sequence is the
-    // known one, or that with some jobs left out, and the makespan of the known one with the job after all others fits.
+    // Whether the narrow lanes serve the insertion of a job of this total time into a sequence.
     #[inline(always)]
-    fn serve(&self, sequence: &[usize], total: u64) -> bool
+    fn serve(&self, jobs: &[usize], total: u64) -> bool
         ensures { IsTrue result
-            ↔ ((self.now.span + total < N.Band.CAP) × IsPart sequence.now self.now.known.jobs) }
+            ↔ (IsShort self.now.last jobs.now total N.Band.CAP ⊎ IsShort self.now.kept jobs.now total N.Band.CAP) }
     {
-        total < u64::from(N::Band::CAP) - self.span && is_part(sequence, self.known.as_slice())
+        let cap = u64::from(N::Band::CAP);
+        self.last.is_short(jobs, total, cap) || self.kept.is_short(jobs, total, cap)
     }
 
-    // Makes a sequence with a job at its best place the known one, where its makespan fits.
+    // Keeps a sequence with a job at its best place, where its makespan fits.
     #[inline(always)]
     fn keep(&mut self, seq: &Seq, job: usize, best: Placed<u64>)
-        requires size { self.old.known.size ≡ seq.now.size }
+        requires last { self.old.last.seq.size ≡ seq.now.size }
+        requires kept { self.old.kept.seq.size ≡ seq.now.size }
         requires place { best.place ≤ length seq.now.jobs }
         requires job { job < seq.now.size }
         requires absent { Contains seq.now.jobs job → ⊥ }
         ensures { self.new ≡ after_best N.Band.CAP self.old seq.now job best.place best.span }
     {
         if best.span < u64::from(N::Band::CAP) {
-            self.known.copy_from(seq);
-            self.known.insert_at(best.place, job);
-            self.span = best.span;
+            self.last.set(seq, job, best);
+            if seq.len() + 1 == self.tables.jobs && best.span <= self.kept.span {
+                self.kept.set(seq, job, best);
+            }
         }
     }
 
@@ -104,7 +107,8 @@ impl<N: Lanes> Narrow<N> {
     #[inline(always)]
     fn best(&mut self, seq: &Seq, job: usize) -> Placed<u64>
         requires size { seq.now.size ≡ self.old.jobs }
-        requires known { self.old.known.size ≡ self.old.jobs }
+        requires last { self.old.last.seq.size ≡ self.old.jobs }
+        requires kept { self.old.kept.seq.size ≡ self.old.jobs }
         requires rows { length self.old.rows ≡ self.old.jobs + 1 }
         requires job { job < seq.now.size }
         requires absent { Contains seq.now.jobs job → ⊥ }
@@ -138,7 +142,8 @@ impl<N: Lanes> Narrow<N> {
         total: u64,
     ) -> Placed<u64>
         requires size { seq.now.size ≡ self.old.jobs }
-        requires known { self.old.known.size ≡ self.old.jobs }
+        requires last { self.old.last.seq.size ≡ self.old.jobs }
+        requires kept { self.old.kept.seq.size ≡ self.old.jobs }
         requires rows { length self.old.rows ≡ self.old.jobs + 1 }
         requires wide_rows { length skewed.old.rows ≡ self.old.jobs + 1 }
         requires tables { tables.old.jobs ≡ self.old.jobs }

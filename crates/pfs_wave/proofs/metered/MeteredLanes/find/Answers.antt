@@ -10,10 +10,15 @@ best_or_wide-requires-clause-size g c =
     let are = c.args.self.now.tables.are c.in-Some.narrow c.in-Some.is in
     omega (arith, c.requires.size, are.jobs)
 
-pub best_or_wide-requires-clause-known : goal.best_or_wide-requires-clause-known
-best_or_wide-requires-clause-known g c =
+pub best_or_wide-requires-clause-last : goal.best_or_wide-requires-clause-last
+best_or_wide-requires-clause-last g c =
     let are = c.args.self.now.tables.are c.in-Some.narrow c.in-Some.is in
-    omega (arith, are.size, are.jobs)
+    omega (arith, are.last.size, are.jobs)
+
+pub best_or_wide-requires-clause-kept : goal.best_or_wide-requires-clause-kept
+best_or_wide-requires-clause-kept g c =
+    let are = c.args.self.now.tables.are c.in-Some.narrow c.in-Some.is in
+    omega (arith, are.kept.size, are.jobs)
 
 pub best_or_wide-requires-clause-rows : goal.best_or_wide-requires-clause-rows
 best_or_wide-requires-clause-rows g c =

@@ -1,18 +1,22 @@
-use Rattle.std.proofs.Common.{length, refl, arith, ap}
+use Rattle.std.proofs.Common.{◌<◌, length, refl, inl, inr, arith, ap}
+use Rattle.pfs_insert.specs.Insertion.{makespan_with}
 use Rattle.pfs_order.proofs.Published.Sequences.{length-lt-size}
-use Rattle.pfs_wave.specs.Parts.{IsPart}
-use Rattle.pfs_wave.proofs.PartLaws.{part_law, appended_law}
+use Rattle.pfs_wave.proofs.NarrowLemmas.{short_after}
 use Rattle.pfs_wave.proofs.ServedPaths.{served_path}
 use Rattle.pfs_wave.proofs.narrow.Narrow.best_or_wide.Goals as goal
 
 pub returns-then-serve-clause-best : goal.returns-then-serve-clause-best
 returns-then-serve-clause-best g c shop are served rows total =
     let jobs = c.args.seq.now.jobs in
-    let serve = c.if-serve.ensures.0 refl in
-    let is_part : IsPart jobs c.args.self.now.known.jobs = rw (← c.as_slice.ensures.value) serve.1 in
-    let part = part_law shop jobs c.args.self.now.known.jobs are.fits.some is_part in
-    let longer = appended_law shop jobs c.args.job are.fits.some in
-    c.best.ensures.best shop are (length jobs) (omega arith) (omega (arith, serve.0, part, longer, are.span, total))
+    let tables = c.args.self.now in
+    let cap = g.N.Band.Band.CAP in
+    let some = are.fits.some in
+    let short : makespan_with shop jobs c.args.job (length jobs) < cap =
+    elim (rw c.as_slice.ensures.value at c.if-serve.ensures.0 refl) [
+      | inl last ↦ short_after shop tables.last jobs c.args.job c.args.total cap some are.last last total
+      | inr kept ↦ short_after shop tables.kept jobs c.args.job c.args.total cap some are.kept kept total
+    ] in
+    c.best.ensures.best shop are (length jobs) (omega arith) short
 
 pub best_in_tables-best-requires-clause-few : goal.best_in_tables-best-requires-clause-few
 best_in_tables-best-requires-clause-few g c =

@@ -1,0 +1,64 @@
+//! A sequence whose makespan is known.
+ghost use Rattle.std.specs.Prelude.{◌≡◌, ◌<◌, ◌≤◌, ◌↔◌, length, Contains, IsTrue, IfOk, []};
+ghost use Rattle.pfs_wave.specs.Narrow.{IsShort, known_with};
+
+use crate::parts::is_part;
+use pfs_base::MOST_JOBS;
+use pfs_insert::Placed;
+use pfs_order::Seq;
+use std::alloc::{AllocError, Global};
+use std::marker::Model;
+
+/// A sequence, and its makespan or a greater number.
+#[derive(Drop)]
+pub(crate) struct Known {
+    seq: Seq,
+    pub(crate) span: u64,
+}
+
+impl Model for Known {
+    ghost use Rattle.pfs_wave.specs.Narrow.{KnownSequence};
+
+    ghost Value = { KnownSequence };
+
+    ghost view = { λ a. record { seq = a.seq; span = a.span } };
+}
+
+impl Known {
+    /// A sequence of no jobs, with this number for its makespan. It reserves memory for `size` jobs, and returns
+    /// `AllocError` where that fails.
+    pub fn new(alloc: Global, size: usize, span: u64) -> Result<Known, AllocError>
+        requires some { 1 ≤ size }
+        requires few { size ≤ MOST_JOBS }
+        ensures { IfOk result (λ made. made ≡ record { seq = record { size = size; jobs = [] }; span = span }) }
+    {
+        match Seq::new(alloc, size) {
+            Ok(seq) => Ok(Known { seq, span }),
+            Err(_) => Err(AllocError),
+        }
+    }
+
+    /// Whether these jobs are those of the sequence, or some of them left out, and the makespan of the sequence with a
+    /// job of this total time after all others is below a number.
+    #[inline(always)]
+    pub fn is_short(&self, jobs: &[usize], total: u64, cap: u64) -> bool
+        requires { self.now.span ≤ cap }
+        ensures { IsTrue result ↔ IsShort self.now jobs.now total cap }
+    {
+        total < cap - self.span && is_part(jobs, self.seq.as_slice())
+    }
+
+    /// Makes it a sequence with a job at its best place.
+    #[inline(always)]
+    pub fn set(&mut self, seq: &Seq, job: usize, best: Placed<u64>)
+        requires size { self.old.seq.size ≡ seq.now.size }
+        requires place { best.place ≤ length seq.now.jobs }
+        requires job { job < seq.now.size }
+        requires absent { Contains seq.now.jobs job → ⊥ }
+        ensures { self.new ≡ known_with seq.now job best.place best.span }
+    {
+        self.seq.copy_from(seq);
+        self.seq.insert_at(best.place, job);
+        self.span = best.span;
+    }
+}
