@@ -15,8 +15,8 @@ from support.second_program import Instance
 WAVEFRONTS = {f"Wavefront{bits}(Lanes{width})": (width, most) for bits, most in ((16, 65_535), (32, 2**31 - 1))
               for width in (8, 16, 24, 40, 64, 104, 208)}
 
-# The wavefronts with which the test program inserts: each of them, and those of 32 bits once more, with lanes of 16 bits
-# for the insertions whose makespan is known to fit.
+# The wavefronts with which the test program inserts: each of them, and those of 32 bits once more, with lanes of 16
+# bits for the insertions whose makespan is known to fit.
 WITH_MIXED = [*WAVEFRONTS.values(), *(lanes for lanes in WAVEFRONTS.values() if lanes[1] > 65_535)]
 
 # The most cubes of jobs on all machines of a shop whose search has three rounds. The second program takes seconds for

@@ -12,7 +12,7 @@ use pfs_order::Seq;
 /// A bench that also computes heads, tails, inserted rows and sums in lanes, a whole insertion at a time. It counts the
 /// values of these tables: a value for each job and machine. Lanes that contain no value of a table are not counted.
 /// Putting times in the lanes' order is not counted either, since it computes no sum. The bench keeps the times of the
-/// last sequence in that order.
+/// last sequence in that order. It may compute an insertion in other lanes than its own (`MeteredLanes::mixed`).
 pub trait LaneBench: Bench {
     /// A row of its lanes.
     type Lanes: Lanes;

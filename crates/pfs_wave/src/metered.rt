@@ -20,8 +20,8 @@ use pfs_order::Seq;
 use std::alloc::{AllocError, Global};
 use std::marker::Model;
 
-/// A metered bench over an instance that a wavefront serves, with the times of each job in lanes. A mixed bench also has
-/// narrow lanes, with fewer bits, for the insertions whose makespan is known to fit in them.
+/// A metered bench over an instance that a wavefront serves, with the times of each job in lanes. A mixed bench also
+/// has narrow lanes, with fewer bits, for the insertions whose makespan is known to fit in them.
 #[derive(Drop)]
 pub struct MeteredLanes<'a, N: Lanes, L: Lanes> {
     bench: Metered<'a>,
