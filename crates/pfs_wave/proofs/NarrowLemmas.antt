@@ -2,14 +2,13 @@
 use Rattle.std.proofs.Common.{◌≡◌, ℕ, ◌+◌, ◌<◌, ◌≤◌, Bool, true, false, List, Some, length, nat_eq, nat_le, nat_lt}
 use Rattle.std.proofs.Common.{if◌then◌else◌, subst, arith}
 use Rattle.std.specs.Option.{IfSome}
-use Rattle.pfs_base.specs.FlowShop.{FlowShop}
+use Rattle.pfs_base.specs.FlowShop.{FlowShop, total_of}
 use Rattle.pfs_insert.specs.Inserter.{IsBestPlace}
 use Rattle.pfs_insert.specs.Insertion.{makespan_with}
 use Rattle.pfs_order.specs.Sequence.{Sequence}
-use Rattle.pfs_wave.specs.Narrow.{AreNarrow, HasNarrow, IsKnown, IsShort, KnownSequence, NarrowTables, after_best}
-use Rattle.pfs_wave.specs.Narrow.{known_with}
+use Rattle.pfs_wave.specs.Private.Narrow.{AreNarrow, HasNarrow, IsKnown, IsShortPart, KnownSequence, NarrowTables}
+use Rattle.pfs_wave.specs.Private.Narrow.{after_best, known_with}
 use Rattle.pfs_wave.proofs.PartLaws.{part_law, appended_law}
-use Rattle.pfs_base.specs.FlowShop.{total_of}
 
 either : {T : Type 0} (P : T → Type 0) (first : Bool) (one other : T) → P one → P other
     → P (if first then one else other)
@@ -42,7 +41,7 @@ narrow_after shop width cap tables seq job place span are size best =
 
 -- where a known sequence says so, the makespan with a job after all others is below the cap
 pub short_after : (shop : FlowShop) (known : KnownSequence) (jobs : List ℕ) (job total cap : ℕ) → 1 ≤ shop.machines
-    → IsKnown shop known → IsShort known jobs total cap → total ≡ total_of shop job
+    → IsKnown shop known → IsShortPart known jobs total cap → total ≡ total_of shop job
     → makespan_with shop jobs job (length jobs) < cap
 short_after shop known jobs job total cap some is_known is_short total_is =
     omega (

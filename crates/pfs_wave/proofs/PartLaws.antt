@@ -57,15 +57,15 @@ ends_same before others times more is are (suc machine) =
 
 module _ (shop : FlowShop) where
   -- when the last of some jobs ends on each machine, after jobs that end at `before`
-  abbrev pub ends_after : (ℕ → ℕ) → List ℕ → ℕ → ℕ
-  ends_after before [] = before
-  ends_after before (job ∷ jobs) = ends_after (ends before (time_of shop job)) jobs
+  abbrev pub last_ends : (ℕ → ℕ) → List ℕ → ℕ → ℕ
+  last_ends before [] = before
+  last_ends before (job ∷ jobs) = last_ends (ends before (time_of shop job)) jobs
 
   -- with the heads of a row before them, the jobs of the rows from there on end when their heads say
   after_are_heads : (weigh : ℕ → ℕ → ℕ) (row : ℕ) (before : ℕ → ℕ) (jobs : List ℕ)
       → ((machine : ℕ) → before machine ≡ head weigh row machine)
       → ((more machine : ℕ) → weigh (row + more) machine ≡ operation shop jobs more machine) → (machine : ℕ)
-      → ends_after before jobs machine ≡ head weigh (row + length jobs) machine
+      → last_ends before jobs machine ≡ head weigh (row + length jobs) machine
   after_are_heads weigh row before [] is are machine =
       is machine ∙ ap (λ r. head weigh r machine) (sym (add-zero row))
   after_are_heads weigh row before (job ∷ jobs) is are machine =
@@ -81,7 +81,7 @@ module _ (shop : FlowShop) where
       ∙ (let end : suc row + length jobs ≡ row + suc (length jobs) = omega arith in ap (λ r. head weigh r machine) end)
 
   -- the makespan is when the last job ends on the last machine
-  pub makespan_ends : (jobs : List ℕ) → makespan shop jobs ≡ ends_after (λ machine. 0) jobs (shop.machines - 1)
+  pub makespan_ends : (jobs : List ℕ) → makespan shop jobs ≡ last_ends (λ machine. 0) jobs (shop.machines - 1)
   makespan_ends jobs =
       let last = shop.machines - 1 in
       let all : 0 + length jobs ≡ length jobs = omega arith in
@@ -93,7 +93,7 @@ module _ (shop : FlowShop) where
 
   -- no machine ends earlier with more jobs
   after_later : (before others : ℕ → ℕ) → ((machine : ℕ) → before machine ≤ others machine) → (jobs : List ℕ)
-      → (machine : ℕ) → before machine ≤ ends_after others jobs machine
+      → (machine : ℕ) → before machine ≤ last_ends others jobs machine
   after_later before others le [] machine = le machine
   after_later before others le (job ∷ jobs) machine =
       after_later before (ends others (time_of shop job))
@@ -103,7 +103,7 @@ module _ (shop : FlowShop) where
   -- no machine ends later where jobs are left out
   part_after : (before others : ℕ → ℕ) {part whole : List ℕ} → IsPart part whole
       → ((machine : ℕ) → before machine ≤ others machine)
-      → (machine : ℕ) → ends_after before part machine ≤ ends_after others whole machine
+      → (machine : ℕ) → last_ends before part machine ≤ last_ends others whole machine
   part_after before others (empty {whole = whole}) le machine = after_later before others le whole machine
   part_after before others (same {first = job} is) le machine =
       part_after (ends before (time_of shop job)) (ends others (time_of shop job)) is
@@ -115,14 +115,14 @@ module _ (shop : FlowShop) where
 
   -- the last job ends on each machine before it ends on the next
   after_in_order : (before : ℕ → ℕ) → ((machine : ℕ) → before machine ≤ before (suc machine)) → (jobs : List ℕ)
-      → (machine : ℕ) → ends_after before jobs machine ≤ ends_after before jobs (suc machine)
+      → (machine : ℕ) → last_ends before jobs machine ≤ last_ends before jobs (suc machine)
   after_in_order before le [] machine = le machine
   after_in_order before le (job ∷ jobs) machine =
       after_in_order (ends before (time_of shop job)) (ends_in_order before (time_of shop job)) jobs machine
 
   -- the ends with a job after all others are those of the others and the job
   after_append : (before : ℕ → ℕ) (jobs : List ℕ) (job machine : ℕ)
-      → ends_after before (jobs ++ job ∷ []) machine ≡ ends (ends_after before jobs) (time_of shop job) machine
+      → last_ends before (jobs ++ job ∷ []) machine ≡ ends (last_ends before jobs) (time_of shop job) machine
   after_append before [] job machine = refl
   after_append before (other ∷ jobs) job machine = after_append (ends before (time_of shop other)) jobs job machine
 
@@ -176,7 +176,7 @@ pub appended_law : AppendedLaw
 appended_law shop jobs job some =
     let last = shop.machines - 1 in
     let none : ℕ → ℕ = λ machine. 0 in
-    let before = ends_after shop none jobs in
+    let before = last_ends shop none jobs in
     let ordered = after_in_order shop none (λ machine. omega arith) jobs in
     let within : (machine : ℕ) → machine ≤ last → before machine ≤ before last =
     λ machine le.

@@ -1,6 +1,5 @@
 pub mod Lanes
 pub mod Least
-pub mod Narrow
 pub mod Parts
 pub mod Private
 pub mod Served

@@ -1,5 +1,6 @@
 pub mod Blending
 pub mod HeldRows
+pub mod Narrow
 pub mod SkewedBand
 pub mod ShopTimes
 pub mod WideRows

@@ -1,6 +1,6 @@
 //! A sequence whose makespan is known.
 ghost use Rattle.std.specs.Prelude.{◌≡◌, ◌<◌, ◌≤◌, ◌↔◌, length, Contains, IsTrue, IfOk, []};
-ghost use Rattle.pfs_wave.specs.Narrow.{IsShort, known_with};
+ghost use Rattle.pfs_wave.specs.Private.Narrow.{IsShortPart, known_with};
 
 use crate::parts::is_part;
 use pfs_base::MOST_JOBS;
@@ -17,7 +17,7 @@ pub(crate) struct Known {
 }
 
 impl Model for Known {
-    ghost use Rattle.pfs_wave.specs.Narrow.{KnownSequence};
+    ghost use Rattle.pfs_wave.specs.Private.Narrow.{KnownSequence};
 
     ghost Value = { KnownSequence };
 
@@ -43,7 +43,7 @@ impl Known {
     #[inline(always)]
     pub fn is_short(&self, jobs: &[usize], total: u64, cap: u64) -> bool
         requires { self.now.span ≤ cap }
-        ensures { IsTrue result ↔ IsShort self.now jobs.now total cap }
+        ensures { IsTrue result ↔ IsShortPart self.now jobs.now total cap }
     {
         total < cap - self.span && is_part(jobs, self.seq.as_slice())
     }

@@ -3,7 +3,7 @@ ghost use Rattle.std.specs.Prelude.{◌≡◌, ◌<◌, Contains, IfOk};
 ghost use Rattle.pfs_base.specs.Limits.{limits};
 ghost use Rattle.pfs_base.specs.FlowShop.{IsWithin};
 ghost use Rattle.pfs_insert.specs.Inserter.{IsBestPlace};
-ghost use Rattle.pfs_wave.specs.Narrow.{HasNarrow};
+ghost use Rattle.pfs_wave.specs.Private.Narrow.{HasNarrow};
 ghost use Rattle.pfs_wave.specs.Served.{IsServed};
 ghost use Rattle.pfs_wave.specs.Wavefront.{HasRows};
 

@@ -4,7 +4,7 @@ ghost use Rattle.std.specs.List.{All};
 ghost use Rattle.pfs_base.specs.FlowShop.{FlowShop, total_of};
 ghost use Rattle.pfs_insert.specs.Inserter.{IsBestPlace};
 ghost use Rattle.pfs_insert.specs.Insertion.{makespan_with};
-ghost use Rattle.pfs_wave.specs.Narrow.{AreNarrow, HasNarrow, IsOftenShort, IsShort, after_best};
+ghost use Rattle.pfs_wave.specs.Private.Narrow.{AreNarrow, HasNarrow, IsOftenShort, IsShortPart, after_best};
 ghost use Rattle.pfs_wave.specs.Served.{IsServed};
 ghost use Rattle.pfs_wave.specs.Wavefront.{HasRows};
 
@@ -35,7 +35,7 @@ pub struct Narrow<N: Lanes> {
 
 impl<N: Lanes> Model for Narrow<N> {
     ghost use Rattle.std.specs.Prelude.{◌≤◌};
-    ghost use Rattle.pfs_wave.specs.Narrow.{NarrowTables};
+    ghost use Rattle.pfs_wave.specs.Private.Narrow.{NarrowTables};
 
     ghost Value = { NarrowTables };
 
@@ -78,8 +78,8 @@ impl<N: Lanes> Narrow<N> {
     // Whether the narrow lanes serve the insertion of a job of this total time into a sequence.
     #[inline(always)]
     fn serve(&self, jobs: &[usize], total: u64) -> bool
-        ensures { IsTrue result
-            ↔ (IsShort self.now.last jobs.now total N.Band.CAP ⊎ IsShort self.now.kept jobs.now total N.Band.CAP) }
+        ensures { IsTrue result ↔ (IsShortPart self.now.last jobs.now total N.Band.CAP
+            ⊎ IsShortPart self.now.kept jobs.now total N.Band.CAP) }
     {
         let cap = u64::from(N::Band::CAP);
         self.last.is_short(jobs, total, cap) || self.kept.is_short(jobs, total, cap)

@@ -20,7 +20,7 @@ pub record IsKnown (shop : FlowShop) (known : KnownSequence) : Type 0 where
 
 -- the jobs are those of the known sequence, or some of them left out, and with another job of this total time after all
 -- others the makespan of the known sequence is below `cap`
-pub record IsShort (known : KnownSequence) (jobs : List ℕ) (total cap : ℕ) : Type 0 where
+pub record IsShortPart (known : KnownSequence) (jobs : List ℕ) (total cap : ℕ) : Type 0 where
   pub fits : known.span + total < cap
   pub part : IsPart jobs known.seq.jobs
 
