@@ -131,8 +131,9 @@ impl<N: Lanes> Narrow<N> {
     }
 
     /// The best place for a job in a sequence, and the makespan with the job there: in the narrow lanes where they
-    /// serve the insertion, and else in wide ones. `total` is the job's total time.
-    #[inline(always)]
+    /// serve the insertion, and else in wide ones. `total` is the job's total time. It is not inlined, so that a search
+    /// over it stays small enough to be inlined.
+    #[inline(never)]
     pub fn best_or_wide<L: Lanes>(
         &mut self,
         skewed: &mut SkewedTimes<L>,
