@@ -125,6 +125,13 @@ def test_a_row_has_milliseconds_nanoseconds_and_ratios(script: Any, capsys: pyte
 
 
 @run
+def test_a_time_without_the_start_is_less_by_its_median(script: Any) -> None:
+    times = {"pfs": [5.0, 4.0], "older pfs": [9.0, 8.0], "g++ plain32": [7.0, 7.0]}
+    assert script.without(times, {"pfs": [3.0, 1.0, 0.5], "older pfs": [2.0]}) == {
+        "pfs": [4.0, 3.0], "older pfs": [7.0, 6.0]}
+
+
+@run
 def test_programs_that_differ_or_fail_end_the_run(script: Any, folder: pathlib.Path) -> None:
     """But for the machines on the first line, which an older pfs doesn't print. All programs run in each turn."""
     for name, body in {"new": "echo order2 3 2; echo 1", "old": "echo order 3; echo 1", "other": "echo order 3; echo 2",
