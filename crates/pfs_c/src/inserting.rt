@@ -15,7 +15,7 @@ use pfs_base::{Instance, MOST_MACHINES};
 use pfs_insert::{HeadsTails, Inserter, Placed};
 use pfs_order::Seq;
 use pfs_wave::{
-    Bits16, Bits32, LaneSize, Lanes, MeteredLanes, Method, Wavefront, Width, method_for,
+    Bits16, Bits32, LaneSize, MeteredLanes, Method, MixedLanes, Wavefront, Width, method_for,
 };
 use std::alloc::Global;
 
@@ -159,7 +159,7 @@ fn best_in_width<S: LaneSize>(
 }
 
 // `best_place` by a wavefront.
-fn best_in_lanes<L: Lanes>(
+fn best_in_lanes<L: MixedLanes>(
     alloc: Global,
     instance: &Instance,
     sequence: &Seq,
@@ -176,7 +176,7 @@ fn best_in_lanes<L: Lanes>(
     // Called for their contracts: the instance and the sequence are within the limits.
     let _jobs = instance.jobs();
     let _len = sequence.len();
-    let Ok(mut bench) = MeteredLanes::<L, L>::new(alloc, instance) else {
+    let Ok(mut bench) = MeteredLanes::<L>::new(alloc, instance) else {
         return Err(CallFault::Memory);
     };
     let Ok(mut inserter) = Wavefront::new(alloc, &bench) else {

@@ -13,7 +13,7 @@ use pfs_base::{Bench, Instance, Length, MOST_PASSES};
 use pfs_insert::{HeadsTails, Inserter};
 use pfs_order::Seq;
 use pfs_wave::{
-    Bits16, Bits32, LaneSize, Lanes, MeteredLanes, Method, Wavefront, Width, method_for,
+    Bits16, Bits32, LaneSize, MeteredLanes, Method, MixedLanes, Wavefront, Width, method_for,
 };
 use std::alloc::Global;
 
@@ -102,7 +102,7 @@ fn visit_in_width<S: LaneSize>(
 }
 
 // What `make_visits` does, by a wavefront.
-fn visit_in_lanes<L: Lanes>(
+fn visit_in_lanes<L: MixedLanes>(
     alloc: Global,
     instance: &Instance,
     seq: &mut Seq,
@@ -118,7 +118,7 @@ fn visit_in_lanes<L: Lanes>(
     ensures span { IfOk result (λ last. IfSome last (λ span. span ≡ makespan instance.now.shop seq.new.jobs)) }
     ensures memory { IfErr result (λ why. why ≡ CallFault.Memory) }
 {
-    let Ok(mut bench) = MeteredLanes::<L, L>::new(alloc, instance) else {
+    let Ok(mut bench) = MeteredLanes::<L>::new(alloc, instance) else {
         return Err(CallFault::Memory);
     };
     let Ok(mut inserter) = Wavefront::new(alloc, &bench) else {

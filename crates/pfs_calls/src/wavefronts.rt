@@ -9,7 +9,8 @@ use pfs_insert::{HeadsTails, Inserter};
 use pfs_order::Seq;
 use pfs_tests::shops::shop;
 use pfs_wave::{
-    Band, Bits16, Bits32, LaneSize, Lanes, MeteredLanes, Wavefront, Width, is_served, method_for,
+    Band, Bits16, Bits32, LaneSize, MeteredLanes, MixedLanes, Wavefront, Width, is_served,
+    method_for,
 };
 
 /// Inserts the jobs of a shop into a sequence in the order of their numbers, each at its best place. The arguments are
@@ -21,45 +22,55 @@ pub(crate) fn wavefronts_call(rt: &HostRuntime, words: &[String]) -> Result<(), 
     let times = numbers(rt, words, 2)?;
     let instance = shop(rt.alloc(), number(words, 0)?, number(words, 1)?, &times)?;
     println!(rt; "{:?}", method_for(&instance))?;
-    insert_in_widths::<Bits16, Bits16>(rt, &instance)?;
-    insert_in_widths::<Bits32, Bits32>(rt, &instance)?;
-    insert_in_widths::<Bits16, Bits32>(rt, &instance)
+    insert_in_widths::<Bits16>(rt, &instance, false)?;
+    insert_in_widths::<Bits32>(rt, &instance, false)?;
+    insert_in_widths::<Bits32>(rt, &instance, true)
 }
 
-// Inserts all jobs with each width that serves the shop, on mixed benches with lanes of these sizes.
-fn insert_in_widths<N: LaneSize, S: LaneSize>(
+// Inserts all jobs with each width that serves the shop, on benches with lanes of this size, mixed or not.
+fn insert_in_widths<S: LaneSize>(
     rt: &HostRuntime,
     instance: &Instance,
+    mixed: bool,
 ) -> Result<(), Stop> {
     if is_served(instance, Width::Lanes8, S::Band::CAP) {
-        insert_all::<N::Lanes8, S::Lanes8>(rt, instance)?;
+        insert_all::<S::Lanes8>(rt, instance, mixed)?;
     }
     if is_served(instance, Width::Lanes16, S::Band::CAP) {
-        insert_all::<N::Lanes16, S::Lanes16>(rt, instance)?;
+        insert_all::<S::Lanes16>(rt, instance, mixed)?;
     }
     if is_served(instance, Width::Lanes24, S::Band::CAP) {
-        insert_all::<N::Lanes24, S::Lanes24>(rt, instance)?;
+        insert_all::<S::Lanes24>(rt, instance, mixed)?;
     }
     if is_served(instance, Width::Lanes40, S::Band::CAP) {
-        insert_all::<N::Lanes40, S::Lanes40>(rt, instance)?;
+        insert_all::<S::Lanes40>(rt, instance, mixed)?;
     }
     if is_served(instance, Width::Lanes64, S::Band::CAP) {
-        insert_all::<N::Lanes64, S::Lanes64>(rt, instance)?;
+        insert_all::<S::Lanes64>(rt, instance, mixed)?;
     }
     if is_served(instance, Width::Lanes104, S::Band::CAP) {
-        insert_all::<N::Lanes104, S::Lanes104>(rt, instance)?;
+        insert_all::<S::Lanes104>(rt, instance, mixed)?;
     }
     if is_served(instance, Width::Lanes208, S::Band::CAP) {
-        insert_all::<N::Lanes208, S::Lanes208>(rt, instance)?;
+        insert_all::<S::Lanes208>(rt, instance, mixed)?;
     }
     Ok(())
 }
 
-fn insert_all<N: Lanes, L: Lanes>(rt: &HostRuntime, instance: &Instance) -> Result<(), Stop>
+// Inserts all jobs on a bench with these lanes, mixed or not.
+fn insert_all<L: MixedLanes>(
+    rt: &HostRuntime,
+    instance: &Instance,
+    mixed: bool,
+) -> Result<(), Stop>
     requires { IsServed instance.now.shop L.WIDTH L.Band.CAP }
 {
     let mut seq = Seq::new(rt.alloc(), instance.jobs())?;
-    let mut bench = MeteredLanes::<N, L>::mixed(rt.alloc(), instance)?;
+    let mut bench = if mixed {
+        MeteredLanes::<L>::mixed(rt.alloc(), instance)?
+    } else {
+        MeteredLanes::<L>::new(rt.alloc(), instance)?
+    };
     let mut rows = HeadsTails::new(rt.alloc(), &bench)?;
     let mut lanes = Wavefront::new(rt.alloc(), &bench)?;
     for job in 0..instance.jobs() {
@@ -78,9 +89,9 @@ fn insert_all<N: Lanes, L: Lanes>(rt: &HostRuntime, instance: &Instance) -> Resu
 }
 
 // Prints a place, the makespan with the job there, and the number of cells that were counted by then.
-fn print_best<N: Lanes, L: Lanes>(
+fn print_best<L: MixedLanes>(
     rt: &HostRuntime,
-    bench: &MeteredLanes<'_, N, L>,
+    bench: &MeteredLanes<'_, L>,
     place: usize,
     span: Span,
 ) -> Result<(), Stop> {

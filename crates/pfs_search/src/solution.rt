@@ -15,7 +15,7 @@ use pfs_base::{Bench, Instance, Length, MOST_PASSES, MOST_ROUNDS, Shop, Span};
 use pfs_insert::{HeadsTails, Inserter};
 use pfs_order::Order;
 use pfs_wave::{
-    Bits16, Bits32, LaneSize, Lanes, MeteredLanes, Method, Wavefront, Width, method_for,
+    Bits16, Bits32, LaneSize, MeteredLanes, Method, MixedLanes, Wavefront, Width, method_for,
 };
 use rand_core::SeedableRng;
 use rand_pcg::Pcg32;
@@ -62,12 +62,8 @@ pub fn solve(
     };
     match method_for(instance) {
         Method::HeadsTails => solve_by_rows(alloc, instance, rounds),
-        Method::Wavefront16(width) => {
-            solve_in_width::<Bits16, Bits16>(alloc, instance, width, rounds)
-        }
-        Method::Wavefront32(width) => {
-            solve_in_width::<Bits16, Bits32>(alloc, instance, width, rounds)
-        }
+        Method::Wavefront16(width) => { solve_in_width::<Bits16>(alloc, instance, width, rounds) }
+        Method::Wavefront32(width) => { solve_in_width::<Bits32>(alloc, instance, width, rounds) }
     }
 }
 
@@ -105,9 +101,9 @@ pub fn improve(
     match method_for(instance) {
         Method::HeadsTails => improve_by_rows(alloc, instance, start, first, rounds),
         Method::Wavefront16(width) => {
-            improve_in_width::<Bits16, Bits16>(alloc, instance, width, start, first, rounds)
+            improve_in_width::<Bits16>(alloc, instance, width, start, first, rounds)
         }
-        Method::Wavefront32(width) => improve_in_width::<Bits16, Bits32>(
+        Method::Wavefront32(width) => improve_in_width::<Bits32>(
             alloc, instance, width, start, first, rounds,
         ),
     }
@@ -135,8 +131,8 @@ fn solve_by_rows(
     })
 }
 
-// `solve` by a wavefront of a given width, with narrow lanes of size `N` beside those of size `S`.
-fn solve_in_width<N: LaneSize, S: LaneSize>(
+// `solve` by a wavefront of a given width and size of lanes, on a mixed bench.
+fn solve_in_width<S: LaneSize>(
     alloc: Global,
     instance: &Instance,
     width: Width,
@@ -148,18 +144,18 @@ fn solve_in_width<N: LaneSize, S: LaneSize>(
         IsFoundBy instance.now.shop rounds found.order found.makespan found.cells) }
 {
     match width {
-        Width::Lanes8 => solve_in_lanes::<N::Lanes8, S::Lanes8>(alloc, instance, rounds),
-        Width::Lanes16 => solve_in_lanes::<N::Lanes16, S::Lanes16>(alloc, instance, rounds),
-        Width::Lanes24 => solve_in_lanes::<N::Lanes24, S::Lanes24>(alloc, instance, rounds),
-        Width::Lanes40 => solve_in_lanes::<N::Lanes40, S::Lanes40>(alloc, instance, rounds),
-        Width::Lanes64 => solve_in_lanes::<N::Lanes64, S::Lanes64>(alloc, instance, rounds),
-        Width::Lanes104 => solve_in_lanes::<N::Lanes104, S::Lanes104>(alloc, instance, rounds),
-        Width::Lanes208 => solve_in_lanes::<N::Lanes208, S::Lanes208>(alloc, instance, rounds),
+        Width::Lanes8 => solve_in_lanes::<S::Lanes8>(alloc, instance, rounds),
+        Width::Lanes16 => solve_in_lanes::<S::Lanes16>(alloc, instance, rounds),
+        Width::Lanes24 => solve_in_lanes::<S::Lanes24>(alloc, instance, rounds),
+        Width::Lanes40 => solve_in_lanes::<S::Lanes40>(alloc, instance, rounds),
+        Width::Lanes64 => solve_in_lanes::<S::Lanes64>(alloc, instance, rounds),
+        Width::Lanes104 => solve_in_lanes::<S::Lanes104>(alloc, instance, rounds),
+        Width::Lanes208 => solve_in_lanes::<S::Lanes208>(alloc, instance, rounds),
     }
 }
 
 // `solve` by a wavefront.
-fn solve_in_lanes<N: Lanes, L: Lanes>(
+fn solve_in_lanes<L: MixedLanes>(
     alloc: Global,
     instance: &Instance,
     rounds: Rounds,
@@ -169,7 +165,7 @@ fn solve_in_lanes<N: Lanes, L: Lanes>(
     ensures { UnlessMemory result (λ found.
         IsFoundBy instance.now.shop rounds found.order found.makespan found.cells) }
 {
-    let Ok(mut bench) = MeteredLanes::<N, L>::mixed(alloc, instance) else {
+    let Ok(mut bench) = MeteredLanes::<L>::mixed(alloc, instance) else {
         return Err(SearchFault::Memory { done: 0 });
     };
     let Ok(inserter) = Wavefront::new(alloc, &bench) else {
@@ -207,9 +203,8 @@ fn improve_by_rows(
     })
 }
 
-// `improve` by a wavefront of a given width, with narrow lanes of size `N` beside those of size `S`, from an order and
-// its makespan.
-fn improve_in_width<N: LaneSize, S: LaneSize>(
+// `improve` by a wavefront of a given width and size of lanes, on a mixed bench, from an order and its makespan.
+fn improve_in_width<S: LaneSize>(
     alloc: Global,
     instance: &Instance,
     width: Width,
@@ -223,32 +218,18 @@ fn improve_in_width<N: LaneSize, S: LaneSize>(
         IsImprovedBy instance.now.shop start.order first rounds found.order found.makespan found.cells) }
 {
     match width {
-        Width::Lanes8 => improve_in_lanes::<N::Lanes8, S::Lanes8>(
-            alloc, instance, start, first, rounds,
-        ),
-        Width::Lanes16 => improve_in_lanes::<N::Lanes16, S::Lanes16>(
-            alloc, instance, start, first, rounds,
-        ),
-        Width::Lanes24 => improve_in_lanes::<N::Lanes24, S::Lanes24>(
-            alloc, instance, start, first, rounds,
-        ),
-        Width::Lanes40 => improve_in_lanes::<N::Lanes40, S::Lanes40>(
-            alloc, instance, start, first, rounds,
-        ),
-        Width::Lanes64 => improve_in_lanes::<N::Lanes64, S::Lanes64>(
-            alloc, instance, start, first, rounds,
-        ),
-        Width::Lanes104 => improve_in_lanes::<N::Lanes104, S::Lanes104>(
-            alloc, instance, start, first, rounds,
-        ),
-        Width::Lanes208 => improve_in_lanes::<N::Lanes208, S::Lanes208>(
-            alloc, instance, start, first, rounds,
-        ),
+        Width::Lanes8 => improve_in_lanes::<S::Lanes8>(alloc, instance, start, first, rounds),
+        Width::Lanes16 => improve_in_lanes::<S::Lanes16>(alloc, instance, start, first, rounds),
+        Width::Lanes24 => improve_in_lanes::<S::Lanes24>(alloc, instance, start, first, rounds),
+        Width::Lanes40 => improve_in_lanes::<S::Lanes40>(alloc, instance, start, first, rounds),
+        Width::Lanes64 => improve_in_lanes::<S::Lanes64>(alloc, instance, start, first, rounds),
+        Width::Lanes104 => improve_in_lanes::<S::Lanes104>(alloc, instance, start, first, rounds),
+        Width::Lanes208 => improve_in_lanes::<S::Lanes208>(alloc, instance, start, first, rounds),
     }
 }
 
 // `improve` by a wavefront, from an order and its makespan.
-fn improve_in_lanes<N: Lanes, L: Lanes>(
+fn improve_in_lanes<L: MixedLanes>(
     alloc: Global,
     instance: &Instance,
     start: Kept<Span>,
@@ -260,7 +241,7 @@ fn improve_in_lanes<N: Lanes, L: Lanes>(
     ensures { UnlessMemory result (λ found.
         IsImprovedBy instance.now.shop start.order first rounds found.order found.makespan found.cells) }
 {
-    let Ok(mut bench) = MeteredLanes::<N, L>::mixed(alloc, instance) else {
+    let Ok(mut bench) = MeteredLanes::<L>::mixed(alloc, instance) else {
         return Err(SearchFault::Memory { done: 0 });
     };
     let Ok(wavefront) = Wavefront::new(alloc, &bench) else {

@@ -8,9 +8,11 @@ use Rattle.std.proofs.lemmas.List.{length-replicate, same_lists}
 use Rattle.std.specs.List.{All}
 use Rattle.pfs_base.specs.FlowShop.{FlowShop}
 use Rattle.pfs_wave.specs.Lanes.{rows_of, zeros}
+use Rattle.pfs_wave.specs.Reduced.{AreReduced}
+use Rattle.pfs_wave.specs.Private.ReducedRows.{HasReducedRows}
 use Rattle.pfs_wave.specs.Wavefront.{AreSkewed, HasRows}
 use Rattle.pfs_wave.specs.Private.HeldRows.{IsPadded, IsKept, HoldLanes, HoldOutside, AreMoved, IsHolding, row_lane}
-use Rattle.pfs_wave.proofs.SkewedTimes.{are_skewed}
+use Rattle.pfs_wave.proofs.SkewedTimes.{are_skewed, are_reduced}
 
 module _ {rows : List (List ℕ)} {len : ℕ} {order : List ℕ} {width : ℕ} {times : List (List ℕ)}
     (holding : IsHolding rows len order width times) where
@@ -29,8 +31,8 @@ module _ {rows : List (List ℕ)} {len : ℕ} {order : List ℕ} {width : ℕ} {
             here ∙ sym (get_or_past (take len order) row none (omega (arith, long)))
       ]
 
-  jobs_below : (shop : FlowShop) → HasRows shop width rows → All (λ job. job < shop.jobs) (take len order)
-  jobs_below shop has row d lt =
+  jobs_below : (jobs : ℕ) → length rows ≡ jobs + 1 → All (λ job. job < jobs) (take len order)
+  jobs_below jobs count row d lt =
       let long = held_len in
       let inside : row < len = omega (arith, long) in
       let some = holding.some in
@@ -38,13 +40,22 @@ module _ {rows : List (List ℕ)} {len : ℕ} {order : List ℕ} {width : ℕ} {
       let all : row < length order = omega (arith, some, steps) in
       let here : get_or (take len order) row d ≡ get_or order row 0 =
       get_or-take len order row d inside ∙ get_or_default order row d 0 all in
-      omega (arith, here, holding.jobs_in row inside, has.count)
+      omega (arith, here, holding.jobs_in row inside, count)
 
   pub holding_skewed : (shop : FlowShop) → shop.machines ≤ width → HasRows shop width rows
       → AreSkewed shop (take len order) width (rows_of times)
   holding_skewed shop fits has =
       let long = held_len in
-      are_skewed shop rows order (take len order) width times has (jobs_below shop has)
+      are_skewed shop rows order (take len order) width times has (jobs_below shop.jobs has.count)
+      (padded_take shop.jobs (sym has.count))
+      holding.all_times (omega (arith, long, holding.some, holding.steps, holding.all_times)) holding.wide holding.lanes
+
+  pub holding_reduced : (shop : FlowShop) (reduction : ℕ) → shop.machines ≤ width
+      → HasReducedRows shop reduction width rows
+      → AreReduced shop (take len order) reduction width (rows_of times)
+  holding_reduced shop reduction fits has =
+      let long = held_len in
+      are_reduced shop rows order (take len order) reduction width times has (jobs_below shop.jobs has.count)
       (padded_take shop.jobs (sym has.count))
       holding.all_times (omega (arith, long, holding.some, holding.steps, holding.all_times)) holding.wide holding.lanes
 
@@ -253,20 +264,30 @@ moved_wide from to by width times new moved wide step inside =
       ]
     ]
 
--- the skewed times before the first sequence
+-- before the first sequence, no row is skewed
+pub outside_begun : (rows : List (List ℕ)) (order : List ℕ) (steps width : ℕ) (times : List (List ℕ))
+    → times ≡ replicate steps (zeros width) → HoldOutside rows order 0 steps steps 0 width times
+outside_begun rows order steps width times is =
+    let long : length times ≡ steps = ap length is ∙ length-replicate steps (zeros width) in
+    record {
+      front = λ row lane before. absurd (omega arith);
+      back = λ row lane after le lt inside. absurd (omega arith);
+      later = λ row lane after le lt inside. absurd (omega arith);
+      none_before = λ step lane early le lt inside.
+          ap (λ t. get_or (get_or t step []) lane 0) is
+          ∙ ap (λ l. get_or l lane 0) (get_or-replicate steps step (zeros width) [] (omega arith))
+          ∙ get_or-replicate width lane 0 0 lt;
+    }
+
+-- a sequence of no jobs, whose rows are all that of no job
 pub holding_none : (rows : List (List ℕ)) (jobs width steps : ℕ) (order : List ℕ) (times : List (List ℕ))
-    → length rows ≡ jobs + 1 → get_or rows jobs [] ≡ zeros width → steps ≡ jobs + width → order ≡ replicate steps jobs
-    → times ≡ replicate steps (zeros width) → IsHolding rows 0 order width times
-unfolding row_lane
-holding_none rows jobs width steps order times count none steps_is order_is times_is =
+    → length rows ≡ jobs + 1 → steps ≡ jobs + width → order ≡ replicate steps jobs
+    → length times ≡ steps → ((step : ℕ) → step < steps → length (get_or times step []) ≡ width)
+    → HoldLanes rows order 0 width times → IsHolding rows 0 order width times
+holding_none rows jobs width steps order times count steps_is order_is all wide lanes =
     let order_long : length order ≡ steps = ap length order_is ∙ length-replicate steps jobs in
-    let times_long : length times ≡ steps = ap length times_is ∙ length-replicate steps (zeros width) in
     let job_is : (row d : ℕ) → row < steps → get_or order row d ≡ jobs =
     λ row d lt. ap (λ l. get_or l row d) order_is ∙ get_or-replicate steps row jobs d lt in
-    let time_is : (step : ℕ) → step < steps → get_or times step [] ≡ zeros width =
-    λ step lt. ap (λ l. get_or l step []) times_is ∙ get_or-replicate steps step (zeros width) [] lt in
-    let zero_is : (step lane : ℕ) → step < steps → lane < width → get_or (get_or times step []) lane 0 ≡ 0 =
-    λ step lane lt few. ap (λ l. get_or l lane 0) (time_is step lt) ∙ get_or-replicate width lane 0 0 few in
     record {
       some = omega arith;
       steps = omega arith;
@@ -274,12 +295,6 @@ holding_none rows jobs width steps order times count none steps_is order_is time
       jobs_in = λ row none_before. absurd (omega arith);
       rest = λ row after inside. omega (arith, job_is row 0 (omega arith));
       all_times = omega arith;
-      wide = λ step lt. ap length (time_is step (omega arith)) ∙ length-replicate width 0;
-      lanes = record {
-        times_are = λ row lane from lt inside.
-            zero_is (row + lane) lane (omega arith) lt
-            ∙ sym (ap (λ job. get_or (get_or rows job []) lane 0) (job_is row 0 (omega arith))
-            ∙ ap (λ l. get_or l lane 0) none ∙ get_or-replicate width lane 0 0 lt);
-        none_before = λ step lane before from lt inside. zero_is step lane (omega arith) lt;
-      };
+      wide = λ step lt. wide step (omega arith);
+      lanes = lanes;
     }

@@ -7,23 +7,24 @@ use Rattle.std.proofs.Math.Seq.{drop-cons}
 use Rattle.std.proofs.lemmas.List.{length-drop, length-take-le}
 use Rattle.std.proofs.lemmas.List.Elements.{All-get_or}
 use Rattle.std.proofs.lemmas.Simd.{Each1-chunk, Each1-from_get_or}
-use Rattle.pfs_wave.specs.Private.ShopTimes.{limited_time}
+use Rattle.pfs_wave.specs.Lanes.{LaneRule}
+use Rattle.pfs_wave.specs.Private.ShopTimes.{lane_sum, limited_time}
 use Rattle.pfs_wave.proofs.SmallLanes.{AreSmall}
 use Rattle.pfs_wave.proofs.VectorLemmas.{cons_same}
 
 drop_next : (xs : List ℕ) (i : ℕ) → i < length xs → drop i xs ≡ get_or xs i 0 ∷ drop (i + 1) xs
 drop_next xs i inside = rw add-one (drop-cons xs i 0 inside)
 
--- the lesser values of n elements of two lists
-lesser_parts : (xs ys : List ℕ) (values : ℕ → ℕ) (n i j : ℕ) → i + n ≤ length xs → j + n ≤ length ys
-    → ((k l : ℕ) → l < j + n → k + j ≡ l + i → min (get_or xs k 0) (get_or ys l 0) ≡ values l)
-    → zip2 min (take n (drop i xs)) (take n (drop j ys)) ≡ map values (range_with_len j n)
-lesser_parts xs ys values zero i j left right each = refl
-lesser_parts xs ys values (suc n) i j left right each =
-    ap (λ l. zip2 min (take (suc n) l) (take (suc n) (drop j ys))) (drop_next xs i (omega arith))
-    ∙ ap (λ l. zip2 min (get_or xs i 0 ∷ take n (drop (i + 1) xs)) (take (suc n) l)) (drop_next ys j (omega arith))
+-- a function of n elements of two lists
+zip_parts : (f : ℕ → ℕ → ℕ) (xs ys : List ℕ) (values : ℕ → ℕ) (n i j : ℕ) → i + n ≤ length xs → j + n ≤ length ys
+    → ((k l : ℕ) → l < j + n → k + j ≡ l + i → f (get_or xs k 0) (get_or ys l 0) ≡ values l)
+    → zip2 f (take n (drop i xs)) (take n (drop j ys)) ≡ map values (range_with_len j n)
+zip_parts f xs ys values zero i j left right each = refl
+zip_parts f xs ys values (suc n) i j left right each =
+    ap (λ l. zip2 f (take (suc n) l) (take (suc n) (drop j ys))) (drop_next xs i (omega arith))
+    ∙ ap (λ l. zip2 f (get_or xs i 0 ∷ take n (drop (i + 1) xs)) (take (suc n) l)) (drop_next ys j (omega arith))
     ∙ cons_same (each i j (omega arith) (omega arith))
-    (lesser_parts xs ys values n (i + 1) (j + 1) (omega arith) (omega arith)
+    (zip_parts f xs ys values n (i + 1) (j + 1) (omega arith) (omega arith)
     (λ k l to same. each k l (omega arith) (omega arith)))
 
 -- eight loaded times, and eight lanes of the limits
@@ -33,8 +34,18 @@ pub limited_eight : (times limits result : List ℕ) (at first : ℕ) → at + f
     → result ≡ map (limited_time times at limits) (range_with_len first 8)
 limited_eight times limits result at first left right is =
     is
-    ∙ lesser_parts times limits (limited_time times at limits) 8 (at + first) first left right
+    ∙ zip_parts min times limits (limited_time times at limits) 8 (at + first) first left right
     (λ k l to same. ap (λ i. min (get_or times i 0) (get_or limits l 0)) (omega arith))
+
+-- the sums of eight lanes of two rows
+pub summed_eight : (rule : LaneRule) (row other result : List ℕ) (first : ℕ) → first + 8 ≤ length row
+    → first + 8 ≤ length other
+    → result ≡ zip2 rule.add (take 8 (drop first row)) (take 8 (drop first other))
+    → result ≡ map (lane_sum rule row other) (range_with_len first 8)
+summed_eight rule row other result first left right is =
+    is
+    ∙ zip_parts rule.add row other (lane_sum rule row other) 8 first first left right
+    (λ k l to same. ap (λ i. rule.add (get_or row i 0) (get_or other l 0)) (omega arith))
 
 -- each of eight times is at most a cap
 pub small_eight : (cap : ℕ) (times : List ℕ) (at : ℕ) → at + 8 ≤ length times → AreSmall cap times

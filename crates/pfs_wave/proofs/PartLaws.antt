@@ -32,7 +32,7 @@ ends_mono before others times le (suc machine) =
     omega arith
 
 -- the job ends on each machine before it ends on the next
-ends_in_order : (before times : ℕ → ℕ) (machine : ℕ) → ends before times machine ≤ ends before times (suc machine)
+pub ends_in_order : (before times : ℕ → ℕ) (machine : ℕ) → ends before times machine ≤ ends before times (suc machine)
 ends_in_order before times machine = omega arith
 
 -- the ends by the heads of the row before are the heads of the row
@@ -127,7 +127,7 @@ module _ (shop : FlowShop) where
   after_append before (other ∷ jobs) job machine = after_append (ends before (time_of shop other)) jobs job machine
 
 -- a number that grows is at most a later one
-in_order : (values : ℕ → ℕ) → ((at : ℕ) → values at ≤ values (suc at)) → (at more : ℕ)
+pub in_order : (values : ℕ → ℕ) → ((at : ℕ) → values at ≤ values (suc at)) → (at more : ℕ)
     → values at ≤ values (more + at)
 in_order values le at zero = let e : 0 + at ≡ at = omega arith in let h = ap values e in omega arith
 in_order values le at (suc more) =
@@ -138,7 +138,7 @@ in_order values le at (suc more) =
     omega arith
 
 -- the sum with one more number, which is 0 after the last one
-sum_next : (numbers : List ℕ) (count : ℕ)
+pub sum_next : (numbers : List ℕ) (count : ℕ)
     → sum (take (suc count) numbers) ≡ sum (take count numbers) + get_or numbers count 0
 sum_next numbers count =
     elim (cases_lt count (length numbers)) [

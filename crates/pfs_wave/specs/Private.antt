@@ -1,7 +1,9 @@
 pub mod Blending
 pub mod HeldRows
+pub mod Lacks
 pub mod Narrow
 pub mod SkewedBand
+pub mod ReducedRows
 pub mod ShopTimes
 pub mod WideRows
 pub mod WideSteps

@@ -1,9 +1,11 @@
 //! Rows of lanes of each width.
-ghost use Rattle.std.proofs.Common.{arith};
+ghost use Rattle.std.proofs.Common.{arith, refl};
 
-use crate::band::Band;
+use crate::band::{Band, CappedBand};
 use crate::joined::Joined;
+use crate::lanes::{CappedLanes, MixedLanes};
 use crate::one_band::OneBand;
+use crate::reduced::Reduced;
 use crate::whole_row::Part;
 
 /// Rows of 16 lanes.
@@ -46,4 +48,102 @@ impl<B: Band> Part for EightBands<B> {
 
 impl<B: Band> Part for ThirteenBands<B> {
     ghost part = { Prim.omega arith };
+}
+
+impl<B: CappedBand> CappedLanes for OneBand<B> {
+    ghost capped = { B.capped };
+}
+
+impl<B: CappedBand> MixedLanes for OneBand<B> {
+    type Narrow = OneBand<Reduced>;
+
+    ghost reduced = { refl };
+
+    ghost narrow = { refl };
+
+    ghost same = { refl };
+}
+
+impl<B: CappedBand> CappedLanes for TwoBands<B> {
+    ghost capped = { B.capped };
+}
+
+impl<B: CappedBand> MixedLanes for TwoBands<B> {
+    type Narrow = TwoBands<Reduced>;
+
+    ghost reduced = { refl };
+
+    ghost narrow = { refl };
+
+    ghost same = { refl };
+}
+
+impl<B: CappedBand> CappedLanes for ThreeBands<B> {
+    ghost capped = { B.capped };
+}
+
+impl<B: CappedBand> MixedLanes for ThreeBands<B> {
+    type Narrow = ThreeBands<Reduced>;
+
+    ghost reduced = { refl };
+
+    ghost narrow = { refl };
+
+    ghost same = { refl };
+}
+
+impl<B: CappedBand> CappedLanes for FiveBands<B> {
+    ghost capped = { B.capped };
+}
+
+impl<B: CappedBand> MixedLanes for FiveBands<B> {
+    type Narrow = FiveBands<Reduced>;
+
+    ghost reduced = { refl };
+
+    ghost narrow = { refl };
+
+    ghost same = { refl };
+}
+
+impl<B: CappedBand> CappedLanes for EightBands<B> {
+    ghost capped = { B.capped };
+}
+
+impl<B: CappedBand> MixedLanes for EightBands<B> {
+    type Narrow = EightBands<Reduced>;
+
+    ghost reduced = { refl };
+
+    ghost narrow = { refl };
+
+    ghost same = { refl };
+}
+
+impl<B: CappedBand> CappedLanes for ThirteenBands<B> {
+    ghost capped = { B.capped };
+}
+
+impl<B: CappedBand> MixedLanes for ThirteenBands<B> {
+    type Narrow = ThirteenBands<Reduced>;
+
+    ghost reduced = { refl };
+
+    ghost narrow = { refl };
+
+    ghost same = { refl };
+}
+
+impl<B: CappedBand> CappedLanes for TwentySixBands<B> {
+    ghost capped = { B.capped };
+}
+
+impl<B: CappedBand> MixedLanes for TwentySixBands<B> {
+    type Narrow = TwentySixBands<Reduced>;
+
+    ghost reduced = { refl };
+
+    ghost narrow = { refl };
+
+    ghost same = { refl };
 }

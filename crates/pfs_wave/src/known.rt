@@ -1,6 +1,7 @@
 //! A sequence whose makespan is known.
 ghost use Rattle.std.specs.Prelude.{◌≡◌, ◌<◌, ◌≤◌, ◌↔◌, length, Contains, IsTrue, IfOk, []};
-ghost use Rattle.pfs_wave.specs.Private.Narrow.{IsShortPart, known_with};
+ghost use Rattle.pfs_wave.specs.Parts.{IsPart};
+ghost use Rattle.pfs_wave.specs.Private.Narrow.{known_with};
 
 use crate::parts::is_part;
 use pfs_base::MOST_JOBS;
@@ -13,7 +14,7 @@ use std::marker::Model;
 #[derive(Drop)]
 pub(crate) struct Known {
     seq: Seq,
-    pub(crate) span: u64,
+    span: u64,
 }
 
 impl Model for Known {
@@ -38,14 +39,20 @@ impl Known {
         }
     }
 
-    /// Whether these jobs are those of the sequence, or some of them left out, and the makespan of the sequence with a
-    /// job of this total time after all others is below a number.
+    /// The makespan of the sequence, or a greater number.
     #[inline(always)]
-    pub fn is_short(&self, jobs: &[usize], total: u64, cap: u64) -> bool
-        requires { self.now.span ≤ cap }
-        ensures { IsTrue result ↔ IsShortPart self.now jobs.now total cap }
+    pub fn span(&self) -> u64
+        ensures { result ≡ self.now.span }
     {
-        total < cap - self.span && is_part(jobs, self.seq.as_slice())
+        self.span
+    }
+
+    /// Whether these jobs are those of the sequence, or some of them left out.
+    #[inline(always)]
+    pub fn has_part(&self, jobs: &[usize]) -> bool
+        ensures { IsTrue result ↔ IsPart jobs.now self.now.seq.jobs }
+    {
+        is_part(jobs, self.seq.as_slice())
     }
 
     /// Makes it a sequence with a job at its best place.

@@ -10,7 +10,7 @@ ghost use Rattle.pfs_wave.specs.Wavefront.{HasRows};
 use crate::band::Band;
 use crate::bench::LaneBench;
 use crate::insertion::best_in_tables;
-use crate::lanes::Lanes;
+use crate::lanes::{Lanes, MixedLanes};
 use crate::narrow::{Narrow, narrow_lanes};
 use crate::skewed::SkewedTimes;
 use crate::tables::Tables;
@@ -21,25 +21,25 @@ use std::alloc::{AllocError, Global};
 use std::marker::Model;
 
 /// A metered bench over an instance that a wavefront serves, with the times of each job in lanes. A mixed bench also
-/// has narrow lanes, with fewer bits, for the insertions whose makespan is known to fit in them.
+/// has narrow lanes, of 16 bits for reduced times, for the insertions whose values are known to fit in them.
 #[derive(Drop)]
-pub struct MeteredLanes<'a, N: Lanes, L: Lanes> {
+pub struct MeteredLanes<'a, L: MixedLanes> {
     bench: Metered<'a>,
     skewed: SkewedTimes<L>,
-    narrow: Option<Narrow<N>>,
+    narrow: Option<Narrow<L::Narrow>>,
     ghost within: { IsWithin limits (⟦<Metered<'static> as Bench>⟧.shop bench) },
     ghost served: { IsServed (⟦<Metered<'static> as Bench>⟧.shop bench) L.WIDTH L.Band.CAP },
     ghost rows: { HasRows (⟦<Metered<'static> as Bench>⟧.shop bench) L.WIDTH skewed.rows },
-    ghost tables: { HasNarrow (⟦<Metered<'static> as Bench>⟧.shop bench) N.WIDTH narrow },
+    ghost tables: { HasNarrow (⟦<Metered<'static> as Bench>⟧.shop bench) L.Narrow.WIDTH narrow },
 }
 
-impl<'a, N: Lanes, L: Lanes> MeteredLanes<'a, N, L> {
+impl<'a, L: MixedLanes> MeteredLanes<'a, L> {
     /// A bench over an instance, with a count of 0 cells. It reserves memory for the rows of its jobs and for the times
     /// of a sequence, and returns `AllocError` where that fails.
-    pub fn new(alloc: Global, instance: &'a Instance) -> Result<MeteredLanes<'a, N, L>, AllocError>
+    pub fn new(alloc: Global, instance: &'a Instance) -> Result<MeteredLanes<'a, L>, AllocError>
         requires { IsServed instance.now.shop L.WIDTH L.Band.CAP }
-        ensures shop { IfOk result (λ made. ⟦<MeteredLanes<'a, N, L> as Bench>⟧.shop made ≡ instance.now.shop) }
-        ensures counted { IfOk result (λ made. ⟦<MeteredLanes<'a, N, L> as Bench>⟧.counted made ≡ 0) }
+        ensures shop { IfOk result (λ made. ⟦<MeteredLanes<'a, L> as Bench>⟧.shop made ≡ instance.now.shop) }
+        ensures counted { IfOk result (λ made. ⟦<MeteredLanes<'a, L> as Bench>⟧.counted made ≡ 0) }
     {
         let skewed = SkewedTimes::new(alloc, instance)?;
         Ok(MeteredLanes {
@@ -50,15 +50,12 @@ impl<'a, N: Lanes, L: Lanes> MeteredLanes<'a, N, L> {
     }
 
     /// A mixed bench over an instance, with a count of 0 cells, for one insertion after another. It has narrow lanes
-    /// where their bits are fewer and they often serve the instance (`IsOftenShort`). It also reserves the memory of
-    /// these insertions, and returns `AllocError` where allocation fails.
-    pub fn mixed(
-        alloc: Global,
-        instance: &'a Instance,
-    ) -> Result<MeteredLanes<'a, N, L>, AllocError>
+    /// where its own have more bits and insertions often fit in narrow ones (`IsOftenReducible`). It also reserves the
+    /// memory of these insertions, and returns `AllocError` where allocation fails.
+    pub fn mixed(alloc: Global, instance: &'a Instance) -> Result<MeteredLanes<'a, L>, AllocError>
         requires { IsServed instance.now.shop L.WIDTH L.Band.CAP }
-        ensures shop { IfOk result (λ made. ⟦<MeteredLanes<'a, N, L> as Bench>⟧.shop made ≡ instance.now.shop) }
-        ensures counted { IfOk result (λ made. ⟦<MeteredLanes<'a, N, L> as Bench>⟧.counted made ≡ 0) }
+        ensures shop { IfOk result (λ made. ⟦<MeteredLanes<'a, L> as Bench>⟧.shop made ≡ instance.now.shop) }
+        ensures counted { IfOk result (λ made. ⟦<MeteredLanes<'a, L> as Bench>⟧.counted made ≡ 0) }
     {
         let skewed = SkewedTimes::new(alloc, instance)?;
         let narrow = narrow_lanes(alloc, instance, L::Band::CAP)?;
@@ -73,21 +70,21 @@ impl<'a, N: Lanes, L: Lanes> MeteredLanes<'a, N, L> {
     // the insertion. It counts no cells.
     #[inline(always)]
     fn find(&mut self, seq: &Seq, job: usize, tables: &mut Tables<L>) -> Placed<u64>
-        requires size { seq.now.size ≡ (⟦<MeteredLanes<'a, N, L> as Bench>⟧.shop self.old).jobs }
-        requires job { job < (⟦<MeteredLanes<'a, N, L> as Bench>⟧.shop self.old).jobs }
+        requires size { seq.now.size ≡ (⟦<MeteredLanes<'a, L> as Bench>⟧.shop self.old).jobs }
+        requires job { job < (⟦<MeteredLanes<'a, L> as Bench>⟧.shop self.old).jobs }
         requires absent { Contains seq.now.jobs job → ⊥ }
-        requires tables { tables.old.jobs ≡ (⟦<MeteredLanes<'a, N, L> as Bench>⟧.shop self.old).jobs }
-        ensures best { IsBestPlace (⟦<MeteredLanes<'a, N, L> as Bench>⟧.shop self.old) seq.now.jobs job
+        requires tables { tables.old.jobs ≡ (⟦<MeteredLanes<'a, L> as Bench>⟧.shop self.old).jobs }
+        ensures best { IsBestPlace (⟦<MeteredLanes<'a, L> as Bench>⟧.shop self.old) seq.now.jobs job
             result.place result.span }
         ensures tables { tables.new.jobs ≡ tables.old.jobs }
-        ensures counted { ⟦<MeteredLanes<'a, N, L> as Bench>⟧.counted self.new
-            ≡ ⟦<MeteredLanes<'a, N, L> as Bench>⟧.counted self.old }
-        ensures shop { ⟦<MeteredLanes<'a, N, L> as Bench>⟧.shop self.new
-            ≡ ⟦<MeteredLanes<'a, N, L> as Bench>⟧.shop self.old }
+        ensures counted { ⟦<MeteredLanes<'a, L> as Bench>⟧.counted self.new
+            ≡ ⟦<MeteredLanes<'a, L> as Bench>⟧.counted self.old }
+        ensures shop { ⟦<MeteredLanes<'a, L> as Bench>⟧.shop self.new
+            ≡ ⟦<MeteredLanes<'a, L> as Bench>⟧.shop self.old }
     {
         let machines = self.bench.machines();
-        // Benches of lanes of one size are compiled without this branch.
-        if N::Band::CAP < L::Band::CAP {
+        // Benches of 16-bit lanes are compiled without this branch.
+        if 65_535 < L::Band::CAP {
             if let Some(narrow) = &mut self.narrow {
                 let total = self.bench.total(job);
                 return narrow.best_or_wide(&mut self.skewed, tables, seq, job, total);
@@ -104,7 +101,7 @@ impl<'a, N: Lanes, L: Lanes> MeteredLanes<'a, N, L> {
     }
 }
 
-impl<'a, N: Lanes, L: Lanes> Bench for MeteredLanes<'a, N, L> {
+impl<'a, L: MixedLanes> Bench for MeteredLanes<'a, L> {
     type Span = Span;
 
     ghost shop = { λ b. ⟦<Metered<'static> as Bench>⟧.shop b.bench };
@@ -152,13 +149,13 @@ impl<'a, N: Lanes, L: Lanes> Bench for MeteredLanes<'a, N, L> {
     }
 }
 
-impl<N: Lanes, L: Lanes> Shop for MeteredLanes<'_, N, L> {
+impl<L: MixedLanes> Shop for MeteredLanes<'_, L> {
     fn total(&self, job: usize) -> u64 {
         self.bench.total(job)
     }
 }
 
-impl<'a, N: Lanes, L: Lanes> LaneBench for MeteredLanes<'a, N, L> {
+impl<'a, L: MixedLanes> LaneBench for MeteredLanes<'a, L> {
     type Lanes = L;
 
     #[inline(always)]

@@ -1,16 +1,22 @@
-//! Lanes of fewer bits, for the insertions whose makespan is known to fit in them.
-ghost use Rattle.std.specs.Prelude.{◌≡◌, ℕ, ◌+◌, ◌<◌, ◌≤◌, ◌↔◌, ◌⊎◌, length, Contains, IsTrue, IfOk, IsSome};
+//! Lanes of 16 bits for reduced times, for the insertions whose values are known to fit in them.
+ghost use Rattle.std.specs.Prelude.{◌≡◌, ℕ, ◌+◌, ◌<◌, ◌≤◌, ◌*◌, ◌^◌, ◌↔◌, length, Contains, IsTrue, IfOk, IfSome};
+ghost use Rattle.std.specs.Prelude.{IsSome};
 ghost use Rattle.std.specs.List.{All};
 ghost use Rattle.pfs_base.specs.FlowShop.{FlowShop, total_of};
+ghost use Rattle.pfs_base.specs.Paths.{makespan};
 ghost use Rattle.pfs_insert.specs.Inserter.{IsBestPlace};
-ghost use Rattle.pfs_insert.specs.Insertion.{makespan_with};
-ghost use Rattle.pfs_wave.specs.Private.Narrow.{AreNarrow, HasNarrow, IsOftenShort, IsShortPart, after_best};
+ghost use Rattle.pfs_wave.specs.Lanes.{capped_rule};
+ghost use Rattle.pfs_wave.specs.Private.Lacks.{mean_time, row_lack};
+ghost use Rattle.pfs_wave.specs.Private.Narrow.{AreNarrow, FitNarrow, HasNarrow, IsOftenReducible, after_best};
+ghost use Rattle.pfs_wave.specs.Reduced.{AreReducible, reduced_rule};
+ghost use Rattle.pfs_wave.specs.Private.ReducedRows.{span_of};
 ghost use Rattle.pfs_wave.specs.Served.{IsServed};
 ghost use Rattle.pfs_wave.specs.Wavefront.{HasRows};
 
 use crate::band::Band;
 use crate::insertion::best_in_tables;
 use crate::known::Known;
+use crate::lacks::{back_lack, front_lack, machine_times, mean_time, row_lack};
 use crate::lanes::Lanes;
 use crate::served::longest_time;
 use crate::skewed::SkewedTimes;
@@ -21,20 +27,33 @@ use pfs_order::Seq;
 use std::alloc::{AllocError, Global};
 use std::marker::Model;
 
-/// The times of an instance in narrow lanes, the tables of an insertion, and two sequences whose makespans are known to
-/// fit in a lane: the last one, and the order of all jobs with the shortest makespan so far, of equal ones the last.
-/// A search goes on from one of them.
+/// The most that the times of an insertion may be less than the reduction in all.
+const MOST_LACK: u64 = 16_384;
+
+/// The most that a makespan may be above its reductions, if the times are less by nothing.
+const MOST_ABOVE: u64 = 40_959;
+
+/// The times of an instance in narrow lanes, each less by the same number, the tables of an insertion, and two
+/// sequences whose makespans are known: the last one, and the order of all jobs with the shortest makespan so far, of
+/// equal ones the last. A search continues from one of them.
 #[derive(Drop)]
 pub struct Narrow<N: Lanes> {
     skewed: SkewedTimes<N>,
     tables: Tables<N>,
     machines: usize,
+    reduction: u32,
+    // The most that the times of one job are less than the reduction.
+    row_lack: u64,
+    // The times of all jobs on the first machine, and those on the last machine.
+    first_times: Vec<u32>,
+    last_times: Vec<u32>,
     last: Known,
     kept: Known,
 }
 
 impl<N: Lanes> Model for Narrow<N> {
-    ghost use Rattle.std.specs.Prelude.{◌≤◌};
+    ghost use Rattle.std.specs.Prelude.{◌≡◌, ◌<◌, ◌≤◌, ◌^◌, length};
+    ghost use Rattle.pfs_base.specs.declared.limits.TheConstants.{MOST_JOBS};
     ghost use Rattle.pfs_wave.specs.Private.Narrow.{NarrowTables};
 
     ghost Value = { NarrowTables };
@@ -43,89 +62,148 @@ impl<N: Lanes> Model for Narrow<N> {
       rows = a.skewed.rows;
       jobs = a.tables.jobs;
       machines = a.machines;
+      reduction = a.reduction;
+      row = a.row_lack;
+      first = a.first_times.items;
+      back = a.last_times.items;
       last = a.last;
       kept = a.kept;
     } };
 
     ghost invariant = { λ a. record {
-      last : a.last.span ≤ N.Band.CAP;
-      kept : a.kept.span ≤ N.Band.CAP;
+      reduction : a.reduction ≤ 32768;
+      row : a.row_lack < 2 ^ 40;
+      jobs : a.tables.jobs ≤ MOST_JOBS;
+      last : a.last.span < 2 ^ 48;
+      kept : a.kept.span < 2 ^ 48;
     } };
 }
 
 impl<N: Lanes> Narrow<N> {
     /// Narrow lanes for an instance, with a known sequence of no jobs. It reserves all memory of an insertion, and
     /// returns `AllocError` where that fails.
-    fn new(alloc: Global, instance: &Instance) -> Result<Narrow<N>, AllocError>
+    fn new(alloc: Global, instance: &Instance, reduction: u32) -> Result<Narrow<N>, AllocError>
         requires machines { instance.now.shop.machines ≤ N.WIDTH }
-        requires short { All (λ time. time ≤ N.Band.CAP) instance.now.shop.times }
-        ensures { IfOk result (λ made. AreNarrow instance.now.shop N.WIDTH made) }
+        requires some { 1 ≤ reduction }
+        requires few { reduction * instance.now.shop.machines ≤ 24576 }
+        requires short { All (λ time. time ≤ 32767 + reduction) instance.now.shop.times }
+        requires cap { N.Band.CAP ≡ 65535 }
+        ensures { N.Band.RULE ≡ reduced_rule → IfOk result (λ made. AreNarrow instance.now.shop N.WIDTH made) }
     {
         let jobs = instance.jobs();
-        let skewed = SkewedTimes::new(alloc, instance)?;
+        let machines = instance.machines();
+        let skewed = SkewedTimes::reduced(alloc, instance, reduction)?;
         let tables = Tables::new(alloc, jobs)?;
+        let first_times = machine_times(alloc, instance, 0)?;
+        let last_times = machine_times(alloc, instance, machines - 1)?;
         let last = Known::new(alloc, jobs, 0)?;
-        let kept = Known::new(alloc, jobs, u64::from(N::Band::CAP))?;
+        let kept = Known::new(alloc, jobs, u64::from(u32::MAX))?;
         Ok(Narrow {
             skewed,
             tables,
-            machines: instance.machines(),
+            machines,
+            reduction,
+            row_lack: row_lack(instance, reduction),
+            first_times,
+            last_times,
             last,
             kept,
         })
     }
 
-    // Whether the narrow lanes serve the insertion of a job of this total time into a sequence.
+    // A bound on the makespan of a sequence: the makespan of a known sequence of which it is a part.
     #[inline(always)]
-    fn serve(&self, jobs: &[usize], total: u64) -> bool
-        ensures { IsTrue result ↔ (IsShortPart self.now.last jobs.now total N.Band.CAP
-            ⊎ IsShortPart self.now.kept jobs.now total N.Band.CAP) }
+    fn known_span(&self, jobs: &[usize]) -> Option<u64>
+        ensures bound { IfSome result (λ span. (shop : FlowShop) → AreNarrow shop N.WIDTH self.now
+            → makespan shop jobs.now ≤ span) }
     {
-        let cap = u64::from(N::Band::CAP);
-        self.last.is_short(jobs, total, cap) || self.kept.is_short(jobs, total, cap)
+        if self.last.has_part(jobs) {
+            return Some(self.last.span());
+        }
+        if self.kept.has_part(jobs) {
+            return Some(self.kept.span());
+        }
+        None
     }
 
-    // Keeps a sequence with a job at its best place, where its makespan fits.
+    // Whether all values of the insertion of a job of this total time fit in the narrow lanes, where the makespan of
+    // the sequence is at most `span`.
+    #[inline(always)]
+    fn fits(&self, seq: &Seq, span: u64, total: u64) -> bool
+        requires { FitNarrow self.now seq.now.size N.WIDTH }
+        ensures { IsTrue result → (shop : FlowShop) (job : ℕ) → AreNarrow shop N.WIDTH self.now
+            → makespan shop seq.now.jobs ≤ span → job < shop.jobs → total ≡ total_of shop job
+            → AreReducible shop seq.now.jobs job self.now.reduction }
+    {
+        let jobs = seq.as_slice();
+        let reduction = u64::from(self.reduction);
+        let most = reduction * (jobs.len() + self.machines) as u64 + MOST_ABOVE;
+        let longest = span.saturating_add(total);
+        let least_lack = reduction + self.row_lack;
+        if least_lack > MOST_LACK || longest.saturating_add(least_lack) > most {
+            return false;
+        }
+        let front = front_lack(&self.first_times, jobs, reduction);
+        let back = back_lack(&self.last_times, jobs, reduction);
+        let lack = least_lack + front + back;
+        if lack > MOST_LACK || longest.saturating_add(lack) > most {
+            return false;
+        }
+        true
+    }
+
+    // Whether the narrow lanes serve the insertion of a job of this total time into a sequence.
+    #[inline(always)]
+    fn serve(&self, seq: &Seq, total: u64) -> bool
+        requires { FitNarrow self.now seq.now.size N.WIDTH }
+        ensures { IsTrue result → (shop : FlowShop) (job : ℕ) → AreNarrow shop N.WIDTH self.now
+            → job < shop.jobs → total ≡ total_of shop job
+            → AreReducible shop seq.now.jobs job self.now.reduction }
+    {
+        match self.known_span(seq.as_slice()) {
+            Some(span) => self.fits(seq, span, total),
+            None => false,
+        }
+    }
+
+    // Keeps a sequence with a job at its best place.
     #[inline(always)]
     fn keep(&mut self, seq: &Seq, job: usize, best: Placed<u64>)
-        requires last { self.old.last.seq.size ≡ seq.now.size }
-        requires kept { self.old.kept.seq.size ≡ seq.now.size }
+        requires fit { FitNarrow self.old seq.now.size N.WIDTH }
         requires place { best.place ≤ length seq.now.jobs }
         requires job { job < seq.now.size }
         requires absent { Contains seq.now.jobs job → ⊥ }
-        ensures { self.new ≡ after_best N.Band.CAP self.old seq.now job best.place best.span }
+        requires span { best.span < 2 ^ 48 }
+        ensures { self.new ≡ after_best self.old seq.now job best.place best.span }
     {
-        if best.span < u64::from(N::Band::CAP) {
-            self.last.set(seq, job, best);
-            if seq.len() + 1 == self.tables.jobs && best.span <= self.kept.span {
-                self.kept.set(seq, job, best);
-            }
+        self.last.set(seq, job, best);
+        if seq.len() + 1 == self.tables.jobs && best.span <= self.kept.span() {
+            self.kept.set(seq, job, best);
         }
     }
 
     // The best place for a job in a sequence, and the makespan with the job there, in the narrow lanes.
     #[inline(always)]
     fn best(&mut self, seq: &Seq, job: usize) -> Placed<u64>
-        requires size { seq.now.size ≡ self.old.jobs }
-        requires last { self.old.last.seq.size ≡ self.old.jobs }
-        requires kept { self.old.kept.seq.size ≡ self.old.jobs }
-        requires rows { length self.old.rows ≡ self.old.jobs + 1 }
+        requires fit { FitNarrow self.old seq.now.size N.WIDTH }
         requires job { job < seq.now.size }
         requires absent { Contains seq.now.jobs job → ⊥ }
-        requires some { 1 ≤ self.old.machines }
-        requires few { self.old.machines ≤ N.WIDTH }
-        ensures best { (shop : FlowShop) → AreNarrow shop N.WIDTH self.old
-            → (other : ℕ) → other ≤ length seq.now.jobs → makespan_with shop seq.now.jobs job other < N.Band.CAP
+        ensures best { (shop : FlowShop) → N.Band.RULE ≡ reduced_rule → AreNarrow shop N.WIDTH self.old
+            → AreReducible shop seq.now.jobs job self.old.reduction
             → IsBestPlace shop seq.now.jobs job result.place result.span }
-        ensures known { self.new ≡ after_best N.Band.CAP self.old seq.now job result.place result.span }
+        ensures known { self.new ≡ after_best self.old seq.now job result.place result.span }
     {
-        let best = best_in_tables(
+        let found = best_in_tables(
             &mut self.skewed,
             &mut self.tables,
             seq.as_slice(),
             job,
             self.machines,
         );
+        let best = Placed {
+            place: found.place,
+            span: whole_span(self.reduction, seq.len() + self.machines, found.span),
+        };
         self.keep(seq, job, best);
         best
     }
@@ -142,25 +220,21 @@ impl<N: Lanes> Narrow<N> {
         job: usize,
         total: u64,
     ) -> Placed<u64>
-        requires size { seq.now.size ≡ self.old.jobs }
-        requires last { self.old.last.seq.size ≡ self.old.jobs }
-        requires kept { self.old.kept.seq.size ≡ self.old.jobs }
-        requires rows { length self.old.rows ≡ self.old.jobs + 1 }
-        requires wide_rows { length skewed.old.rows ≡ self.old.jobs + 1 }
+        requires fit { FitNarrow self.old seq.now.size N.WIDTH }
+        requires wide { self.old.machines ≤ L.WIDTH }
+        requires rows { length skewed.old.rows ≡ self.old.jobs + 1 }
         requires tables { tables.old.jobs ≡ self.old.jobs }
         requires job { job < seq.now.size }
         requires absent { Contains seq.now.jobs job → ⊥ }
-        requires some { 1 ≤ self.old.machines }
-        requires few { self.old.machines ≤ N.WIDTH }
-        requires few_wide { self.old.machines ≤ L.WIDTH }
-        ensures best { (shop : FlowShop) → AreNarrow shop N.WIDTH self.old → IsServed shop L.WIDTH L.Band.CAP
+        ensures best { (shop : FlowShop) → N.Band.RULE ≡ reduced_rule → L.Band.RULE ≡ capped_rule L.Band.CAP
+            → AreNarrow shop N.WIDTH self.old → IsServed shop L.WIDTH L.Band.CAP
             → HasRows shop L.WIDTH skewed.old.rows → total ≡ total_of shop job
             → IsBestPlace shop seq.now.jobs job result.place result.span }
-        ensures known { self.new ≡ after_best N.Band.CAP self.old seq.now job result.place result.span }
+        ensures known { self.new ≡ after_best self.old seq.now job result.place result.span }
         ensures rows { skewed.new.rows ≡ skewed.old.rows }
         ensures tables { tables.new.jobs ≡ tables.old.jobs }
     {
-        if self.serve(seq.as_slice(), total) {
+        if self.serve(seq, total) {
             return self.best(seq, job);
         }
         let best = best_in_tables(skewed, tables, seq.as_slice(), job, self.machines);
@@ -169,23 +243,40 @@ impl<N: Lanes> Narrow<N> {
     }
 }
 
-/// Narrow lanes beside lanes of this greatest value, where their own is less and they often serve the instance
-/// (`IsOftenShort`). It returns `AllocError` where allocation fails.
+// The makespan that a lane of sums contains.
+#[inline(always)]
+fn whole_span(reduction: u32, steps: usize, sum: u64) -> u64
+    requires reduction { reduction ≤ 32768 }
+    requires steps { steps < 2 ^ 16 }
+    requires sum { sum < 2 ^ 32 }
+    ensures span { result ≡ span_of reduction steps sum }
+    ensures small { result < 2 ^ 48 }
+{
+    (sum + u64::from(reduction) * (steps as u64 + 1)).saturating_sub(MOST_LACK)
+}
+
+/// Narrow lanes for a bench whose own lanes have this greatest value, if that is more than 65,535 and the insertions of
+/// the instance often fit in narrow lanes (`IsOftenReducible`). Each time is less by the mean time. It returns
+/// `AllocError` where allocation fails.
 pub fn narrow_lanes<N: Lanes>(
     alloc: Global,
     instance: &Instance,
     wide: u32,
 ) -> Result<Option<Narrow<N>>, AllocError>
-    requires { 8 ≤ instance.now.shop.jobs }
+    requires { N.Band.CAP ≡ 65535 }
     ensures made { IfOk result (λ made. IsSome made
-        ↔ ((N.Band.CAP < wide) × IsOftenShort instance.now.shop N.WIDTH N.Band.CAP)) }
-    ensures tables { IfOk result (λ made. HasNarrow instance.now.shop N.WIDTH made) }
+        ↔ ((65535 < wide) × IsOftenReducible instance.now.shop N.WIDTH)) }
+    ensures tables { N.Band.RULE ≡ reduced_rule → IfOk result (λ made. HasNarrow instance.now.shop N.WIDTH made) }
 {
-    let operations = (instance.jobs() + 2 * instance.machines()) as u64;
-    let longest = u64::from(longest_time(instance));
-    let cap = N::Band::CAP;
-    if cap < wide && instance.machines() <= N::WIDTH && operations * longest <= 4 * u64::from(cap) {
-        Ok(Some(Narrow::new(alloc, instance)?))
+    let machines = instance.machines();
+    if wide <= 65_535 || machines > N::WIDTH {
+        return Ok(None);
+    }
+    let reduction = mean_time(instance);
+    let all = u64::from(reduction) * machines as u64;
+    let lack = u64::from(reduction) + row_lack(instance, reduction);
+    if all <= 24_576 && longest_time(instance) <= 32_767 + reduction && lack <= MOST_LACK {
+        Ok(Some(Narrow::new(alloc, instance, reduction)?))
     } else {
         Ok(None)
     }

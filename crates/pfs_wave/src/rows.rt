@@ -2,12 +2,14 @@
 ghost use Rattle.std.specs.Prelude.{◌≡◌, ◌+◌, ◌<◌, ◌≤◌, ◌^◌, length, map, IfOk};
 ghost use Rattle.std.specs.List.{All, range_with_len};
 ghost use Rattle.pfs_base.specs.FlowShop.{time_of};
-ghost use Rattle.pfs_wave.specs.Private.ShopTimes.{HoldFirst, limit_of, limited_time};
+ghost use Rattle.pfs_wave.specs.Private.ShopTimes.{HoldFirst, lane_sum, limited_time, value_on};
+ghost use Rattle.pfs_wave.specs.Reduced.{reduced_rule};
+ghost use Rattle.pfs_wave.specs.Private.ReducedRows.{HasReducedRows};
 ghost use Rattle.pfs_wave.specs.Wavefront.{HasRows, IsJobRow, on_machine};
 
 use crate::band::Band;
 use crate::lanes::Lanes;
-use pfs_base::Instance;
+use pfs_base::{Instance, MOST_JOBS};
 use std::alloc::{AllocError, Global};
 
 // The time of a job on the machine of a lane, and 0 in a lane after the last machine.
@@ -56,40 +58,41 @@ fn row_by_lanes<L: Lanes>(instance: &Instance, job: usize) -> L
     row
 }
 
-// The greatest value of a lane: that of its band, and 0 in a lane after the last machine.
+// A value in the lane of a machine, and 0 in a lane after the last machine.
 #[inline(always)]
-fn lane_limit(greatest: u32, machines: usize, lane: usize) -> u32
-    ensures value { result ≡ limit_of greatest machines lane }
-    ensures small { result ≤ greatest }
+fn lane_value(value: u32, machines: usize, lane: usize) -> u32
+    ensures value { result ≡ value_on value machines lane }
+    ensures small { result ≤ value }
 {
-    if lane < machines { greatest } else { 0 }
+    if lane < machines { value } else { 0 }
 }
 
-// The greatest values of the eight lanes from `first` on.
-fn eight_limits<B: Band>(machines: usize, first: usize) -> B
+// The eight lanes from `first` on, with a value in those of the machines.
+fn eight_values<B: Band>(value: u32, machines: usize, first: usize) -> B
+    requires small { value ≤ B.CAP }
     requires few { first < 2 ^ 32 }
-    ensures { B.lanes result ≡ map (limit_of B.CAP machines) (range_with_len first 8) }
+    ensures { B.lanes result ≡ map (value_on value machines) (range_with_len first 8) }
 {
-    let greatest = B::CAP;
     B::from_times([
-        lane_limit(greatest, machines, first),
-        lane_limit(greatest, machines, first + 1),
-        lane_limit(greatest, machines, first + 2),
-        lane_limit(greatest, machines, first + 3),
-        lane_limit(greatest, machines, first + 4),
-        lane_limit(greatest, machines, first + 5),
-        lane_limit(greatest, machines, first + 6),
-        lane_limit(greatest, machines, first + 7),
+        lane_value(value, machines, first),
+        lane_value(value, machines, first + 1),
+        lane_value(value, machines, first + 2),
+        lane_value(value, machines, first + 3),
+        lane_value(value, machines, first + 4),
+        lane_value(value, machines, first + 5),
+        lane_value(value, machines, first + 6),
+        lane_value(value, machines, first + 7),
     ])
 }
 
-// The greatest values of all lanes.
-fn limits_row<L: Lanes>(machines: usize) -> L
-    ensures { HoldFirst (limit_of L.Band.CAP machines) L.WIDTH (L.lanes result) L.WIDTH }
+// A value in the lanes of the machines, and 0 in the lanes after the last machine.
+fn machines_row<L: Lanes>(value: u32, machines: usize) -> L
+    requires { value ≤ L.Band.CAP }
+    ensures { HoldFirst (value_on value machines) L.WIDTH (L.lanes result) L.WIDTH }
 {
     let mut row = L::none();
     for band in 0..L::WIDTH / 8 {
-        row.put_band(band, eight_limits(machines, 8 * band));
+        row.put_band(band, eight_values(value, machines, 8 * band));
     }
     row
 }
@@ -115,7 +118,7 @@ fn limited_row<L: Lanes>(times: &[u32], at: usize, limits: &L) -> L
 fn job_row<L: Lanes>(instance: &Instance, job: usize, limits: &L) -> L
     requires job { job < instance.now.shop.jobs }
     requires short { All (λ time. time ≤ L.Band.CAP) instance.now.shop.times }
-    requires limits { HoldFirst (limit_of L.Band.CAP instance.now.shop.machines) L.WIDTH (L.lanes limits.now) L.WIDTH }
+    requires limits { HoldFirst (value_on L.Band.CAP instance.now.shop.machines) L.WIDTH (L.lanes limits.now) L.WIDTH }
     ensures { IsJobRow instance.now.shop job L.WIDTH (L.lanes result) }
 {
     let times = instance.times();
@@ -134,15 +137,60 @@ pub fn shop_rows<L: Lanes>(alloc: Global, instance: &Instance) -> Result<Vec<L>,
     requires machines { instance.now.shop.machines ≤ L.WIDTH }
     requires short { All (λ time. time ≤ L.Band.CAP) instance.now.shop.times }
     ensures count { IfOk result (λ rows. length rows.items ≡ instance.now.shop.jobs + 1) }
+    ensures few { IfOk result (λ rows. length rows.items ≤ MOST_JOBS + 1) }
     ensures rows { IfOk result (λ rows. HasRows instance.now.shop L.WIDTH (map L.lanes rows.items)) }
 {
     let jobs = instance.jobs();
     let mut rows = Vec::new(alloc);
     rows.reserve_exact(jobs + 1)?;
-    let limits = limits_row(instance.machines());
+    let limits = machines_row(L::Band::CAP, instance.machines());
     for job in 0..jobs {
         rows.push_reserved(job_row(instance, job, &limits));
     }
     rows.push_reserved(L::none());
+    Ok(rows)
+}
+
+// The sum of two rows in each lane, by the rule of the lanes.
+#[inline(always)]
+fn row_sum<L: Lanes>(row: &L, other: &L) -> L
+    ensures { HoldFirst (lane_sum L.Band.RULE (L.lanes row.now) (L.lanes other.now)) L.WIDTH (L.lanes result) L.WIDTH }
+{
+    let mut sums = L::none();
+    for band in 0..L::WIDTH / 8 {
+        sums.put_band(band, row.band(band).sum(other.band(band)));
+    }
+    sums
+}
+
+/// Makes the rows of an instance for times that are less by `reduction`: as `shop_rows`, with reduced times, also in
+/// the last row. It reserves memory once, and returns `AllocError` where that fails.
+pub fn reduced_rows<L: Lanes>(
+    alloc: Global,
+    instance: &Instance,
+    reduction: u32,
+) -> Result<Vec<L>, AllocError>
+    requires machines { instance.now.shop.machines ≤ L.WIDTH }
+    requires short { All (λ time. time ≤ L.Band.CAP) instance.now.shop.times }
+    requires some { 1 ≤ reduction }
+    requires few { reduction ≤ 65536 }
+    requires cap { 65536 ≤ L.Band.CAP + reduction }
+    ensures count { IfOk result (λ rows. length rows.items ≡ instance.now.shop.jobs + 1) }
+    ensures few { IfOk result (λ rows. length rows.items ≤ MOST_JOBS + 1) }
+    ensures rows { L.Band.RULE ≡ reduced_rule → reduction ≤ 32768
+        → All (λ time. time ≤ 32767 + reduction) instance.now.shop.times
+        → IfOk result (λ rows. HasReducedRows instance.now.shop reduction L.WIDTH (map L.lanes rows.items)) }
+{
+    let jobs = instance.jobs();
+    let mut rows = Vec::new(alloc);
+    rows.reserve_exact(jobs + 1)?;
+    let machines = instance.machines();
+    let limits = machines_row(L::Band::CAP, machines);
+    let less = machines_row(65536 - reduction, machines);
+    for job in 0..jobs {
+        let row = job_row(instance, job, &limits);
+        rows.push_reserved(row_sum(&row, &less));
+    }
+    rows.push_reserved(row_sum(&L::none(), &less));
     Ok(rows)
 }

@@ -1,9 +1,10 @@
 //! Bands of 16-bit lanes.
+ghost use Rattle.std.proofs.Common.{refl};
 ghost use Rattle.std.specs.Prelude.{◌≡◌, ℕ, ◌≤◌, length, min};
 ghost use Rattle.std.specs.Simd.Lanes.{Each1, zip2};
-ghost use Rattle.pfs_wave.specs.Lanes.{capped_add};
+ghost use Rattle.pfs_wave.specs.Lanes.{capped_add, capped_rule};
 
-use crate::band::Band;
+use crate::band::{Band, CappedBand};
 use crate::least::{Found, first_least};
 use std::simd::prelude::*;
 
@@ -48,6 +49,8 @@ impl Band for Short {
 
     ghost CAP = { 65535 };
 
+    ghost RULE = { capped_rule 65535 };
+
     const CAP: u32 = 65535;
 
     ghost eight = { λ band. band.eight };
@@ -57,6 +60,11 @@ impl Band for Short {
         Short {
             values: u16x8::splat(0),
         }
+    }
+
+    #[inline(always)]
+    fn start() -> Short {
+        Band::zeros()
     }
 
     #[inline(always)]
@@ -168,4 +176,8 @@ impl Band for Short {
     fn first_least(sums: &[u16]) -> Found {
         first_least(sums)
     }
+}
+
+impl CappedBand for Short {
+    ghost capped = { refl };
 }

@@ -4,7 +4,7 @@ ghost use Rattle.std.proofs.Common.{refl};
 
 use crate::band::Band;
 use crate::bands::{EightBands, FiveBands, ThirteenBands, ThreeBands, TwentySixBands, TwoBands};
-use crate::lanes::Lanes;
+use crate::lanes::{Lanes, MixedLanes};
 use crate::long::Long;
 use crate::one_band::OneBand;
 use crate::short::Short;
@@ -15,19 +15,19 @@ pub trait LaneSize {
     /// Eight lanes.
     type Band: Band;
 
-    type Lanes8: Lanes<Band = Self::Band>;
+    type Lanes8: MixedLanes<Band = Self::Band>;
 
-    type Lanes16: Lanes<Band = Self::Band>;
+    type Lanes16: MixedLanes<Band = Self::Band>;
 
-    type Lanes24: Lanes<Band = Self::Band>;
+    type Lanes24: MixedLanes<Band = Self::Band>;
 
-    type Lanes40: Lanes<Band = Self::Band>;
+    type Lanes40: MixedLanes<Band = Self::Band>;
 
-    type Lanes64: Lanes<Band = Self::Band>;
+    type Lanes64: MixedLanes<Band = Self::Band>;
 
-    type Lanes104: Lanes<Band = Self::Band>;
+    type Lanes104: MixedLanes<Band = Self::Band>;
 
-    type Lanes208: Lanes<Band = Self::Band>;
+    type Lanes208: MixedLanes<Band = Self::Band>;
 
     ghost eight: { Self.Lanes8.WIDTH ≡ 8 };
 

@@ -1,11 +1,13 @@
 //! Rows of many lanes.
 ghost use Rattle.std.specs.Prelude.{◌≡◌, ℕ, ◌+◌, ◌*◌, ◌≤◌, List, length};
-ghost use Rattle.std.proofs.Common.{arith};
+ghost use Rattle.std.proofs.Common.{arith, refl};
 ghost use Rattle.pfs_wave.specs.Private.WideRows.{all_lanes, row_wide};
 
 use crate::band::Band;
-use crate::lanes::Lanes;
+use crate::bands::{EightBands, FiveBands, ThirteenBands, TwentySixBands};
+use crate::lanes::{CappedLanes, Lanes, MixedLanes};
 use crate::long::Long;
+use crate::reduced::Reduced;
 use crate::wide_steps::{Bands, Front, fill_sums, fill_tails};
 
 /// A number of bands that a wide row may have.
@@ -75,6 +77,13 @@ where
     }
 
     #[inline(always)]
+    fn start() -> Wide<N> {
+        Wide {
+            bands: [Long::start(); N],
+        }
+    }
+
+    #[inline(always)]
     fn band(&self, band: usize) -> Long {
         self.bands[band]
     }
@@ -140,4 +149,60 @@ where
     ) -> Wide<N> {
         fill_sums(times, tails, job, sums, fronts)
     }
+}
+
+impl CappedLanes for Wide<5> {
+    ghost capped = { refl };
+}
+
+impl MixedLanes for Wide<5> {
+    type Narrow = FiveBands<Reduced>;
+
+    ghost reduced = { refl };
+
+    ghost narrow = { refl };
+
+    ghost same = { refl };
+}
+
+impl CappedLanes for Wide<8> {
+    ghost capped = { refl };
+}
+
+impl MixedLanes for Wide<8> {
+    type Narrow = EightBands<Reduced>;
+
+    ghost reduced = { refl };
+
+    ghost narrow = { refl };
+
+    ghost same = { refl };
+}
+
+impl CappedLanes for Wide<13> {
+    ghost capped = { refl };
+}
+
+impl MixedLanes for Wide<13> {
+    type Narrow = ThirteenBands<Reduced>;
+
+    ghost reduced = { refl };
+
+    ghost narrow = { refl };
+
+    ghost same = { refl };
+}
+
+impl CappedLanes for Wide<26> {
+    ghost capped = { refl };
+}
+
+impl MixedLanes for Wide<26> {
+    type Narrow = TwentySixBands<Reduced>;
+
+    ghost reduced = { refl };
+
+    ghost narrow = { refl };
+
+    ghost same = { refl };
 }

@@ -1,12 +1,15 @@
--- Lanes of fewer bits, for the insertions whose makespan is known to fit in them.
-use Rattle.std.specs.Prelude.{ℕ, ◌≡◌, ◌+◌, ◌*◌, ◌<◌, ◌≤◌, List, Option, length, insert, nat_eq, nat_le, nat_lt}
+-- Lanes of 16 bits for reduced times, for the insertions whose values are known to fit in them.
+use Rattle.std.specs.Prelude.{ℕ, ◌≡◌, ◌+◌, ◌-◌, ◌*◌, ◌<◌, ◌≤◌, List, Option, length, insert, nat_eq, nat_le}
 use Rattle.std.specs.Prelude.{if◌then◌else◌}
 use Rattle.std.specs.Option.{ForSome}
-use Rattle.pfs_base.specs.FlowShop.{FlowShop}
+use Rattle.std.specs.List.{slice_index_or}
+use Rattle.pfs_base.specs.FlowShop.{FlowShop, time_of}
 use Rattle.pfs_base.specs.Paths.{greatest, makespan}
 use Rattle.pfs_order.specs.Sequence.{Sequence}
-use Rattle.pfs_wave.specs.Parts.{IsPart}
-use Rattle.pfs_wave.specs.Wavefront.{FitsLanes, HasRows}
+use Rattle.pfs_wave.specs.Private.Lacks.{mean_time, row_lack}
+use Rattle.pfs_wave.specs.Reduced.{RowLacksAtMost}
+use Rattle.pfs_wave.specs.Private.ReducedRows.{HasReducedRows}
+use Rattle.pfs_wave.specs.Wavefront.{FitsLanes}
 
 -- a sequence, and a bound on its makespan
 pub record KnownSequence : Type 0 where
@@ -18,55 +21,69 @@ pub record IsKnown (shop : FlowShop) (known : KnownSequence) : Type 0 where
   pub size : known.seq.size ≡ shop.jobs
   pub bound : makespan shop known.seq.jobs ≤ known.span
 
--- the jobs are those of the known sequence, or some of them left out, and with another job of this total time after all
--- others the makespan of the known sequence is below `cap`
-pub record IsShortPart (known : KnownSequence) (jobs : List ℕ) (total cap : ℕ) : Type 0 where
-  pub fits : known.span + total < cap
-  pub part : IsPart jobs known.seq.jobs
-
 -- the sequence with a job at a place, where its makespan is `span`
 abbrev pub known_with : Sequence → ℕ → ℕ → ℕ → KnownSequence
 known_with seq job place span =
     record { seq = record seq { jobs = insert seq.jobs place job }; span = span }
 
--- the rows of times of all jobs, the numbers of jobs and machines of the shops that the tables were made for, the last
--- sequence that is known, and the one of all jobs that is kept
+-- the rows of reduced times of all jobs, the numbers of jobs and machines of the shops that the tables were made for,
+-- the number by which each time is less, the most that the times of a job are less than that in all, the times of all
+-- jobs on the first and on the last machine, the last sequence that is known, and the one of all jobs that is kept
 pub record NarrowTables : Type 0 where
   pub rows : List (List ℕ)
   pub jobs : ℕ
   pub machines : ℕ
+  pub reduction : ℕ
+  pub row : ℕ
+  pub first : List ℕ
+  pub back : List ℕ
   pub last : KnownSequence
   pub kept : KnownSequence
+
+-- tables for sequences of shops of `size` jobs, in lanes of this width
+pub record FitNarrow (tables : NarrowTables) (size width : ℕ) : Type 0 where
+  pub jobs : size ≡ tables.jobs
+  pub rows : length tables.rows ≡ tables.jobs + 1
+  pub first : length tables.first ≡ tables.jobs
+  pub back : length tables.back ≡ tables.jobs
+  pub last : tables.last.seq.size ≡ tables.jobs
+  pub kept : tables.kept.seq.size ≡ tables.jobs
+  pub some : 1 ≤ tables.machines
+  pub few : tables.machines ≤ width
 
 -- narrow tables of a shop
 pub record AreNarrow (shop : FlowShop) (width : ℕ) (tables : NarrowTables) : Type 0 where
   pub fits : FitsLanes shop width
-  pub rows : HasRows shop width tables.rows
-  pub jobs : tables.jobs ≡ shop.jobs
+  pub fit : FitNarrow tables shop.jobs width
   pub machines : tables.machines ≡ shop.machines
+  pub few : tables.reduction * shop.machines ≤ 24576
+  pub rows : HasReducedRows shop tables.reduction width tables.rows
+  pub lacks : (job : ℕ) → job < shop.jobs → RowLacksAtMost shop tables.reduction job tables.row
+  pub first : (job : ℕ) → job < shop.jobs → slice_index_or tables.first job 0 ≡ time_of shop job 0
+  pub back : (job : ℕ) → job < shop.jobs → slice_index_or tables.back job 0 ≡ time_of shop job (shop.machines - 1)
   pub last : IsKnown shop tables.last
   pub kept : IsKnown shop tables.kept
 
--- the tables after a job was inserted into a sequence at its best place: where its makespan fits, the sequence with the
--- job is the last known one, and it is kept if it has all jobs and is not longer than the one that was kept
-abbrev pub after_best : ℕ → NarrowTables → Sequence → ℕ → ℕ → ℕ → NarrowTables
-after_best cap tables seq job place span =
-    if nat_lt span cap
-    then record tables {
+-- the tables after a job was inserted into a sequence at its best place: the sequence with the job is the last known
+-- one, and it is kept if it has all jobs and is not longer than the one that was kept
+abbrev pub after_best : NarrowTables → Sequence → ℕ → ℕ → ℕ → NarrowTables
+after_best tables seq job place span =
+    record tables {
       last = known_with seq job place span;
       kept =
           if nat_eq (length seq.jobs + 1) tables.jobs
           then (if nat_le span tables.kept.span then known_with seq job place span else tables.kept)
           else tables.kept;
     }
-    else tables
 
 -- the narrow tables of a shop, if there are any
 pub record HasNarrow (shop : FlowShop) (width : ℕ) (tables : Option NarrowTables) : Type 0 where
   pub are : ForSome tables (AreNarrow shop width)
 
--- the lanes have room for the shop's machines, and for the makespans of a good part of its sequences: half of n + 2m
--- times the longest time, about the makespan of n jobs on m machines, is at most twice the greatest value of a lane
-pub record IsOftenShort (shop : FlowShop) (width cap : ℕ) : Type 0 where
+-- the lanes have room for the shop's machines and for its times, each less by the mean of all times; and what the times
+-- of a job are less than the mean leaves room for the makespans
+pub record IsOftenReducible (shop : FlowShop) (width : ℕ) : Type 0 where
   pub few : shop.machines ≤ width
-  pub short : (shop.jobs + 2 * shop.machines) * greatest shop.times ≤ 4 * cap
+  pub none : mean_time shop * shop.machines ≤ 24576
+  pub short : greatest shop.times ≤ 32767 + mean_time shop
+  pub rows : mean_time shop + row_lack shop (mean_time shop) ≤ 16384

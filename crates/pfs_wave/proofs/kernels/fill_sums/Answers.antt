@@ -9,11 +9,11 @@ pub loop-pair-init : goal.loop-pair-init
 loop-pair-init g c =
     let lanes = g.L.WholeRow.lanes in
     let number = g.L.Band.Band.number in
-    none_summed g.L.Band.Band.CAP g.L.WholeRow.WIDTH (map lanes c.args.times.now) (map lanes c.args.tails.now)
-    (lanes c.again-job.result) (map number c.args.sums.now) (lanes c.none.result) (lanes c.none-2.result)
-    (lanes c.none-3.result)
-    (length-map c.args.sums.now number ∙ c.requires.sums ∙ sym (length-map c.args.times.now lanes)) c.none.ensures
-    c.none-2.ensures c.none-3.ensures
+    none_summed g.L.Band.Band.RULE g.L.WholeRow.WIDTH (map lanes c.args.times.now) (map lanes c.args.tails.now)
+    (lanes c.again-job.result) (map number c.args.sums.now) (lanes c.start.result) (lanes c.none.result)
+    (lanes c.none-2.result)
+    (length-map c.args.sums.now number ∙ c.requires.sums ∙ sym (length-map c.args.times.now lanes)) c.start.ensures
+    c.none.ensures c.none-2.ensures
 
 pub loop-pair-preserved : goal.loop-pair-preserved
 loop-pair-preserved g c =
@@ -41,7 +41,7 @@ loop-pair-preserved g c =
 -- all steps have their sums
 all_summed : (g : given.Over) (c : goal.After-drop-job g) →
     let lanes = g.L.WholeRow.lanes in
-    IsSummed g.L.Band.Band.CAP g.L.WholeRow.WIDTH (map lanes c.args.times.now) (map lanes c.args.tails.now)
+    IsSummed g.L.Band.Band.RULE g.L.WholeRow.WIDTH (map lanes c.args.times.now) (map lanes c.args.tails.now)
     (lanes c.again-job.result) (map g.L.Band.Band.number c.if-steps-eq1.sums) (lanes c.if-steps-eq1.rows.head)
     (lanes c.if-steps-eq1.rows.inserted) (lanes c.if-steps-eq1.rows.sum) (length c.args.times.now)
 all_summed g c =
