@@ -34,9 +34,9 @@ def loops(pfs: Program, loop: str) -> list[str] | None:
     return re.findall(rf"^[0-9a-f]+ <pfs_wave::{loop}\b.*>:\n((?:.+\n)+)", done.stdout, re.MULTILINE)
 
 
-# The numbers of instances of the loops. The program has seven widths with lanes of 16 bits and with lanes of 32; four
-# of the latter are computed one band after the other.
-LOOPS = {"times::fill_times": 14, "kernels::fill_tails": 10, "kernels::fill_sums": 10, "wide_steps::fill_tails": 4,
+# The numbers of instances of the loops. The program has seven widths with lanes of 16 bits, with lanes of 16 bits for
+# reduced times, and with lanes of 32 bits; four of the last are computed one band after the other.
+LOOPS = {"times::fill_times": 21, "kernels::fill_tails": 17, "kernels::fill_sums": 17, "wide_steps::fill_tails": 4,
          "wide_steps::fill_sums": 4}
 
 
@@ -69,6 +69,19 @@ def test_a_loop_of_a_wavefront_calls_nothing(pfs: Program, loop: str) -> None:
     for body in functions:
         for call, again in calls(body):
             assert not again and loop.startswith("wide_steps") and re.search(r"<mem(set|cpy)@plt>$", call), call
+
+
+@pytest.mark.parametrize("loop", ["kernels::fill_tails", "kernels::fill_sums"])
+def test_a_sum_of_reduced_lanes_is_one_instruction(pfs: Program, loop: str) -> None:
+    """As many as there are maxima, in each of the seven widths. A program without symbols can't be tested and
+    passes."""
+    functions = loops(pfs, loop)
+    if functions is None:
+        return
+    sums = [(len(re.findall(r"\tpaddsw ", body)), len(re.findall(r"\tpmaxsw ", body))) for body in functions]
+    reduced = [(added, compared) for added, compared in sums if compared]
+    assert len(reduced) == 7
+    assert all(added == compared for added, compared in reduced)
 
 
 @pytest.mark.parametrize("loop", ["times::fill_times", "kernels::fill_tails", "kernels::fill_sums"])

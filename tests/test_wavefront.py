@@ -16,7 +16,7 @@ WAVEFRONTS = {f"Wavefront{bits}(Lanes{width})": (width, most) for bits, most in 
               for width in (8, 16, 24, 40, 64, 104, 208)}
 
 # The wavefronts with which the test program inserts: each of them, and those of 32 bits once more, with lanes of 16
-# bits for the insertions whose makespan is known to fit.
+# bits for reduced times where an insertion is known to fit in them.
 WITH_MIXED = [*WAVEFRONTS.values(), *(lanes for lanes in WAVEFRONTS.values() if lanes[1] > 65_535)]
 
 # The most cubes of jobs on all machines of a shop whose search has three rounds. The second program takes seconds for
@@ -97,8 +97,21 @@ SHOPS: dict[str, tuple[Instance, str]] = {
     "makespans from 5,000 to 100,000": (drawn(24, 3, 8_000), "Wavefront32(Lanes8)"),
     "makespans to 70,000 on 9 machines": (drawn(40, 9, 3_000), "Wavefront32(Lanes16)"),
     "a long job in lanes of 32 bits": (with_long_job(24, 8, 6_000), "Wavefront32(Lanes8)"),
-    "20 times of 13,107 are 4 times 65,535": (equal(18, 1, 13_107), "Wavefront32(Lanes8)"),
-    "20 times of 13,108": (equal(18, 1, 13_108), "Wavefront32(Lanes8)"),
+    # A mixed bench has lanes of 16 bits where 8 mean times are at most 24,576, no time is more than 32,767 above the
+    # mean time, and the mean time and what a job's times are less are at most 16,384 together.
+    "8 mean times are 24,576": (equal(16, 8, 3_072), "Wavefront32(Lanes8)"),
+    "8 mean times are 24,584": (equal(16, 8, 3_073), "Wavefront32(Lanes8)"),
+    "a time is 32,767 above the mean time": (shop_of(24, 3, [1_000] * 71 + [34_228]), "Wavefront32(Lanes8)"),
+    "a time is 32,768 above the mean time": (shop_of(24, 3, [1_000] * 71 + [34_229]), "Wavefront32(Lanes8)"),
+    "a time and the mean are 8,192 apart": (shop_of(16, 1, [0] + [8_738] * 14 + [8_740]), "Wavefront32(Lanes8)"),
+    "a time and the mean are 8,193 apart": (shop_of(16, 1, [0] + [8_739] * 14 + [8_742]), "Wavefront32(Lanes8)"),
+    "equal times of 24,576 on one machine": (equal(20, 1, 24_576), "Wavefront32(Lanes8)"),
+    "short jobs first on the first machine": (
+        shop_of(48, 2, [100 * job for job in range(48)] + [4_700 - 100 * job for job in range(48)]),
+        "Wavefront32(Lanes8)"),
+    "times of 0 and 4,000": (shop_of(40, 8, [4_000 * (cell % 3 % 2) for cell in range(320)]), "Wavefront32(Lanes8)"),
+    "times from 2,000 to 2,100": (
+        shop_of(60, 12, [2_000 + cell * 37 % 101 for cell in range(720)]), "Wavefront32(Lanes16)"),
     "40 jobs": (drawn(40, 6, 30), "Wavefront16(Lanes8)"),
     "21 jobs on 11 machines": (drawn(21, 11, 500), "Wavefront16(Lanes16)"),
     "22 jobs on 20 machines": (drawn(22, 20, 1_000), "Wavefront16(Lanes24)"),
