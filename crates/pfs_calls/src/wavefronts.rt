@@ -58,11 +58,7 @@ fn insert_in_widths<S: LaneSize>(
 }
 
 // Inserts all jobs on a bench with these lanes, mixed or not.
-fn insert_all<L: MixedLanes>(
-    rt: &HostRuntime,
-    instance: &Instance,
-    mixed: bool,
-) -> Result<(), Stop>
+fn insert_all<L: MixedLanes>(rt: &HostRuntime, instance: &Instance, mixed: bool) -> Result<(), Stop>
     requires { IsServed instance.now.shop L.WIDTH L.Band.CAP }
 {
     let mut seq = Seq::new(rt.alloc(), instance.jobs())?;
