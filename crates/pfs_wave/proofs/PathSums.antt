@@ -42,7 +42,7 @@ module _ (weigh : ℕ → ℕ → ℕ) where
       let time : weigh row (suc machine + count) ≡ weigh row (suc (machine + count)) = ap (weigh row) (omega arith) in
       omega arith
 
-  -- a head is at least the first head of the row above and the times of its own row
+  -- a head is at least the first head of the row above and the times of the row
   pub head_row : (row machine : ℕ) → head weigh row 0 + sum_by (weigh row) (range_with_len 0 (suc machine))
       ≤ head weigh (suc row) machine
   head_row row zero =

@@ -30,8 +30,12 @@ use std::marker::Model;
 /// The most that the times of an insertion may be less than the reduction in all.
 const MOST_LACK: u64 = 16_384;
 
-/// The most that a makespan may be above its reductions, if the times are less by nothing.
+/// The most that a bound on the makespan, and what the times are less than the reduction, may together be more than the
+/// reductions of all operations.
 const MOST_ABOVE: u64 = 40_959;
+
+/// What a lane of sums is more than the makespan less its reductions, since heads and tails don't begin with 0.
+const SUMS_BEGIN: u64 = 16_384;
 
 /// The times of an instance in narrow lanes, each less by the same number, the tables of an insertion, and two
 /// sequences whose makespans are known: the last one, and the order of all jobs with the shortest makespan so far, of
@@ -252,7 +256,7 @@ fn whole_span(reduction: u32, steps: usize, sum: u64) -> u64
     ensures span { result ≡ span_of reduction steps sum }
     ensures small { result < 2 ^ 48 }
 {
-    (sum + u64::from(reduction) * (steps as u64 + 1)).saturating_sub(MOST_LACK)
+    (sum + u64::from(reduction) * (steps as u64 + 1)).saturating_sub(SUMS_BEGIN)
 }
 
 /// Narrow lanes for a bench whose own lanes have this greatest value, if that is more than 65,535 and the insertions of
