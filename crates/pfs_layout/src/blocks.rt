@@ -8,10 +8,11 @@ ghost use Rattle.pfs_layout.specs.Private.Step.{rejected, CanCount, with_problem
 ghost use Rattle.pfs_layout.specs.Private.Step.{body_validated, number_ended, last_number_ended, no_numbers, stated_by};
 ghost use Rattle.pfs_layout.specs.Private.Step.{size_validated, line_ended, mixed_met, after_byte, TakeMeets};
 ghost use Rattle.pfs_layout.specs.Private.Step.{has_numbers_alone, end_fault, at_end, IsReady, LacksMemory};
+ghost use Rattle.pfs_layout.specs.Private.Step.{stored, ReadsNumbers, TakenTo};
 ghost use Rattle.pfs_layout.specs.Reader.{is_live as live_test, fields, HasRead, IsReader, FeedMeets, progress_of};
 
 use crate::body::{Body, Due};
-use crate::scan::{Kinds, LINE_END, Line, Number, is_blank, is_digit};
+use crate::scan::{Kinds, LINE_END, Line, Number, SPACE, is_blank, is_digit};
 use crate::size_line::{Size, SizeLine};
 use crate::{Layout, LayoutFault};
 use pfs_base::{BaseFault, Instance, LONGEST_INPUT, LONGEST_TIME};
@@ -102,21 +103,33 @@ impl Blocks {
         }
     }
 
+    // Stores the next time of this body, if its block is the wanted one.
+    #[inline(always)]
+    fn store_time(&mut self, body: Body, time: u32)
+        requires can { CanCount (record self.old { body = body }) }
+        requires short { time ≤ LONGEST_TIME }
+        ensures { self.new ≡ stored self.old body time }
+    {
+        if let Some(instance) = &mut self.instance {
+            instance.set(body.job, body.machine, time);
+            self.held += 1;
+        }
+    }
+
     // Counts a time that passed its check, and stores it if its block is the wanted one.
+    #[inline(always)]
     fn count_time(&mut self, time: u32)
         requires can { CanCount self.old }
         requires some { self.old.body.validated < self.old.body.due }
         requires short { time ≤ LONGEST_TIME }
         ensures { self.new ≡ counted self.old Due.Time time }
     {
-        if let Some(instance) = &mut self.instance {
-            instance.set(self.body.job, self.body.machine, time);
-            self.held += 1;
-        }
+        self.store_time(self.body, time);
         self.body = self.body.after_time(self.layout);
     }
 
     // Checks a number of a body against what is due: counts it, or rejects the input.
+    #[inline(always)]
     fn validate_body(&mut self, value: u64, first: usize)
         requires { CanCount self.old }
         ensures { self.new ≡ body_validated self.old value first }
@@ -260,14 +273,13 @@ impl Blocks {
         }
     }
 
-    // Reads a byte that follows `last` and ends that line or mixes it.
+    // Reads a byte that follows `last` and ends that line, mixes it or is a word byte.
     #[inline(always)]
     #[tactic(auto, using(crate::proofs::Reading::ByteSteps::keeps_last))]
     fn after(&mut self, alloc: Global, last: Line, b: u8)
         requires ready { IsReady self.old }
         requires digit { (digit_test b && not last.kinds.has_word) ≡ false }
         requires blank { blank_test b ≡ false }
-        requires word { (word_test b && not last.kinds.has_digit) ≡ false }
         ensures well { self.new.phase ≢ Phase.Rejected LayoutFault.Memory → self.new ≡ after_byte self.old last b }
         ensures memory { self.new.phase ≡ Phase.Rejected LayoutFault.Memory
             → LacksMemory self.old (after_byte self.old last b) self.new }
@@ -275,7 +287,7 @@ impl Blocks {
         if b == LINE_END {
             self.end_last_number(last.digits.number());
             self.end_line(alloc, last.kinds.is_number_line());
-        } else {
+        } else if last.kinds.has_digit || is_digit(b) {
             self.meet_mixed_line(last.digits.offset);
         }
     }
@@ -292,6 +304,208 @@ impl Blocks {
         }
     }
 
+    // Whether the line `last` is one of a body, and can have more numbers: it has no word byte, and its unfinished
+    // number is within the limit of a time.
+    fn reads_numbers(&self, last: Line) -> bool
+        ensures { result ≡ true → ReadsNumbers (fields last self.now) }
+    {
+        match self.phase {
+            Phase::Body => !last.kinds.has_word && last.digits.value <= u64::from(LONGEST_TIME),
+            Phase::Seeking | Phase::Done | Phase::Rejected(_) => false,
+        }
+    }
+
+    // Reads digits and spaces of a body in Taillard's layout. It stops at any other byte, at the end of a machine's
+    // last time, and at a digit with which the number may be above the limit of a time. Returns how many bytes it has
+    // read.
+    #[inline(never)]
+    fn take_times(&mut self, last: &mut Line, piece: &[u8]) -> usize
+        requires layout { self.old.layout ≡ Layout.Taillard }
+        requires numbers { ReadsNumbers (fields last.old self.old) }
+        requires has_read { (text : List ℕ) × HasRead (fields last.old self.old) text }
+        requires room { last.old.digits.offset + length piece.now ≤ LONGEST_INPUT }
+        ensures within { result ≤ length piece.now }
+        ensures taken { TakenTo (fields last.old self.old) (fields last.new self.new) piece.now result }
+    {
+        let start = last.digits.offset;
+        // Local values, which the compiler can keep in registers.
+        let mut line = *last;
+        let mut body = self.body;
+        let more = (body.due - body.validated).min(body.jobs - 1 - body.job);
+        let last_job = body.job + more;
+        for byte in piece {
+            let b = *byte;
+            if is_digit(b) {
+                if line.digits.value >= u64::from(LONGEST_TIME / 10) {
+                    break;
+                }
+                line.push_digit(b);
+                continue;
+            }
+            if b != SPACE {
+                break;
+            }
+            if let Some(number) = line.digits.number() {
+                if body.job >= last_job {
+                    break;
+                }
+                self.store_time(body, number.value as u32);
+                body.validated += 1;
+                body.job += 1;
+            }
+            line.push_blank();
+        }
+        self.body = body;
+        *last = line;
+        line.digits.offset - start
+    }
+
+    // The same for the OR-Library's layout. It also stops at the end of a number that isn't its machine's, and of a
+    // job's last time.
+    #[inline(never)]
+    fn take_pairs(&mut self, last: &mut Line, piece: &[u8]) -> usize
+        requires layout { self.old.layout ≡ Layout.OrLib }
+        requires numbers { ReadsNumbers (fields last.old self.old) }
+        requires has_read { (text : List ℕ) × HasRead (fields last.old self.old) text }
+        requires room { last.old.digits.offset + length piece.now ≤ LONGEST_INPUT }
+        ensures within { result ≤ length piece.now }
+        ensures taken { TakenTo (fields last.old self.old) (fields last.new self.new) piece.now result }
+    {
+        let start = last.digits.offset;
+        let mut line = *last;
+        let mut body = self.body;
+        for byte in piece {
+            let b = *byte;
+            if is_digit(b) {
+                if line.digits.value >= u64::from(LONGEST_TIME / 10) {
+                    break;
+                }
+                line.push_digit(b);
+                continue;
+            }
+            if b != SPACE {
+                break;
+            }
+            if let Some(number) = line.digits.number() {
+                if body.validated >= body.due {
+                    break;
+                }
+                if body.validated % 2 == 0 {
+                    if number.value != body.machine as u64 {
+                        break;
+                    }
+                } else {
+                    if body.machine + 1 >= body.machines {
+                        break;
+                    }
+                    self.store_time(body, number.value as u32);
+                    body.machine += 1;
+                }
+                body.validated += 1;
+            }
+            line.push_blank();
+        }
+        self.body = body;
+        *last = line;
+        line.digits.offset - start
+    }
+
+    // Reads digits and spaces, if the line is one of a body. Returns how many bytes it has read.
+    #[inline(always)]
+    fn take_numbers(&mut self, last: &mut Line, piece: &[u8]) -> usize
+        requires live { live_test self.old.phase ≡ true }
+        requires has_read { (text : List ℕ) × HasRead (fields last.old self.old) text }
+        requires room { last.old.digits.offset + length piece.now ≤ LONGEST_INPUT }
+        ensures within { result ≤ length piece.now }
+        ensures taken { TakenTo (fields last.old self.old) (fields last.new self.new) piece.now result }
+    {
+        if !self.reads_numbers(*last) {
+            return 0;
+        }
+        match self.layout {
+            Layout::Taillard => self.take_times(last, piece),
+            Layout::OrLib => self.take_pairs(last, piece),
+        }
+    }
+
+    // Reads a line that has a word byte and no digit, up to its end or to a digit. Returns how many bytes it has read.
+    #[inline(never)]
+    fn take_words(&self, last: &mut Line, piece: &[u8]) -> usize
+        requires live { live_test self.now.phase ≡ true }
+        requires has_read { (text : List ℕ) × HasRead (fields last.old self.now) text }
+        requires room { last.old.digits.offset + length piece.now ≤ LONGEST_INPUT }
+        ensures within { result ≤ length piece.now }
+        ensures taken { TakenTo (fields last.old self.now) (fields last.new self.now) piece.now result }
+    {
+        if last.kinds.has_digit || !last.kinds.has_word || last.digits.number().is_some() {
+            return 0;
+        }
+        let start = last.digits.offset;
+        let mut line = *last;
+        for byte in piece {
+            let b = *byte;
+            if is_digit(b) || b == LINE_END {
+                break;
+            }
+            line.push_word_byte();
+        }
+        *last = line;
+        line.digits.offset - start
+    }
+
+    // Reads bytes up to the end of the line, to a word byte of a line without a digit, or to a fault. Returns how many
+    // bytes it has read.
+    #[inline(never)]
+    fn take_line(&mut self, alloc: Global, last: &mut Line, piece: &[u8]) -> usize
+        requires live { live_test self.old.phase ≡ true }
+        requires has_read { (text : List ℕ) × HasRead (fields last.old self.old) text }
+        requires room { last.old.digits.offset + length piece.now ≤ LONGEST_INPUT }
+        ensures within { result ≤ length piece.now }
+        ensures some { 0 < length piece.now → 0 < result }
+        ensures moved { last.new.digits.offset ≡ last.old.digits.offset + result }
+        ensures on { live_test self.new.phase ≡ true
+            → TakenTo (fields last.old self.old) (fields last.new self.new) piece.now result }
+        ensures end { live_test self.new.phase ≡ false → (text : List ℕ) → HasRead (fields last.old self.old) text
+            → TakeMeets (fields last.old self.old) text piece.now result (fields last.new self.new) }
+    {
+        let start = last.digits.offset;
+        // Copied part by part: the padding after the flags is never copied.
+        let mut line = Line {
+            digits: last.digits,
+            kinds: last.kinds,
+        };
+        // A byte that changes no block continues the loop by itself: so the compiler makes a short loop of each
+        // such branch. Words and most numbers don't come here, and so blanks are first.
+        for b in piece {
+            let b = *b;
+            if is_blank(b) {
+                let number = line.digits.number();
+                line.push_blank();
+                if number.is_none() {
+                    continue;
+                }
+                self.end_last_number(number);
+                if !self.is_live() {
+                    break;
+                }
+                continue;
+            }
+            if is_digit(b) && !line.kinds.has_word {
+                line.push_digit(b);
+                continue;
+            }
+            // The byte ends the line, mixes it or is a word byte.
+            let before = line;
+            line.push(b);
+            self.after(alloc, before, b);
+            if !line.kinds.has_digit || !self.is_live() {
+                break;
+            }
+        }
+        *last = line;
+        line.digits.offset - start
+    }
+
     // Reads bytes that follow `last` and are all within the limit of the input, up to the end of the wanted block
     // or to a fault.
     fn take(&mut self, alloc: Global, last: &mut Line, piece: &[u8])
@@ -306,44 +520,15 @@ impl Blocks {
             → TakeMeets (fields last.old self.old) text piece.now
             (last.new.digits.offset - last.old.digits.offset) (fields last.new self.new) }
     {
-        // Copied part by part: the padding after the flags is never copied.
-        let mut line = Line {
-            digits: last.digits,
-            kinds: last.kinds,
-        };
-        // A byte that changes no block continues the loop by itself: so the compiler makes a short loop of each
-        // such branch.
-        for b in piece {
-            let b = *b;
-            if is_digit(b) {
-                if !line.kinds.has_word {
-                    line.push(b);
-                    continue;
-                }
-            } else if is_blank(b) {
-                let number = line.digits.number();
-                line.push_blank();
-                if number.is_none() {
-                    continue;
-                }
-                self.end_last_number(number);
-                if !self.is_live() {
-                    break;
-                }
-                continue;
-            } else if b != LINE_END && !line.kinds.has_digit {
-                line.push_word_byte();
-                continue;
-            }
-            // The byte ends the line or mixes it.
-            let before = line;
-            line.push(b);
-            self.after(alloc, before, b);
+        let mut at = 0;
+        while at < piece.len() {
+            at += self.take_numbers(last, &piece[at..]);
+            at += self.take_words(last, &piece[at..]);
+            at += self.take_line(alloc, last, &piece[at..]);
             if !self.is_live() {
                 break;
             }
         }
-        *last = line;
     }
 
     /// Reads a piece that follows `last`, up to the end of the wanted block or to a fault. A byte beyond the

@@ -69,6 +69,7 @@ impl Body {
     }
 
     /// What is due next.
+    #[inline(always)]
     pub fn next_due(self, layout: Layout) -> Due
         ensures { result ≡ due_next layout self }
     {
@@ -82,6 +83,7 @@ impl Body {
     }
 
     /// The body after one more number, which is a machine's.
+    #[inline(always)]
     pub fn after_machine(self) -> Body
         requires { self.validated < self.due }
         ensures { result ≡ then_machine self }
@@ -95,6 +97,7 @@ impl Body {
     /// The body after one more time. In Taillard's layout the next time is of the same machine's next job, or
     /// of the next machine's first job. In the OR-Library's it is of the same job's next machine, or of the
     /// next job's first machine.
+    #[inline(always)]
     pub fn after_time(self, layout: Layout) -> Body
         requires some { self.validated < self.due }
         requires job { self.job < self.jobs }
@@ -132,6 +135,7 @@ impl Body {
 }
 
 // The number after `at` among the first `count` numbers from 0, or 0 after the last.
+#[inline(always)]
 fn next(at: usize, count: usize) -> usize
     requires { at < count }
     ensures { result ≡ next_of at count }

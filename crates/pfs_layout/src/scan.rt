@@ -1,6 +1,6 @@
 //! The line that is being read, and what one more byte changes in it. Its parts have no padding, so that adding
 //! a byte takes a few instructions.
-ghost use Rattle.std.specs.Prelude.{◌≡◌, ◌<◌, ◌≤◌, ◌&&◌, ◌||◌, ◌==◌, not, true, false, ◌+◌, ◌-◌, ◌*◌, ℕ, [], min};
+ghost use Rattle.std.specs.Prelude.{◌≡◌, ◌<◌, ◌≤◌, ◌&&◌, ◌||◌, ◌==◌, not, true, false, ◌+◌, ◌-◌, ◌*◌, ℕ, [], min, None};
 ghost use Rattle.std.specs.Prelude.{if◌then◌else◌};
 ghost use Rattle.pfs_layout.specs.Lines.{is_digit as digit_test, is_blank as blank_test, is_word_byte as word_test};
 ghost use Rattle.pfs_layout.specs.Reader.{FollowsLine};
@@ -13,6 +13,9 @@ pub const CEILING: u64 = GREATEST_NOTE as u64 + 1;
 
 /// The byte that ends a line.
 pub const LINE_END: u8 = 10;
+
+/// A space.
+pub const SPACE: u8 = 32;
 
 /// A digit from `0` to `9`.
 #[inline(always)]
@@ -154,6 +157,21 @@ impl Line {
         self.kinds = self.kinds.after(b);
     }
 
+    /// Adds a digit.
+    #[inline(always)]
+    pub fn push_digit(&mut self, b: u8)
+        requires offset { self.old.digits.offset < LONGEST_INPUT }
+        requires value { self.old.digits.value ≤ CEILING }
+        requires digit { digit_test b ≡ true }
+        ensures value { self.new.digits.value ≡ min CEILING (self.old.digits.value * 10 + (b - 48)) }
+        ensures word { self.new.kinds.has_word ≡ self.old.kinds.has_word }
+        ensures pushes { Pushes self.old b self.new }
+    {
+        self.digits.offset += 1;
+        self.digits.value = (self.digits.value * 10 + u64::from(b - 48)).min(CEILING);
+        self.kinds.has_digit = true;
+    }
+
     /// Adds a blank.
     #[inline(always)]
     pub fn push_blank(&mut self)
@@ -174,11 +192,14 @@ impl Line {
         };
     }
 
-    /// Adds a word byte.
+    /// Adds a word byte. On a line that has one, a blank has the same effect.
     #[inline(always)]
     pub fn push_word_byte(&mut self)
         requires { self.old.digits.offset < LONGEST_INPUT }
-        ensures { (b : ℕ) → word_test b ≡ true → Pushes self.old b self.new }
+        ensures empty { open_number self.new.digits ≡ None }
+        ensures kinds { self.new.kinds ≡ record { has_digit = self.old.kinds.has_digit; has_word = true } }
+        ensures pushes { (b : ℕ) → word_test b ≡ true → Pushes self.old b self.new }
+        ensures blank { (b : ℕ) → blank_test b ≡ true → self.old.kinds.has_word ≡ true → Pushes self.old b self.new }
     {
         self.push_blank();
         self.kinds.has_word = true;

@@ -7,7 +7,12 @@ use Rattle.pfs_layout.proofs.Words.{append-nil, take_all, take-append-drop, Layo
 use Rattle.pfs_layout.proofs.Words.{rejected, block_read, number_ended, HasReadIn, IsReader, FeedMeets, is_blank}
 use Rattle.pfs_layout.proofs.Words.{last_number_ended, is_live}
 use Rattle.pfs_layout.specs.declared.scan.Number.{Number}
-use Rattle.pfs_layout.specs.Private.Step.{TakeMeets}
+use Rattle.pfs_layout.specs.Private.Step.{TakeMeets, TakenTo, stored}
+use Rattle.pfs_layout.proofs.Words.{LONGEST_TIME, Taillard, OrLib, sym, ap, cases_lt, ◌%◌, None, false}
+use Rattle.std.proofs.lemmas.List.{get_or-drop, length-drop}
+use Rattle.pfs_layout.specs.declared.scan.Digits.{Digits}
+use Rattle.std.proofs.Math.Seq.{take-add}
+use Rattle.pfs_layout.proofs.Reading.ReaderSteps.{has_read_of}
 use Rattle.std.proofs.lemmas.List.{take_more, take-take, length-take-le, get_or-take}
 use Rattle.pfs_layout.specs.declared.blocks.Phase.TheVariants as phases
 use Rattle.pfs_layout.specs.Private.Step.{Pushes, LacksMemory}
@@ -45,17 +50,100 @@ none_yet f lacks = grind (arith, f.blocks.complete, f.blocks.held, sought_now f 
 
 -- ---- within a piece
 
--- a reader after the first bytes of a piece, which needs more of them
-pub record TakenTo (old now : Fields) (piece : List ℕ) (i : ℕ) : Type 0 where
-  pub live : is_live now.phase ≡ true
-  pub layout : now.layout ≡ old.layout
-  pub wanted : now.wanted ≡ old.wanted
-  pub offset : now.digits.offset ≡ old.digits.offset + i
-  pub follows : (text : List ℕ) → HasRead old text → Follows now (text ++ take i piece)
-  pub no_more : (text : List ℕ) → HasRead old text → (n : ℕ) → n < i
-      → length (stand_of old.layout (text ++ take n piece)).complete < old.wanted
+module _ {old now : Fields} {piece : List ℕ} {i : ℕ} (t : TakenTo old now piece i) where
+  -- the count of the bytes, by the offset
+  pub taken_used : TakenTo old now piece (now.digits.offset - old.digits.offset)
+  taken_used = let used : now.digits.offset - old.digits.offset ≡ i = omega (arith, t.offset) in rw used t
+
+  -- it has read the bytes too
+  pub taken_read : (text : List ℕ) × HasRead old text → (text : List ℕ) × HasRead now text
+  taken_read some = (some.0 ++ take i piece, has_read_of (t.follows some.0 some.1))
+
+  -- the bytes of a prefix of the rest
+  taken_after : (text : List ℕ) (n : ℕ) → (text ++ take i piece) ++ take n (drop i piece) ≡ text ++ take (i + n) piece
+  taken_after text n = append_assoc text (take i piece) _ ∙ ap (λ l. text ++ l) (sym (take-add i n piece))
+
+  -- before each of them, more blocks are needed
+  no_more_after : (text : List ℕ) (n m : ℕ) → HasRead old text → m < i + n
+      → ((k : ℕ) → k < n → length (stand_of now.layout ((text ++ take i piece) ++ take k (drop i piece))).complete
+      < now.wanted)
+      → length (stand_of old.layout (text ++ take m piece)).complete < old.wanted
+  no_more_after text n m s less later = elim (cases_lt m i) [
+    | inl before ↦ t.no_more text s m before
+    | inr on ↦
+        let same : i + (m - i) ≡ m = omega arith in
+        rw same at (rw (t.layout, t.wanted, taken_after text (m - i)) at (later (m - i) (omega arith)))
+  ]
+
+  -- the reader after them, if it needs more
+  pub taken_more : {next : Fields} {n : ℕ} → TakenTo now next (drop i piece) n → TakenTo old next piece (i + n)
+  taken_more {next = next} {n = n} u = record {
+    live = u.live;
+    layout = u.layout ∙ t.layout;
+    wanted = u.wanted ∙ t.wanted;
+    offset = omega (arith, t.offset, u.offset);
+    follows = λ text s. subst (Follows next) (taken_after text n)
+        (u.follows (text ++ take i piece) (has_read_of (t.follows text s)));
+    no_more = λ text s m less. no_more_after text n m s less
+        (u.no_more (text ++ take i piece) (has_read_of (t.follows text s)));
+  }
+
+  ends_after : (text : List ℕ) (n : ℕ)
+      → EndsWantedSize now.layout now.wanted ((text ++ take i piece) ++ take n (drop i piece))
+      (get_or (drop i piece) n 0)
+      → EndsWantedSize old.layout old.wanted (text ++ take (i + n) piece) (get_or piece (i + n) 0)
+  ends_after text n ends = rw (t.layout, t.wanted, taken_after text n, get_or-drop i piece n 0) at ends
+
+  -- what all the bytes make of the reader
+  pub taken_then : {next : Fields} {n : ℕ} → ((text : List ℕ) → HasRead now text
+      → TakeMeets now text (drop i piece) n next) → (text : List ℕ) → HasRead old text
+      → TakeMeets old text piece (i + n) next
+  taken_then {next = next} {n = n} then text s =
+      let m = then (text ++ take i piece) (has_read_of (t.follows text s)) in
+      record {
+        layout = m.layout ∙ t.layout;
+        wanted = m.wanted ∙ t.wanted;
+        has_read = λ well. subst (HasRead next) (taken_after text n) (m.has_read well);
+        memory = λ e.
+            let w = m.memory e in
+            (i + w.0, omega (arith, length-drop i piece, w.1), ends_after text w.0 w.2);
+        none = m.none;
+        no_more = λ k less. no_more_after text n k s less m.no_more;
+      }
 
 -- ---- one byte more, within the limit
+
+-- ---- a number that ends
+
+pub open_value : (digits : Digits) (number : Number) → open_number digits ≡ Some number
+    → number.value ≡ digits.value
+open_value digits number is = grind (arith, nat_tests)
+
+-- a time of Taillard's layout has ended, and it isn't the last of its machine
+pub time_ended : (r : Blocks) (value first : ℕ) → r.phase ≡ phases.Body → r.layout ≡ Taillard
+    → r.body.validated < r.body.due → value ≤ LONGEST_TIME → r.body.job + 1 < r.body.jobs
+    → record (stored r r.body value) {
+      body = record r.body { validated = r.body.validated + 1; job = r.body.job + 1 };
+    } ≡ number_ended r value first
+unfolding number_ended
+time_ended r value first phase taillard more short on = grind (arith, nat_tests)
+
+-- a machine's number of the OR-Library's layout has ended
+pub machine_ended : (r : Blocks) (value first : ℕ) → r.phase ≡ phases.Body → r.layout ≡ OrLib
+    → r.body.validated < r.body.due → r.body.validated % 2 ≡ 0 → value ≡ r.body.machine
+    → record r { body = record r.body { validated = r.body.validated + 1 } } ≡ number_ended r value first
+unfolding number_ended
+machine_ended r value first phase orlib more even is = grind (arith, nat_tests)
+
+-- the time after it has ended, and it isn't the last of its job
+pub pair_ended : (r : Blocks) (value first : ℕ) → r.phase ≡ phases.Body → r.layout ≡ OrLib
+    → r.body.validated < r.body.due → r.body.validated % 2 ≢ 0 → value ≤ LONGEST_TIME
+    → r.body.machine + 1 < r.body.machines
+    → record (stored r r.body value) {
+      body = record r.body { validated = r.body.validated + 1; machine = r.body.machine + 1 };
+    } ≡ number_ended r value first
+unfolding number_ended
+pair_ended r value first phase orlib more odd short on = grind (arith, nat_tests)
 
 module _ {old now : Fields} {piece : List ℕ} {i : ℕ} (t : TakenTo old now piece i) where
   -- a digit that doesn't mix the line changes no block
@@ -63,10 +151,21 @@ module _ {old now : Fields} {piece : List ℕ} {i : ℕ} (t : TakenTo old now pi
       → now.blocks ≡ after_byte now.blocks now.last (get_or piece i 0)
   digit_validated quiet = grind (arith, nat_tests)
 
+  -- nor does a word byte or a blank after no number, on a line without a digit
+  pub words_validated : is_digit (get_or piece i 0) ≡ false → get_or piece i 0 ≢ 10 → open_number now.digits ≡ None
+      → now.kinds.has_digit ≡ false → now.blocks ≡ after_byte now.blocks now.last (get_or piece i 0)
+  words_validated digit other empty none = grind (arith, nat_tests, empty)
+
   -- a blank ends the last number, if there is one
   pub blank_validated : {number : Option Number} → is_blank (get_or piece i 0) ≡ true → number ≡ open_number now.digits
       → last_number_ended now.blocks number ≡ after_byte now.blocks now.last (get_or piece i 0)
   blank_validated blank is = rw (blank, is)
+
+  -- a blank ends this number
+  pub number_validated : {number : Number} {next : Blocks} → is_blank (get_or piece i 0) ≡ true
+      → open_number now.digits ≡ Some number → next ≡ number_ended now.blocks number.value number.first
+      → next ≡ after_byte now.blocks now.last (get_or piece i 0)
+  number_validated blank is ended = ended ∙ blank_validated blank (sym is)
 
 module _ {old now : Fields} {piece : List ℕ} {i : ℕ} (t : TakenTo old now piece i) (within : i < length piece)
     (room : old.digits.offset + length piece ≤ LONGEST_INPUT) where

@@ -225,6 +225,7 @@ can_count {r = r} {text = text} f phase =
     let held : r.held ≤ r.body.validated = grind (arith, kept.held, body.validated) in
     let due = due_few r.layout block.size follows.now.fits in
     record {
+      few = body.few;
       job = body.job;
       machine = body.machine;
       held = omega (arith, body.due, body.few);

@@ -1,9 +1,9 @@
 -- How one more byte changes a reader's fields. What the fields mean for the bytes read so far is in `Reader`.
-use Rattle.std.specs.Prelude.{◌≡◌, ◌≢◌, ℕ, ◌+◌, ◌*◌, ◌<◌, ◌≤◌, Bool, true, not, ◌&&◌}
+use Rattle.std.specs.Prelude.{◌≡◌, ◌≢◌, ℕ, ◌+◌, ◌*◌, ◌<◌, ◌≤◌, Bool, true, false, not, ◌&&◌}
 use Rattle.std.specs.Prelude.{◌==◌, nat_lt, replicate, slice_index, slice_set, Option, Some, None, is_some, option_map}
 use Rattle.std.specs.Prelude.{IfSome, if◌then◌else◌, List, [], ◌∷◌, ◌++◌, length, take}
 use Rattle.std.specs.Bool.{then_some}
-use Rattle.pfs_base.specs.declared.limits.TheConstants.{LONGEST_INPUT}
+use Rattle.pfs_base.specs.declared.limits.TheConstants.{LONGEST_INPUT, LONGEST_TIME}
 use Rattle.pfs_base.specs.FlowShop.{with_time}
 use Rattle.pfs_base.specs.Problem.{Problem}
 use Rattle.pfs_layout.specs.declared.scan.Digits.{Digits}
@@ -19,7 +19,7 @@ use Rattle.pfs_layout.specs.Lines.{is_digit, is_blank, is_line_end, ended_lines}
 use Rattle.pfs_layout.specs.Block.{Layout, Size, preamble_of, is_within_limits, problem_of, size_from, numbers_for}
 use Rattle.pfs_layout.specs.Block.{times_in, is_due, due_by, stand}
 use Rattle.pfs_layout.specs.Rejection.{LayoutFault, fault_of_due}
-use Rattle.pfs_layout.specs.Reader.{EndsWantedSize, Fields, FollowsLine, HasRead, is_live}
+use Rattle.pfs_layout.specs.Reader.{EndsWantedSize, Fields, Follows, FollowsLine, HasRead, is_live}
 
 -- ---- the line that is being read
 
@@ -101,13 +101,16 @@ rejected r fault = record r { phase = Phase.Rejected fault }
 abbrev pub with_problem_time : Body → ℕ → Problem → Problem
 with_problem_time body time problem = record problem { shop = with_time problem.shop body.job body.machine time }
 
--- after a number that is what is due: a time is stored in the instance, if there is one
-abbrev pub counted : Blocks → Due → ℕ → Blocks
-counted r Due.Time value = record r {
-  body = after_time r.layout r.body;
-  instance = option_map (with_problem_time r.body value) r.instance;
+-- after the next time of this body was stored in the instance, if there is one
+abbrev pub stored : Blocks → Body → ℕ → Blocks
+stored r body time = record r {
+  instance = option_map (with_problem_time body time) r.instance;
   held = if is_some r.instance then r.held + 1 else r.held;
 }
+
+-- after a number that is what is due
+abbrev pub counted : Blocks → Due → ℕ → Blocks
+counted r Due.Time value = record (stored r r.body value) { body = after_time r.layout r.body }
 counted r other value = record r { body = after_machine r.body }
 
 -- after a number of a body: it is counted if it is what is due, and else the input is rejected
@@ -201,6 +204,7 @@ pub record LacksMemory (old next new : Blocks) : Type 0 where
 
 -- what the check of a number of a body requires
 pub record CanCount (r : Blocks) : Type 0 where
+  pub few : r.body.validated ≤ r.body.due
   pub job : r.body.job < r.body.jobs
   pub machine : r.body.machine < r.body.machines
   pub held : r.held < LONGEST_INPUT
@@ -216,6 +220,22 @@ pub record IsReady (r : Blocks) : Type 0 where
   pub line : r.line ≤ LONGEST_INPUT + 1
 
 -- ---- a piece
+
+-- a block has begun; the line has no word byte, and its unfinished number is within the limit of a time
+pub record ReadsNumbers (r : Fields) : Type 0 where
+  pub phase : r.phase ≡ Phase.Body
+  pub plain : r.kinds.has_word ≡ false
+  pub short : r.digits.value ≤ LONGEST_TIME
+
+-- a reader after the first bytes of a piece, which needs more of them
+pub record TakenTo (old now : Fields) (piece : List ℕ) (i : ℕ) : Type 0 where
+  pub live : is_live now.phase ≡ true
+  pub layout : now.layout ≡ old.layout
+  pub wanted : now.wanted ≡ old.wanted
+  pub offset : now.digits.offset ≡ old.digits.offset + i
+  pub follows : (text : List ℕ) → HasRead old text → Follows now (text ++ take i piece)
+  pub no_more : (text : List ℕ) → HasRead old text → (n : ℕ) → n < i
+      → length (stand old.layout (ended_lines (text ++ take n piece))).complete < old.wanted
 
 -- what `used` bytes of a piece make of a reader that has read this text
 pub record TakeMeets (old : Fields) (text piece : List ℕ) (used : ℕ) (new : Fields) : Type 0 where

@@ -1,62 +1,42 @@
--- Each byte moves the reader forward, and the last one ends the piece or the reading.
-use Rattle.pfs_layout.proofs.Words.{sym, ◌∙◌, arith, ne_eqb}
-use Rattle.pfs_layout.proofs.Reading.PieceLemmas.{digit_validated, blank_validated, taken_ready, taken_quiet, taken_on}
-use Rattle.pfs_layout.proofs.Reading.PieceLemmas.{taken_end}
-use Rattle.pfs_layout.proofs.Reading.ByteSteps.{keeps_last}
+-- Each turn reads on in the piece, and the last one ends it or the reading.
+use Rattle.pfs_layout.proofs.Words.{◌-◌, ◌+◌, ◌≡◌, arith, sym, ◌∙◌, length-take}
+use Rattle.std.proofs.lemmas.List.{length-drop, take_rest}
+use Rattle.pfs_layout.proofs.Reading.PieceLemmas.{taken_read, taken_more, taken_then}
 use Rattle.pfs_layout.proofs.blocks.Blocks.take.Goals as goal
 
--- ---- a digit, or a word byte, that changes no block
+pub take_numbers-at-requires-clause-has_read : goal.take_numbers-at-requires-clause-has_read
+take_numbers-at-requires-clause-has_read c = taken_read c.loop-at.invariant.taken c.requires.has_read
 
-pub loop-b-preserved-then-not-line : goal.loop-b-preserved-then-not-line
-loop-b-preserved-then-not-line c =
-    let digit = sym c.is_digit.ensures ∙ c.if-is_digit.true in
-    taken_quiet c.loop-b.invariant (omega arith) c.requires.room c.push.ensures
-    (digit_validated c.loop-b.invariant (rw (digit, c.if-not-line.true)))
+pub take_words-at-requires-clause-has_read : goal.take_words-at-requires-clause-has_read
+take_words-at-requires-clause-has_read c =
+    let numbers = taken_more c.loop-at.invariant.taken (rw take_rest at c.take_numbers-at.ensures.taken) in
+    taken_read numbers c.requires.has_read
 
-pub loop-b-preserved-then-not-line-2 : goal.loop-b-preserved-then-not-line-2
-loop-b-preserved-then-not-line-2 c =
-    let digit = sym c.is_digit.ensures ∙ c.if-is_digit.false in
-    let blank = sym c.is_blank.ensures ∙ c.if-is_blank.false in
-    let other = ne_eqb _ 10 c.if-b-ne-LINE_END.true in
-    taken_quiet c.loop-b.invariant (omega arith) c.requires.room (c.push_word_byte.ensures _ (rw (digit, blank, other)))
-    (rw (digit, blank, other, c.if-not-line-2.true))
+pub take_line-at-requires-clause-has_read : goal.take_line-at-requires-clause-has_read
+take_line-at-requires-clause-has_read c =
+    let numbers = taken_more c.loop-at.invariant.taken (rw take_rest at c.take_numbers-at.ensures.taken) in
+    let words = taken_more numbers (rw take_rest at c.take_words-at.ensures.taken) in
+    taken_read words c.requires.has_read
 
--- ---- a blank
-
-pub loop-b-preserved-then-is_none : goal.loop-b-preserved-then-is_none
-loop-b-preserved-then-is_none c =
-    let blank = sym c.is_blank.ensures ∙ c.if-is_blank.true in
-    taken_quiet c.loop-b.invariant (omega arith) c.requires.room (c.push_blank.ensures.pushes _ blank)
-    (grind arith ∙ blank_validated c.loop-b.invariant blank c.number-number.ensures)
-
-pub end_last_number-requires : goal.end_last_number-requires
-end_last_number-requires c = taken_ready c.loop-b.invariant (omega arith) c.requires.room c.requires.has_read
-
-pub loop-b-preserved-then-is_blank : goal.loop-b-preserved-then-is_blank
-loop-b-preserved-then-is_blank c =
-    let blank = sym c.is_blank.ensures ∙ c.if-is_blank.true in
-    taken_on c.loop-b.invariant (omega arith) c.requires.room (c.push_blank.ensures.pushes _ blank)
-    (λ well. c.end_last_number.ensures ∙ blank_validated c.loop-b.invariant blank c.number-number.ensures)
-    (sym c.is_live.ensures ∙ c.if-not-is_live.false)
+pub loop-at-preserved : goal.loop-at-preserved
+loop-at-preserved c =
+    let numbers = taken_more c.loop-at.invariant.taken (rw take_rest at c.take_numbers-at.ensures.taken) in
+    let words = taken_more numbers (rw take_rest at c.take_words-at.ensures.taken) in
+    let live = sym c.is_live.ensures ∙ c.if-not-is_live.false in
+    let first = simp (length-take, length-drop) at c.take_numbers-at.ensures.within in
+    let second = simp (length-take, length-drop) at c.take_words-at.ensures.within in
+    let then = simp (length-take, length-drop) at c.take_line-at.ensures.within in
+    record {
+      within = omega (arith, c.loop-at.invariant.within, first, second, then);
+      taken = taken_more words (rw take_rest at (c.take_line-at.ensures.on live));
+    }
 
 pub returns-then-not-is_live-clause-meets : goal.returns-then-not-is_live-clause-meets
-returns-then-not-is_live-clause-meets c =
-    let blank = sym c.is_blank.ensures ∙ c.if-is_blank.true in
-    taken_end c.loop-b.invariant (omega arith) c.requires.room (c.push_blank.ensures.pushes _ blank)
-    (λ well. c.end_last_number.ensures ∙ blank_validated c.loop-b.invariant blank c.number-number.ensures)
-    (λ lacks. absurd ((keeps_last _ _ c.loop-b.invariant.live).memory (rw c.end_last_number.ensures at lacks)))
-
--- ---- any other byte
-
-pub after-requires-clause-ready : goal.after-requires-clause-ready
-after-requires-clause-ready c = taken_ready c.loop-b.invariant (omega arith) c.requires.room c.requires.has_read
-
-pub loop-b-preserved : goal.loop-b-preserved
-loop-b-preserved c =
-    taken_on c.loop-b.invariant (omega arith) c.requires.room c.push-in-loop-b.ensures c.after.ensures.well
-    (sym c.is_live-in-loop-b.ensures ∙ c.if-not-is_live-2.false)
-
-pub returns-then-not-is_live-2-clause-meets : goal.returns-then-not-is_live-2-clause-meets
-returns-then-not-is_live-2-clause-meets c =
-    taken_end c.loop-b.invariant (omega arith) c.requires.room c.push-in-loop-b.ensures c.after.ensures.well
-    c.after.ensures.memory
+returns-then-not-is_live-clause-meets c text s =
+    let numbers = taken_more c.loop-at.invariant.taken (rw take_rest at c.take_numbers-at.ensures.taken) in
+    let words = taken_more numbers (rw take_rest at c.take_words-at.ensures.taken) in
+    let dead = sym c.is_live.ensures ∙ c.if-not-is_live.true in
+    let used : c.take_line-at.new.last.digits.offset - c.args.last.now.digits.offset
+    ≡ c.loop-at.at + c.take_numbers-at.result + c.take_words-at.result + c.take_line-at.result =
+    omega (arith, words.offset, c.take_line-at.ensures.moved) in
+    rw used (taken_then words (λ text s. rw take_rest at (c.take_line-at.ensures.end dead text s)) text s)
