@@ -15,8 +15,8 @@ use crate::numbers::CallFault;
 use pfs_base::Instance;
 use pfs_insert::Placed;
 use pfs_wave::{
-    CappedLanes, EightBands, FiveBands, Long, Method, OneBand, PreparedLanes, Short, ThirteenBands,
-    ThreeBands, TwentySixBands, TwoBands, Wide, Width, method_for,
+    CappedLanes, EightBands, FiveBands, Long, Method, OneBand, PreparedLanes, Short, ThreeBands,
+    TwoBands, Wide, Width, method_for,
 };
 use std::alloc::Global;
 use std::marker::Model;
@@ -32,15 +32,15 @@ pub(crate) enum KeptTables {
     Short24(Box<PreparedLanes<ThreeBands<Short>>>),
     Short40(Box<PreparedLanes<FiveBands<Short>>>),
     Short64(Box<PreparedLanes<EightBands<Short>>>),
-    Short104(Box<PreparedLanes<ThirteenBands<Short>>>),
-    Short208(Box<PreparedLanes<TwentySixBands<Short>>>),
+    Short104(Box<PreparedLanes<Wide<Short, 13>>>),
+    Short208(Box<PreparedLanes<Wide<Short, 26>>>),
     Long8(Box<PreparedLanes<OneBand<Long>>>),
     Long16(Box<PreparedLanes<TwoBands<Long>>>),
     Long24(Box<PreparedLanes<ThreeBands<Long>>>),
-    Long40(Box<PreparedLanes<Wide<5>>>),
-    Long64(Box<PreparedLanes<Wide<8>>>),
-    Long104(Box<PreparedLanes<Wide<13>>>),
-    Long208(Box<PreparedLanes<Wide<26>>>),
+    Long40(Box<PreparedLanes<Wide<Long, 5>>>),
+    Long64(Box<PreparedLanes<Wide<Long, 8>>>),
+    Long104(Box<PreparedLanes<Wide<Long, 13>>>),
+    Long208(Box<PreparedLanes<Wide<Long, 26>>>),
 }
 
 /// A kept instance.

@@ -3,17 +3,18 @@ use Rattle.std.proofs.Common.{ℕ, zero, suc, ◌≡◌, ◌+◌, ◌*◌, ◌<�
 use Rattle.std.proofs.Common.{refl, ap, ◌∙◌, sym, arith, replicate, append_assoc}
 use Rattle.std.proofs.lemmas.List.{take_at, drop_at, replicate-append-replicate}
 use Rattle.std.proofs.Math.Seq.{take-append-add, drop-append-add}
-use Rattle.pfs_wave.specs.Lanes.{zeros}
 use Rattle.pfs_wave.specs.Private.WideRows.{all_lanes}
 
-pub all_none : {B : Type 0} (lanes : B → List ℕ) (none : B) → lanes none ≡ zeros 8 → (n : ℕ)
-    → all_lanes lanes (replicate n none) ≡ zeros (8 * n)
+-- bands whose lanes all have one value
+pub all_same : {B : Type 0} (lanes : B → List ℕ) (one : B) (value : ℕ) → lanes one ≡ replicate 8 value → (n : ℕ)
+    → all_lanes lanes (replicate n one) ≡ replicate (8 * n) value
 unfolding all_lanes
-all_none lanes none is zero = refl
-all_none lanes none is (suc n) =
+all_same lanes one value is zero = refl
+all_same lanes one value is (suc n) =
     let next : 8 + 8 * n ≡ 8 * suc n = omega arith in
-    ap (λ l. l ++ all_lanes lanes (replicate n none)) is ∙ ap (λ l. zeros 8 ++ l) (all_none lanes none is n)
-    ∙ replicate-append-replicate 8 (8 * n) 0 ∙ ap zeros next
+    ap (λ l. l ++ all_lanes lanes (replicate n one)) is
+    ∙ ap (λ l. replicate 8 value ++ l) (all_same lanes one value is n)
+    ∙ replicate-append-replicate 8 (8 * n) value ∙ ap (λ k. replicate k value) next
 
 -- the lanes after those of the first band
 module _ (band rest : List ℕ) (eight : length band ≡ 8) (at from : ℕ) (is : from ≡ 8 + at) where

@@ -1,4 +1,4 @@
-//! Rows of lanes of each width.
+//! Rows of up to 64 lanes, joined from rows of fewer.
 ghost use Rattle.std.proofs.Common.{arith, refl};
 
 use crate::band::{Band, CappedBand};
@@ -20,12 +20,6 @@ pub type FiveBands<B> = Joined<ThreeBands<B>, TwoBands<B>>;
 /// Rows of 64 lanes.
 pub type EightBands<B> = Joined<FiveBands<B>, ThreeBands<B>>;
 
-/// Rows of 104 lanes.
-pub type ThirteenBands<B> = Joined<EightBands<B>, FiveBands<B>>;
-
-/// Rows of 208 lanes, more than a shop has machines.
-pub type TwentySixBands<B> = Joined<ThirteenBands<B>, ThirteenBands<B>>;
-
 impl<B: Band> Part for OneBand<B> {
     ghost part = { Prim.omega arith };
 }
@@ -39,14 +33,6 @@ impl<B: Band> Part for ThreeBands<B> {
 }
 
 impl<B: Band> Part for FiveBands<B> {
-    ghost part = { Prim.omega arith };
-}
-
-impl<B: Band> Part for EightBands<B> {
-    ghost part = { Prim.omega arith };
-}
-
-impl<B: Band> Part for ThirteenBands<B> {
     ghost part = { Prim.omega arith };
 }
 
@@ -112,34 +98,6 @@ impl<B: CappedBand> CappedLanes for EightBands<B> {
 
 impl<B: CappedBand> MixedLanes for EightBands<B> {
     type Narrow = EightBands<Reduced>;
-
-    ghost reduced = { refl };
-
-    ghost narrow = { refl };
-
-    ghost same = { refl };
-}
-
-impl<B: CappedBand> CappedLanes for ThirteenBands<B> {
-    ghost capped = { B.capped };
-}
-
-impl<B: CappedBand> MixedLanes for ThirteenBands<B> {
-    type Narrow = ThirteenBands<Reduced>;
-
-    ghost reduced = { refl };
-
-    ghost narrow = { refl };
-
-    ghost same = { refl };
-}
-
-impl<B: CappedBand> CappedLanes for TwentySixBands<B> {
-    ghost capped = { B.capped };
-}
-
-impl<B: CappedBand> MixedLanes for TwentySixBands<B> {
-    type Narrow = TwentySixBands<Reduced>;
 
     ghost reduced = { refl };
 

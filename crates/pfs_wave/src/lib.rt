@@ -36,7 +36,7 @@ mod wide;
 mod wide_steps;
 
 pub use band::{Band, CappedBand};
-pub use bands::{EightBands, FiveBands, ThirteenBands, ThreeBands, TwentySixBands, TwoBands};
+pub use bands::{EightBands, FiveBands, ThreeBands, TwoBands};
 pub use bench::LaneBench;
 pub use joined::Joined;
 pub use lanes::{CappedLanes, Lanes, MixedLanes};

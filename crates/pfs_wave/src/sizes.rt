@@ -3,7 +3,7 @@ ghost use Rattle.std.specs.Prelude.{◌≡◌};
 ghost use Rattle.std.proofs.Common.{refl};
 
 use crate::band::Band;
-use crate::bands::{EightBands, FiveBands, ThirteenBands, ThreeBands, TwentySixBands, TwoBands};
+use crate::bands::{EightBands, FiveBands, ThreeBands, TwoBands};
 use crate::lanes::{Lanes, MixedLanes};
 use crate::long::Long;
 use crate::one_band::OneBand;
@@ -44,7 +44,7 @@ pub trait LaneSize {
     ghost two_hundred_eight: { Self.Lanes208.WIDTH ≡ 208 };
 }
 
-/// Lanes of 16 bits.
+/// Lanes of 16 bits. The bands of rows of 104 lanes and more are in memory.
 pub struct Bits16;
 
 impl LaneSize for Bits16 {
@@ -60,9 +60,9 @@ impl LaneSize for Bits16 {
 
     type Lanes64 = EightBands<Short>;
 
-    type Lanes104 = ThirteenBands<Short>;
+    type Lanes104 = Wide<Short, 13>;
 
-    type Lanes208 = TwentySixBands<Short>;
+    type Lanes208 = Wide<Short, 26>;
 
     ghost eight = { refl };
 
@@ -91,13 +91,13 @@ impl LaneSize for Bits32 {
 
     type Lanes24 = ThreeBands<Long>;
 
-    type Lanes40 = Wide<5>;
+    type Lanes40 = Wide<Long, 5>;
 
-    type Lanes64 = Wide<8>;
+    type Lanes64 = Wide<Long, 8>;
 
-    type Lanes104 = Wide<13>;
+    type Lanes104 = Wide<Long, 13>;
 
-    type Lanes208 = Wide<26>;
+    type Lanes208 = Wide<Long, 26>;
 
     ghost eight = { refl };
 

@@ -3,8 +3,8 @@ ghost use Rattle.std.specs.Prelude.{◌≡◌, ℕ, ◌+◌, ◌*◌, ◌≤◌,
 ghost use Rattle.std.proofs.Common.{arith, refl};
 ghost use Rattle.pfs_wave.specs.Private.WideRows.{all_lanes, row_wide};
 
-use crate::band::Band;
-use crate::bands::{EightBands, FiveBands, ThirteenBands, TwentySixBands};
+use crate::band::{Band, CappedBand};
+use crate::bands::{EightBands, FiveBands};
 use crate::lanes::{CappedLanes, Lanes, MixedLanes};
 use crate::long::Long;
 use crate::reduced::Reduced;
@@ -44,69 +44,69 @@ impl BandCount<26> for Counts {
     ghost few = { Prim.omega arith };
 }
 
-/// `N` bands of eight lanes of 32 bits. In each step the passes compute one band after the other.
+/// `N` bands of eight lanes. In each step the passes compute one band after the other.
 #[derive(Drop)]
-pub struct Wide<const N: usize> {
-    bands: [Long; N],
+pub struct Wide<B: Band, const N: usize> {
+    bands: [B; N],
     ghost count: { length bands ≡ N },
 }
 
-impl<const N: usize> Bands for Wide<N>
+impl<B: Band, const N: usize> Bands for Wide<B, N>
 where
     Counts: BandCount<N>,
 {
-    type Band = Long;
+    type Band = B;
 
-    ghost lanes = { λ row. all_lanes ⟦<Long as Band>⟧.lanes row.bands };
+    ghost lanes = { λ row. all_lanes B.lanes row.bands };
 
     ghost WIDTH = { 8 * N };
 
     const WIDTH: usize = 8 * N;
 
-    ghost wide = { λ row. row_wide ⟦<Long as Band>⟧.lanes (λ band. band.eight) N row.bands row.count };
+    ghost wide = { λ row. row_wide B.lanes B.eight N row.bands row.count };
 
     ghost some = { Prim.omega arith };
 
     ghost whole = { Prim.omega arith };
 
     #[inline(always)]
-    fn none() -> Wide<N> {
+    fn none() -> Wide<B, N> {
         Wide {
-            bands: [Long::zeros(); N],
+            bands: [B::zeros(); N],
         }
     }
 
     #[inline(always)]
-    fn start() -> Wide<N> {
+    fn start() -> Wide<B, N> {
         Wide {
-            bands: [Long::start(); N],
+            bands: [B::start(); N],
         }
     }
 
     #[inline(always)]
-    fn band(&self, band: usize) -> Long {
+    fn band(&self, band: usize) -> B {
         self.bands[band]
     }
 
     #[inline(always)]
-    fn put_band(&mut self, band: usize, values: Long) {
+    fn put_band(&mut self, band: usize, values: B) {
         self.bands[band] = values;
     }
 }
 
-impl<const N: usize> Lanes for Wide<N>
+impl<B: Band, const N: usize> Lanes for Wide<B, N>
 where
     Counts: BandCount<N>,
 {
-    type Band = Long;
+    type Band = B;
 
-    ghost lanes = { λ row. all_lanes ⟦<Long as Band>⟧.lanes row.bands };
+    ghost lanes = { λ row. all_lanes B.lanes row.bands };
 
     ghost WIDTH = { 8 * N };
 
     const WIDTH: usize = 8 * N;
 
-    ghost wide = { λ row. row_wide ⟦<Long as Band>⟧.lanes (λ band. band.eight) N row.bands row.count };
+    ghost wide = { λ row. row_wide B.lanes B.eight N row.bands row.count };
 
     ghost some = { Prim.omega arith };
 
@@ -115,47 +115,47 @@ where
     ghost whole = { Prim.omega arith };
 
     #[inline(always)]
-    fn none() -> Wide<N> {
+    fn none() -> Wide<B, N> {
         Bands::none()
     }
 
     #[inline(always)]
-    fn again(&self) -> Wide<N> {
+    fn again(&self) -> Wide<B, N> {
         Wide { bands: self.bands }
     }
 
     #[inline(always)]
-    fn band(&self, band: usize) -> Long {
+    fn band(&self, band: usize) -> B {
         Bands::band(self, band)
     }
 
     #[inline(always)]
-    fn put_band(&mut self, band: usize, values: Long) {
+    fn put_band(&mut self, band: usize, values: B) {
         Bands::put_band(self, band, values);
     }
 
     #[inline(always)]
-    fn fill_tails(times: &[Wide<N>], tails: &mut [Wide<N>]) {
+    fn fill_tails(times: &[Wide<B, N>], tails: &mut [Wide<B, N>]) {
         fill_tails(times, tails);
     }
 
     #[inline(always)]
     fn fill_sums(
-        times: &[Wide<N>],
-        tails: &[Wide<N>],
-        job: &Wide<N>,
-        sums: &mut [u32],
-        fronts: &mut [Front<Long>],
-    ) -> Wide<N> {
+        times: &[Wide<B, N>],
+        tails: &[Wide<B, N>],
+        job: &Wide<B, N>,
+        sums: &mut [B::Number],
+        fronts: &mut [Front<B>],
+    ) -> Wide<B, N> {
         fill_sums(times, tails, job, sums, fronts)
     }
 }
 
-impl CappedLanes for Wide<5> {
+impl CappedLanes for Wide<Long, 5> {
     ghost capped = { refl };
 }
 
-impl MixedLanes for Wide<5> {
+impl MixedLanes for Wide<Long, 5> {
     type Narrow = FiveBands<Reduced>;
 
     ghost reduced = { refl };
@@ -165,11 +165,11 @@ impl MixedLanes for Wide<5> {
     ghost same = { refl };
 }
 
-impl CappedLanes for Wide<8> {
+impl CappedLanes for Wide<Long, 8> {
     ghost capped = { refl };
 }
 
-impl MixedLanes for Wide<8> {
+impl MixedLanes for Wide<Long, 8> {
     type Narrow = EightBands<Reduced>;
 
     ghost reduced = { refl };
@@ -179,12 +179,12 @@ impl MixedLanes for Wide<8> {
     ghost same = { refl };
 }
 
-impl CappedLanes for Wide<13> {
-    ghost capped = { refl };
+impl<B: CappedBand> CappedLanes for Wide<B, 13> {
+    ghost capped = { B.capped };
 }
 
-impl MixedLanes for Wide<13> {
-    type Narrow = ThirteenBands<Reduced>;
+impl<B: CappedBand> MixedLanes for Wide<B, 13> {
+    type Narrow = Wide<Reduced, 13>;
 
     ghost reduced = { refl };
 
@@ -193,12 +193,12 @@ impl MixedLanes for Wide<13> {
     ghost same = { refl };
 }
 
-impl CappedLanes for Wide<26> {
-    ghost capped = { refl };
+impl<B: CappedBand> CappedLanes for Wide<B, 26> {
+    ghost capped = { B.capped };
 }
 
-impl MixedLanes for Wide<26> {
-    type Narrow = TwentySixBands<Reduced>;
+impl<B: CappedBand> MixedLanes for Wide<B, 26> {
+    type Narrow = Wide<Reduced, 26>;
 
     ghost reduced = { refl };
 

@@ -1,5 +1,4 @@
 use Rattle.std.proofs.Common.{◌<◌, length, arith}
-use Rattle.pfs_wave.specs.declared.long.Long.{Long}
 use Rattle.pfs_wave.proofs.WideRows.{band_at}
 use Rattle.pfs_wave.proofs.wide.WideBands.band.Goals as goal
 
@@ -8,4 +7,4 @@ returns g c =
     let count = c.args.self.now.count in
     let fits = c.requires in
     let inside : c.args.band < length c.args.self.now.bands = omega arith in
-    band_at (λ (b : Long). b.values) (λ b. b.eight) c.args.self.now.bands c.args.band c.index-self-band.result inside
+    band_at g.B.Band.lanes g.met.B.Band.eight c.args.self.now.bands c.args.band c.index-self-band.result inside

@@ -1,6 +1,5 @@
-use Rattle.pfs_wave.specs.declared.long.Long.{Long}
-use Rattle.pfs_wave.proofs.WideRows.{all_none}
+use Rattle.pfs_wave.proofs.WideRows.{all_same}
 use Rattle.pfs_wave.proofs.wide.WideBands.none.Goals as goal
 
 pub returns : goal.returns
-returns g c = all_none (λ (b : Long). b.values) c.zeros.result c.zeros.ensures g.row.N
+returns g c = all_same g.B.Band.lanes c.zeros.result 0 c.zeros.ensures g.row.N
