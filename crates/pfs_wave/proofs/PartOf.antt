@@ -15,6 +15,13 @@ part_len empty = omega arith
 part_len (same is) = let rest = part_len is in omega arith
 part_len (left_out is) = let rest = part_len is in omega arith
 
+-- a part that is as long as the whole is the whole
+pub part_whole : {part whole : List ℕ} → IsPart part whole → length part ≡ length whole → part ≡ whole
+part_whole {whole = []} empty as_long = refl
+part_whole {whole = first ∷ whole} empty as_long = absurd (omega arith)
+part_whole (same {first} is) as_long = ap (λ rest. first ∷ rest) (part_whole is (omega arith))
+part_whole (left_out is) as_long = let shorter = part_len is in absurd (omega arith)
+
 -- without both first members, the part is still a part of the whole
 pub part_rests : {first other : ℕ} {part whole : List ℕ} → IsPart (first ∷ part) (other ∷ whole) → IsPart part whole
 part_rests (same is) = is

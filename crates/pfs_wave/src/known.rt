@@ -47,6 +47,14 @@ impl Known {
         self.span
     }
 
+    /// The number of jobs of the sequence.
+    #[inline(always)]
+    pub fn len(&self) -> usize
+        ensures { result ≡ length self.now.seq.jobs }
+    {
+        self.seq.len()
+    }
+
     /// Whether these jobs are those of the sequence, or some of them left out.
     #[inline(always)]
     pub fn has_part(&self, jobs: &[usize]) -> bool

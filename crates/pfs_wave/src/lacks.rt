@@ -8,6 +8,15 @@ ghost use Rattle.pfs_wave.specs.Reduced.{RowLacksAtMost};
 use pfs_base::Instance;
 use std::alloc::{AllocError, Global};
 
+/// What times at the ends of a sequence are less than the reduction each, in all, or greater numbers.
+#[derive(Clone, Copy)]
+pub struct EndLacks {
+    /// Those of the first jobs on the first machine.
+    pub front: u64,
+    /// Those of the last jobs on the last machine.
+    pub back: u64,
+}
+
 /// The times of all jobs on a machine. It returns `AllocError` where allocation fails.
 pub(crate) fn machine_times(
     alloc: Global,
@@ -79,7 +88,7 @@ pub(crate) fn front_lack(times: &[u32], jobs: &[usize], reduction: u64) -> u64
     ensures least { (lack : ℕ) → ((count : ℕ) → count ≤ length jobs.now
         → reduction * count ≤ sum_by (λ job. slice_index_or times.now job 0) (take count jobs.now) + lack)
         → result ≤ lack }
-    ensures small { result < 2 ^ 48 }
+    ensures small { result ≤ reduction * length jobs.now }
 {
     let mut due: u64 = 0;
     let mut done: u64 = 0;
@@ -104,7 +113,7 @@ pub(crate) fn back_lack(times: &[u32], jobs: &[usize], reduction: u64) -> u64
     ensures least { (lack : ℕ) → ((count : ℕ) → count ≤ length jobs.now → reduction * (length jobs.now - count)
         ≤ sum_by (λ job. slice_index_or times.now job 0) (drop count jobs.now) + lack)
         → result ≤ lack }
-    ensures small { result < 2 ^ 48 }
+    ensures small { result ≤ reduction * length jobs.now }
 {
     let mut due: u64 = 0;
     let mut done: u64 = 0;

@@ -1,6 +1,6 @@
 //! Lanes of 16 bits for reduced times, for the insertions whose values are known to fit in them.
 ghost use Rattle.std.specs.Prelude.{◌≡◌, ℕ, ◌+◌, ◌<◌, ◌≤◌, ◌*◌, ◌^◌, ◌↔◌, length, Contains, IsTrue, IfOk, IfSome};
-ghost use Rattle.std.specs.Prelude.{IsSome};
+ghost use Rattle.std.specs.Prelude.{IsSome, List};
 ghost use Rattle.std.specs.List.{All};
 ghost use Rattle.pfs_base.specs.FlowShop.{FlowShop, total_of};
 ghost use Rattle.pfs_base.specs.Paths.{makespan};
@@ -8,6 +8,7 @@ ghost use Rattle.pfs_insert.specs.Inserter.{IsBestPlace};
 ghost use Rattle.pfs_wave.specs.Lanes.{capped_rule};
 ghost use Rattle.pfs_wave.specs.Private.Lacks.{mean_time, row_lack};
 ghost use Rattle.pfs_wave.specs.Private.Narrow.{AreNarrow, FitNarrow, HasNarrow, IsOftenReducible, after_best};
+ghost use Rattle.pfs_wave.specs.Private.Narrow.{AreBounds, BoundEnds, SmallEnds};
 ghost use Rattle.pfs_wave.specs.Reduced.{AreReducible, reduced_rule};
 ghost use Rattle.pfs_wave.specs.Private.ReducedRows.{span_of};
 ghost use Rattle.pfs_wave.specs.Served.{IsServed};
@@ -16,7 +17,7 @@ ghost use Rattle.pfs_wave.specs.Wavefront.{HasRows};
 use crate::band::Band;
 use crate::insertion::best_in_tables;
 use crate::known::Known;
-use crate::lacks::{back_lack, front_lack, machine_times, mean_time, row_lack};
+use crate::lacks::{EndLacks, back_lack, front_lack, machine_times, mean_time, row_lack};
 use crate::lanes::Lanes;
 use crate::served::longest_time;
 use crate::skewed::SkewedTimes;
@@ -52,7 +53,16 @@ pub struct Narrow<N: Lanes> {
     first_times: Vec<u32>,
     last_times: Vec<u32>,
     last: Known,
+    // Bounds on the lacks at the ends of the last sequence.
+    ends: EndLacks,
     kept: Known,
+}
+
+/// What is known of a sequence: a bound on its makespan, if there is one, and bounds on the lacks at its ends.
+#[derive(Clone, Copy)]
+pub struct Bounds {
+    pub span: Option<u64>,
+    pub ends: EndLacks,
 }
 
 impl<N: Lanes> Model for Narrow<N> {
@@ -71,6 +81,7 @@ impl<N: Lanes> Model for Narrow<N> {
       first = a.first_times.items;
       back = a.last_times.items;
       last = a.last;
+      ends = a.ends;
       kept = a.kept;
     } };
 
@@ -111,77 +122,127 @@ impl<N: Lanes> Narrow<N> {
             first_times,
             last_times,
             last,
+            ends: EndLacks { front: 0, back: 0 },
             kept,
         })
     }
 
-    // A bound on the makespan of a sequence: the makespan of a known sequence of which it is a part.
-    #[inline(always)]
-    fn known_span(&self, jobs: &[usize]) -> Option<u64>
-        ensures bound { IfSome result (λ span. (shop : FlowShop) → AreNarrow shop N.WIDTH self.now
-            → makespan shop jobs.now ≤ span) }
-    {
-        if self.last.has_part(jobs) {
-            return Some(self.last.span());
-        }
-        if self.kept.has_part(jobs) {
-            return Some(self.kept.span());
-        }
-        None
-    }
-
-    // Whether all values of the insertion of a job of this total time fit in the narrow lanes, where the makespan of
-    // the sequence is at most `span`.
-    #[inline(always)]
-    fn fits(&self, seq: &Seq, span: u64, total: u64) -> bool
+    // What the times at the ends of a sequence are less than the reduction.
+    fn least_ends(&self, seq: &Seq) -> EndLacks
         requires { FitNarrow self.now seq.now.size N.WIDTH }
-        ensures { IsTrue result → (shop : FlowShop) (job : ℕ) → AreNarrow shop N.WIDTH self.now
-            → makespan shop seq.now.jobs ≤ span → job < shop.jobs → total ≡ total_of shop job
-            → AreReducible shop seq.now.jobs job self.now.reduction }
+        ensures bound { (shop : FlowShop) → AreNarrow shop N.WIDTH self.now
+            → BoundEnds shop self.now.reduction seq.now.jobs result }
+        ensures small { SmallEnds self.now.reduction (length seq.now.jobs) result }
     {
         let jobs = seq.as_slice();
         let reduction = u64::from(self.reduction);
-        let most = reduction * (jobs.len() + self.machines) as u64 + MOST_ABOVE;
-        let longest = span.saturating_add(total);
-        let least_lack = reduction + self.row_lack;
-        if least_lack > MOST_LACK || longest.saturating_add(least_lack) > most {
-            return false;
+        EndLacks {
+            front: front_lack(&self.first_times, jobs, reduction),
+            back: back_lack(&self.last_times, jobs, reduction),
         }
-        let front = front_lack(&self.first_times, jobs, reduction);
-        let back = back_lack(&self.last_times, jobs, reduction);
-        let lack = least_lack + front + back;
+    }
+
+    // What is known of a sequence. A part of a known sequence has at most its makespan.
+    #[inline(always)]
+    fn bounds(&self, seq: &Seq) -> Bounds
+        requires { FitNarrow self.now seq.now.size N.WIDTH }
+        ensures bound { (shop : FlowShop) → AreNarrow shop N.WIDTH self.now
+            → AreBounds shop self.now.reduction seq.now.jobs result }
+        ensures small { SmallEnds self.now.reduction (length seq.now.jobs) result.ends }
+    {
+        let jobs = seq.as_slice();
+        if self.last.has_part(jobs) {
+            let ends = if jobs.len() == self.last.len() {
+                self.ends
+            } else {
+                self.least_ends(seq)
+            };
+            return Bounds {
+                span: Some(self.last.span()),
+                ends,
+            };
+        }
+        let span = if self.kept.has_part(jobs) {
+            Some(self.kept.span())
+        } else {
+            None
+        };
+        Bounds {
+            span,
+            ends: self.least_ends(seq),
+        }
+    }
+
+    // Whether all values of the insertion of a job of this total time fit in the narrow lanes, by bounds on a sequence
+    // of `len` jobs.
+    #[inline(always)]
+    fn fits(&self, len: usize, bounds: Bounds, total: u64) -> bool
+        requires len { len ≤ self.now.jobs }
+        requires few { self.now.machines ≤ N.WIDTH }
+        requires small { SmallEnds self.now.reduction len bounds.ends }
+        ensures { IsTrue result → (shop : FlowShop) (jobs : List ℕ) (job : ℕ) → AreNarrow shop N.WIDTH self.now
+            → length jobs ≡ len → All (λ other. other < shop.jobs) jobs → job < shop.jobs
+            → AreBounds shop self.now.reduction jobs bounds → total ≡ total_of shop job
+            → AreReducible shop jobs job self.now.reduction }
+    {
+        let Some(span) = bounds.span else {
+            return false;
+        };
+        let reduction = u64::from(self.reduction);
+        let most = reduction * (len + self.machines) as u64 + MOST_ABOVE;
+        let longest = span.saturating_add(total);
+        let lack = reduction + self.row_lack + bounds.ends.front + bounds.ends.back;
         if lack > MOST_LACK || longest.saturating_add(lack) > most {
             return false;
         }
         true
     }
 
-    // Whether the narrow lanes serve the insertion of a job of this total time into a sequence.
+    // The same bounds, with the least lacks if the insertion of a job of this total time may fit in the narrow lanes
+    // only by these.
     #[inline(always)]
-    fn serve(&self, seq: &Seq, total: u64) -> bool
-        requires { FitNarrow self.now seq.now.size N.WIDTH }
-        ensures { IsTrue result → (shop : FlowShop) (job : ℕ) → AreNarrow shop N.WIDTH self.now
-            → job < shop.jobs → total ≡ total_of shop job
-            → AreReducible shop seq.now.jobs job self.now.reduction }
+    fn tightened(&self, seq: &Seq, bounds: Bounds, total: u64) -> Bounds
+        requires fit { FitNarrow self.now seq.now.size N.WIDTH }
+        requires small { SmallEnds self.now.reduction (length seq.now.jobs) bounds.ends }
+        ensures bound { (shop : FlowShop) → AreNarrow shop N.WIDTH self.now
+            → AreBounds shop self.now.reduction seq.now.jobs bounds
+            → AreBounds shop self.now.reduction seq.now.jobs result }
+        ensures small { SmallEnds self.now.reduction (length seq.now.jobs) result.ends }
     {
-        match self.known_span(seq.as_slice()) {
-            Some(span) => self.fits(seq, span, total),
-            None => false,
+        let none = EndLacks { front: 0, back: 0 };
+        let least = Bounds {
+            ends: none,
+            ..bounds
+        };
+        if self.fits(seq.len(), bounds, total) || !self.fits(seq.len(), least, total) {
+            return bounds;
+        }
+        Bounds {
+            ends: self.least_ends(seq),
+            ..bounds
         }
     }
 
-    // Keeps a sequence with a job at its best place.
+    // Keeps a sequence with a job at its best place. `ends` are those of the sequence without the job.
     #[inline(always)]
-    fn keep(&mut self, seq: &Seq, job: usize, best: Placed<u64>)
+    fn keep(&mut self, seq: &Seq, job: usize, best: Placed<u64>, ends: EndLacks)
         requires fit { FitNarrow self.old seq.now.size N.WIDTH }
         requires place { best.place ≤ length seq.now.jobs }
         requires job { job < seq.now.size }
         requires absent { Contains seq.now.jobs job → ⊥ }
         requires span { best.span < 2 ^ 48 }
-        ensures { self.new ≡ after_best self.old seq.now job best.place best.span }
+        requires small { SmallEnds self.old.reduction (length seq.now.jobs) ends }
+        ensures { self.new ≡ after_best self.old seq.now job best.place best.span ends }
     {
+        let is_order = seq.len() + 1 == self.tables.jobs;
+        let front = self.reduction.saturating_sub(self.first_times[job]);
+        let back = self.reduction.saturating_sub(self.last_times[job]);
+        self.ends = EndLacks {
+            front: ends.front + u64::from(front),
+            back: ends.back + u64::from(back),
+        };
         self.last.set(seq, job, best);
-        if seq.len() + 1 == self.tables.jobs && best.span <= self.kept.span() {
+        if is_order && best.span <= self.kept.span() {
             self.kept.set(seq, job, best);
         }
     }
@@ -195,7 +256,9 @@ impl<N: Lanes> Narrow<N> {
         ensures best { (shop : FlowShop) → N.Band.RULE ≡ reduced_rule → AreNarrow shop N.WIDTH self.old
             → AreReducible shop seq.now.jobs job self.old.reduction
             → IsBestPlace shop seq.now.jobs job result.place result.span }
-        ensures known { self.new ≡ after_best self.old seq.now job result.place result.span }
+        ensures place { result.place ≤ length seq.now.jobs }
+        ensures span { result.span < 2 ^ 48 }
+        ensures same { self.new ≡ self.old }
     {
         let found = best_in_tables(
             &mut self.skewed,
@@ -204,12 +267,10 @@ impl<N: Lanes> Narrow<N> {
             job,
             self.machines,
         );
-        let best = Placed {
+        Placed {
             place: found.place,
             span: whole_span(self.reduction, seq.len() + self.machines, found.span),
-        };
-        self.keep(seq, job, best);
-        best
+        }
     }
 
     /// The best place for a job in a sequence, and the makespan with the job there: in the narrow lanes where they
@@ -234,15 +295,22 @@ impl<N: Lanes> Narrow<N> {
             → AreNarrow shop N.WIDTH self.old → IsServed shop L.WIDTH L.Band.CAP
             → HasRows shop L.WIDTH skewed.old.rows → total ≡ total_of shop job
             → IsBestPlace shop seq.now.jobs job result.place result.span }
-        ensures known { self.new ≡ after_best self.old seq.now job result.place result.span }
+        ensures known { (ends : EndLacks)
+            × (self.new ≡ after_best self.old seq.now job result.place result.span ends)
+            × SmallEnds self.old.reduction (length seq.now.jobs) ends
+            × ((shop : FlowShop) → AreNarrow shop N.WIDTH self.old
+            → BoundEnds shop self.old.reduction seq.now.jobs ends) }
         ensures rows { skewed.new.rows ≡ skewed.old.rows }
         ensures tables { tables.new.jobs ≡ tables.old.jobs }
     {
-        if self.serve(seq, total) {
-            return self.best(seq, job);
-        }
-        let best = best_in_tables(skewed, tables, seq.as_slice(), job, self.machines);
-        self.keep(seq, job, best);
+        let known = self.bounds(seq);
+        let bounds = self.tightened(seq, known, total);
+        let best = if self.fits(seq.len(), bounds, total) {
+            self.best(seq, job)
+        } else {
+            best_in_tables(skewed, tables, seq.as_slice(), job, self.machines)
+        };
+        self.keep(seq, job, best, bounds.ends);
         best
     }
 }

@@ -1,13 +1,15 @@
 -- Lanes of 16 bits for reduced times, for the insertions whose values are known to fit in them.
-use Rattle.std.specs.Prelude.{ℕ, ◌≡◌, ◌+◌, ◌-◌, ◌*◌, ◌<◌, ◌≤◌, List, Option, length, insert, nat_eq, nat_le}
-use Rattle.std.specs.Prelude.{if◌then◌else◌}
+use Rattle.std.specs.Prelude.{ℕ, ◌≡◌, ◌+◌, ◌-◌, ◌*◌, ◌<◌, ◌≤◌, List, Option, length, insert, take, drop, nat_eq}
+use Rattle.std.specs.Prelude.{nat_le, if◌then◌else◌}
 use Rattle.std.specs.Option.{ForSome}
 use Rattle.std.specs.List.{slice_index_or}
 use Rattle.pfs_base.specs.FlowShop.{FlowShop, time_of}
 use Rattle.pfs_base.specs.Paths.{greatest, makespan}
 use Rattle.pfs_order.specs.Sequence.{Sequence}
 use Rattle.pfs_wave.specs.Private.Lacks.{mean_time, row_lack}
-use Rattle.pfs_wave.specs.Reduced.{RowLacksAtMost}
+use Rattle.pfs_wave.specs.declared.lacks.EndLacks.{EndLacks}
+use Rattle.pfs_wave.specs.declared.narrow.Bounds.{Bounds}
+use Rattle.pfs_wave.specs.Reduced.{LackAtMost, RowLacksAtMost}
 use Rattle.pfs_wave.specs.Private.ReducedRows.{HasReducedRows}
 use Rattle.pfs_wave.specs.Wavefront.{FitsLanes}
 
@@ -26,9 +28,27 @@ abbrev pub known_with : Sequence → ℕ → ℕ → ℕ → KnownSequence
 known_with seq job place span =
     record { seq = record seq { jobs = insert seq.jobs place job }; span = span }
 
+-- bounds on what the times of the first jobs of a sequence on the first machine, and those of the last jobs on the last
+-- machine, are less than `reduction` each
+pub record BoundEnds (shop : FlowShop) (reduction : ℕ) (jobs : List ℕ) (ends : EndLacks) : Type 0 where
+  pub fronts : (count : ℕ) → count ≤ length jobs → LackAtMost shop reduction 0 (take count jobs) ends.front
+  pub backs : (count : ℕ) → count ≤ length jobs
+      → LackAtMost shop reduction (shop.machines - 1) (drop count jobs) ends.back
+
+-- bounds of at most one reduction for each job
+pub record SmallEnds (reduction count : ℕ) (ends : EndLacks) : Type 0 where
+  pub front : ends.front ≤ reduction * count
+  pub back : ends.back ≤ reduction * count
+
+-- bounds on the makespan of a sequence, if one is known, and on what times at its ends are less than `reduction`
+pub record AreBounds (shop : FlowShop) (reduction : ℕ) (jobs : List ℕ) (bounds : Bounds) : Type 0 where
+  pub span : ForSome bounds.span (λ span. makespan shop jobs ≤ span)
+  pub ends : BoundEnds shop reduction jobs bounds.ends
+
 -- the rows of reduced times of all jobs, the numbers of jobs and machines of the shops that the tables were made for,
 -- the number by which each time is less, the most that the times of a job are less than that in all, the times of all
--- jobs on the first and on the last machine, the last sequence that is known, and the one of all jobs that is kept
+-- jobs on the first and on the last machine, the last sequence that is known, bounds on what times at its ends are less
+-- than the reduction, and the sequence of all jobs that is kept
 pub record NarrowTables : Type 0 where
   pub rows : List (List ℕ)
   pub jobs : ℕ
@@ -38,6 +58,7 @@ pub record NarrowTables : Type 0 where
   pub first : List ℕ
   pub back : List ℕ
   pub last : KnownSequence
+  pub ends : EndLacks
   pub kept : KnownSequence
 
 -- tables for sequences of shops of `size` jobs, in lanes of this width
@@ -47,6 +68,7 @@ pub record FitNarrow (tables : NarrowTables) (size width : ℕ) : Type 0 where
   pub first : length tables.first ≡ tables.jobs
   pub back : length tables.back ≡ tables.jobs
   pub last : tables.last.seq.size ≡ tables.jobs
+  pub ends : SmallEnds tables.reduction (length tables.last.seq.jobs) tables.ends
   pub kept : tables.kept.seq.size ≡ tables.jobs
   pub some : 1 ≤ tables.machines
   pub few : tables.machines ≤ width
@@ -62,14 +84,23 @@ pub record AreNarrow (shop : FlowShop) (width : ℕ) (tables : NarrowTables) : T
   pub first : (job : ℕ) → job < shop.jobs → slice_index_or tables.first job 0 ≡ time_of shop job 0
   pub back : (job : ℕ) → job < shop.jobs → slice_index_or tables.back job 0 ≡ time_of shop job (shop.machines - 1)
   pub last : IsKnown shop tables.last
+  pub ends : BoundEnds shop tables.reduction tables.last.seq.jobs tables.ends
   pub kept : IsKnown shop tables.kept
 
--- the tables after a job was inserted into a sequence at its best place: the sequence with the job is the last known
--- one, and it is kept if it has all jobs and is not longer than the one that was kept
-abbrev pub after_best : NarrowTables → Sequence → ℕ → ℕ → ℕ → NarrowTables
-after_best tables seq job place span =
+-- these bounds, with one more job in the sequence
+abbrev pub ends_with : NarrowTables → ℕ → EndLacks → EndLacks
+ends_with tables job ends = record {
+  front = ends.front + (tables.reduction - slice_index_or tables.first job 0);
+  back = ends.back + (tables.reduction - slice_index_or tables.back job 0);
+}
+
+-- the tables after a job was inserted at its best place into a sequence with these bounds at its ends: the sequence
+-- with the job is the last known one, and it is kept if it has all jobs and is not longer than the one that was kept
+abbrev pub after_best : NarrowTables → Sequence → ℕ → ℕ → ℕ → EndLacks → NarrowTables
+after_best tables seq job place span ends =
     record tables {
       last = known_with seq job place span;
+      ends = ends_with tables job ends;
       kept =
           if nat_eq (length seq.jobs + 1) tables.jobs
           then (if nat_le span tables.kept.span then known_with seq job place span else tables.kept)

@@ -33,14 +33,16 @@ invariant_of-self g c =
     let best =
     c.best_or_wide.ensures.best shop g.met.L.MixedLanes.reduced g.met.L.CappedLanes.capped are
     c.args.self.now.served c.args.self.now.rows c.total-total.ensures in
+    let known = c.best_or_wide.ensures.known in
     record {
       within = c.args.self.now.within;
       served = c.args.self.now.served;
       rows = rw c.best_or_wide.ensures.rows c.args.self.now.rows;
       tables =
-          rw c.best_or_wide.ensures.known (has_narrow shop g.L.Narrow.Lanes.WIDTH _
-          (narrow_after shop g.L.Narrow.Lanes.WIDTH c.in-Some.narrow c.args.seq.now c.args.job
-          c.best_or_wide.result.place c.best_or_wide.result.span are c.requires.size best));
+          rw known.1 (has_narrow shop g.L.Narrow.Lanes.WIDTH _
+          (narrow_after shop g.L.Narrow.Lanes.WIDTH c.in-Some.narrow are c.args.seq.now c.args.job
+          c.best_or_wide.result.place c.best_or_wide.result.span known.0 c.requires.size c.requires.job best
+          (known.3 shop are) known.2));
     }
 
 pub returns-in-Some-clause-best : goal.returns-in-Some-clause-best

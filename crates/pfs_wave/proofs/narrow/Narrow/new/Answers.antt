@@ -1,7 +1,7 @@
 use Rattle.std.proofs.Common.{◌≤◌, ◌-◌, ◌∙◌, ap, arith}
 use Rattle.std.proofs.Math.Nat.{mul-le-mul_right}
 use Rattle.pfs_base.specs.FlowShop.{time_of}
-use Rattle.pfs_wave.proofs.NarrowLemmas.{known_none}
+use Rattle.pfs_wave.proofs.NarrowLemmas.{ends_none, known_none}
 use Rattle.pfs_wave.proofs.narrow.Narrow.new.Goals as goal
 
 pub invariant_of-result : goal.invariant_of-result
@@ -36,6 +36,7 @@ returns g c rule_is =
         first = omega (arith, c.in_ok-first_times.ensures.count, tables, jobs);
         back = omega (arith, c.in_ok-last_times.ensures.count, tables, jobs);
         last = omega (arith, ap (λ k. k.seq.size) last, tables);
+        ends = record { front = omega arith; back = omega arith };
         kept = omega (arith, ap (λ k. k.seq.size) kept, tables);
         some = omega (arith, some, machines.value);
         few = omega (arith, c.requires.machines, machines.value);
@@ -48,5 +49,6 @@ returns g c rule_is =
       back = λ job lt.
           c.in_ok-last_times.ensures.times job lt ∙ ap (λ n. time_of shop job (n - 1)) machines.value;
       last = rw last (known jobs 0);
+      ends = rw last (ends_none shop c.args.reduction);
       kept = rw kept (known jobs c.from.result);
     }
