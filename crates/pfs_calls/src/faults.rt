@@ -1,17 +1,13 @@
-//! The calls that print faults.
+//! The call that prints how a command reports a fault.
 use crate::Stop;
 use crate::words::{number, word};
-use pfs_audit::AuditFault;
-use pfs_base::{BaseFault, ToWrite, WriteFault};
-use pfs_desk::{DeskFault, UsageFault, status, write_fault};
-use pfs_insert::InsertFault;
+use pfs_base::{ToWrite, WriteFault};
+use pfs_desk::{DeskFault, status, write_fault};
 use pfs_layout::LayoutFault;
 use pfs_order::OrderFault;
-use pfs_search::SearchFault;
 use std::io;
 
-/// Prints the name of the fault that these arguments state, which is its text. If a command may report the fault, then
-/// the name of its `DeskFault`, the line that reports it and its exit status follow.
+/// Prints the line that reports the fault that these arguments state, and the exit status of the command.
 pub(crate) fn fault_call(rt: &HostRuntime, words: &[String]) -> Result<(), Stop> {
     let Some((kind, rest)) = words.split_first() else {
         return Err(Stop::Other);
@@ -21,19 +17,13 @@ pub(crate) fn fault_call(rt: &HostRuntime, words: &[String]) -> Result<(), Stop>
         "order" => order_call(rt, rest),
         "write" => write_call(rt, rest),
         "take" => take_call(rt, rest),
-        "memory" => print_desk_fault(rt, &DeskFault::Memory),
-        "base" => base_call(rt, rest),
-        "usage" => usage_call(rt, rest),
-        "audit" => Ok(println!(rt; "{}", AuditFault::Memory)?),
-        "insert" => Ok(println!(rt; "{}", InsertFault::Memory)?),
-        "search" => Ok(println!(rt; "{}", SearchFault::Memory { done: 3 })?),
+        "memory" => print_fault(rt, &DeskFault::Memory),
         _ => Err(Stop::Other),
     }
 }
 
-// Prints the name of a command's fault, the line that reports it, and its exit status.
-fn print_desk_fault(rt: &HostRuntime, fault: &DeskFault) -> Result<(), Stop> {
-    println!(rt; "{fault}")?;
+// Prints the line that reports a fault, and the exit status.
+fn print_fault(rt: &HostRuntime, fault: &DeskFault) -> Result<(), Stop> {
     let mut writer = ToWrite::new(io::writer(rt));
     if write_fault(&mut writer, fault).is_err() {
         return Err(Stop::Other);
@@ -47,8 +37,7 @@ fn layout_call(rt: &HostRuntime, words: &[String]) -> Result<(), Stop> {
         Some(fault) => fault,
         None => layout_fault(word(words, 0), number(words, 1)?)?,
     };
-    println!(rt; "{fault}")?;
-    print_desk_fault(rt, &DeskFault::Layout(fault))
+    print_fault(rt, &DeskFault::Layout(fault))
 }
 
 // Returns the fault of an instance file with this name, if it has no number.
@@ -84,8 +73,7 @@ fn order_call(rt: &HostRuntime, words: &[String]) -> Result<(), Stop> {
         "Memory" => OrderFault::Memory,
         name => order_fault(name, number(words, 1)?)?,
     };
-    println!(rt; "{fault}")?;
-    print_desk_fault(rt, &DeskFault::Order(fault))
+    print_fault(rt, &DeskFault::Order(fault))
 }
 
 // Returns the fault of an order file with this name and number.
@@ -102,27 +90,10 @@ fn write_call(rt: &HostRuntime, words: &[String]) -> Result<(), Stop> {
     let fault = WriteFault {
         written: number(words, 0)? as u64,
     };
-    println!(rt; "{fault}")?;
-    print_desk_fault(rt, &DeskFault::Write(fault))
+    print_fault(rt, &DeskFault::Write(fault))
 }
 
 fn take_call(rt: &HostRuntime, words: &[String]) -> Result<(), Stop> {
     let (take, jobs) = (number(words, 0)?, number(words, 1)?);
-    print_desk_fault(rt, &DeskFault::TakeRange { take, jobs })
-}
-
-fn base_call(rt: &HostRuntime, words: &[String]) -> Result<(), Stop> {
-    match word(words, 0) {
-        "Size" => Ok(println!(rt; "{}", BaseFault::Size)?),
-        "Memory" => Ok(println!(rt; "{}", BaseFault::Memory)?),
-        _ => Err(Stop::Other),
-    }
-}
-
-fn usage_call(rt: &HostRuntime, words: &[String]) -> Result<(), Stop> {
-    match word(words, 0) {
-        "Usage" => Ok(println!(rt; "{}", UsageFault::Usage)?),
-        "Memory" => Ok(println!(rt; "{}", UsageFault::Memory)?),
-        _ => Err(Stop::Other),
-    }
+    print_fault(rt, &DeskFault::TakeRange { take, jobs })
 }

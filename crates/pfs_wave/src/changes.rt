@@ -11,40 +11,44 @@ pub struct Kept {
 }
 
 // For a sequence of fewer jobs it is faster to skew all rows than to compare them.
-const SHORT: usize = 128;
+const SHORT: usize = 32;
 
-// Whether four rows are the same. The four comparisons take one jump.
+// Whether eight rows are the same. The eight comparisons take one jump.
 #[inline(always)]
 fn are_same(held: &[usize], seq: &[usize], a: usize, b: usize) -> bool
-    requires held { a + 4 ≤ length held.now }
-    requires seq { b + 4 ≤ length seq.now }
-    ensures same { result ≡ true → (row : ℕ) → row < 4
+    requires held { a + 8 ≤ length held.now }
+    requires seq { b + 8 ≤ length seq.now }
+    ensures same { result ≡ true → (row : ℕ) → row < 8
         → slice_index_or held.now (a + row) 0 ≡ slice_index_or seq.now (b + row) 0 }
 {
     (held[a] == seq[b])
         & (held[a + 1] == seq[b + 1])
         & (held[a + 2] == seq[b + 2])
         & (held[a + 3] == seq[b + 3])
+        & (held[a + 4] == seq[b + 4])
+        & (held[a + 5] == seq[b + 5])
+        & (held[a + 6] == seq[b + 6])
+        & (held[a + 7] == seq[b + 7])
 }
 
-// The number of rows that are the same at the front, or up to three fewer.
+// The number of rows that are the same at the front, or up to seven fewer.
 #[inline(always)]
 fn common_front(held: &[usize], seq: &[usize]) -> usize
     ensures in_held { result ≤ length held.now }
     ensures in_seq { result ≤ length seq.now }
     ensures same { (row : ℕ) → row < result → slice_index_or held.now row 0 ≡ slice_index_or seq.now row 0 }
 {
-    let fours = held.len().min(seq.len()) / 4;
-    for four in 0..fours {
-        let row = 4 * four;
+    let eights = held.len().min(seq.len()) / 8;
+    for eight in 0..eights {
+        let row = 8 * eight;
         if !are_same(held, seq, row, row) {
             return row;
         }
     }
-    4 * fours
+    8 * eights
 }
 
-// The number of rows after the front that are the same at the end, or up to three fewer.
+// The number of rows after the front that are the same at the end, or up to seven fewer.
 #[inline(always)]
 fn common_back(held: &[usize], seq: &[usize], front: usize) -> usize
     requires front { front ≤ length held.now }
@@ -53,14 +57,14 @@ fn common_back(held: &[usize], seq: &[usize], front: usize) -> usize
     ensures same { (row : ℕ) → row < length seq.now → length seq.now ≤ row + result
         → slice_index_or held.now (row - (length seq.now - length held.now)) 0 ≡ slice_index_or seq.now row 0 }
 {
-    let fours = (held.len() - front) / 4;
-    for four in 0..fours {
-        let left = 4 * four + 4;
+    let eights = (held.len() - front) / 8;
+    for eight in 0..eights {
+        let left = 8 * eight + 8;
         if !are_same(held, seq, held.len() - left, seq.len() - left) {
-            return 4 * four;
+            return 8 * eight;
         }
     }
-    4 * fours
+    8 * eights
 }
 
 /// The rows of a sequence that are rows of the sequence before. A sequence that is shorter than the one before keeps

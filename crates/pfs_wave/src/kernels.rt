@@ -60,7 +60,8 @@ pub fn fill_tails<L: WholeRow>(times: &[L], tails: &mut [L])
 }
 
 /// Computes the heads, the inserted rows and the sums of all steps, and keeps the last sum of each step. It returns the
-/// sums after the last step.
+/// sums after the last step. It takes three steps a turn: then the compiler finds the lanes in the registers that they
+/// had before the turn, and copies none of them.
 #[inline(never)]
 pub fn fill_sums<L: WholeRow>(
     times: &[L],
@@ -86,14 +87,22 @@ pub fn fill_sums<L: WholeRow>(
         inserted: L::none(),
         sum: L::none(),
     };
-    for pair in 0..steps / 2 {
-        let step = 2 * pair;
-        let between = next_step(&rows, &times[step], &tails[step], &job);
-        sums[step] = between.sum.last();
-        rows = next_step(&between, &times[step + 1], &tails[step + 1], &job);
-        sums[step + 1] = rows.sum.last();
+    for turn in 0..steps / 3 {
+        let step = 3 * turn;
+        let first = next_step(&rows, &times[step], &tails[step], &job);
+        sums[step] = first.sum.last();
+        let second = next_step(&first, &times[step + 1], &tails[step + 1], &job);
+        sums[step + 1] = second.sum.last();
+        rows = next_step(&second, &times[step + 2], &tails[step + 2], &job);
+        sums[step + 2] = rows.sum.last();
     }
-    if steps % 2 == 1 {
+    let left = steps % 3;
+    if left > 0 {
+        let step = steps - left;
+        rows = next_step(&rows, &times[step], &tails[step], &job);
+        sums[step] = rows.sum.last();
+    }
+    if left == 2 {
         rows = next_step(&rows, &times[steps - 1], &tails[steps - 1], &job);
         sums[steps - 1] = rows.sum.last();
     }

@@ -136,8 +136,7 @@ pub fn move_steps<L: Lanes>(times: &mut [L], from: usize, to: usize, by: usize)
     requires by { by ≤ from }
     ensures { AreMoved from to by (map L.lanes times.old) (map L.lanes times.new) }
 {
-    for left in 0..to - from {
-        let step = to - 1 - left;
+    for step in (from..to).rev() {
         times[step] = times[step - by].again();
     }
 }

@@ -2,7 +2,7 @@ use Rattle.std.proofs.Common.{ℕ, ◌≡◌, ◌+◌, ◌-◌, ◌*◌, ◌<◌
 use Rattle.std.specs.List.{slice_index_or}
 use Rattle.pfs_wave.proofs.changes.common_back.Given as goal
 
-abbrev pub invariant-loop-four : goal.invariant-loop-four
-invariant-loop-four l =
-    (row : ℕ) → row < length l.seq → length l.seq ≤ row + 4 * l.four
+abbrev pub invariant-loop-eight : goal.invariant-loop-eight
+invariant-loop-eight l =
+    (row : ℕ) → row < length l.seq → length l.seq ≤ row + 8 * l.eight
     → slice_index_or l.held (row - (length l.seq - length l.held)) 0 ≡ slice_index_or l.seq row 0
