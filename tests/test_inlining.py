@@ -1,6 +1,7 @@
 """Computations over a bench are inlined where the bench is a value, so that its count stays in a register. In a
 function that is called, each cell of a table would read and write the count in memory. The loops of a wavefront are
-separate functions, whose loops call nothing. Those of up to 16 lanes of 16 bits keep no lanes on the stack."""
+separate functions, whose loops call nothing. Those of up to 24 lanes of 16 bits keep no lanes on the stack, except for
+reduced times."""
 import re
 import subprocess
 
@@ -86,12 +87,14 @@ def test_a_sum_of_reduced_lanes_is_one_instruction(pfs: Program, loop: str, widt
     assert all(added == each * compared for added, compared in reduced)
 
 
-@pytest.mark.parametrize("loop", ["times::fill_times", "kernels::fill_tails", "kernels::fill_sums"])
-def test_a_loop_of_a_wavefront_stays_in_registers(pfs: Program, loop: str) -> None:
-    """Those with 8 and 16 lanes of 16 bits and with 8 lanes of 32 do. The sums of 24 lanes of 16 bits keep only two
-    bands of the job's times on the stack. A program without symbols can't be tested and passes."""
+@pytest.mark.parametrize(("loop", "least"), [("times::fill_times", 14), ("kernels::fill_tails", 11),
+                                             ("kernels::fill_sums", 6)])
+def test_a_loop_of_a_wavefront_stays_in_registers(pfs: Program, loop: str, least: int) -> None:
+    """Loops that skew lanes of 16 bits do, and the tails but those of 64 lanes of 16 bits. Of the sums those of 8, 16
+    and 24 lanes of 16 bits do, those of 8 and 16 lanes for reduced times, and those of 8 lanes of 32 bits. A program
+    without symbols can't be tested and passes."""
     functions = loops(pfs, loop)
     if functions is None:
         return
     in_registers = [body for body in functions if not re.search(r"\t(?:.*xmm.*\(%r[sb]p|.*\(%r[sb]p.*xmm)", body)]
-    assert len(in_registers) >= 3
+    assert len(in_registers) >= least
