@@ -11,6 +11,15 @@ use crate::rows::{fill_head, fill_two_places};
 use pfs_base::{Bench, Length};
 use pfs_order::Seq;
 
+// What is the same at all places: the sequence, the job to insert, and the rows of tails, beginning with the
+// first place's.
+#[derive(Drop)]
+struct Insertion<'a, S> {
+    seq: &'a Seq,
+    job: usize,
+    backs: &'a [S],
+}
+
 /// The best place of a job in a sequence, and the makespan with the job there. `backs` contains the rows of
 /// tails, beginning with the first place's. The function fills the rows of `heads` while it goes from place to
 /// place, and writes the inserted row to `put`.
@@ -31,19 +40,20 @@ pub(crate) fn best_by_rows<B: Bench>(
     ensures bench { Counted (B.shop bench.old) (B.shop bench.new) (B.counted bench.old) (B.counted bench.new)
         ((3 * length seq.now.jobs + 2) * (B.shop bench.old).machines) }
 {
+    let insertion = Insertion { seq, job, backs };
     let len = seq.len();
     let mut best = Placed {
         place: 0,
         span: bench.zero(),
     };
     for pair in 0..len / 2 {
-        best = try_two_places(bench, seq, job, 2 * pair, heads, backs, put, best);
+        best = try_two_places(bench, &insertion, 2 * pair, heads, put, best);
     }
     if len % 2 == 1 {
-        best = try_place(bench, seq, job, len - 1, heads, backs, put, best);
+        best = try_place(bench, &insertion, len - 1, heads, put, best);
         add_head(bench, seq, len - 1, heads);
     }
-    try_place(bench, seq, job, len, heads, backs, put, best)
+    try_place(bench, &insertion, len, heads, put, best)
 }
 
 // The best of the best place so far, a place, and the place after it. The function fills the row of heads of
@@ -51,40 +61,38 @@ pub(crate) fn best_by_rows<B: Bench>(
 #[inline(always)]
 fn try_two_places<B: Bench>(
     bench: &mut B,
-    seq: &Seq,
-    job: usize,
+    insertion: &Insertion<'_, B::Span>,
     place: usize,
     heads: &mut [B::Span],
-    backs: &[B::Span],
     put: &mut [B::Span],
     best: Placed<B::Span>,
 ) -> Placed<B::Span>
-    requires places { CanInsertAt (B.shop bench.old) seq.now job (place + 2) }
-    requires tried { HasTried B.Span.number (B.shop bench.old) seq.now.jobs job heads.old backs.now put.old
-        place best.place best.span }
+    requires places { CanInsertAt (B.shop bench.old) insertion.now.seq.now insertion.now.job (place + 2) }
+    requires tried { HasTried B.Span.number (B.shop bench.old) insertion.now.seq.now.jobs insertion.now.job
+        heads.old insertion.now.backs.now put.old place best.place best.span }
     requires room { B.counted bench.old + 6 * (B.shop bench.old).machines < 2 ^ 64 }
-    ensures best { IsBest B.Span.number (makespan_with (B.shop bench.old) seq.now.jobs job)
+    ensures best { IsBest B.Span.number (makespan_with (B.shop bench.old) insertion.now.seq.now.jobs insertion.now.job)
         (place + 2) result.place result.span }
-    ensures heads { AddsHead B.Span.number (B.shop bench.old) seq.now.jobs heads.old heads.new place (place + 2) }
+    ensures heads { AddsHead B.Span.number (B.shop bench.old) insertion.now.seq.now.jobs heads.old heads.new
+        place (place + 2) }
     ensures bench { Counted (B.shop bench.old) (B.shop bench.new) (B.counted bench.old) (B.counted bench.new)
         (6 * (B.shop bench.old).machines) }
 {
+    let seq = insertion.seq;
     let machines = bench.machines();
     let (front, back) = heads.split_at_mut((place + 1) * machines);
     let (next, rest) = back.split_at_mut(machines);
     fill_two_places(
         bench,
-        seq.at(place),
-        seq.at(place + 1),
-        job,
+        (seq.at(place), seq.at(place + 1), insertion.job),
         &front[place * machines..],
         put,
         next,
         &mut rest[..machines],
     );
-    let span = makespan_by_rows(bench, seq, job, place, put, backs);
+    let span = makespan_by_rows(bench, insertion, place, put);
     let best = better(best, place, span);
-    let span = makespan_by_rows(bench, seq, job, place + 1, next, backs);
+    let span = makespan_by_rows(bench, insertion, place + 1, next);
     better(best, place + 1, span)
 }
 
@@ -112,19 +120,17 @@ fn add_head<B: Bench>(bench: &mut B, seq: &Seq, place: usize, heads: &mut [B::Sp
 #[inline(always)]
 fn try_place<B: Bench>(
     bench: &mut B,
-    seq: &Seq,
-    job: usize,
+    insertion: &Insertion<'_, B::Span>,
     place: usize,
     heads: &[B::Span],
-    backs: &[B::Span],
     put: &mut [B::Span],
     best: Placed<B::Span>,
 ) -> Placed<B::Span>
-    requires place { CanInsertAt (B.shop bench.old) seq.now job place }
-    requires tried { HasTried B.Span.number (B.shop bench.old) seq.now.jobs job heads.now backs.now put.old
-        place best.place best.span }
+    requires place { CanInsertAt (B.shop bench.old) insertion.now.seq.now insertion.now.job place }
+    requires tried { HasTried B.Span.number (B.shop bench.old) insertion.now.seq.now.jobs insertion.now.job
+        heads.now insertion.now.backs.now put.old place best.place best.span }
     requires room { B.counted bench.old + 2 * (B.shop bench.old).machines < 2 ^ 64 }
-    ensures best { IsBest B.Span.number (makespan_with (B.shop bench.old) seq.now.jobs job)
+    ensures best { IsBest B.Span.number (makespan_with (B.shop bench.old) insertion.now.seq.now.jobs insertion.now.job)
         (place + 1) result.place result.span }
     ensures bench { Counted (B.shop bench.old) (B.shop bench.new) (B.counted bench.old) (B.counted bench.new)
         (2 * (B.shop bench.old).machines) }
@@ -132,11 +138,11 @@ fn try_place<B: Bench>(
     let machines = bench.machines();
     fill_head(
         bench,
-        job,
+        insertion.job,
         &heads[place * machines..(place + 1) * machines],
         put,
     );
-    let span = makespan_by_rows(bench, seq, job, place, put, backs);
+    let span = makespan_by_rows(bench, insertion, place, put);
     better(best, place, span)
 }
 
@@ -144,19 +150,20 @@ fn try_place<B: Bench>(
 #[inline(always)]
 fn makespan_by_rows<B: Bench>(
     bench: &mut B,
-    seq: &Seq,
-    job: usize,
+    insertion: &Insertion<'_, B::Span>,
     place: usize,
     put: &[B::Span],
-    backs: &[B::Span],
 ) -> B::Span
-    requires place { CanInsertAt (B.shop bench.old) seq.now job place }
-    requires rows { CanJoin B.Span.number (B.shop bench.old) seq.now.jobs job place put.now backs.now }
+    requires place { CanInsertAt (B.shop bench.old) insertion.now.seq.now insertion.now.job place }
+    requires rows { CanJoin B.Span.number (B.shop bench.old) insertion.now.seq.now.jobs insertion.now.job place
+        put.now insertion.now.backs.now }
     requires room { B.counted bench.old + (B.shop bench.old).machines < 2 ^ 64 }
-    ensures value { B.Span.number result ≡ makespan_with (B.shop bench.old) seq.now.jobs job place }
+    ensures value { B.Span.number result ≡ makespan_with (B.shop bench.old) insertion.now.seq.now.jobs
+        insertion.now.job place }
     ensures bench { Counted (B.shop bench.old) (B.shop bench.new) (B.counted bench.old) (B.counted bench.new)
         (B.shop bench.old).machines }
 {
     let machines = bench.machines();
-    bench.join_rows(put, &backs[place * machines..(place + 1) * machines])
+    let back = &insertion.backs[place * machines..(place + 1) * machines];
+    bench.join_rows(put, back)
 }

@@ -42,22 +42,21 @@ pub(crate) fn fill_tail<B: Bench>(bench: &mut B, job: usize, below: &[B::Span], 
 #[inline(always)]
 pub(crate) fn fill_three_tails<B: Bench>(
     bench: &mut B,
-    first: usize,
-    second: usize,
-    third: usize,
+    jobs: (usize, usize, usize),
     below: &[B::Span],
     row: &mut [B::Span],
     next: &mut [B::Span],
     last: &mut [B::Span],
 )
-    requires rows { CanFillThree B.Span.number (B.shop bench.old) first second third below.now
+    requires rows { CanFillThree B.Span.number (B.shop bench.old) jobs.0 jobs.1 jobs.2 below.now
         row.old next.old last.old }
     requires room { B.counted bench.old + 3 * (B.shop bench.old).machines < 2 ^ 64 }
-    ensures rows { AreThreeTails B.Span.number (B.shop bench.old) below.now first second third
+    ensures rows { AreThreeTails B.Span.number (B.shop bench.old) below.now jobs.0 jobs.1 jobs.2
         row.new next.new last.new }
     ensures bench { Counted (B.shop bench.old) (B.shop bench.new) (B.counted bench.old) (B.counted bench.new)
         (3 * (B.shop bench.old).machines) }
 {
+    let (first, second, third) = jobs;
     let mut one = bench.zero();
     let mut two = bench.zero();
     let mut three = bench.zero();
@@ -72,27 +71,26 @@ pub(crate) fn fill_three_tails<B: Bench>(
 }
 
 /// Fills three rows: that of a job inserted before the first of two jobs, that of the job inserted before
-/// the second, and the row of heads of the second. The row of heads of the first is used machine by machine,
+/// the second, and the row of heads of the second. `jobs` are the two jobs and the inserted one. The row of heads of the first is used machine by machine,
 /// and isn't stored.
 #[inline(always)]
 pub(crate) fn fill_two_places<B: Bench>(
     bench: &mut B,
-    first: usize,
-    second: usize,
-    job: usize,
+    jobs: (usize, usize, usize),
     above: &[B::Span],
     row: &mut [B::Span],
     next: &mut [B::Span],
     head: &mut [B::Span],
 )
-    requires rows { CanFillThree B.Span.number (B.shop bench.old) first second job above.now
+    requires rows { CanFillThree B.Span.number (B.shop bench.old) jobs.0 jobs.1 jobs.2 above.now
         row.old next.old head.old }
     requires room { B.counted bench.old + 4 * (B.shop bench.old).machines < 2 ^ 64 }
-    ensures rows { AreTwoPlaces B.Span.number (B.shop bench.old) above.now first second job
+    ensures rows { AreTwoPlaces B.Span.number (B.shop bench.old) above.now jobs.0 jobs.1 jobs.2
         row.new next.new head.new }
     ensures bench { Counted (B.shop bench.old) (B.shop bench.new) (B.counted bench.old) (B.counted bench.new)
         (4 * (B.shop bench.old).machines) }
 {
+    let (first, second, job) = jobs;
     let mut one = bench.zero();
     let mut two = bench.zero();
     let mut put = bench.zero();

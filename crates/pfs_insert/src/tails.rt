@@ -42,14 +42,9 @@ fn add_three_tails<B: Bench>(bench: &mut B, seq: &Seq, rows: &mut [B::Span], fro
     let (front, row) = front.split_at_mut((below - 1) * machines);
     let (front, next) = front.split_at_mut((below - 2) * machines);
     let (_, last) = front.split_at_mut((below - 3) * machines);
-    let first = seq.at(from - 1);
-    let second = seq.at(from - 2);
-    let third = seq.at(from - 3);
     fill_three_tails(
         bench,
-        first,
-        second,
-        third,
+        (seq.at(from - 1), seq.at(from - 2), seq.at(from - 3)),
         &back[..machines],
         row,
         next,

@@ -13,11 +13,11 @@ above_known : (g : Over) (c : After-machines-machines g) →
     let place = c.args.place in
     let width = c.machines-machines.result in
     let shop = g.B.Bench.shop c.args.bench.now in
-    HoldsHeads g.B.Span.Length.number shop c.args.seq.now.jobs
+    HoldsHeads g.B.Span.Length.number shop c.args.insertion.now.seq.now.jobs
     (take ((place + 1) * width - place * width) (drop (place * width) c.args.heads.now)) place
 above_known g c =
     let shop = g.B.Bench.shop c.args.bench.now in
-    row_taken g.B.Span.Length.number shop.machines (head_of shop c.args.seq.now.jobs c.args.place) c.args.heads.now
+    row_taken g.B.Span.Length.number shop.machines (head_of shop c.args.insertion.now.seq.now.jobs c.args.place) c.args.heads.now
     c.args.place _ _ c.machines-machines.ensures (omega arith) c.requires.tried.rows.head.row_is
 
 pub fill_head-requires-clause-rows : goal.fill_head-requires-clause-rows
@@ -27,7 +27,7 @@ fill_head-requires-clause-rows g c =
       job_is = search rules;
       given_is = record {
         width = search rules;
-        short = short_heads g.B.Span.Length.number shop c.args.seq.now.jobs (g.met.B.Bench.within c.args.bench.now)
+        short = short_heads g.B.Span.Length.number shop c.args.insertion.now.seq.now.jobs (g.met.B.Bench.within c.args.bench.now)
             (omega (arith, c.requires.place.insertion.few)) c.args.place c.requires.place.inside _
             (above_known g (goal.at.fill_head-requires-clause-rows g c).After-machines-machines);
       };
@@ -37,14 +37,14 @@ fill_head-requires-clause-rows g c =
 pub makespan_by_rows-span-requires-clause-rows : goal.makespan_by_rows-span-requires-clause-rows
 makespan_by_rows-span-requires-clause-rows g c =
     let shop = g.B.Bench.shop c.args.bench.now in
-    let jobs = c.args.seq.now.jobs in
+    let jobs = c.args.insertion.now.seq.now.jobs in
     let here = (goal.at.makespan_by_rows-span-requires-clause-rows g c).After-machines-machines in
     let known = c.fill_head.ensures.row _ (above_known g here) in
     let first = head_first shop jobs c.args.place in
     rw c.fill_head.ensures.bench.shop (record {
       put_long = search rules;
       put_is = record {
-        row_is = λ machine d lt. known machine d lt ∙ put_row first c.args.job c.requires.place.inside machine;
+        row_is = λ machine d lt. known machine d lt ∙ put_row first c.args.insertion.now.job c.requires.place.inside machine;
       };
       backs_long = c.requires.tried.rows.parts.backs_long;
       backs_are = c.requires.tried.rows.backs_are;
@@ -52,6 +52,6 @@ makespan_by_rows-span-requires-clause-rows g c =
 
 pub returns-clause-best : goal.returns-clause-best
 returns-clause-best g c =
-    let value = makespan_with (g.B.Bench.shop c.args.bench.now) c.args.seq.now.jobs c.args.job in
+    let value = makespan_with (g.B.Bench.shop c.args.bench.now) c.args.insertion.now.seq.now.jobs c.args.insertion.now.job in
     c.better.ensures value c.requires.tried.best_is
     (rw c.fill_head.ensures.bench.shop at c.makespan_by_rows-span.ensures.value)

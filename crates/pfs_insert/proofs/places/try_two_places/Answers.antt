@@ -30,11 +30,11 @@ above_known : (g : Over) (c : After-at-2 g) →
     let front = c.split_at_mut-front.result.0.now in
     let start = c.args.place * c.machines-machines.result in
     let shop = g.B.Bench.shop c.args.bench.now in
-    HoldsHeads g.B.Span.Length.number shop c.args.seq.now.jobs (take (length front - start) (drop start front))
+    HoldsHeads g.B.Span.Length.number shop c.args.insertion.now.seq.now.jobs (take (length front - start) (drop start front))
     c.args.place
 above_known g c =
     let split = c.split_at_mut-front.ensures in
-    heads_above _ (g.B.Bench.shop c.args.bench.now) c.args.seq.now.jobs _ _ _ c.args.place _ c.machines-machines.ensures
+    heads_above _ (g.B.Bench.shop c.args.bench.now) c.args.insertion.now.seq.now.jobs _ _ _ c.args.place _ c.machines-machines.ensures
     split.value split.front_len c.requires.tried.rows.head
 
 pub fill_two_places-requires-clause-rows : goal.fill_two_places-requires-clause-rows
@@ -47,7 +47,7 @@ fill_two_places-requires-clause-rows g c =
       third_is = search rules;
       given_is = record {
         width = search rules;
-        short = short_heads g.B.Span.Length.number shop c.args.seq.now.jobs (g.met.B.Bench.within c.args.bench.now)
+        short = short_heads g.B.Span.Length.number shop c.args.insertion.now.seq.now.jobs (g.met.B.Bench.within c.args.bench.now)
             (omega (arith, c.requires.places.insertion.few)) c.args.place (omega (arith, c.requires.places.inside)) _
             (above_known g here);
       };
@@ -58,27 +58,27 @@ fill_two_places-requires-clause-rows g c =
 
 pub makespan_by_rows-span-requires-clause-rows : goal.makespan_by_rows-span-requires-clause-rows
 makespan_by_rows-span-requires-clause-rows g c =
-    let first = head_first (g.B.Bench.shop c.args.bench.now) c.args.seq.now.jobs c.args.place in
+    let first = head_first (g.B.Bench.shop c.args.bench.now) c.args.insertion.now.seq.now.jobs c.args.place in
     let here = (goal.at.makespan_by_rows-span-requires-clause-rows g c).After-at-2 in
     let known = c.fill_two_places.ensures.rows.row_is _ (above_known g here) in
-    let inside : c.args.place ≤ length c.args.seq.now.jobs = omega (arith, c.requires.places.inside) in
+    let inside : c.args.place ≤ length c.args.insertion.now.seq.now.jobs = omega (arith, c.requires.places.inside) in
     rw c.fill_two_places.ensures.bench.shop (record {
       put_long = search rules;
-      put_is = record { row_is = λ machine d lt. known machine d lt ∙ put_row first c.args.job inside machine };
+      put_is = record { row_is = λ machine d lt. known machine d lt ∙ put_row first c.args.insertion.now.job inside machine };
       backs_long = c.requires.tried.rows.parts.backs_long;
       backs_are = c.requires.tried.rows.backs_are;
     })
 
 pub makespan_by_rows-span-requires-2-clause-rows : goal.makespan_by_rows-span-requires-2-clause-rows
 makespan_by_rows-span-requires-2-clause-rows g c =
-    let first = head_first (g.B.Bench.shop c.args.bench.now) c.args.seq.now.jobs c.args.place in
+    let first = head_first (g.B.Bench.shop c.args.bench.now) c.args.insertion.now.seq.now.jobs c.args.place in
     let between = head_next first refl c.at.ensures.value in
     let here = (goal.at.makespan_by_rows-span-requires-2-clause-rows g c).After-at-2 in
     let known = c.fill_two_places.ensures.rows.next_is _ (above_known g here) in
-    let inside : c.args.place + 1 ≤ length c.args.seq.now.jobs = omega (arith, c.requires.places.inside) in
+    let inside : c.args.place + 1 ≤ length c.args.insertion.now.seq.now.jobs = omega (arith, c.requires.places.inside) in
     rw (c.makespan_by_rows-span.ensures.bench.shop, c.fill_two_places.ensures.bench.shop) (record {
       put_long = search rules;
-      put_is = record { row_is = λ machine d lt. known machine d lt ∙ put_row between c.args.job inside machine };
+      put_is = record { row_is = λ machine d lt. known machine d lt ∙ put_row between c.args.insertion.now.job inside machine };
       backs_long = c.requires.tried.rows.parts.backs_long;
       backs_are = c.requires.tried.rows.backs_are;
     })
@@ -86,7 +86,7 @@ makespan_by_rows-span-requires-2-clause-rows g c =
 pub returns-clause-best : goal.returns-clause-best
 returns-clause-best g c =
     let place = c.args.place in
-    let value = makespan_with (g.B.Bench.shop c.args.bench.now) c.args.seq.now.jobs c.args.job in
+    let value = makespan_with (g.B.Bench.shop c.args.bench.now) c.args.insertion.now.seq.now.jobs c.args.insertion.now.job in
     let same = c.fill_two_places.ensures.bench.shop in
     let one = rw same at c.makespan_by_rows-span.ensures.value in
     let first = c.better-best.ensures value c.requires.tried.best_is one in
@@ -98,7 +98,7 @@ returns-clause-best g c =
 pub returns-clause-heads : goal.returns-clause-heads
 returns-clause-heads g c =
     let shop = g.B.Bench.shop c.args.bench.now in
-    let jobs = c.args.seq.now.jobs in
+    let jobs = c.args.insertion.now.seq.now.jobs in
     let place = c.args.place in
     let width = c.machines-machines.result in
     let wide = c.machines-machines.ensures in

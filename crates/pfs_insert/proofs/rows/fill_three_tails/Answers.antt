@@ -31,11 +31,11 @@ loop-machine-preserved g c =
         c.step-three.ensures.counted,
         invariant.counted,
       );
-      row_is = tail_stored number shop below (c.args.first ∷ []) some most invariant.row_is one
+      row_is = tail_stored number shop below (c.args.jobs.0 ∷ []) some most invariant.row_is one
           (c.loop-machine.auto.row ∙ c.requires.rows.row_width);
-      next_is = tail_stored number shop below (c.args.second ∷ c.args.first ∷ []) some most invariant.next_is two
+      next_is = tail_stored number shop below (c.args.jobs.1 ∷ c.args.jobs.0 ∷ []) some most invariant.next_is two
           (c.loop-machine.auto.next ∙ c.requires.rows.next_width);
-      last_is = tail_stored number shop below (c.args.third ∷ c.args.second ∷ c.args.first ∷ []) some most
+      last_is = tail_stored number shop below (c.args.jobs.2 ∷ c.args.jobs.1 ∷ c.args.jobs.0 ∷ []) some most
           invariant.last_is three
           (c.loop-machine.auto.last ∙ c.requires.rows.last_width);
     }

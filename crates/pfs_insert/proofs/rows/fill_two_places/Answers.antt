@@ -34,12 +34,12 @@ loop-machine-preserved g c =
         c.step-two.ensures.counted,
         invariant.counted,
       );
-      row_is = head_stored number shop above (c.args.job ∷ []) invariant.row_is put
+      row_is = head_stored number shop above (c.args.jobs.2 ∷ []) invariant.row_is put
           (omega (arith, c.loop-machine.auto.row, c.requires.rows.row_width));
       one_is = one;
-      next_is = head_stored number shop above (c.args.job ∷ c.args.first ∷ []) invariant.next_is next
+      next_is = head_stored number shop above (c.args.jobs.2 ∷ c.args.jobs.0 ∷ []) invariant.next_is next
           (omega (arith, c.loop-machine.auto.next, c.requires.rows.next_width));
-      head_is = head_stored number shop above (c.args.second ∷ c.args.first ∷ []) invariant.head_is two
+      head_is = head_stored number shop above (c.args.jobs.1 ∷ c.args.jobs.0 ∷ []) invariant.head_is two
           (omega (arith, c.loop-machine.auto.head, c.requires.rows.last_width));
     }
 

@@ -5,18 +5,18 @@ use Rattle.pfs_insert.proofs.TailRows.{tail_first, tail_next}
 use Rattle.pfs_insert.proofs.TailTables.{HoldsTails, TailsOn, tails_after, tails_joined, tails_more}
 use Rattle.pfs_insert.proofs.TailTables.{first_tails, row_back, row_known, short_tails}
 use Rattle.pfs_insert.proofs.tails.add_three_tails.Given.{Over}
-use Rattle.pfs_insert.proofs.tails.add_three_tails.Goals.{After-at-third}
+use Rattle.pfs_insert.proofs.tails.add_three_tails.Goals.{After-at-3}
 use Rattle.pfs_insert.proofs.tails.add_three_tails.Goals as goal
 
 -- where the code splits the table
-record Split (g : Over) (c : After-at-third g) : Type 0 where
+record Split (g : Over) (c : After-at-3 g) : Type 0 where
   below_is : c.size.result - 1 - c.len.result + c.args.from
       ≡ (g.B.Bench.shop c.args.bench.now).jobs - 1 - length c.args.seq.now.jobs + c.args.from
   back_long : c.machines-machines.result ≤ length c.split_at_mut-front.result.1.now
   tails : TailsOn g.B.Span.Length.number (g.B.Bench.shop c.args.bench.now) c.args.seq.now.jobs
       c.split_at_mut-front.result.1.now c.args.from
 
-split_is : (g : Over) (c : After-at-third g) → Split g c
+split_is : (g : Over) (c : After-at-3 g) → Split g c
 split_is g c =
     let shop = g.B.Bench.shop c.args.bench.now in
     let below = c.size.result - 1 - c.len.result + c.args.from in
@@ -34,14 +34,14 @@ split_is g c =
 
 pub slice_bounds-fill_three_tails-end : goal.slice_bounds-fill_three_tails-end
 slice_bounds-fill_three_tails-end g c =
-    (split_is g (goal.at.slice_bounds-fill_three_tails-end g c).After-at-third).back_long
+    (split_is g (goal.at.slice_bounds-fill_three_tails-end g c).After-at-3).back_long
 
 pub slice_bounds-fill_three_tails-end-2 : goal.slice_bounds-fill_three_tails-end-2
 slice_bounds-fill_three_tails-end-2 g c =
-    sym (length-take-le _ _ (split_is g (goal.at.slice_bounds-fill_three_tails-end-2 g c).After-at-third).back_long)
+    sym (length-take-le _ _ (split_is g (goal.at.slice_bounds-fill_three_tails-end-2 g c).After-at-3).back_long)
 
 -- the row below the three
-below_known : (g : Over) (c : After-at-third g) →
+below_known : (g : Over) (c : After-at-3 g) →
     HoldsTails g.B.Span.Length.number (g.B.Bench.shop c.args.bench.now) c.args.seq.now.jobs
     (take c.machines-machines.result c.split_at_mut-front.result.1.now) c.args.from
 below_known g c =
@@ -51,7 +51,7 @@ below_known g c =
 pub fill_three_tails-requires-clause-rows : goal.fill_three_tails-requires-clause-rows
 fill_three_tails-requires-clause-rows g c =
     let shop = g.B.Bench.shop c.args.bench.now in
-    let here = (goal.at.fill_three_tails-requires-clause-rows g c).After-at-third in
+    let here = (goal.at.fill_three_tails-requires-clause-rows g c).After-at-3 in
     let is = split_is g here in
     let below = c.size.result - 1 - c.len.result + c.args.from in
     let wide = c.machines-machines.ensures in
@@ -83,7 +83,7 @@ returns-clause-tails g c =
     let shop = g.B.Bench.shop c.args.bench.now in
     let jobs = c.args.seq.now.jobs in
     let from = c.args.from in
-    let here = (goal.at.returns-clause-tails g c).After-at-third in
+    let here = (goal.at.returns-clause-tails g c).After-at-3 in
     let is = split_is g here in
     let below = c.size.result - 1 - c.len.result + from in
     let wide = c.machines-machines.ensures in
@@ -105,9 +105,9 @@ returns-clause-tails g c =
     let last_long = same.last ∙ row_between (below - 3) wide (omega arith) third.front_len fourth.back_len in
     let top : below - 3 ≡ shop.jobs - 1 - length jobs + (from - 3) = omega arith in
     let zero = tail_first shop jobs from in
-    let one = tail_next {row = from - 1} zero (omega arith) (omega arith) c.at-first.ensures.value in
-    let two = tail_next {row = from - 2} one (omega arith) (omega arith) c.at-second.ensures.value in
-    let three = tail_next {row = from - 3} two (omega arith) (omega arith) c.at-third.ensures.value in
+    let one = tail_next {row = from - 1} zero (omega arith) (omega arith) c.at.ensures.value in
+    let two = tail_next {row = from - 2} one (omega arith) (omega arith) c.at-2.ensures.value in
+    let three = tail_next {row = from - 3} two (omega arith) (omega arith) c.at-3.ensures.value in
     let some = (g.met.B.Bench.within c.args.bench.now).sizes.some_machine in
     let tails = row_back number shop jobs _ from some (below_known g here) in
     simp append_assoc (tails_joined number shop jobs _ _ (from - 3) (rw (top, wide) at fourth.front_len)
