@@ -13,7 +13,7 @@ use crate::given::{
 };
 use crate::numbers::{CallFault, PFS_OK};
 use pfs_base::MOST_ROUNDS;
-use pfs_search::{Solution, improve, solve};
+use pfs_search::{Rounds, Solution, improve, solve};
 use std::alloc::Global;
 
 /// Computes the order of NEH (Nawaz, Enscore and Ham 1983) by heads and tails (Taillard 1990), its makespan, and the
@@ -63,7 +63,13 @@ fn neh_of(
     validate_length(room, jobs)?;
     validate_times(times)?;
     let instance = instance_of(alloc, times, jobs, machines, NO_NOTES)?;
-    match solve(alloc, &instance, 0, 1, 0, 0) {
+    let rounds = Rounds {
+        count: 0,
+        take: 1,
+        passes: 0,
+        seed: 0,
+    };
+    match solve(alloc, &instance, rounds) {
         Ok(found) => Ok(found),
         Err(_) => Err(CallFault::Memory),
     }
@@ -135,7 +141,13 @@ fn rounds_of(
     validate_count(first, count)?;
     let instance = instance_of(alloc, times, jobs, machines, NO_NOTES)?;
     let order = order_of(alloc, start)?;
-    improve(alloc, &instance, order, first, count, take, passes, seed).or(Err(CallFault::Memory))
+    let rounds = Rounds {
+        count,
+        take,
+        passes,
+        seed,
+    };
+    improve(alloc, &instance, order, first, rounds).or(Err(CallFault::Memory))
 }
 
 fn validate_take(take: usize, jobs: usize) -> Result<(), CallFault>

@@ -3,11 +3,13 @@ use Rattle.std.specs.Prelude.{◌≡◌, ℕ, ◌+◌, ◌-◌, ◌*◌, ◌≤�
 use Rattle.rand_core.specs.Pcg32Seed.{pcg32_seed}
 use Rattle.rand_core.specs.Steps.{first_words}
 use Rattle.rand_pcg.specs.Pcg.{pcg32, pcg32_of_seed}
+use Rattle.pfs_base.specs.declared.limits.TheConstants.{MOST_ROUNDS, MOST_PASSES}
 use Rattle.pfs_base.specs.FlowShop.{FlowShop}
 use Rattle.pfs_base.specs.Paths.{makespan}
 use Rattle.pfs_order.specs.Sequence.{IsSequence}
 use Rattle.pfs_search.specs.Greedy.{after_rounds}
 use Rattle.pfs_search.specs.Neh.{neh_order}
+use Rattle.pfs_search.specs.declared.rounds.Rounds.{Rounds}
 
 -- the first `count` random words of Pcg32 for a seed
 abbrev pub words_for : ℕ → ℕ → List ℕ
@@ -28,6 +30,14 @@ words_after seed first count take = drop (first * take) (words_for seed ((first 
 abbrev pub improved : FlowShop → List ℕ → ℕ → ℕ → ℕ → ℕ → ℕ → List ℕ
 improved shop start first count take passes seed = after_rounds shop passes count take start
     (words_after seed first count take)
+
+-- rounds after the first `first` rounds of a seed: each removes at least one job and at most all jobs of the shop, and
+-- the number of rounds and that of passes are within their limits
+pub record InLimits (shop : FlowShop) (first : ℕ) (rounds : Rounds) : Type 0 where
+  pub some : 1 ≤ rounds.take
+  pub few : rounds.take ≤ shop.jobs
+  pub count : first + rounds.count ≤ MOST_ROUNDS
+  pub passes : rounds.passes ≤ MOST_PASSES
 
 -- the cells of NEH: 2mn² for n jobs on m machines
 abbrev pub neh_cells : FlowShop → ℕ

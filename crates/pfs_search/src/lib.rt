@@ -17,5 +17,6 @@ mod workspace;
 pub use fault::SearchFault;
 pub use kept::Kept;
 pub use pfs_base::MOST_PASSES;
+pub use rounds::Rounds;
 pub use searcher::Searcher;
 pub use solution::{Solution, improve, solve};

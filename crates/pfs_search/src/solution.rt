@@ -1,17 +1,16 @@
 //! The order that a search finds, and the order that some of its rounds find from a given one.
-ghost use Rattle.std.specs.Prelude.{◌≡◌, ◌+◌, ◌<◌, ◌≤◌, ◌^◌, length, IfOk, IfErr};
+ghost use Rattle.std.specs.Prelude.{◌≡◌, ◌<◌, ◌^◌, length, IfOk, IfErr};
 ghost use Rattle.pfs_base.specs.Paths.{makespan as makespan_of};
 ghost use Rattle.pfs_wave.specs.Served.{IsServed, lanes_of};
-ghost use Rattle.pfs_search.specs.Solution.{IsFound, IsImproved};
-ghost use Rattle.pfs_search.specs.Private.Steps.{InLimits, IsFoundBy, IsImprovedBy};
-ghost use Rattle.pfs_search.specs.Private.Steps.{MayContinue, MayStart, UnlessMemory};
+ghost use Rattle.pfs_search.specs.Solution.{InLimits, IsFound, IsImproved};
+ghost use Rattle.pfs_search.specs.Private.Steps.{IsFoundBy, IsImprovedBy, MayContinue, MayStart, UnlessMemory};
 
 use crate::fault::SearchFault;
 use crate::kept::Kept;
 use crate::rounds::Rounds;
 use crate::searcher::Searcher;
 use pfs_audit::makespan;
-use pfs_base::{Bench, Instance, Length, MOST_PASSES, MOST_ROUNDS, Shop, Span};
+use pfs_base::{Bench, Instance, Length, Shop, Span};
 use pfs_insert::{HeadsTails, Inserter};
 use pfs_order::Order;
 use pfs_wave::{
@@ -32,34 +31,18 @@ pub struct Solution {
     pub cells: u64,
 }
 
-/// NEH's order (Nawaz, Enscore, Ham 1983), followed by `rounds` rounds of iterated greedy (Ruiz, Stützle 2007). Each
-/// round removes `take` jobs, chosen by the next random words of Pcg32 for the seed, inserts each at its best place,
-/// and makes `passes` passes. Best places are found by heads and tails (Taillard 1990): along anti-diagonals where a
-/// wavefront serves the instance (`method_for`), and else by rows. The function reserves all memory before NEH begins.
-/// It returns `Memory` with `done` 0 where that fails, and no other error.
-pub fn solve(
-    alloc: Global,
-    instance: &Instance,
-    rounds: u32,
-    take: usize,
-    passes: u32,
-    seed: u64,
-) -> Result<Solution, SearchFault>
-    requires some { 1 ≤ take }
-    requires few { take ≤ instance.now.shop.jobs }
-    requires rounds { rounds ≤ MOST_ROUNDS }
-    requires passes { passes ≤ MOST_PASSES }
-    ensures found { IfOk result (λ found.
-        IsFound instance.now.shop rounds take passes seed found.order found.makespan found.cells) }
+/// NEH's order (Nawaz, Enscore, Ham 1983), followed by rounds of iterated greedy (Ruiz, Stützle 2007). Each round
+/// removes `rounds.take` jobs, chosen by the next random words of Pcg32 for the seed, inserts each at its best place,
+/// and makes `rounds.passes` passes. Best places are found by heads and tails (Taillard 1990): along anti-diagonals
+/// where a wavefront serves the instance (`method_for`), and else by rows. The function reserves all memory before NEH
+/// begins. It returns `Memory` with `done` 0 where that fails, and no other error.
+pub fn solve(alloc: Global, instance: &Instance, rounds: Rounds) -> Result<Solution, SearchFault>
+    requires limits { InLimits instance.now.shop 0 rounds }
+    ensures found { IfOk result (λ found. IsFound instance.now.shop rounds.count rounds.take rounds.passes rounds.seed
+        found.order found.makespan found.cells) }
     ensures short { IfOk result (λ found. found.makespan < 10 ^ 18) }
     ensures fault { IfErr result (λ fault. fault ≡ SearchFault.Memory 0) }
 {
-    let rounds = Rounds {
-        count: rounds,
-        take,
-        passes,
-        seed,
-    };
     match method_for(instance) {
         Method::HeadsTails => solve_by_rows(alloc, instance, rounds),
         Method::Wavefront16(width) => { solve_in_width::<Bits16>(alloc, instance, width, rounds) }
@@ -67,37 +50,25 @@ pub fn solve(
     }
 }
 
-/// Rounds `first` to `first + count - 1` of the search of a seed, counted from 0, from a given order of all jobs. The
-/// cells are those of these rounds alone: the makespan of the given order isn't counted. The rounds are computed by the
-/// same method as in `solve`. The function reserves all memory before the first round. It returns `Memory` with `done`
-/// 0 where that fails, and no other error.
+/// Rounds `first` to `first + rounds.count - 1` of the search of a seed, counted from 0, from a given order of all
+/// jobs. The cells are those of these rounds alone: the makespan of the given order isn't counted. The rounds are
+/// computed by the same method as in `solve`. The function reserves all memory before the first round. It returns
+/// `Memory` with `done` 0 where that fails, and no other error.
 pub fn improve(
     alloc: Global,
     instance: &Instance,
     order: Order,
     first: u32,
-    count: u32,
-    take: usize,
-    passes: u32,
-    seed: u64,
+    rounds: Rounds,
 ) -> Result<Solution, SearchFault>
     requires order_jobs { length order ≡ instance.now.shop.jobs }
-    requires some { 1 ≤ take }
-    requires few { take ≤ instance.now.shop.jobs }
-    requires rounds { first + count ≤ MOST_ROUNDS }
-    requires passes { passes ≤ MOST_PASSES }
-    ensures found { IfOk result (λ found.
-        IsImproved instance.now.shop order first count take passes seed found.order found.makespan found.cells) }
+    requires limits { InLimits instance.now.shop first rounds }
+    ensures found { IfOk result (λ found. IsImproved instance.now.shop order first rounds.count rounds.take
+        rounds.passes rounds.seed found.order found.makespan found.cells) }
     ensures short { IfOk result (λ found. found.makespan < 10 ^ 18) }
     ensures fault { IfErr result (λ fault. fault ≡ SearchFault.Memory 0) }
 {
     let start = measure(alloc, instance, order)?;
-    let rounds = Rounds {
-        count,
-        take,
-        passes,
-        seed,
-    };
     match method_for(instance) {
         Method::HeadsTails => improve_by_rows(alloc, instance, start, first, rounds),
         Method::Wavefront16(width) => {

@@ -12,7 +12,7 @@ use pfs_base::print::put_named;
 use pfs_base::{MOST_BLOCKS, MOST_MACHINES, MOST_PASSES, MOST_ROUNDS, Sink, Source, WriteFault};
 use pfs_layout::{Layout, read_block};
 use pfs_order::write_order;
-use pfs_search::{Solution, solve};
+use pfs_search::{Rounds, Solution, solve};
 use pfs_words::{DEFAULT_TAKE, SolveOptions};
 use std::alloc::Global;
 
@@ -51,8 +51,13 @@ pub fn run_solve<R: Source, W: Sink>(
 {
     let instance = read_block(alloc, reader, layout, block)?;
     let take = take_for(options.take, instance.jobs())?;
-    let (rounds, passes) = (options.rounds, options.passes);
-    let solution = solve(alloc, &instance, rounds, take, passes, options.seed)?;
+    let rounds = Rounds {
+        count: options.rounds,
+        take,
+        passes: options.passes,
+        seed: options.seed,
+    };
+    let solution = solve(alloc, &instance, rounds)?;
     put_solution(writer, instance.machines(), &solution, options.cells)?;
     Ok(Outcome::Done)
 }

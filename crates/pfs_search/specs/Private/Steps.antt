@@ -5,7 +5,6 @@ use Rattle.std.specs.Global.{Vec}
 use Rattle.std.specs.List.{All}
 use Rattle.std.specs.declared.cmp.Reverse.{Reverse}
 use Rattle.rand_core.specs.Stream.{Stream}
-use Rattle.pfs_base.specs.declared.limits.TheConstants.{MOST_ROUNDS, MOST_PASSES}
 use Rattle.pfs_base.specs.FlowShop.{FlowShop, total_of}
 use Rattle.pfs_base.specs.Paths.{makespan}
 use Rattle.pfs_insert.specs.Insertion.{heads_tails_cost}
@@ -13,7 +12,7 @@ use Rattle.pfs_order.specs.Sequence.{IsSequence, Sequence, all_jobs}
 use Rattle.pfs_insert.specs.Inserter.{Counts, Fits, Sizes}
 use Rattle.pfs_search.specs.Greedy.{jobs_left, jobs_taken, stream_after, words_of}
 use Rattle.pfs_search.specs.Ranking.{ranking}
-use Rattle.pfs_search.specs.Solution.{IsFound, IsImproved}
+use Rattle.pfs_search.specs.Solution.{InLimits, IsFound, IsImproved}
 use Rattle.pfs_search.specs.declared.fault.SearchFault.{SearchFault}
 use Rattle.pfs_search.specs.declared.fault.SearchFault.TheVariants.{Memory}
 use Rattle.pfs_search.specs.declared.rounds.Rounds.{Rounds}
@@ -106,14 +105,6 @@ pub record AreTotals (shop : FlowShop) (listed : List (Reverse ℕ × ℕ)) : Ty
   pub totals_are : All (λ entry. entry.0.0 ≡ total_of shop entry.1) listed
 
 -- ---- whole searches
-
--- rounds after the first `first` rounds of a seed: each removes at least one job and at most all jobs of the shop, and
--- the number of rounds and that of passes are within their limits
-pub record InLimits (shop : FlowShop) (first : ℕ) (rounds : Rounds) : Type 0 where
-  pub some : 1 ≤ rounds.take
-  pub few : rounds.take ≤ shop.jobs
-  pub count : first + rounds.count ≤ MOST_ROUNDS
-  pub passes : rounds.passes ≤ MOST_PASSES
 
 -- an inserter for shops of this one's sizes that has the cost of heads and tails and can't fail, and a bench that has
 -- counted no cell
