@@ -25,8 +25,9 @@ from typing import Any
 
 sys.dont_write_bytecode = True
 from support import second_program
+from support.lines import ANSWERS
 from support.pipes import unread
-from support.second_program import MOST_BYTES, UNREADABLE, Contents, Instance, Stop
+from support.second_program import COMMANDS, MOST_BYTES, UNREADABLE, Contents, Instance, Stop
 
 TOP = pathlib.Path(__file__).resolve().parent.parent
 PROGRAM = TOP / "crates" / "pfs" / "out" / "pfs"
@@ -38,20 +39,6 @@ MIB = 1 << 20
 LONGEST_PIECE = 16_384
 # The time limit of a program.
 MOST_SECONDS = 60
-
-# Each kind of output, with X for numbers.
-KINDS = [
-    "makespan X", "orderX X X", "valid", "wrong makespan", "wrong machines", "wrong size", "table X X",
-    "flow shop instance",
-    "number of jobs, number of machines, initial seed, upper bound and lower bound :",
-    "pfs: input too long", "pfs: mixed line at X", "pfs: time out of range at X", "pfs: wrong machine number at X",
-    "pfs: extra number at X", "pfs: size line X has a wrong count", "pfs: size line X is out of range",
-    "pfs: truncated after X times", "pfs: no block, found X", "pfs: seed out of range", "pfs: read failed",
-    "pfs: order file syntax at X", "pfs: order file job out of range at place X",
-    "pfs: order file job repeated at place X", "pfs: order file too long", "pfs: order file read failed",
-    "pfs: take X exceeds X jobs", "pfs: write failed after X bytes", "pfs: cannot open", "pfs: usage",
-]
-
 
 # Standard output, standard error and exit status; no status is that of a program that hangs.
 Answer = tuple[bytes, bytes, int | None]
@@ -422,17 +409,15 @@ class Line:
         return [b"generate"] + ([b"--"] if self.random.random() < 0.05 else []) + words
 
     def words(self, layout: bytes, jobs: int, is_great: bool) -> list[bytes]:
-        commands = [b"value", b"check", b"check", b"table", b"convert"]
-        command = self.random.choice(commands + [b"generate", b"solve", b"solve"] * (not is_great))
+        commands = [name for name in COMMANDS if not (is_great and name in (b"solve", b"generate"))]
+        command = self.random.choice(commands + [b"check"] + [b"solve"] * (not is_great))
         if command == b"generate":
             return self.generate()
-        if command == b"convert":
-            target = self.random.choice([b"taillard", b"orlib"])
-            options = [self.option(b"--from", self.layout(layout)), self.option(b"--to", self.layout(target))]
-        else:
-            options = [self.option(b"--layout", self.layout(layout))]
-        options += self.block() + (self.search(jobs) if command == b"solve" else [])
-        return self.mixed(command, options, self.names[:2 if command in (b"check", b"table") else 1])
+        layouts = {b"--layout": layout, b"--from": layout, b"--to": self.random.choice([b"taillard", b"orlib"])}
+        options, paths = COMMANDS[command]
+        given = [self.option(name, self.layout(name_of)) for name, name_of in layouts.items() if name in options]
+        given += self.block() + (self.search(jobs) if command == b"solve" else [])
+        return self.mixed(command, given, self.names[:len(paths)])
 
     def mutated(self, words: Sequence[bytes]) -> list[bytes]:
         words = list(words)
@@ -625,9 +610,14 @@ def shown(answer: Answer) -> str:
 
 
 def kind_of(answer: Answer) -> str:
+    """The first line of the output, with X for numbers."""
     text, got, _ = answer
     first = (got or text).split(b"\n")[0].decode("latin-1")
     return re.sub("[0-9]+", "X", first)
+
+
+# Each kind of output.
+KINDS = {kind_of(answer) for answer in ANSWERS.values()} | {"pfs: write failed after X bytes"}
 
 
 def search(program: pathlib.Path, seed: int, seconds: float, numbers: Iterable[int], has_great_files: bool) -> bool:
@@ -655,10 +645,10 @@ def search(program: pathlib.Path, seed: int, seconds: float, numbers: Iterable[i
 
 def are_known(kinds: collections.Counter[str]) -> bool:
     """Whether all these kinds of output are known. Print those that aren't, and those that didn't occur."""
-    missing = [kind for kind in KINDS if not kinds[kind]]
+    missing = sorted(KINDS - kinds.keys())
     if missing:
         print(f"kinds of output that did not occur: {missing}")
-    unknown = [kind for kind in kinds if kind not in KINDS]
+    unknown = sorted(kinds.keys() - KINDS)
     if unknown:
         print(f"kinds of answers that are not known: {unknown}")
     return not unknown

@@ -5,9 +5,10 @@ import subprocess
 
 import pytest
 from support.files import THREE_JOBS, USAGE
-from support.lines import ANSWERS, PRINTING, refused, unwritten
+from support.lines import ANSWERS, EACH, PRINTING, refused, unwritten
 from support.needs import tool
 from support.program import Program, Ran
+from support.usage import commands
 
 # A text up to this length is cut at each byte. A longer text is cut at the ends of the buffer and at a few other bytes.
 SHORT_TEXT = 200
@@ -39,6 +40,12 @@ def run_into_file(pfs: Program, line: str, worked: pathlib.Path, file: pathlib.P
 @pytest.mark.parametrize("line", ANSWERS)
 def test_a_line_has_its_output_errors_and_status(pfs: Program, worked_once: pathlib.Path, line: str) -> None:
     assert pfs.run(line, worked_once) == ANSWERS[line]
+
+
+def test_each_command_has_a_line_over_its_files() -> None:
+    """Its first line in `lines.py` stands for the command in other tests."""
+    files = {name: [word for word in line.split(" ") if word in ("three", "best")] for name, line in EACH.items()}
+    assert files == {name: ["three", "best"][:len(command.paths)] for name, command in commands().items()}
 
 
 def test_an_argument_that_is_not_utf_8_is_rejected(pfs: Program, worked_once: pathlib.Path) -> None:

@@ -12,7 +12,7 @@ from collections.abc import Callable, Iterator
 
 import pytest
 from support.files import FILES, THREE_JOBS, USAGE
-from support.lines import ANSWERS, CHECK, CONVERT, GENERATE, SOLVE, TABLE, VALUE, refused, unwritten
+from support.lines import ANSWERS, CHECK, EACH, SOLVE, VALUE, WITH_INSTANCE, WITH_ORDER, refused, unwritten
 from support.pipes import PAGE, first_opened, opened_for_writing, page_pipe, unread, wait_for
 from support.program import Program, Ran, Words, ended
 
@@ -25,8 +25,6 @@ MANY = 100_000
 
 ELEVEN = Ran(b"makespan 11\n", b"", 0)
 VALID = Ran(b"valid\nmakespan 10\nbound 10\noptimal\n", b"", 0)
-WITH_INSTANCE = [VALUE, SOLVE, CHECK, TABLE, CONVERT]
-WITH_ORDER = [CHECK, TABLE]
 # The signals that kill a program by default.
 ENDING = [signal.SIGHUP, signal.SIGINT, signal.SIGTERM, signal.SIGQUIT]
 
@@ -189,7 +187,7 @@ BOTH_WAYS = pytest.mark.parametrize("restores", [True, False], ids=["signal as u
 
 
 @BOTH_WAYS
-@pytest.mark.parametrize("line", [*WITH_INSTANCE, GENERATE])
+@pytest.mark.parametrize("line", EACH.values())
 def test_a_pipe_without_a_reader_is_a_failed_write(pfs: Program, worked: pathlib.Path, unread_end: int, line: str,
                                                    restores: bool) -> None:
     """The write fails without SIGPIPE, whether or not the parent process ignores that signal."""

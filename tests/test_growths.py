@@ -6,7 +6,7 @@ from itertools import groupby
 import pytest
 from support.files import FILES, THREE_JOBS, THREE_JOBS_BY_JOB
 from support.growths import Shim
-from support.lines import ANSWERS, refused
+from support.lines import ANSWERS, EACH, refused
 from support.program import Program, Ran, Words
 
 # More allocations than any call makes.
@@ -18,11 +18,8 @@ GROWING = [
     "solve --layout taillard --rounds 5 --take 2 --seed 7 --passes 1 --cells eight",
     "solve --layout taillard --cells sixteen",
     "value --layout orlib --block 2 two_blocks.or",
-    "check --layout taillard three best",
-    "table --layout taillard three best",
     "table --layout taillard three for_three",
-    "convert --from taillard --to orlib three",
-    "generate 5 1 873654221",
+    *EACH.values(),
     "value three",
 ]
 

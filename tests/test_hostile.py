@@ -3,13 +3,13 @@ memory plus the instance. The files consist of one repeated byte, of digits and 
 lines. Then the greatest instance, with the longest times: the exact output, with that memory and the tables of a search
 or of a time table. The program gets no more address space than that, and its resident memory is checked too."""
 import pathlib
-from collections.abc import Callable, Iterable, Iterator
+from collections.abc import Iterable, Iterator
 from typing import Any
 
 import pytest
 from support.files import FILES
 from support.large import LargeRun, run_limited, write_equal_times, write_many_lines, write_one_line, write_repeated
-from support.lines import ANSWERS, CHECK, CONVERT, SOLVE, TABLE, VALUE
+from support.lines import ANSWERS, EACH, EQUAL, WITH_INSTANCE, WITH_ORDER, equal_convert, equal_solve, equal_value
 from support.program import Program
 
 MIB = 1 << 20
@@ -28,16 +28,16 @@ ORDER_TOO_LONG = b"pfs: order file too long\n"
 
 # The repeated bytes, and the fault of a file of them.
 FILLS = {b"7": COUNT, b" ": NONE, b"\n": NONE, b"x": NONE, b"\0": NONE, b"\xff": NONE, b"7 ": COUNT}
-# Each command over the three jobs.
-COMMANDS = {line.split(" ")[0]: line for line in (VALUE, SOLVE, CHECK, TABLE, CONVERT)}
-# Those of which no time is compared.
+# The commands over an instance, those over an order file too, and those of which no time is compared.
+COMMANDS = [command for command, line in EACH.items() if line in WITH_INSTANCE]
+WITH_ORDERS = [command for command, line in EACH.items() if line in WITH_ORDER]
 OTHERS = [command for command in COMMANDS if command != "value"]
 
 
 def words_of(command: str, file: pathlib.Path, order: pathlib.Path | None = None) -> list[str]:
     """The arguments of a command on an instance file, and perhaps on an order file."""
     paths = {"three": str(file), "best": str(order)}
-    return [paths.get(word, word) for word in COMMANDS[command].split(" ")]
+    return [paths.get(word, word) for word in EACH[command].split(" ")]
 
 
 def run_large(pfs: Program, words: list[str], folder: pathlib.Path, parts: Iterable[bytes], got: bytes, status: int,
@@ -121,7 +121,7 @@ def test_a_fill_as_input(pfs: Program, folder: pathlib.Path, fill: Fill) -> None
 
 
 @pytest.mark.seconds(3)
-@pytest.mark.parametrize("command", ["check", "table"])
+@pytest.mark.parametrize("command", WITH_ORDERS)
 def test_a_fill_as_order_file(pfs: Program, small: pathlib.Path, fill: Fill, command: str) -> None:
     run_large(pfs, words_of(command, small / "three", fill.path), small, [], ORDER_TOO_LONG, 2)
 
@@ -167,7 +167,7 @@ def test_a_line_in_linear_time(pfs: Program, folder: pathlib.Path, one_line: pat
 @pytest.mark.seconds(3)
 @pytest.mark.parametrize("command", OTHERS)
 def test_a_line(pfs: Program, small: pathlib.Path, one_line: pathlib.Path, command: str) -> None:
-    answer = ANSWERS[COMMANDS[command]]
+    answer = ANSWERS[EACH[command]]
     run_large(pfs, words_of(command, one_line, small / "best"), small, [answer.stdout], b"", 0)
 
 
@@ -192,52 +192,10 @@ def test_a_longer_line_as_input(pfs: Program, folder: pathlib.Path, longer_line:
 
 @ONE_LINE
 @pytest.mark.seconds(3)
-@pytest.mark.parametrize("command", ["check", "table"])
+@pytest.mark.parametrize("command", WITH_ORDERS)
 def test_a_longer_line_as_order_file(pfs: Program, small: pathlib.Path, longer_line: pathlib.Path,
                                      command: str) -> None:
     run_large(pfs, words_of(command, small / "three", longer_line), small, [], ORDER_TOO_LONG, 2)
-
-
-# What the commands print of jobs that all take as long on each machine
-
-Printed = Callable[[int, int, int], Iterator[bytes]]
-
-
-def equal_value(jobs: int, machines: int, time: int) -> Iterator[bytes]:
-    yield b"makespan %d\n" % (time * (jobs + machines - 1))
-
-
-def equal_solve(jobs: int, machines: int, time: int) -> Iterator[bytes]:
-    """All places are equal, so each job, the lowest numbers first, is inserted at the first place."""
-    yield b"order2 %d %d\n" % (jobs, machines)
-    yield b" ".join(b"%d" % job for job in range(jobs, 0, -1)) + b"\n"
-    yield b"makespan %d\n" % (time * (jobs + machines - 1))
-
-
-def equal_check(jobs: int, machines: int, time: int) -> Iterator[bytes]:
-    """All jobs take `jobs` times on each machine, plus one time on each machine before and after it."""
-    length = time * (jobs + machines - 1)
-    yield b"valid\nmakespan %d\nbound %d\noptimal\n" % (length, length)
-
-
-def equal_table(jobs: int, machines: int, time: int) -> Iterator[bytes]:
-    yield b"table %d %d\n" % (jobs, machines)
-    for row in range(jobs):
-        spans = b"".join(b" %d %d" % (time * (row + at), time * (row + at + 1)) for at in range(machines))
-        yield b"%d" % (jobs - row) + spans + b"\n"
-    yield b"makespan %d\n" % (time * (jobs + machines - 1))
-
-
-def equal_convert(jobs: int, machines: int, time: int) -> Iterator[bytes]:
-    yield b"flow shop instance\n%d %d\n" % (jobs, machines)
-    row = b" ".join(b"%d %d" % (machine, time) for machine in range(machines)) + b"\n"
-    for _ in range(jobs):
-        yield row
-
-
-EQUAL: dict[str, Printed] = {
-    "value": equal_value, "solve": equal_solve, "check": equal_check, "table": equal_table, "convert": equal_convert,
-}
 
 
 # A million lines

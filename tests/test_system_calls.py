@@ -7,7 +7,7 @@ from typing import NamedTuple
 
 import pytest
 from support.files import TITLE, generated
-from support.lines import ANSWERS, CHECK, CONVERT, GENERATE, PRINTING, SOLVE, TABLE, VALUE, refused, unwritten
+from support.lines import ANSWERS, EACH, PRINTING, WITH_INSTANCE, WITH_ORDER, refused, unwritten
 from support.needs import missing, tool
 from support.program import Program, Ran
 
@@ -16,6 +16,8 @@ from support.program import Program, Ran
 BUFFER = 8_192
 LONGEST_PART = len(TITLE)
 LONG_OUTPUTS = {"generate 500 20 873654221": generated(500, 20, 873654221), "generate 5000 2 1": generated(5000, 2, 1)}
+# Each command that reads, with each of its files.
+OPENED = [*[(line, "three") for line in WITH_INSTANCE], *[(line, "best") for line in WITH_ORDER]]
 
 
 class Call(NamedTuple):
@@ -64,7 +66,7 @@ def tracer(pfs: Program) -> Tracer:
 
 # Opening
 
-@pytest.mark.parametrize("line", [CHECK, TABLE])
+@pytest.mark.parametrize("line", WITH_ORDER)
 def test_files_are_opened_in_order(tracer: Tracer, worked: pathlib.Path, line: str) -> None:
     """FILE and then ORDER, before anything is read."""
     calls = tracer.calls(line, worked, "openat,read", "three", "best")
@@ -72,10 +74,7 @@ def test_files_are_opened_in_order(tracer: Tracer, worked: pathlib.Path, line: s
     assert sorted(calls[3:]) == sorted(call for call in calls[3:] if call.startswith("read "))
 
 
-@pytest.mark.parametrize("line, file", [
-    (VALUE, "three"), (SOLVE, "three"), (CONVERT, "three"), (CHECK, "three"), (TABLE, "three"), (CHECK, "best"),
-    (TABLE, "best"),
-])
+@pytest.mark.parametrize("line, file", OPENED)
 @pytest.mark.parametrize("error, got", [
     ("ENOMEM", "no memory"), ("EACCES", "cannot open"), ("EMFILE", "cannot open"), ("ENFILE", "cannot open"),
     ("EIO", "cannot open"),
@@ -89,15 +88,12 @@ def test_a_failed_open_is_reported(tracer: Tracer, worked: pathlib.Path, line: s
 
 # Reading
 
-@pytest.mark.parametrize("line, file, got", [
-    (VALUE, "three", "read failed"), (SOLVE, "three", "read failed"), (CONVERT, "three", "read failed"),
-    (CHECK, "three", "read failed"), (TABLE, "three", "read failed"), (CHECK, "best", "order file read failed"),
-    (TABLE, "best", "order file read failed"),
-])
+@pytest.mark.parametrize("line, file", OPENED)
 @pytest.mark.parametrize("error", ["EINTR", "EIO", "EAGAIN", "ENOMEM"])
 def test_a_failed_read_is_reported_and_not_repeated(tracer: Tracer, worked: pathlib.Path, line: str, file: str,
-                                                    got: str, error: str) -> None:
+                                                    error: str) -> None:
     """Not even one that was interrupted."""
+    got = {"three": "read failed", "best": "order file read failed"}[file]
     ran, calls = tracer.run(line, worked, "-P", file, "-e", "trace=read", "-e", f"inject=read:error={error}")
     assert (ran, [call.result for call in calls]) == (refused(got), [-1])
 
@@ -118,7 +114,7 @@ def test_a_long_text_goes_out_by_the_buffer(tracer: Tracer, folder: pathlib.Path
     assert sizes[-1] <= BUFFER, sizes
 
 
-@pytest.mark.parametrize("line", [VALUE, SOLVE, CHECK, TABLE, CONVERT, GENERATE])
+@pytest.mark.parametrize("line", EACH.values())
 @pytest.mark.parametrize("error", ["EINTR", "EAGAIN", "EIO", "ENOSPC", "EPIPE", "EBADF"])
 def test_a_failed_write_is_reported_and_not_repeated(tracer: Tracer, worked: pathlib.Path, line: str,
                                                      error: str) -> None:
@@ -135,12 +131,12 @@ def test_a_failed_second_write_is_reported(tracer: Tracer, folder: pathlib.Path,
     assert results == [first, -1]
 
 
-@pytest.mark.parametrize("line", [VALUE, SOLVE, CHECK, TABLE, CONVERT, GENERATE])
+@pytest.mark.parametrize("line", EACH.values())
 def test_a_write_of_no_byte_is_a_failure(tracer: Tracer, worked: pathlib.Path, line: str) -> None:
     assert tracer.writes(line, worked, "retval=0:when=1") == (unwritten(0), [0])
 
 
-@pytest.mark.parametrize("line", [VALUE, SOLVE, CHECK, TABLE, CONVERT, GENERATE])
+@pytest.mark.parametrize("line", EACH.values())
 def test_the_rest_of_a_partial_write_is_written(tracer: Tracer, worked: pathlib.Path, line: str) -> None:
     text = ANSWERS[line].stdout
     ran, results = tracer.writes(line, worked, "retval=5:when=1")

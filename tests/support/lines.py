@@ -1,4 +1,7 @@
-"""Command lines over the worked files, and the result of the program for each."""
+"""Command lines over the worked files, and the result of the program for each. Also what each command prints of a great
+instance of equal times."""
+from collections.abc import Callable, Iterator
+
 from support.files import (
     THREE_JOBS, THREE_JOBS_BY_JOB, USAGE, WITH_NOTES, generated, taillard,
 )
@@ -137,12 +140,15 @@ ANSWERS: dict[str, Ran] = {
 # The lines that print something on standard output.
 PRINTING = [line for line, answer in ANSWERS.items() if answer.stdout]
 
-VALUE = "value --layout taillard three"
-SOLVE = "solve --layout taillard three"
-CHECK = "check --layout taillard three best"
-TABLE = "table --layout taillard three best"
-CONVERT = "convert --from taillard --to orlib three"
-GENERATE = "generate 5 1 873654221"
+# For each command its first line, which other tests vary: it succeeds, over the instance `three` and, if the command
+# reads an order, the order file `best`.
+EACH = {line.split(" ")[0]: line for line in reversed(PRINTING)}
+
+VALUE, SOLVE, CHECK = EACH["value"], EACH["solve"], EACH["check"]
+
+# Those over an instance, and those over an order file too.
+WITH_INSTANCE = [line for line in EACH.values() if "three" in line.split(" ")]
+WITH_ORDER = [line for line in WITH_INSTANCE if "best" in line.split(" ")]
 
 
 def refused(got: str, status: int = 4) -> Ran:
@@ -153,3 +159,43 @@ def refused(got: str, status: int = 4) -> Ran:
 def unwritten(count: int) -> Ran:
     """A run whose write failed after this many bytes."""
     return refused(f"write failed after {count} bytes")
+
+
+# What the commands print of jobs that all take as long on each machine
+
+def equal_value(jobs: int, machines: int, time: int) -> Iterator[bytes]:
+    yield b"makespan %d\n" % (time * (jobs + machines - 1))
+
+
+def equal_solve(jobs: int, machines: int, time: int) -> Iterator[bytes]:
+    """All places are equal, so each job, the lowest numbers first, is inserted at the first place."""
+    yield b"order2 %d %d\n" % (jobs, machines)
+    yield b" ".join(b"%d" % job for job in range(jobs, 0, -1)) + b"\n"
+    yield b"makespan %d\n" % (time * (jobs + machines - 1))
+
+
+def equal_check(jobs: int, machines: int, time: int) -> Iterator[bytes]:
+    """All jobs take `jobs` times on each machine, plus one time on each machine before and after it."""
+    length = time * (jobs + machines - 1)
+    yield b"valid\nmakespan %d\nbound %d\noptimal\n" % (length, length)
+
+
+def equal_table(jobs: int, machines: int, time: int) -> Iterator[bytes]:
+    yield b"table %d %d\n" % (jobs, machines)
+    for row in range(jobs):
+        spans = b"".join(b" %d %d" % (time * (row + at), time * (row + at + 1)) for at in range(machines))
+        yield b"%d" % (jobs - row) + spans + b"\n"
+    yield b"makespan %d\n" % (time * (jobs + machines - 1))
+
+
+def equal_convert(jobs: int, machines: int, time: int) -> Iterator[bytes]:
+    yield b"flow shop instance\n%d %d\n" % (jobs, machines)
+    row = b" ".join(b"%d %d" % (machine, time) for machine in range(machines)) + b"\n"
+    for _ in range(jobs):
+        yield row
+
+
+# By command, for those over an instance.
+EQUAL: dict[str, Callable[[int, int, int], Iterator[bytes]]] = {
+    "value": equal_value, "solve": equal_solve, "check": equal_check, "table": equal_table, "convert": equal_convert,
+}

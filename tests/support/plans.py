@@ -1,46 +1,45 @@
 """Command lines, and the jobs that they request. The arguments of a line are separated by `|`. So are the parts of a
-job: its name, its layouts (T or O), its block, its files, and before these for `solve` the rounds, the destruction size
-(0 if none is stated), the seed, the passes and whether cells are printed. For `generate` they are its numbers."""
+job: its name and the values of its fields."""
 
-# Each command, with all options and without.
-EACH_COMMAND = [
-    ("value|--layout|taillard|f", "value|T|1|f"),
-    ("value|--layout|orlib|--block|1000|f", "value|O|1000|f"),
-    ("solve|--layout|taillard|f", "solve|T|1|0|0|0|0|false|f"),
-    ("solve|--layout|orlib|--take|5000|f", "solve|O|1|0|5000|0|0|false|f"),
+# Commands with all options and without.
+WITH_OPTIONS = [
+    ("value|--layout|taillard|f", "Value|Taillard|1|f"),
+    ("value|--layout|orlib|--block|1000|f", "Value|OrLib|1000|f"),
+    ("solve|--layout|taillard|f", "Solve|Taillard|1|0|None|0|0|false|f"),
+    ("solve|--layout|orlib|--take|5000|f", "Solve|OrLib|1|0|Some(5000)|0|0|false|f"),
     ("solve|--layout|orlib|--block|2|--rounds|1000000|--take|1|--seed|18446744073709551615|--passes|100|--cells|f",
-     "solve|O|2|1000000|1|18446744073709551615|100|true|f"),
-    ("check|--layout|orlib|--block|2|f|o", "check|O|2|f|o"),
-    ("table|--layout|taillard|f|o", "table|T|1|f|o"),
-    ("convert|--from|taillard|--to|orlib|f", "convert|TO|1|f"),
-    ("convert|--to|taillard|--block|3|--from|orlib|f", "convert|OT|3|f"),
-    ("generate|2001|1|1", "generate|2001|1|1"),
-    ("generate|5000|200|1", "generate|5000|200|1"),
-    ("generate|5|1|873654221", "generate|5|1|873654221"),
-    ("generate|1|1|18446744073709551615", "generate|1|1|18446744073709551615"),
-    ("generate|1|1|0", "generate|1|1|0"),
+     "Solve|OrLib|2|1000000|Some(1)|18446744073709551615|100|true|f"),
+    ("check|--layout|orlib|--block|2|f|o", "Check|OrLib|2|f|o"),
+    ("table|--layout|taillard|f|o", "Table|Taillard|1|f|o"),
+    ("convert|--from|taillard|--to|orlib|f", "Convert|Taillard|OrLib|1|f"),
+    ("convert|--to|taillard|--block|3|--from|orlib|f", "Convert|OrLib|Taillard|3|f"),
+    ("generate|2001|1|1", "Generate|2001|1|1"),
+    ("generate|5000|200|1", "Generate|5000|200|1"),
+    ("generate|5|1|873654221", "Generate|5|1|873654221"),
+    ("generate|1|1|18446744073709551615", "Generate|1|1|18446744073709551615"),
+    ("generate|1|1|0", "Generate|1|1|0"),
 ]
 
 # Options in other places and forms, arguments after `--`, empty arguments, and other spellings of numbers.
 ODD_FORMS = [
-    ("value|--layout=orlib|--block=2|f", "value|O|2|f"),
-    ("value|f|--layout|orlib", "value|O|1|f"),
-    ("check|f|--layout|orlib|o", "check|O|1|f|o"),
-    ("value|--layout|orlib|--|f", "value|O|1|f"),
-    ("value|--layout|orlib|--|--block", "value|O|1|--block"),
-    ("table|--layout|orlib|--|f|--", "table|O|1|f|--"),
-    ("solve|f|--cells|--layout|orlib", "solve|O|1|0|0|0|0|true|f"),
-    ("solve|--layout|orlib|f|--take=3|--cells", "solve|O|1|0|3|0|0|true|f"),
-    ("generate|--|1|1|1", "generate|1|1|1"),
-    ("generate|1|1|1|--", "generate|1|1|1"),
-    ("value|--layout|orlib|", "value|O|1|"),
-    ("check|--layout|orlib||", "check|O|1||"),
-    ("value|--layout|orlib|-", "value|O|1|-"),
-    ("value|--layout|orlib|help", "value|O|1|help"),
-    ("value|--layout|orlib|é", "value|O|1|é"),
-    ("value|--layout|orlib|--block|+5|f", "value|O|5|f"),
-    ("value|--layout|orlib|--block|005|f", "value|O|5|f"),
-    ("generate|+1|01|1", "generate|1|1|1"),
+    ("value|--layout=orlib|--block=2|f", "Value|OrLib|2|f"),
+    ("value|f|--layout|orlib", "Value|OrLib|1|f"),
+    ("check|f|--layout|orlib|o", "Check|OrLib|1|f|o"),
+    ("value|--layout|orlib|--|f", "Value|OrLib|1|f"),
+    ("value|--layout|orlib|--|--block", "Value|OrLib|1|--block"),
+    ("table|--layout|orlib|--|f|--", "Table|OrLib|1|f|--"),
+    ("solve|f|--cells|--layout|orlib", "Solve|OrLib|1|0|None|0|0|true|f"),
+    ("solve|--layout|orlib|f|--take=3|--cells", "Solve|OrLib|1|0|Some(3)|0|0|true|f"),
+    ("generate|--|1|1|1", "Generate|1|1|1"),
+    ("generate|1|1|1|--", "Generate|1|1|1"),
+    ("value|--layout|orlib|", "Value|OrLib|1|"),
+    ("check|--layout|orlib||", "Check|OrLib|1||"),
+    ("value|--layout|orlib|-", "Value|OrLib|1|-"),
+    ("value|--layout|orlib|help", "Value|OrLib|1|help"),
+    ("value|--layout|orlib|é", "Value|OrLib|1|é"),
+    ("value|--layout|orlib|--block|+5|f", "Value|OrLib|5|f"),
+    ("value|--layout|orlib|--block|005|f", "Value|OrLib|5|f"),
+    ("generate|+1|01|1", "Generate|1|1|1"),
 ]
 
 # Invalid command lines, by their fault.
