@@ -54,16 +54,7 @@ free_after layout text more k problem some right enough =
 
 module _ (narrow wide : Limits) (wider : IsWider narrow wide) where
   instance_wider : (problem : Problem) → IsInstance narrow problem → IsInstance wide problem
-  instance_wider problem is = record {
-    within = record {
-      sizes = search arith;
-      every_time = is.within.every_time;
-      short_times = λ k d h. omega (arith, is.within.short_times k d h, wider.time);
-    };
-    seed = omega arith;
-    upper = omega arith;
-    lower = omega arith;
-  }
+  instance_wider problem is = grind (arith, is.within, is.within.short_times, wider)
 
   -- the other parts of a block don't depend on the limits
   block_wider : (layout : Layout) (problem : Problem) (block : List (List ℕ)) → IsBlock narrow layout problem block

@@ -61,11 +61,9 @@ pub due_line : (layout : Layout) (block : Block) (text : List ℕ)
     → are_due layout block.size (block.numbers ++ numbers (open_line text))
     ≡ (are_due layout block.size (block.numbers ++ ended_numbers (open_line text))
     && is_none (number_fault layout (inside block) text))
-due_line layout block text = elim (cases_Bool (is_empty (last_digits text))) [
-  | inl none ↦ rw (line_numbers text, none, and-true) refl
-  | inr some ↦ rw (line_numbers text, some, ← append_assoc)
-      (grind (arith, are_due-push, misfit_is, length-append {A = ℕ}))
-]
+due_line layout block text =
+    rw (line_numbers text)
+    (grind (arith, and-true, are_due-push, misfit_is, length-append {A = ℕ}, append_assoc {A = ℕ}))
 
 -- ---- the fault of a byte
 
@@ -260,13 +258,9 @@ module _ (layout : Layout) (k : ℕ) where
   -- a good text with one more byte, without a fault, is within the limit
   short_more : (text : List ℕ) (b : ℕ) → byte_fault layout k (text ++ b ∷ []) ≡ None → Few text
       → length text ≤ LONGEST_INPUT → AllGood text ≡ true → length (text ++ b ∷ []) ≤ LONGEST_INPUT
-  short_more text b right few short good = elim (cases_eq (length text) LONGEST_INPUT) [
-    | inl full ↦
-        let long = long_fault text b few good full in
-        let none = (faultless_front text b right).1 in
-        absurd (cc)
-    | inr differs ↦ omega (arith, length_push text b)
-  ]
+  short_more text b right few short good =
+      let none = (faultless_front text b right).1 in
+      grind (arith, length_push text b, long_fault text b few good)
 
   -- while no byte has a fault and fewer than k blocks are complete, the text is within the limit and all is good
   pub sound : (text : List ℕ) → byte_fault layout k text ≡ None → Few text

@@ -44,18 +44,12 @@ rejected_memory phase = inr (λ e. cc)
 
 -- ---- a number
 
-keeps_in : (phase : Phase) (r : Blocks) (value first : ℕ) → r.phase ≡ phase → is_live phase ≡ true
-    → Keeps r (number_ended_in phase r value first)
-keeps_in phases.Body r value first e live = grind arith
-keeps_in phase r value first e live = grind (arith, common_steps)
-
 pub keeps_number : (r : Blocks) (value first : ℕ) → is_live r.phase ≡ true → Keeps r (number_ended r value first)
 unfolding number_ended
-keeps_number r value first live = keeps_in r.phase r value first refl live
+keeps_number r value first live = grind (arith, common_steps)
 
 pub keeps_last : (r : Blocks) (number : Option Number) → is_live r.phase ≡ true → Keeps r (last_number_ended r number)
-keeps_last r None live = grind arith
-keeps_last r (Some number) live = keeps_number r number.value number.first live
+keeps_last r number live = grind (arith, keeps_number)
 
 -- ---- the end of a line
 
@@ -197,12 +191,6 @@ byte_on r last text b complete now on live five line f good = elim (cases_Bool (
 
 -- ---- the end of a line
 
--- the end of a line changes no fault
-rejected_line : (r next : Blocks) (fault : LayoutFault) (numbered : Bool) → IsRejection r fault next
-    → IsRejection r fault (line_ended next numbered)
-unfolding line_ended
-rejected_line r next fault numbered rejects = grind arith
-
 -- the end of a line has the outcome that it has after the line's last number
 outcome_after : (r between next : Blocks) (stood : Stand) (fault : Option LayoutFault) → Keeps r between
     → between.held ≡ r.held → Outcome between false stood [] next fault → Outcome r false stood [] next fault
@@ -215,7 +203,7 @@ pub end_byte : (r : Blocks) (last : Line) (text : List ℕ) (b : ℕ) (complete 
     → FollowsLine last text → FollowsText r text complete now → GoodNow r.layout now (open_line text)
     → Outcome r false (stand_after r.layout (standing complete now) (open_line text)) [] (after_byte r last b)
     (fault_within_limit r.layout now text b)
-unfolding wrong_size
+unfolding wrong_size line_ended
 end_byte r last text b complete seeking end live five lines line f good =
     let ended : Blocks = last_number_ended r (open_number last.digits) in
     let keeps = keeps_last r (open_number last.digits) live in
@@ -242,6 +230,6 @@ end_byte r last text b complete (inside block) end live five lines line f good =
           let next = body_line ended complete block (open_line text) numbered (rw none at part) unmixed
           (rw (← keeps.layout) at due) in
           rw none (rw keeps.layout at next)
-      | inr one ↦ rw one.1 (rejected_line r ended one.0 numbered (rw one.1 at part))
+      | inr one ↦ let rejects = rw one.1 at part in rw one.1 (grind (arith, rejects))
     ])
 end_byte r last text b complete lost end live five lines line f good = absurd f.now

@@ -38,8 +38,7 @@ unfolding stated_size stated_by
 clips layout line ns h = grind (arith, h.values)
 
 pub same_within : (size : Size) → is_within_limits (clipped size) ≡ is_within_limits size
-same_within size =
-    grind (arith, nat_tests)
+same_within size = grind (arith, nat_tests)
 
 -- a size within the limits is stored unchanged
 clipped_is : (size : Size) → is_within_limits size ≡ true → clipped size ≡ size
@@ -58,17 +57,7 @@ unfolding instance_of
 begun_follows r complete size f few within =
     let least : length complete < r.wanted = omega (arith, f.complete) in
     let none = rw (no_block complete r.wanted [] least) at f.held in
-    record {
-      complete = f.complete;
-      now = record {
-        phase = refl;
-        few = few;
-        fits = within;
-        body = grind (arith, size_within size within);
-      };
-      instance = rw (f.complete, lt-ltb _ _ least) (grind arith);
-      held = rw (none, lt-ltb _ _ least) (grind arith);
-    }
+    grind (arith, nat_tests, f, size_within size within)
 
 -- the next block is sought on the next line too, of which no number was read
 seeks_on : {has_word : Bool} (r : Blocks) (complete : List Block) (more : List ℕ)
@@ -81,13 +70,11 @@ size_step : (stated kept : Option Size) (r : Blocks) (complete : List Block) →
     → FollowsBlocks false (at_next_line r) (standing complete seeking) [] → r.complete < r.wanted
     → Outcome r false (standing complete (after_size stated)) []
     (size_validated (at_next_line r) r.line kept) (size_fault stated r.line)
-size_step None kept r complete same f few =
-    rw same (record { phase = refl; held = refl; layout = refl; wanted = refl })
+size_step None kept r complete same f few = rw same (search)
 size_step (Some size) kept r complete same f few = elim (cases_Bool (is_within_limits size)) [
   | inl within ↦
       rw (same ∙ ap Some (clipped_is size within), within) (begun_follows (at_next_line r) complete size f few within)
-  | inr beyond ↦
-      rw (same, same_within size, beyond) (record { phase = refl; held = refl; layout = refl; wanted = refl })
+  | inr beyond ↦ rw (same, same_within size, beyond) (search)
 ]
 
 -- what the end of a line does in this phase

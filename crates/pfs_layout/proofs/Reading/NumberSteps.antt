@@ -88,10 +88,7 @@ holds_none = record { count = refl; values = λ i few. get_or-replicate 5 i 0 0 
 
 pub holds_push : (line : SizeLine) (ns : List ℕ) (v : ℕ) → length line.values ≡ 5 → HoldsNumbers line ns
     → HoldsNumbers (with_number line (min CEILING v)) (ns ++ v ∷ [])
-holds_push line ns v five h = record {
-  count = omega (arith, h.count, length_push ns v);
-  values = λ i few. grind (arith, common_steps, h.count, h.values);
-}
+holds_push line ns v five h = grind (arith, common_steps, h.count, h.values)
 
 -- ---- the next number of a body
 
@@ -150,9 +147,6 @@ pub record IsRejection (old : Blocks) (fault : LayoutFault) (new : Blocks) : Typ
   pub layout : new.layout ≡ old.layout
   pub wanted : new.wanted ≡ old.wanted
 
-pub rejects : (r : Blocks) (fault : LayoutFault) → IsRejection r fault (rejected r fault)
-rejects r fault = record { phase = refl; held = refl; layout = refl; wanted = refl }
-
 -- the fault, or what the fields mean after these ended numbers of the line, which has a word byte or not
 abbrev pub Outcome : Blocks → Bool → Stand → List ℕ → Blocks → Option LayoutFault → Type 0
 Outcome r has_word stood more next None = FollowsBlocks has_word next stood more
@@ -192,15 +186,7 @@ sought_number : {has_word : Bool} (r : Blocks) (complete : List Block) (more : L
 unfolding number_ended
 sought_number r complete more v first f live five =
     let sought : r.phase ≡ phases.Seeking = grind (arith, f.now.phase) in
-    rw sought (record {
-      complete = f.complete;
-      now = record {
-        phase = rw sought at f.now.phase;
-        numbers = λ no_word. holds_push r.size_line more v five (f.now.numbers no_word);
-      };
-      instance = f.instance;
-      held = f.held;
-    })
+    rw sought (grind (arith, f, holds_push r.size_line more v five))
 
 -- ---- a block has begun
 
@@ -232,12 +218,7 @@ module _ {has_word : Bool} (r : Blocks) (complete : List Block) (block : Block) 
       let wanted = begun_wanted complete r.wanted (inside block) (more ++ v ∷ []) few in
       let count : length block.numbers + length (more ++ v ∷ []) ≡ length so_far + 1 =
       omega (arith, length-append block.numbers more, length_push more v) in
-      record {
-        complete = f.complete;
-        now = record { phase = f.now.phase; few = f.now.few; fits = f.now.fits; body = rw count after };
-        instance = rw (wanted, ← append_assoc) keeping.instance;
-        held = rw (wanted, ← append_assoc) keeping.held;
-      }
+      grind (arith, f, keeping, append_assoc {A = ℕ})
 
   follows : FollowsBody r.layout block.size (length so_far) r.body
   follows = rw (← length-append block.numbers more) at f.now.body
@@ -263,7 +244,7 @@ module _ {has_word : Bool} (r : Blocks) (complete : List Block) (block : Block) 
       let is : number_ended r (min CEILING v) first ≡ body_validated r (min CEILING v) first = rw f.now.phase in
       rw (is, due_is f.now.body, clip) (elim (cases_Bool (is_due due v)) [
         | inl is ↦ rw is (due_counts due refl is)
-        | inr other ↦ rw other (rejects r _)
+        | inr other ↦ rw other (search)
       ])
 
 -- one more number, in any state

@@ -11,9 +11,8 @@ use Rattle.pfs_layout.proofs.Words.{standing, fault_of_place, min, no_numbers, h
 use Rattle.pfs_layout.proofs.Words.{Fields, block_read, FollowsBlocks, Follows, IsReader}
 use Rattle.pfs_layout.specs.declared.blocks.Phase.TheVariants as phases
 use Rattle.pfs_layout.specs.Private.Step.{Pushes, CanCount}
-use Rattle.std.specs.Char.{digit_value}
-use Rattle.std.specs.Str.Parse.{digits_value_after}
-use Rattle.std.proofs.lemmas.List.Sums.{sum_by-append, count_by-le-length}
+use Rattle.std.proofs.lemmas.Int.Digits.{digits_value_push}
+use Rattle.std.proofs.lemmas.List.Sums.{sum_by_push, count_by-le-length}
 use Rattle.pfs_layout.proofs.Files.LineLemmas.{open_part-push}
 use Rattle.pfs_layout.proofs.Words.{cases_option}
 use Rattle.pfs_layout.proofs.Published.PlaceLemmas.{byte_fault-push}
@@ -27,25 +26,6 @@ use Rattle.pfs_layout.proofs.Reading.ByteSteps.{keeps_last, line_end_keeps}
 
 -- ---- the last line with one byte more
 
-value_after-push : (n : ℕ) (ds : List ℕ) (b : ℕ)
-    → digits_value_after 10 n (ds ++ b ∷ []) ≡ digits_value_after 10 n ds * 10 + digit_value b
-value_after-push n [] b = refl
-value_after-push n (d ∷ ds) b = value_after-push (n * 10 + digit_value d) ds b
-
-pub count_push : (text : List ℕ) (b : ℕ)
-    → count_by is_line_end (text ++ b ∷ []) ≡ count_by is_line_end text + (if is_line_end b then 1 else 0)
-count_push text b = grind (arith, sum_by-append (λ x. if is_line_end x then 1 else 0) text (b ∷ []))
-
--- whether some byte of the last line passes a test
-any_push : (p : ℕ → Bool) (text : List ℕ) (b : ℕ)
-    → list_any p (open_line (text ++ b ∷ [])) ≡ (not (b == 10) && (list_any p (open_line text) || p b))
-any_push p text b =
-    grind (arith, open_part-push is_line_end text b, list_any-append p (open_line text) (b ∷ []))
-
-last_digits-push : (text : List ℕ) (b : ℕ)
-    → last_digits (text ++ b ∷ []) ≡ (if is_digit b then last_digits text ++ b ∷ [] else [])
-last_digits-push text b = grind (arith, open_part-push is_no_digit text b)
-
 pub line_push : {old new : Line} {b : ℕ} → new.digits.offset ≡ old.digits.offset + 1
     → new.digits.first ≡ (if is_digit b then old.digits.first else old.digits.offset + 1)
     → new.digits.value ≡ (if is_digit b then min CEILING (old.digits.value * 10 + (b - 48)) else 0)
@@ -56,13 +36,14 @@ line_push {b = b} offset first value digit word = record {
   offset = offset;
   follows = λ text f.
       let count = length_push text b in
-      let run = last_digits-push text b in
+      let run = open_part-push is_no_digit text b in
+      let line = open_part-push is_line_end text b in
       record {
         offset = omega (arith, offset, f.offset);
         first = grind (arith, first, run, length_push (last_digits text) b, f.first, f.offset);
-        value = grind (arith, value, run, value_after-push 0 (last_digits text) b, f.value);
-        has_digit = grind (arith, digit, any_push is_digit text b, f.has_digit);
-        has_word = grind (arith, word, any_push is_word_byte text b, f.has_word);
+        value = grind (arith, value, run, digits_value_push 10 (last_digits text) b, f.value);
+        has_digit = grind (arith, digit, line, list_any-append {X = ℕ}, f.has_digit);
+        has_word = grind (arith, word, line, list_any-append {X = ℕ}, f.has_word);
       };
 }
 
@@ -73,24 +54,7 @@ pub new_has_read : (last : Line) (r : Blocks) → FollowsLine last [] → 1 ≤ 
     → r ≡ record r { complete = 0; line = 1; phase = phases.Seeking; size_line = no_numbers; instance = None; held = 0 }
     → HasRead (fields last r) []
 unfolding byte_fault ended_parts open_part stand ended_numbers
-new_has_read last r line some is = rw is (record {
-  some = some;
-  sound = refl;
-  short = omega arith;
-  last_line = line;
-  line = refl;
-  few_numbers = omega arith;
-  five_values = refl;
-  blocks = record {
-    complete = refl;
-    now = record {
-      phase = rw (lt-ltb 0 r.wanted some);
-      numbers = λ plain. holds_none;
-    };
-    instance = grind arith;
-    held = grind arith;
-  };
-})
+new_has_read last r line some is = rw is (grind (arith, nat_tests, holds_none))
 
 -- ---- one more byte
 
@@ -150,15 +114,7 @@ module _ {r : Fields} {text : List ℕ} (f : Follows r text) (last : Line) (next
   rejected_has_read : (fault : LayoutFault) → fault_of_place r.layout r.wanted text (Some b) ≡ Some fault
       → IsRejection r.blocks fault next → HasRead (fields last next) (text ++ b ∷ [])
   unfolding block_read
-  rejected_has_read fault here n = rw n.phase (record {
-    front = text;
-    byte = b;
-    rest = [];
-    whole = refl;
-    sound = rw (n.layout, n.wanted) f.sound;
-    here = rw (n.layout, n.wanted) here;
-    held = rw (n.held, n.layout, n.wanted) f.blocks.held;
-  })
+  rejected_has_read fault here n = grind (arith, n, f.sound, f.blocks.held)
 
   follows_on : Pushes r.last b last → length text < LONGEST_INPUT
       → fault_of_place r.layout r.wanted text (Some b) ≡ None
@@ -171,7 +127,7 @@ module _ {r : Fields} {text : List ℕ} (f : Follows r text) (last : Line) (next
         sound = rw (c.layout, c.wanted, byte_fault-push r.layout r.wanted text b, f.sound) here;
         short = omega arith;
         last_line = pushes.follows text f.last_line;
-        line = rw (c.line, f.line, count_push text b) (omega arith);
+        line = grind (arith, c.line, f.line, sum_by_push (λ x. if is_line_end x then 1 else 0) text b);
         few_numbers = omega (arith, c.few, f.few_numbers);
         five_values = elim c.five [ inl same ↦ same ∙ f.five_values | inr five ↦ five ];
         blocks = subst (λ l. OutcomeAfter r.blocks l (text ++ b ∷ []) next None) (sym c.layout) blocks;
@@ -224,22 +180,11 @@ can_count {r = r} {text = text} f phase =
     let count = length-append block.numbers more in
     let held : r.held ≤ r.body.validated = grind (arith, kept.held, body.validated) in
     let due = due_few r.layout block.size follows.now.fits in
-    record {
-      few = body.few;
-      job = body.job;
-      machine = body.machine;
-      held = omega (arith, body.due, body.few);
-      instance = rw kept.instance (grind (arith, body.jobs, body.machines));
-    }
+    grind (arith, body, kept.instance)
 
 pub follows_ready : {r : Fields} {text : List ℕ} → Follows r text → is_live r.phase ≡ true → IsReady r.blocks
-follows_ready {text = text} f live = record {
-  live = live;
-  can = can_count f;
-  count = omega (arith, f.few_numbers, f.short);
-  complete = wants_more f live;
-  line = omega (arith, f.line, f.short, count_by-le-length is_line_end text);
-}
+follows_ready {text = text} f live =
+    grind (arith, f, can_count f, wants_more f live, count_by-le-length is_line_end text)
 
 pub reader_ready : {r : Fields} → IsReader r → is_live r.phase ≡ true → IsReady r.blocks
 reader_ready {r = r} some live =
