@@ -72,9 +72,7 @@ wider_limits narrow wide layout input k problem wider file =
     let each = blocks_wider narrow wide wider layout file.blocks.earlier file.blocks.each in
     let own = block_wider narrow wide wider layout problem file.blocks.own file.blocks.is_own in
     let short : length file.text ≤ wide.input = omega (arith, file.short, wider.input) in
-    let front : Front wide input = search in
-    let blocks : AreBlocks wide layout k problem (lines file.text) = search in
-    record { front = front; blocks = blocks }
+    record { front = search; blocks = search }
 
 pub earlier_files : EarlierFiles
 earlier_files layout input k problem = wider_limits earlier_limits limits layout input k problem (record {

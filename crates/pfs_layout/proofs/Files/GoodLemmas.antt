@@ -20,8 +20,7 @@ are_due-push : (layout : Layout) (size : Size) (ns : List ℕ) (n : ℕ)
     → are_due layout size (ns ++ n ∷ []) ≡ (are_due layout size ns && is_due (due_at layout size (length ns)) n)
 unfolding are_due
 are_due-push layout size ns n =
-    let e : 0 + length ns ≡ length ns = omega arith in
-    rw (enumerate_from-append 0 ns (n ∷ []), list_all-append, e, and-true) refl
+    rw (enumerate_from-append 0 ns (n ∷ []), list_all-append) (grind (arith, and-true))
 
 misfit_is : (due : Due) (n offset : ℕ) → is_none (misfit due n offset) ≡ is_due due n
 misfit_is due n offset = grind (arith, nat_tests)
@@ -104,10 +103,16 @@ pub good_on : (layout : Layout) (now : Now) (text : List ℕ) (b : ℕ) → is_l
 unfolding mixed_line wrong_size
 good_on layout seeking text b on = rw on
 good_on layout (inside block) text b on =
-    let numbers = due_line layout block text in
-    let fault = wrong_number_is layout block text b in
-    let none = no_last text in
-    grind (arith, nat_tests, line_numbers text, ended_numbers-push (open_line text) b, list_any-append {X = ℕ})
+    grind (
+      arith,
+      nat_tests,
+      due_line layout block text,
+      wrong_number_is,
+      no_last text,
+      line_numbers text,
+      ended_numbers-push,
+      list_any-append {X = ℕ},
+    )
 good_on layout lost text b on = refl
 
 pub ended_none : ended_numbers [] ≡ []
@@ -119,11 +124,10 @@ pub good_end : (layout : Layout) (complete : List Block) (now : Now) (text : Lis
     → is_good layout (after_line layout complete now (open_line text)).now []
     ≡ (is_good layout now (open_line text) && is_none (fault_within_limit layout now text 10))
 unfolding wrong_size are_due
-good_end layout complete seeking text = let none = ended_none in grind (arith, nat_tests)
+good_end layout complete seeking text = grind (arith, nat_tests, ended_none)
 good_end layout complete (inside block) text =
-    let numbers = due_line layout block text in
-    let none = ended_none in
-    rw (gap_fault layout block text 10 refl) (grind (arith, append-nil {A = ℕ}))
+    rw (gap_fault layout block text 10 refl)
+    (grind (arith, append-nil {A = ℕ}, due_line layout block text, ended_none))
 good_end layout complete lost text = refl
 
 -- ---- a text with one byte more

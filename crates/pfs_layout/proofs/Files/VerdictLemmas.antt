@@ -76,10 +76,7 @@ pub end_faults : (layout : Layout) (k : ℕ) (now : Now) (text : List ℕ) → i
     → first_some (faults layout k now text None)
     ≡ option_or (fault_within_limit layout now text 10) (ends_early layout k text None)
 unfolding mixed_line wrong_number wrong_size
-end_faults layout k seeking text good = elim (cases_Bool (is_empty (open_line text))) [
-  | inl empty ↦ rw (nothing_on (open_line text) empty) (grind arith)
-  | inr filled ↦ grind arith
-]
+end_faults layout k seeking text good = grind (arith, nothing_on (open_line text))
 end_faults layout k (inside block) text good = rw (gap_fault layout block text 10 refl) (grind arith)
 end_faults layout k lost text good = absurd (cc)
 
@@ -124,9 +121,7 @@ module _ (layout : Layout) (k : ℕ) where
       let good = (sound layout k text right few).1 in
       let faults = end_faults layout k before.now text good in
       let reached = stand_lines layout text good in
-      let line = one_line layout before (open_line text) in
-      let ended = good_end layout before.complete before.now text in
-      grind (arith, nat_tests)
+      grind (arith, nat_tests, one_line, good_end layout before.complete before.now text)
 
   -- ---- without a fault there is a file
 
@@ -134,8 +129,7 @@ module _ (layout : Layout) (k : ℕ) where
   sought : (text : List ℕ) (reached : Stand) → Few layout k text
       → reached ≡ stand_after layout (stand_of layout text) (open_line text) → k ≤ length reached.complete
       → (length reached.complete ≡ k) × (reached.now ≡ seeking)
-  sought text reached few is enough =
-      let line = one_line layout (stand_of layout text) (open_line text) in grind (arith, length_push {X = Block})
+  sought text reached few is enough = grind (arith, one_line, length_push {X = Block})
 
   -- the input has the problem's file, which ends with a line end
   abbrev pub EndedHolds : List ℕ → Problem → Type 0

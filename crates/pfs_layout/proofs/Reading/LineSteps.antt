@@ -55,15 +55,7 @@ begun_follows : (r : Blocks) (complete : List Block) (size : Size)
     → FollowsBlocks false (block_begun r size) (standing complete (inside (begun size))) []
 unfolding instance_of
 begun_follows r complete size f few within =
-    let least : length complete < r.wanted = omega (arith, f.complete) in
-    let none = rw (no_block complete r.wanted [] least) at f.held in
     grind (arith, nat_tests, f, size_within size within)
-
--- the next block is sought on the next line too, of which no number was read
-seeks_on : {has_word : Bool} (r : Blocks) (complete : List Block) (more : List ℕ)
-    → FollowsBlocks has_word r (standing complete seeking) more
-    → FollowsBlocks false (at_next_line r) (standing complete seeking) []
-seeks_on r complete more f = search (holds_none)
 
 -- the size line of a sought block
 size_step : (stated kept : Option Size) (r : Blocks) (complete : List Block) → Clips kept stated
@@ -92,7 +84,7 @@ pub sought_line : (r : Blocks) (complete : List Block) (line : List ℕ) (number
     (if is_number_line line then size_fault (stated_size r.layout (numbers line)) r.line else None)
 unfolding stand_after
 sought_line r complete line numbered f phase few same =
-    let next = seeks_on r complete (numbers line) f in
+    let next : FollowsBlocks false (at_next_line r) (standing complete seeking) [] = search (holds_none) in
     rw (ended_in r numbered phases.Seeking phase, same) (elim (cases_Bool (is_number_line line)) [
       | inl number_line ↦
           let plain = not-true _ (and_parts _ _ number_line).1 in
@@ -125,19 +117,11 @@ body_line r complete block line numbered f unmixed due =
       | inl less ↦
           let short : length whole.numbers ≢ due_count r.layout block.size =
           λ z. omega (arith, body.due, body.validated, count) in
-          rw (ended_in r numbered phases.Body f.now.phase, lt-ltb _ _ less, ne_eqb _ _ short) (record {
-            complete = f.complete;
-            now = record { phase = f.now.phase; few = f.now.few; fits = f.now.fits; body = rw count body };
-            instance = rw append-nil f.instance;
-            held = rw append-nil f.held;
-          })
+          rw (ended_in r numbered phases.Body f.now.phase, lt-ltb _ _ less, ne_eqb _ _ short)
+          (grind (arith, f, count, append-nil {A = ℕ}))
       | inr all ↦
           let full : length whole.numbers ≡ due_count r.layout block.size =
           omega (arith, body.due, body.validated, body.few, count) in
-          rw (ended_in r numbered phases.Body f.now.phase, le-ltb _ _ all, eq-eqb _ _ full) (record {
-            complete = omega (arith, f.complete, length_push complete whole);
-            now = record { phase = grind (arith, nat_tests); numbers = λ plain. holds_none };
-            instance = rw (completed_is r.wanted complete block line few) f.instance;
-            held = rw (completed_is r.wanted complete block line few) f.held;
-          })
+          rw (ended_in r numbered phases.Body f.now.phase, le-ltb _ _ all, eq-eqb _ _ full)
+          (grind (arith, nat_tests, f, holds_none, length_push, completed_is r.wanted complete block line few))
     ])

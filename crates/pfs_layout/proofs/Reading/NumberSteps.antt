@@ -177,17 +177,6 @@ keeping_of r complete block more few instance held =
     let wanted = begun_wanted complete r.wanted (inside block) more few in
     record { instance = rw wanted at instance; held = rw wanted at held }
 
--- ---- the next block is sought
-
-sought_number : {has_word : Bool} (r : Blocks) (complete : List Block) (more : List ℕ) (v first : ℕ)
-    → FollowsBlocks has_word r (standing complete seeking) more
-    → is_live r.phase ≡ true → length r.size_line.values ≡ 5
-    → FollowsBlocks has_word (number_ended r (min CEILING v) first) (standing complete seeking) (more ++ v ∷ [])
-unfolding number_ended
-sought_number r complete more v first f live five =
-    let sought : r.phase ≡ phases.Seeking = grind (arith, f.now.phase) in
-    rw sought (grind (arith, f, holds_push r.size_line more v five))
-
 -- ---- a block has begun
 
 module _ {has_word : Bool} (r : Blocks) (complete : List Block) (block : Block) (more : List ℕ) (v : ℕ)
@@ -253,6 +242,7 @@ pub number_step : {has_word : Bool} (r : Blocks) (complete : List Block) (now : 
     → is_live r.phase ≡ true → length r.size_line.values ≡ 5
     → Outcome r has_word (standing complete now) (more ++ v ∷ []) (number_ended r (min CEILING v) first)
     (misfit_in r.layout now more v first)
-number_step r complete seeking more v first f live five = sought_number r complete more v first f live five
+unfolding number_ended
+number_step r complete seeking more v first f live five = grind (arith, f, holds_push r.size_line more v five)
 number_step r complete (inside block) more v first f live five = begun_number r complete block more v f first
 number_step r complete lost more v first f live five = absurd f.now

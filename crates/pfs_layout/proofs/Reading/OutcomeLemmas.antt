@@ -97,7 +97,5 @@ finish_reports r text s =
 pub same_results : (one other : Fields) (text : List ℕ) (returned second : Result Problem LayoutFault)
     → one.layout ≡ other.layout → one.wanted ≡ other.wanted
     → FinishMeets one text returned → FinishMeets other text second → returned ≡ second
-same_results one other text (Ok problem) second layouts blocks first_meets second_meets =
-    sym ((second_meets.file problem).1 (rw (layouts, blocks) at ((first_meets.file problem).0 refl)))
-same_results one other text (Err fault) second layouts blocks first_meets second_meets =
-    sym ((second_meets.rejected fault).1 (rw (layouts, blocks) at ((first_meets.rejected fault).0 refl)))
+same_results one other text (Ok problem) second layouts blocks m n = grind (arith, m.file problem, n.file problem)
+same_results one other text (Err fault) second layouts blocks m n = grind (arith, m.rejected fault, n.rejected fault)

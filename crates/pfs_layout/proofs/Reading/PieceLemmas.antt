@@ -242,11 +242,6 @@ rejected_fault r text fault f =
     rw (f.whole, ← append_assoc f.front (f.byte ∷ []) f.rest)
     (byte_fault-more r.layout r.wanted _ f.rest fault (rw (byte_fault-push, f.sound, f.here)))
 
--- a reader with a fault has read every longer text too
-rejected_more : (r : Fields) (text more : List ℕ) (fault : LayoutFault) → IsRejected r text fault
-    → IsRejected r (text ++ more) fault
-rejected_more r text more fault f = grind (arith, f, append_assoc {A = ℕ})
-
 -- when a reader is done, the wanted block is complete
 pub done_enough : (r : Fields) (text : List ℕ) → Follows r text → r.phase ≡ phases.Done
     → r.wanted ≤ length (stand_of r.layout text).complete
@@ -283,7 +278,7 @@ module _ {old new : Fields} {text piece : List ℕ} {used : ℕ} (m : TakeMeets 
       by_phase (phases.Rejected fault) e =
           let stood : fault ≢ Memory → IsRejected new (text ++ piece) fault = λ other.
           let here = subst (λ p. HasReadIn p new taken) e (m.has_read (λ z. other (cc))) in
-          rw (whole_text text piece used) (rejected_more new taken (drop used piece) fault here) in
+          rw (whole_text text piece used) (grind (arith, here, append_assoc {A = ℕ})) in
           grind (arith, m.memory, m.layout, m.wanted, stood, rejected_fault new (text ++ piece) fault)
       by_phase phase e =
           let live : is_live new.phase ≡ true = rw e in

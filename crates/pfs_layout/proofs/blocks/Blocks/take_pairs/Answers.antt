@@ -12,13 +12,9 @@ pub loop-byte-preserved-then-is_digit : goal.loop-byte-preserved-then-is_digit
 loop-byte-preserved-then-is_digit c =
     let inv = c.loop-byte.invariant in
     let digit = sym c.is_digit.ensures ∙ c.if-is_digit.true in
-    record {
-      taken = taken_quiet inv.taken (omega arith) c.requires.room c.push_digit.ensures.pushes
-          (digit_validated inv.taken (rw (digit, inv.plain)));
-      phase = inv.phase;
-      plain = c.push_digit.ensures.word ∙ inv.plain;
-      short = grind (arith, nat_tests, digit, c.push_digit.ensures.value, c.if-line-from.false);
-    }
+    let taken = taken_quiet inv.taken (omega arith) c.requires.room c.push_digit.ensures.pushes
+    (digit_validated inv.taken (rw (digit, inv.plain))) in
+    grind (arith, nat_tests, inv, taken, digit, c.push_digit.ensures, c.if-line-from.false)
 
 pub store_time-requires-clause-can : goal.store_time-requires-clause-can
 store_time-requires-clause-can c =
@@ -58,13 +54,10 @@ loop-byte-preserved c =
                   short = rw c.push_blank.ensures.digits (omega arith);
                 })
           ]
-      | in_default w ↦ rw (w.self-is, w.body-is) (record {
-        taken = taken_quiet inv.taken (omega arith) c.requires.room (c.push_blank.ensures.pushes _ blank)
-            (grind (arith, w.in_default) ∙ blank_validated inv.taken blank c.number.ensures);
-        phase = inv.phase;
-        plain = rw c.push_blank.ensures.kinds inv.plain;
-        short = rw c.push_blank.ensures.digits (omega arith);
-      })
+      | in_default w ↦
+          let taken = taken_quiet inv.taken (omega arith) c.requires.room (c.push_blank.ensures.pushes _ blank)
+          (grind (arith, w.in_default) ∙ blank_validated inv.taken blank c.number.ensures) in
+          rw (w.self-is, w.body-is) (grind (arith, inv, taken, c.push_blank.ensures))
     ]
 
 pub returns-clause-taken : goal.returns-clause-taken
