@@ -94,8 +94,7 @@ blocks_lead layout complete problem (block ∷ earlier) own each b =
 pub no_numbers : (line : List ℕ) → list_any is_digit line ≡ false → numbers line ≡ []
 unfolding numbers
 no_numbers [] none = refl
-no_numbers (b ∷ line) none =
-    let parts = or_parts (is_digit b) (list_any is_digit line) none in rw parts.0 (no_numbers line parts.1)
+no_numbers (b ∷ line) none = grind (arith, no_numbers line)
 
 -- ---- lines that are made of blocks
 
@@ -197,7 +196,7 @@ module _ (layout : Layout) (text : List (List ℕ)) (complete : List Block) (lin
             | inr none ↦ absurd (m.fits.short (rw (no_numbers line none, append-nil) at whole))
           ];
           holds = grind (arith, all_due, m.fits.opens);
-          within = instance_within layout (with_line block line) m.fits.opens.within right whole;
+          within = instance_within layout (with_line block line) right whole m.fits.opens.within;
         });
         fits = refl;
       }

@@ -103,16 +103,9 @@ pub good_on : (layout : Layout) (now : Now) (text : List ℕ) (b : ℕ) → is_l
 unfolding mixed_line wrong_size
 good_on layout seeking text b on = rw on
 good_on layout (inside block) text b on =
-    grind (
-      arith,
-      nat_tests,
-      due_line layout block text,
-      wrong_number_is,
-      no_last text,
-      line_numbers text,
-      ended_numbers-push,
-      list_any-append {X = ℕ},
-    )
+    let fault = wrong_number_is layout block text b in
+    let none = no_last text in
+    grind (arith, nat_tests, due_line layout block text, line_numbers text, ended_numbers-push, list_any-append {X = ℕ})
 good_on layout lost text b on = refl
 
 pub ended_none : ended_numbers [] ≡ []
@@ -233,21 +226,15 @@ module _ (layout : Layout) (k : ℕ) where
       let before : Stand = stand_of layout text in
       let size = length_push text b in
       let so_far = validated (omega arith) in
-      rw (byte_fault-push layout k text b) (elim (cases_lt (length before.complete) k) [
-        | inr enough ↦
-            let longer = fewer_before layout text (b ∷ []) in
-            grind (arith, nat_tests, enough_right text (Some b) enough)
-        | inl few ↦
-            let here = place_fault text b few (omega arith) in
-            elim (cases_Bool (is_line_end b)) [
-              | inl ends ↦
-                  let good = good_end layout before.complete before.now text in
-                  let line = one_line layout before (open_line text) in
-                  rw (stand_of-end layout text b ends, open_line-end text b ends) (grind (arith, nat_tests))
-              | inr on ↦
-                  let good = good_on layout before.now text b on in
-                  rw (stand_of-on layout text b on, open_line-on text b on) (grind (arith, nat_tests))
-            ]
+      let here = place_fault text b in
+      let enough = enough_right text (Some b) in
+      rw (byte_fault-push layout k text b) (elim (cases_Bool (is_line_end b)) [
+        | inl ends ↦
+            let good = good_end layout before.complete before.now text in
+            rw (stand_of-end layout text b ends, open_line-end text b ends) (grind (arith, nat_tests, one_line))
+        | inr on ↦
+            let good = good_on layout before.now text b on in
+            rw (stand_of-on layout text b on, open_line-on text b on) (grind (arith, nat_tests))
       ])
 
   pub validated : (text : List ℕ) → Validated text

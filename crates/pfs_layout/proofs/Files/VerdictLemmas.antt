@@ -35,8 +35,7 @@ empty_line : (layout : Layout) (complete : List Block) (now : Now) (tail : List 
 unfolding numbers ended_numbers ended_parts
 empty_line layout complete seeking tail good is = refl
 empty_line layout complete (inside block) tail good is =
-    let due = rw append-nil at good in
-    rw (append-nil block.numbers, due, ne_eqb _ _ is.short)
+    grind (arith, nat_tests, is.short, append-nil {A = ℕ})
 empty_line layout complete lost tail good is = absurd (cc)
 
 -- all lines lead to the state after the ended lines and the open line
@@ -47,15 +46,11 @@ stand_filled layout text filled = rw (lines-parts text, filled) (stand-push layo
 pub stand_lines : (layout : Layout) (text : List ℕ) → is_good layout (stand_of layout text).now (open_line text) ≡ true
     → stand layout (lines text) ≡ stand_after layout (stand_of layout text) (open_line text)
 unfolding stand_after
-stand_lines layout text good = elim (cases_Bool (is_empty (open_line text))) [
-  | inr filled ↦ stand_filled layout text filled
-  | inl empty ↦
-      let before : Stand = stand_of layout text in
-      let nothing = nothing_on (open_line text) empty in
-      let m = made layout (ended_lines text) in
-      rw (lines_ended text nothing, nothing)
-      (sym (empty_line layout before.complete before.now m.tail (rw nothing at good) m.fits))
-]
+stand_lines layout text good =
+    let before : Stand = stand_of layout text in
+    let m = made layout (ended_lines text) in
+    let nothing = nothing_on (open_line text) in
+    grind (arith, stand_filled layout text, lines_ended text, empty_line layout before.complete before.now m.tail, m.fits)
 
 -- a block that was complete before the last line remains
 pub block_stays : (layout : Layout) (text more : List ℕ) (i : ℕ) → i < length (stand_of layout text).complete
@@ -63,12 +58,9 @@ pub block_stays : (layout : Layout) (text more : List ℕ) (i : ℕ) → i < len
 block_stays layout text more i within =
     let all : List ℕ = text ++ more in
     let ended = extends layout text more in
+    let more = line_extends layout (stand_of layout text).complete (stand_of layout all) (open_line all) ended in
     let longer : Extends (stand_of layout text).complete (stand layout (lines all)).complete =
-    elim (cases_Bool (is_empty (open_line all))) [
-      | inl empty ↦ rw (lines_ended all (nothing_on (open_line all) empty)) ended
-      | inr filled ↦ rw (stand_filled layout all filled)
-          (line_extends layout (stand_of layout text).complete (stand_of layout all) (open_line all) ended)
-    ] in
+    grind (arith, ended, more, lines_ended all, nothing_on (open_line all), stand_filled layout all) in
     rw longer.1 (slice_get-append (stand_of layout text).complete longer.0 i within)
 
 -- the fault of the end is that of a line end there, and if there is none, the fault of what is missing

@@ -213,8 +213,8 @@ end_byte r last text b complete seeking end live five lines line f good =
     let sought : ended.phase ≡ phases.Seeking = rw (lt-ltb _ _ few) at part.now.phase in
     let outcome = sought_line ended complete (open_line text) (has_numbers_alone last.kinds) part sought few
     (rw (line.has_digit, line.has_word)) in
-    rw (valid_gap r last b (or_right (is_blank b) _ end), end)
-    (outcome_after r ended _ _ _ keeps (keeps.held sought) (rw (keeps.layout, keeps.line ∙ lines) at outcome))
+    let same = rw (keeps.layout, keeps.line ∙ lines) at outcome in
+    rw (valid_gap r last b (or_right (is_blank b) _ end), end) (grind (arith, keeps, keeps.held sought, same))
 end_byte r last text b complete (inside block) end live five lines line f good =
     let ended : Blocks = last_number_ended r (open_number last.digits) in
     let numbered = has_numbers_alone last.kinds in

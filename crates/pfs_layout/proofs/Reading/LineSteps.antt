@@ -46,10 +46,6 @@ clipped_is size within = let w = size_within size within in grind arith
 
 -- ---- a block begins
 
-no_block : (complete : List Block) (wanted : ℕ) (more : List ℕ) → length complete < wanted
-    → block_of wanted (standing complete seeking) more ≡ None
-no_block complete wanted more few = grind (arith, nat_tests)
-
 begun_follows : (r : Blocks) (complete : List Block) (size : Size)
     → FollowsBlocks false r (standing complete seeking) [] → r.complete < r.wanted → is_within_limits size ≡ true
     → FollowsBlocks false (block_begun r size) (standing complete (inside (begun size))) []
@@ -63,11 +59,9 @@ size_step : (stated kept : Option Size) (r : Blocks) (complete : List Block) →
     → Outcome r false (standing complete (after_size stated)) []
     (size_validated (at_next_line r) r.line kept) (size_fault stated r.line)
 size_step None kept r complete same f few = rw same (search)
-size_step (Some size) kept r complete same f few = elim (cases_Bool (is_within_limits size)) [
-  | inl within ↦
-      rw (same ∙ ap Some (clipped_is size within), within) (begun_follows (at_next_line r) complete size f few within)
-  | inr beyond ↦ rw (same, same_within size, beyond) (search)
-]
+size_step (Some size) kept r complete same f few =
+    let begun = begun_follows (at_next_line r) complete size f few in
+    rw (same, same_within size) (grind (arith, clipped_is size))
 
 -- what the end of a line does in this phase
 ended_in : (r : Blocks) (numbered : Bool) (phase : Phase) → r.phase ≡ phase
@@ -113,15 +107,6 @@ body_line r complete block line numbered f unmixed due =
     let few : length complete < r.wanted = omega (arith, f.complete, f.now.few) in
     let count : length whole.numbers + 0 ≡ length block.numbers + length (numbers line) =
     omega (arith, length-append block.numbers (numbers line)) in
-    rw (unmixed, due) (elim (cases_lt r.body.validated r.body.due) [
-      | inl less ↦
-          let short : length whole.numbers ≢ due_count r.layout block.size =
-          λ z. omega (arith, body.due, body.validated, count) in
-          rw (ended_in r numbered phases.Body f.now.phase, lt-ltb _ _ less, ne_eqb _ _ short)
-          (grind (arith, f, count, append-nil {A = ℕ}))
-      | inr all ↦
-          let full : length whole.numbers ≡ due_count r.layout block.size =
-          omega (arith, body.due, body.validated, body.few, count) in
-          rw (ended_in r numbered phases.Body f.now.phase, le-ltb _ _ all, eq-eqb _ _ full)
-          (grind (arith, nat_tests, f, holds_none, length_push, completed_is r.wanted complete block line few))
-    ])
+    let read = completed_is r.wanted complete block line few in
+    rw (unmixed, due, ended_in r numbered phases.Body f.now.phase)
+    (grind (arith, nat_tests, f, body, count, holds_none, length_push, append-nil {A = ℕ}))

@@ -217,9 +217,12 @@ module _ {has_word : Bool} (r : Blocks) (complete : List Block) (block : Block) 
       → CountsTo (counted r due (min CEILING v)) None
   due_counts Due.Time e is =
       let same : min CEILING v ≡ v = grind (arith, nat_tests) in
-      rw same (counted_follows (after_time_follows follows e) (keeping_time v follows e keeps))
+      let number = instance_of-time r.layout block.size so_far v r.body.job r.body.machine in
+      let body = after_time_follows follows e in
+      rw same (grind (arith, nat_tests, f, follows.place, number, length_push, length-append {A = ℕ}, append_assoc {A = ℕ}))
   due_counts (Due.Machine machine) e is =
-      counted_follows (after_machine_follows follows e) (keeping_machine v follows e keeps)
+      let body = after_machine_follows follows e in
+      grind (arith, nat_tests, f, instance_of-machine, length_push, length-append {A = ℕ}, append_assoc {A = ℕ})
   due_counts Due.Nothing e is = grind arith
 
   begun_number : (first : ℕ) → CountsTo (number_ended r (min CEILING v) first)

@@ -20,7 +20,7 @@ use Rattle.pfs_layout.proofs.Files.GoodLemmas.{ended_none, fault_within_limit, p
 use Rattle.pfs_layout.proofs.Files.GoodLemmas.{stand_of-on, stand_of-end, open_line-on, open_line-end}
 use Rattle.pfs_layout.proofs.Files.DueLemmas.{size_within}
 use Rattle.pfs_layout.proofs.Reading.NumberSteps.{IsRejection, Outcome, keeping_of, holds_none}
-use Rattle.pfs_layout.proofs.Words.{after_byte}
+use Rattle.pfs_layout.proofs.Words.{after_byte, line_ended}
 use Rattle.pfs_layout.proofs.Reading.ByteSteps.{live_few, valid_gap, byte_on, end_byte, live-memory}
 use Rattle.pfs_layout.proofs.Reading.ByteSteps.{keeps_last, line_end_keeps}
 
@@ -69,11 +69,11 @@ pub record Carries (old new : Blocks) (ends : Bool) : Type 0 where
 
 pub carries : (r : Blocks) (last : Line) (b : ℕ) → is_live r.phase ≡ true
     → Carries r (after_byte r last b) (is_line_end b)
+unfolding line_ended
 carries r last b live =
     let number = open_number last.digits in
-    let ends = line_end_keeps (last_number_ended r number) (has_numbers_alone last.kinds) in
     elim (cases_Bool (is_blank b || is_line_end b)) [
-      | inl gap ↦ rw (valid_gap r last b gap) (grind (arith, keeps_last r number live, ends))
+      | inl gap ↦ rw (valid_gap r last b gap) (grind (arith, keeps_last r number live))
       | inr other ↦ grind (arith, nat_tests)
     ]
 
@@ -152,10 +152,6 @@ step_has_read {r = r} {text = text} {after = after} b f live short pushes =
 
 -- ---- what a reader that needs more bytes may do next
 
-due_few : (layout : Layout) (size : Size) → is_within_limits size ≡ true → due_count layout size < LONGEST_INPUT
-due_few layout size within =
-    let sizes = (size_within size within).sizes in grind (arith, mul-le-mul sizes.few_jobs sizes.few_machines)
-
 -- the state that the ended lines lead to, by the phase
 pub sought_now : {r : Fields} {text : List ℕ} → Follows r text → r.phase ≡ phases.Seeking
     → (stand_of r.layout text).now ≡ seeking
@@ -179,7 +175,9 @@ can_count {r = r} {text = text} f phase =
     let all : Block = record { size = block.size; numbers = block.numbers ++ more } in
     let count = length-append block.numbers more in
     let held : r.held ≤ r.body.validated = grind (arith, kept.held, body.validated) in
-    let due = due_few r.layout block.size follows.now.fits in
+    let sizes = (size_within block.size follows.now.fits).sizes in
+    let due : due_count r.layout block.size < LONGEST_INPUT =
+    grind (arith, mul-le-mul sizes.few_jobs sizes.few_machines) in
     grind (arith, body, kept.instance)
 
 pub follows_ready : {r : Fields} {text : List ℕ} → Follows r text → is_live r.phase ≡ true → IsReady r.blocks
