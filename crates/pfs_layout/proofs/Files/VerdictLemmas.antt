@@ -201,8 +201,8 @@ module _ (layout : Layout) (k : ℕ) where
             let right : Faultless c.text = grind (arith, nat_tests, c.complete, c.now) in
             let none : c.rest ≡ [] = grind (arith, c.ended) in
             let same : input ≡ c.text = rw (none, append-nil) at c.whole in
-            let last = end_is c.text right few in
-            rw (rejection_end layout k input, same, right) (grind (arith, nat_tests, c.complete, c.now))
+            rw (rejection_end layout k input, same, right)
+            (grind (arith, nat_tests, c.complete, c.now, end_is c.text right few))
       ]
 
   -- ---- the problem of a file is that of the k-th block

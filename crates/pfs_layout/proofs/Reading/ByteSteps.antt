@@ -51,19 +51,6 @@ keeps_number r value first live = grind (arith, common_steps)
 pub keeps_last : (r : Blocks) (number : Option Number) → is_live r.phase ≡ true → Keeps r (last_number_ended r number)
 keeps_last r number live = grind (arith, keeps_number)
 
--- ---- the end of a line
-
--- what the end of a line leaves unchanged, and what it changes apart from the block
-pub record KeepsAtLineEnd (old new : Blocks) : Type 0 where
-  pub layout : new.layout ≡ old.layout
-  pub wanted : new.wanted ≡ old.wanted
-  pub line : new.line ≡ old.line + 1
-  pub size_line : new.size_line ≡ no_numbers
-
-pub line_end_keeps : (r : Blocks) (numbers : Bool) → KeepsAtLineEnd r (line_ended r numbers)
-unfolding line_ended
-line_end_keeps r numbers = grind arith
-
 -- ---- a reader that needs more bytes
 
 pub live_few : (has_word : Bool) (r : Blocks) (now : Now) (more : List ℕ) → FollowsNow has_word r now more
@@ -165,37 +152,25 @@ number_part has_word r last text complete now live five line f = elim (cases_Boo
       (number_step r complete now _ value first f live five)
 ]
 
--- a blank ends the last number of its line
-blank_byte : (r : Blocks) (last : Line) (text : List ℕ) (b : ℕ) (complete : List Block) (now : Now)
-    → (is_blank b || is_line_end b) ≡ true → is_line_end b ≡ false → is_live r.phase ≡ true
-    → length r.size_line.values ≡ 5 → FollowsLine last text → FollowsText r text complete now
-    → FollowsOn r last text b complete now
-blank_byte r last text b complete now gap on live five line f =
-    let fault : fault_within_limit r.layout now text b ≡ number_fault r.layout now text =
-    grind (arith, sought_fine, gap_fault) in
-    let words : list_any is_word_byte (open_line text ++ b ∷ []) ≡ list_any is_word_byte (open_line text) =
-    grind (arith, nat_tests, list_any-append {X = ℕ}) in
-    let ended : ended_numbers (open_line text ++ b ∷ []) ≡ numbers (open_line text) =
-    grind (arith, nat_tests, ended_numbers-push) in
-    rw (words, ended, valid_gap r last b gap, on, fault) (number_part _ r last text complete now live five line f)
-
 -- any byte that doesn't end the line
 pub byte_on : (r : Blocks) (last : Line) (text : List ℕ) (b : ℕ) (complete : List Block) (now : Now)
     → is_line_end b ≡ false → is_live r.phase ≡ true → length r.size_line.values ≡ 5
     → FollowsLine last text → FollowsText r text complete now → GoodNow r.layout now (open_line text)
     → FollowsOn r last text b complete now
 byte_on r last text b complete now on live five line f good = elim (cases_Bool (is_blank b || is_line_end b)) [
-  | inl gap ↦ blank_byte r last text b complete now gap on live five line f
+  -- a blank ends the last number of its line
+  | inl gap ↦
+      let fault : fault_within_limit r.layout now text b ≡ number_fault r.layout now text =
+      grind (arith, sought_fine, gap_fault) in
+      let words : list_any is_word_byte (open_line text ++ b ∷ []) ≡ list_any is_word_byte (open_line text) =
+      grind (arith, nat_tests, list_any-append {X = ℕ}) in
+      let ended : ended_numbers (open_line text ++ b ∷ []) ≡ numbers (open_line text) =
+      grind (arith, nat_tests, ended_numbers-push) in
+      rw (words, ended, valid_gap r last b gap, on, fault) (number_part _ r last text complete now live five line f)
   | inr other ↦ quiet_byte r last text b complete now other line f good
 ]
 
 -- ---- the end of a line
-
--- the end of a line has the outcome that it has after the line's last number
-outcome_after : (r between next : Blocks) (stood : Stand) (fault : Option LayoutFault) → Keeps r between
-    → between.held ≡ r.held → Outcome between false stood [] next fault → Outcome r false stood [] next fault
-outcome_after r between next stood None keeps held o = o
-outcome_after r between next stood (Some fault) keeps held o = grind arith
 
 pub end_byte : (r : Blocks) (last : Line) (text : List ℕ) (b : ℕ) (complete : List Block) (now : Now)
     → is_line_end b ≡ true → is_live r.phase ≡ true

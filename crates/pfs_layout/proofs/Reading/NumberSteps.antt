@@ -117,27 +117,6 @@ module _ {layout : Layout} {size : Size} {count : ℕ} {body : Body} (f : Follow
       → FollowsBody layout size (count + 1) (after_machine body)
   after_machine_follows due = grind (arith, nat_tests, f.place)
 
--- ---- the wanted block's instance
-
--- what is stored of a block, if it is wanted, or if it isn't
-pub record Keeping (layout : Layout) (wanted : Bool) (block : Block) (kept : Option Problem) (count : ℕ) : Type 0 where
-  pub instance : kept ≡ option_map (instance_of layout) (if wanted then Some block else None)
-  pub held : count ≡ time_count layout (if wanted then Some block else None)
-
-module _ {wanted : Bool} {layout : Layout} {size : Size} {ns : List ℕ} (v : ℕ) {body : Body} {instance : Option Problem}
-    {held : ℕ} where
-  pub keeping_time : FollowsBody layout size (length ns) body → due_next layout body ≡ Due.Time
-      → Keeping layout wanted (record { size = size; numbers = ns }) instance held
-      → Keeping layout wanted (record { size = size; numbers = ns ++ v ∷ [] })
-      (option_map (with_problem_time body v) instance) (if is_some instance then held + 1 else held)
-  keeping_time f due k = grind (arith, nat_tests, instance_of-time, length_push, f.place)
-
-  pub keeping_machine : {machine : ℕ} → FollowsBody layout size (length ns) body
-      → due_next layout body ≡ Due.Machine machine
-      → Keeping layout wanted (record { size = size; numbers = ns }) instance held
-      → Keeping layout wanted (record { size = size; numbers = ns ++ v ∷ [] }) instance held
-  keeping_machine f due k = grind (arith, nat_tests, instance_of-machine, length_push)
-
 -- ---- outcomes
 
 -- only the fault has changed
@@ -159,62 +138,19 @@ misfit_in layout (inside block) more v first =
     misfit (due_at layout block.size (length block.numbers + length more)) v first
 misfit_in layout lost more v first = None
 
--- ---- the wanted block
-
--- it is the one that has begun, if that is the next to be complete
-pub begun_wanted : (complete : List Block) (wanted : ℕ) (now : Now) (more : List ℕ) → length complete < wanted
-    → block_of wanted (standing complete now) more
-    ≡ (if length complete + 1 == wanted then block_begun_by now more else None)
-begun_wanted complete wanted now more few = rw (lt-ltb (length complete) wanted few)
-
--- what is stored of the block that has begun
-pub keeping_of : (r : Blocks) (complete : List Block) (block : Block) (more : List ℕ) → length complete < r.wanted
-    → r.instance ≡ option_map (instance_of r.layout) (block_of r.wanted (standing complete (inside block)) more)
-    → r.held ≡ time_count r.layout (block_of r.wanted (standing complete (inside block)) more)
-    → Keeping r.layout (length complete + 1 == r.wanted) (record { size = block.size; numbers = block.numbers ++ more })
-    r.instance r.held
-keeping_of r complete block more few instance held =
-    let wanted = begun_wanted complete r.wanted (inside block) more few in
-    record { instance = rw wanted at instance; held = rw wanted at held }
-
 -- ---- a block has begun
 
 module _ {has_word : Bool} (r : Blocks) (complete : List Block) (block : Block) (more : List ℕ) (v : ℕ)
     (f : FollowsBlocks has_word r (standing complete (inside block)) more) where
-  -- the fault, or what the fields mean with the number
-  abbrev CountsTo : Blocks → Option LayoutFault → Type 0
-  CountsTo next fault = Outcome r has_word (standing complete (inside block)) (more ++ v ∷ []) next fault
-
   abbrev so_far : List ℕ
   so_far = block.numbers ++ more
-
-  -- this is stored, if the block has these numbers
-  abbrev KeepsOf : List ℕ → Option Problem → ℕ → Type 0
-  KeepsOf numbers kept count =
-      Keeping r.layout (length complete + 1 == r.wanted) (record { size = block.size; numbers = numbers }) kept count
-
-  few : length complete < r.wanted
-  few = omega (arith, f.complete, f.now.few)
-
-  keeps : KeepsOf so_far r.instance r.held
-  keeps = keeping_of r complete block more few f.instance f.held
-
-  -- the body has one more number, and so has what is stored
-  counted_follows : {body : Body} {instance : Option Problem} {held : ℕ}
-      → FollowsBody r.layout block.size (length so_far + 1) body → KeepsOf (so_far ++ v ∷ []) instance held
-      → CountsTo (record r { body = body; instance = instance; held = held }) None
-  counted_follows after keeping =
-      let wanted = begun_wanted complete r.wanted (inside block) (more ++ v ∷ []) few in
-      let count : length block.numbers + length (more ++ v ∷ []) ≡ length so_far + 1 =
-      omega (arith, length-append block.numbers more, length_push more v) in
-      grind (arith, f, keeping, append_assoc {A = ℕ})
 
   follows : FollowsBody r.layout block.size (length so_far) r.body
   follows = rw (← length-append block.numbers more) at f.now.body
 
   -- a number that is what is due: it is below the ceiling
   due_counts : (due : Due) → due_next r.layout r.body ≡ due → is_due due v ≡ true
-      → CountsTo (counted r due (min CEILING v)) None
+      → FollowsBlocks has_word (counted r due (min CEILING v)) (standing complete (inside block)) (more ++ v ∷ [])
   due_counts Due.Time e is =
       let same : min CEILING v ≡ v = grind (arith, nat_tests) in
       let number = instance_of-time r.layout block.size so_far v r.body.job r.body.machine in
@@ -225,7 +161,8 @@ module _ {has_word : Bool} (r : Blocks) (complete : List Block) (block : Block) 
       grind (arith, nat_tests, f, instance_of-machine, length_push, length-append {A = ℕ}, append_assoc {A = ℕ})
   due_counts Due.Nothing e is = grind arith
 
-  begun_number : (first : ℕ) → CountsTo (number_ended r (min CEILING v) first)
+  begun_number : (first : ℕ)
+      → Outcome r has_word (standing complete (inside block)) (more ++ v ∷ []) (number_ended r (min CEILING v) first)
       (misfit (due_at r.layout block.size (length block.numbers + length more)) v first)
   unfolding number_ended
   begun_number first =

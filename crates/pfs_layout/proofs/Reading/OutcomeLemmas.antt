@@ -86,10 +86,9 @@ finish_reports r text s =
     let o = end_outcome r.phase r text refl s in (
       λ fault e. meets o.some (rw (o.fault ∙ e)) (o.fault ∙ e),
       λ e.
-          let none = o.fault ∙ e in
-          let held = unrejected_holds r.layout r.wanted o.some text none in
+          let held = unrejected_holds r.layout r.wanted o.some text (o.fault ∙ e) in
           let is = holds_accepted r.layout r.wanted text held.0 held.1 in
-          (held.0, o.instance e ∙ is, meets o.some is none),
+          (held.0, o.instance e ∙ is, meets o.some is (o.fault ∙ e)),
     )
 
 -- ---- two results for the same bytes

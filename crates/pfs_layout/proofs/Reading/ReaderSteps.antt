@@ -19,10 +19,10 @@ use Rattle.pfs_layout.proofs.Published.PlaceLemmas.{byte_fault-push}
 use Rattle.pfs_layout.proofs.Files.GoodLemmas.{ended_none, fault_within_limit, place_fault, GoodNow, stand_of, sound}
 use Rattle.pfs_layout.proofs.Files.GoodLemmas.{stand_of-on, stand_of-end, open_line-on, open_line-end}
 use Rattle.pfs_layout.proofs.Files.DueLemmas.{size_within}
-use Rattle.pfs_layout.proofs.Reading.NumberSteps.{IsRejection, Outcome, keeping_of, holds_none}
+use Rattle.pfs_layout.proofs.Reading.NumberSteps.{IsRejection, Outcome, holds_none}
 use Rattle.pfs_layout.proofs.Words.{after_byte, line_ended}
 use Rattle.pfs_layout.proofs.Reading.ByteSteps.{live_few, valid_gap, byte_on, end_byte, live-memory}
-use Rattle.pfs_layout.proofs.Reading.ByteSteps.{keeps_last, line_end_keeps}
+use Rattle.pfs_layout.proofs.Reading.ByteSteps.{keeps_last}
 
 -- ---- the last line with one byte more
 
@@ -170,15 +170,12 @@ can_count {r = r} {text = text} f phase =
     let block = begun.0 in
     let follows : FollowsBlocks _ r.blocks (standing complete (inside block)) more = rw begun.1 at f.blocks in
     let body = follows.now.body in
-    let least : length complete < r.wanted = omega (arith, follows.complete, follows.now.few) in
-    let kept = keeping_of r.blocks complete block more least follows.instance follows.held in
-    let all : Block = record { size = block.size; numbers = block.numbers ++ more } in
     let count = length-append block.numbers more in
-    let held : r.held ≤ r.body.validated = grind (arith, kept.held, body.validated) in
+    let held : r.held ≤ r.body.validated = grind (arith, nat_tests, follows, body.validated) in
     let sizes = (size_within block.size follows.now.fits).sizes in
     let due : due_count r.layout block.size < LONGEST_INPUT =
     grind (arith, mul-le-mul sizes.few_jobs sizes.few_machines) in
-    grind (arith, body, kept.instance)
+    grind (arith, nat_tests, body, follows)
 
 pub follows_ready : {r : Fields} {text : List ℕ} → Follows r text → is_live r.phase ≡ true → IsReady r.blocks
 follows_ready {text = text} f live =
