@@ -139,10 +139,11 @@ due_passes layout problem within = are_due_by_place layout (size_of problem) (du
 abbrev pub listed_time : Layout → Size → List ℕ → ℕ → ℕ → ℕ
 listed_time layout size numbers job machine = get_or numbers (place_of_time layout size job machine) 0
 
-module _ (layout : Layout) (block : Block) where
-  pub length-times : length (instance_of layout block).shop.times ≡ block.size.jobs * block.size.machines
-  unfolding instance_of
-  length-times = length-table (listed_time layout block.size block.numbers) block.size.jobs block.size.machines
+pub length-times : (layout : Layout) (block : Block)
+    → length (instance_of layout block).shop.times ≡ block.size.jobs * block.size.machines
+unfolding instance_of
+length-times layout block =
+    length-table (listed_time layout block.size block.numbers) block.size.jobs block.size.machines
 
 -- ---- from a problem to its due numbers and back
 
@@ -234,9 +235,8 @@ module _ (layout : Layout) (size : Size) (numbers : List ℕ) (all : are_due lay
   filled_passes : are_due layout size (filled layout size numbers) ≡ true
   unfolding instance_of
   filled_passes = are_due_by_place layout size (filled layout size numbers) (λ k h.
-      let none_long = all_table (λ job machine. 0) size.jobs size.machines (λ time. time ≤ LONGEST_TIME)
-      (λ job machine j m. omega arith) in
-      let idle_passes = due_passes layout (instance_of layout (begun size)) none_long in
+      let idle_passes = due_passes layout (instance_of layout (begun size)) (all_table (λ job machine. 0) size.jobs
+      size.machines (λ time. time ≤ LONGEST_TIME) (λ job machine j m. omega arith)) in
       grind (arith, elements, length-filled, length-due layout (instance_of layout (begun size)), due_number))
 
   begin_due : BeginDue layout size numbers

@@ -53,15 +53,12 @@ module _ (layout : Layout) (complete : List Block) where
       → fold (stand_after layout) (standing complete seeking) block ≡ completed complete (due_block layout problem)
   unfolding stand_after
   block_fold problem block b =
-      let tail : List (List ℕ) = b.front ++ b.last ∷ [] in
-      let lines = append_assoc b.skipped (b.size_line ∷ b.front) (b.last ∷ []) in
-      let skipped = skip_fold b.skipped b.no_numbers in
       let within : is_within_limits (size_of problem) ≡ true = grind (arith, nat_tests, b.within) in
       let body = body_fold (size_of problem) [] b.front b.last b.front_unmixed b.last_numbers
       (due layout problem.shop) (sym b.holds) (due_passes layout problem b.within.within.short_times)
       (length-due layout problem) in
-      let joined = fold-append (stand_after layout) (standing complete seeking) b.skipped (b.size_line ∷ tail) in
-      grind (arith, b.number_line, b.states)
+      rw (b.parts, append_assoc, fold-append, skip_fold b.skipped b.no_numbers)
+      (grind (arith, b.number_line, b.states))
 
 -- blocks lead to this count of complete ones, the last of which is the problem's
 pub record LeadsTo (layout : Layout) (complete : List Block) (problem : Problem) (count : ℕ) (text : List (List ℕ))
@@ -79,13 +76,12 @@ blocks_lead layout complete problem [] own each b =
 blocks_lead layout complete problem (block ∷ earlier) own each b =
     let first : Block = due_block layout each.0.0 in
     let more = blocks_lead layout (complete ++ first ∷ []) problem earlier own each.1 b in
-    let rest : List (List ℕ) = flat_map (λ block. block) earlier ++ own in
-    let lines = append_assoc block (flat_map (λ block. block) earlier) own in
-    let joined = fold-append (stand_after layout) (standing complete seeking) block rest in
     record {
       before = first ∷ more.before;
       as_many = omega (arith, more.as_many);
-      end = rw (lines, joined, block_fold layout complete each.0.0 block each.0.1) (rw more.end (simp append_assoc));
+      end =
+          rw (append_assoc, fold-append, block_fold layout complete each.0.0 block each.0.1, more.end)
+          (simp append_assoc);
     }
 
 -- ---- which lines lead to complete blocks
@@ -160,13 +156,12 @@ module _ (layout : Layout) (text : List (List ℕ)) (complete : List Block) (lin
       → IsMade layout (text ++ line ∷ []) (standing complete (inside (begun size)))
   began m size states numbered within =
       let sizes = (size_within size within).sizes in
-      let some = mul-le-mul sizes.some_job sizes.some_machine in
       grown (inside (begun size)) m (record {
         skipped = m.tail;
         size_line = line;
         front = [];
         opens = grind (arith, m.fits);
-        short = λ none. grind (arith, some);
+        short = λ none. grind (arith, mul-le-mul sizes.some_job sizes.some_machine);
       })
 
   finished : (block : Block) → IsMade layout text (standing complete (inside block)) → is_mixed line ≡ false

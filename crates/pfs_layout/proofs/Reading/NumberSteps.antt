@@ -37,12 +37,6 @@ table_with f g jobs machines job machine v j m here others =
     let same = same_from_place r c job machine machines q m in
     grind (arith, common_steps, same, here, within, others r c p q, table_at f jobs machines r c 0 p q))
 
-same_time_place : (layout : Layout) (size : Size) (r c job machine : ℕ) → r < size.jobs → c < size.machines
-    → job < size.jobs → machine < size.machines
-    → place_of_time layout size r c ≡ place_of_time layout size job machine → (r ≡ job) × (c ≡ machine)
-same_time_place layout size r c job machine p q j m e =
-    grind (arith, same_from_place r c job machine size.machines, same_from_place c r machine job size.jobs)
-
 -- one more number changes no other number of a list
 index_push_other : (ns : List ℕ) (v p : ℕ) → p ≢ length ns → get_or (ns ++ v ∷ []) p 0 ≡ get_or ns p 0
 index_push_other ns v p other = grind (arith, common_steps)
@@ -59,7 +53,7 @@ module _ (layout : Layout) (size : Size) where
       let times = table_with (listed_time layout size ns) (listed_time layout size (ns ++ v ∷ []))
       size.jobs size.machines job machine v j m
       (get_or_push ns v 0 _ (sym at)) (λ r c p q other. index_push_other ns v _ (λ last.
-      let same = same_time_place layout size r c job machine p q j m (last ∙ sym at) in other same.0 same.1)) in
+      grind (arith, same_from_place r c job machine size.machines, same_from_place c r machine job size.jobs))) in
       cc
 
 -- times that are all 0
@@ -108,14 +102,9 @@ module _ {layout : Layout} {size : Size} {count : ℕ} {body : Body} (f : Follow
   unfolding due_at
   due_is = grind (arith, nat_tests, mod-mul-add body.job size.machines body.machine, f.place)
 
-  -- after a time, and after a machine's number
   pub after_time_follows : due_next layout body ≡ Due.Time
       → FollowsBody layout size (count + 1) (after_time layout body)
   after_time_follows due = grind (arith, nat_tests, next_place, f.place)
-
-  pub after_machine_follows : {machine : ℕ} → due_next layout body ≡ Due.Machine machine
-      → FollowsBody layout size (count + 1) (after_machine body)
-  after_machine_follows due = grind (arith, nat_tests, f.place)
 
 -- ---- outcomes
 
@@ -157,7 +146,7 @@ module _ {has_word : Bool} (r : Blocks) (complete : List Block) (block : Block) 
       let body = after_time_follows follows e in
       rw same (grind (arith, nat_tests, f, follows.place, number, length_push, length-append {A = ℕ}, append_assoc {A = ℕ}))
   due_counts (Due.Machine machine) e is =
-      let body = after_machine_follows follows e in
+      let place = follows.place in
       grind (arith, nat_tests, f, instance_of-machine, length_push, length-append {A = ℕ}, append_assoc {A = ℕ})
   due_counts Due.Nothing e is = grind arith
 

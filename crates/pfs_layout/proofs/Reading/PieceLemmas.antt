@@ -103,7 +103,7 @@ module _ {old now : Fields} {piece : List ℕ} {i : ℕ} (t : TakenTo old now pi
       record {
         layout = m.layout ∙ t.layout;
         wanted = m.wanted ∙ t.wanted;
-        has_read = λ well. subst (HasRead next) (taken_after text n) (m.has_read well);
+        has_read = λ well. rw taken_after at (m.has_read well);
         memory = λ e.
             let w = m.memory e in
             (i + w.0, omega (arith, length-drop i piece, w.1), ends_after text w.0 w.2);
@@ -282,10 +282,9 @@ module _ {old new : Fields} {text piece : List ℕ} {used : ℕ} (m : TakeMeets 
           grind (arith, m.memory, m.layout, m.wanted, stood, rejected_fault new (text ++ piece) fault)
       by_phase phase e =
           let live : is_live new.phase ≡ true = rw e in
-          let all : used ≡ length piece = whole live in
           let follows = live_follows new taken live (m.has_read (live-memory new.phase live)) in
-          let right = rw (take_all used piece (omega arith), m.layout, m.wanted) at follows.sound in
-          grind (arith, m, e, all)
+          let right = rw (take_all used piece (omega (arith, whole live)), m.layout, m.wanted) at follows.sound in
+          grind (arith, m, e, whole live)
 
 -- a reader that needs no more bytes uses none
 pub idle_meets : (r : Fields) (text piece : List ℕ) → HasRead r text → TakeMeets r text piece 0 r

@@ -123,7 +123,7 @@ module _ {r : Fields} {text : List ℕ} (f : Follows r text) (last : Line) (next
   follows_on pushes short here c blocks =
       let count = length_push text b in
       record {
-        some = omega (arith, c.wanted, f.some);
+        some = rw c.wanted f.some;
         sound = rw (c.layout, c.wanted, byte_fault-push r.layout r.wanted text b, f.sound) here;
         short = omega arith;
         last_line = pushes.follows text f.last_line;

@@ -135,8 +135,7 @@ numbers_spaced (n ∷ m ∷ ns) fit =
     (grind (arith, numeral.0.0, numeral.1, numbers_spaced (m ∷ ns) fit.1))
 
 number_line : (ns : List ℕ) → 0 < length ns → NumeralsFit ns → is_number_line (spaced ns) ≡ true
-number_line ns some fit =
-    grind (arith, numbers_spaced ns fit, no_numbers (spaced ns), no_word_byte ns fit)
+number_line ns some fit = grind (arith, numbers_spaced ns fit, no_numbers (spaced ns), no_word_byte ns fit)
 
 -- ---- the lines of a text
 
