@@ -130,8 +130,7 @@ AreOf-push : (layout : Layout) (complete : List Block) (text own : List (List �
     → AreBlockLines layout (complete ++ block ∷ []) (text ++ own)
 AreOf-push layout [] text own block are is = (own, [], rw are (sym (append-nil own)), is, refl)
 AreOf-push layout (first ∷ more) text own block are is =
-    let others = AreOf-push layout more are.1 own block are.4 is in
-    (are.0, are.1 ++ own, rw are.2 (append_assoc are.0 are.1 own), are.3, others)
+    (are.0, are.1 ++ own, rw are.2 (append_assoc are.0 are.1 own), are.3, AreOf-push layout more are.1 own block are.4 is)
 
 -- these lines are those of the complete blocks, and after them lines that fit the state
 pub record IsMade (layout : Layout) (text : List (List ℕ)) (reached : Stand) : Type 0 where
@@ -248,14 +247,7 @@ file_completes layout input k problem f =
 are_blocks : (layout : Layout) (text : List (List ℕ)) (earlier : List Block) (own : Block)
     → AreBlockLines layout (earlier ++ own ∷ []) text
     → AreBlocks limits layout (length earlier + 1) (instance_of layout own) text
-are_blocks layout text [] own are = record {
-  earlier = [];
-  own = are.0;
-  parts = rw (are.2, are.4) (append-nil are.0);
-  count = refl;
-  each = tt;
-  is_own = are.3;
-}
+are_blocks layout text [] own are = grind (arith, are.3, append-nil {A = List ℕ})
 are_blocks layout text (block ∷ earlier) own are =
     let more = are_blocks layout are.1 earlier own are.4 in
     record {

@@ -72,23 +72,21 @@ end_faults layout k seeking text good = grind (arith, nothing_on (open_line text
 end_faults layout k (inside block) text good = rw (gap_fault layout block text 10 refl) (grind arith)
 end_faults layout k lost text good = absurd (cc)
 
+-- a list of blocks that isn't empty has a last one
+last_block : (blocks : List Block) → 1 ≤ length blocks
+    → (earlier : List Block) × (own : Block) × (blocks ≡ earlier ++ own ∷ [])
+last_block [] some = absurd (omega arith)
+last_block (block ∷ blocks) some =
+    (all_but_last (block ∷ blocks), last_of block (block ∷ blocks), all_and_last block block blocks)
+
 -- the last of the complete blocks is some problem's
 pub seeks_completes : (layout : Layout) (input : List ℕ) (k : ℕ) → 1 ≤ k → (s : Seeks layout input k)
     → (problem : Problem) × (c : Completes layout input k problem) × (c.seeks ≡ s)
-seeks_completes layout input k some s = by_complete (stand layout (lines s.text)).complete refl
-  where
-    by_complete : (blocks : List Block) → (stand layout (lines s.text)).complete ≡ blocks
-        → (problem : Problem) × (c : Completes layout input k problem) × (c.seeks ≡ s)
-    by_complete [] e = absurd (omega (arith, some, s.complete, ap length e))
-    by_complete (block ∷ blocks) e =
-        let earlier : List Block = all_but_last (block ∷ blocks) in
-        let own : Block = last_of block (block ∷ blocks) in
-        let parts : (stand layout (lines s.text)).complete ≡ earlier ++ own ∷ [] =
-        e ∙ all_and_last block block blocks in (
-          instance_of layout own,
-          record { seeks = s; earlier = earlier; own = own; parts = parts; is = refl },
-          refl,
-        )
+seeks_completes layout input k some s =
+    let last = last_block (stand layout (lines s.text)).complete (omega (arith, s.complete)) in
+    let c : Completes layout input k (instance_of layout last.1) =
+    record { seeks = s; earlier = last.0; own = last.1; parts = last.2; is = refl } in
+    (instance_of layout last.1, c, refl)
 
 module _ (layout : Layout) (k : ℕ) where
   -- no byte of a text has a fault

@@ -83,11 +83,14 @@ sought_fine : (layout : Layout) (text : List ℕ) (b : ℕ) → is_line_end b �
 unfolding wrong_size
 sought_fine layout text b on = rw on
 
-quiet_sought : (r : Blocks) (last : Line) (text : List ℕ) (b : ℕ) (complete : List Block) (less : Bool) (ns : List ℕ)
-    → (is_blank b || is_line_end b) ≡ false → FollowsText r text complete seeking
+-- it has a fault if it mixes a line of a block
+quiet_byte : (r : Blocks) (last : Line) (text : List ℕ) (b : ℕ) (complete : List Block) (now : Now) (less : Bool)
+    (ns : List ℕ) → (is_blank b || is_line_end b) ≡ false → FollowsLine last text
+    → FollowsText r text complete now → GoodNow r.layout now (open_line text)
     → less ≡ list_any is_word_byte (open_line text ++ b ∷ []) → ns ≡ ended_numbers (open_line text ++ b ∷ [])
-    → Outcome r less (standing complete seeking) ns (after_byte r last b) (fault_within_limit r.layout seeking text b)
-quiet_sought r last text b complete less ns other f words numbers =
+    → Outcome r less (standing complete now) ns (after_byte r last b) (fault_within_limit r.layout now text b)
+unfolding mixed_line
+quiet_byte r last text b complete seeking less ns other line f good words numbers =
     let phase = f.now.phase in
     let pushed = ended_numbers-push (open_line text) b in
     let any = list_any-append is_word_byte (open_line text) (b ∷ []) in
@@ -97,30 +100,12 @@ quiet_sought r last text b complete less ns other f words numbers =
     let numbers : less ≡ false → HoldsNumbers r.size_line ns =
     λ e. let p = plain e in grind (arith, f.now.numbers) in
     rw (sought, same) (grind (arith, numbers))
-
-quiet_inside : (r : Blocks) (last : Line) (text : List ℕ) (b : ℕ) (complete : List Block) (block : Block)
-    (less : Bool) (ns : List ℕ) → (is_blank b || is_line_end b) ≡ false
-    → FollowsLine last text → FollowsText r text complete (inside block)
-    → GoodNow r.layout (inside block) (open_line text)
-    → less ≡ list_any is_word_byte (open_line text ++ b ∷ []) → ns ≡ ended_numbers (open_line text ++ b ∷ [])
-    → Outcome r less (standing complete (inside block)) ns (after_byte r last b)
-    (fault_within_limit r.layout (inside block) text b)
-unfolding mixed_line
-quiet_inside r last text b complete block less ns other line f good words numbers =
+quiet_byte r last text b complete (inside block) less ns other line f good words numbers =
     let fault = wrong_number_is r.layout block text b in
     let all = line_numbers text in
     let none = no_last text in
     grind (arith, nat_tests, ended_numbers-push, list_any-append {X = ℕ})
-
--- it has a fault if it mixes a line of a block
-quiet_byte : (r : Blocks) (last : Line) (text : List ℕ) (b : ℕ) (complete : List Block) (now : Now)
-    → (is_blank b || is_line_end b) ≡ false → FollowsLine last text → FollowsText r text complete now
-    → GoodNow r.layout now (open_line text)
-    → FollowsOn r last text b complete now
-quiet_byte r last text b complete seeking other line f good = quiet_sought r last text b complete _ _ other f refl refl
-quiet_byte r last text b complete (inside block) other line f good =
-    quiet_inside r last text b complete block _ _ other line f good refl refl
-quiet_byte r last text b complete lost other line f good = absurd f.now
+quiet_byte r last text b complete lost less ns other line f good words numbers = absurd f.now
 
 last_short : (text : List ℕ) → length (last_digits text) ≤ length text
 unfolding open_part
@@ -167,7 +152,7 @@ byte_on r last text b complete now on live five line f good = elim (cases_Bool (
       let ended : ended_numbers (open_line text ++ b ∷ []) ≡ numbers (open_line text) =
       grind (arith, nat_tests, ended_numbers-push) in
       rw (words, ended, valid_gap r last b gap, on, fault) (number_part _ r last text complete now live five line f)
-  | inr other ↦ quiet_byte r last text b complete now other line f good
+  | inr other ↦ quiet_byte r last text b complete now _ _ other line f good refl refl
 ]
 
 -- ---- the end of a line

@@ -111,39 +111,35 @@ module _ {old now : Fields} {piece : List ℕ} {i : ℕ} (t : TakenTo old now pi
         no_more = λ k less. no_more_after text n k s less m.no_more;
       }
 
--- ---- one byte more, within the limit
-
 -- ---- a number that ends
 
 pub open_value : (digits : Digits) (number : Number) → open_number digits ≡ Some number
     → number.value ≡ digits.value
 open_value digits number is = grind (arith, nat_tests)
 
--- a time of Taillard's layout has ended, and it isn't the last of its machine
-pub time_ended : (r : Blocks) (value first : ℕ) → r.phase ≡ phases.Body → r.layout ≡ Taillard
-    → r.body.validated < r.body.due → value ≤ LONGEST_TIME → r.body.job + 1 < r.body.jobs
-    → record (stored r r.body value) {
-      body = record r.body { validated = r.body.validated + 1; job = r.body.job + 1 };
-    } ≡ number_ended r value first
-unfolding number_ended
-time_ended r value first phase taillard more short on = grind (arith, nat_tests)
+module _ (r : Blocks) (value first : ℕ) (phase : r.phase ≡ phases.Body) (more : r.body.validated < r.body.due) where
+  -- a time of Taillard's layout has ended, and it isn't the last of its machine
+  pub time_ended : r.layout ≡ Taillard → value ≤ LONGEST_TIME → r.body.job + 1 < r.body.jobs
+      → record (stored r r.body value) {
+        body = record r.body { validated = r.body.validated + 1; job = r.body.job + 1 };
+      } ≡ number_ended r value first
+  unfolding number_ended
+  time_ended taillard short on = grind (arith, nat_tests)
 
--- a machine's number of the OR-Library's layout has ended
-pub machine_ended : (r : Blocks) (value first : ℕ) → r.phase ≡ phases.Body → r.layout ≡ OrLib
-    → r.body.validated < r.body.due → r.body.validated % 2 ≡ 0 → value ≡ r.body.machine
-    → record r { body = record r.body { validated = r.body.validated + 1 } } ≡ number_ended r value first
-unfolding number_ended
-machine_ended r value first phase orlib more even is = grind (arith, nat_tests)
+  -- a machine's number of the OR-Library's layout has ended
+  pub machine_ended : r.layout ≡ OrLib → r.body.validated % 2 ≡ 0 → value ≡ r.body.machine
+      → record r { body = record r.body { validated = r.body.validated + 1 } } ≡ number_ended r value first
+  unfolding number_ended
+  machine_ended orlib even is = grind (arith, nat_tests)
 
--- the time after it has ended, and it isn't the last of its job
-pub pair_ended : (r : Blocks) (value first : ℕ) → r.phase ≡ phases.Body → r.layout ≡ OrLib
-    → r.body.validated < r.body.due → r.body.validated % 2 ≢ 0 → value ≤ LONGEST_TIME
-    → r.body.machine + 1 < r.body.machines
-    → record (stored r r.body value) {
-      body = record r.body { validated = r.body.validated + 1; machine = r.body.machine + 1 };
-    } ≡ number_ended r value first
-unfolding number_ended
-pair_ended r value first phase orlib more odd short on = grind (arith, nat_tests)
+  -- the time after it has ended, and it isn't the last of its job
+  pub pair_ended : r.layout ≡ OrLib → r.body.validated % 2 ≢ 0 → value ≤ LONGEST_TIME
+      → r.body.machine + 1 < r.body.machines
+      → record (stored r r.body value) {
+        body = record r.body { validated = r.body.validated + 1; machine = r.body.machine + 1 };
+      } ≡ number_ended r value first
+  unfolding number_ended
+  pair_ended orlib odd short on = grind (arith, nat_tests)
 
 module _ {old now : Fields} {piece : List ℕ} {i : ℕ} (t : TakenTo old now piece i) where
   -- a digit that doesn't mix the line changes no block

@@ -56,8 +56,6 @@ pub new_has_read : (last : Line) (r : Blocks) → FollowsLine last [] → 1 ≤ 
 unfolding byte_fault ended_parts open_part stand ended_numbers
 new_has_read last r line some is = rw is (grind (arith, nat_tests, holds_none))
 
--- ---- one more byte
-
 -- ---- what a byte leaves unchanged
 
 pub record Carries (old new : Blocks) (ends : Bool) : Type 0 where

@@ -34,7 +34,7 @@ loop-byte-preserved c =
           elim w.if-body-eq0.branch [
             | then-body-eq0+else-number-body v ↦
                 let next = number_validated inv.taken blank is
-                (machine_ended _ _ _ inv.phase layout (omega arith) v.if-body-eq0.true v.if-number-body.false) in
+                (machine_ended _ _ _ inv.phase (omega arith) layout v.if-body-eq0.true v.if-number-body.false) in
                 rw (w.self-is, w.body-is, v.self-is, v.body-is) (record {
                   taken = taken_on inv.taken (omega arith) c.requires.room (c.push_blank.ensures.pushes _ blank)
                       (λ well. next) (rw inv.phase);
@@ -45,7 +45,7 @@ loop-byte-preserved c =
             | else-body-eq0+else-body-2 v ↦
                 let on = v.if-body-2.false in
                 let next = number_validated inv.taken blank is
-                (pair_ended _ _ _ inv.phase layout (omega arith) v.if-body-eq0.false short (omega arith)) in
+                (pair_ended _ _ _ inv.phase (omega arith) layout v.if-body-eq0.false short (omega arith)) in
                 rw (w.self-is, w.body-is, v.self-is, v.body-is) (record {
                   taken = taken_on inv.taken (omega arith) c.requires.room (c.push_blank.ensures.pushes _ blank)
                       (λ well. rw v.store_time.ensures next) (rw (v.store_time.ensures, inv.phase));

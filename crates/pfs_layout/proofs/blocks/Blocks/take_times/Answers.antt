@@ -30,7 +30,7 @@ loop-byte-preserved c =
           let is = sym c.number.ensures ∙ w.in-Some.is in
           let short : w.in-Some.number.value ≤ LONGEST_TIME = rw (open_value _ _ is) inv.short in
           let next = number_validated inv.taken blank is
-          (time_ended _ _ _ inv.phase layout (omega (arith, inv.due)) short (omega (arith, inv.within))) in
+          (time_ended _ _ _ inv.phase (omega (arith, inv.due)) layout short (omega (arith, inv.within))) in
           rw (w.self-is, w.body-is) (record {
             taken = taken_on inv.taken (omega arith) c.requires.room (c.push_blank.ensures.pushes _ blank)
                 (λ well. rw w.store_time.ensures next) (rw (w.store_time.ensures, inv.phase));
