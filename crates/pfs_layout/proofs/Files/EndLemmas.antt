@@ -22,12 +22,8 @@ pub front_faults : (layout : Layout) (k : ℕ) (text : List ℕ) (n : ℕ) → b
     → map (λ cut. rejection layout (take cut text) k) (below n)
     ≡ map (λ cut. fault_of_place layout k (take cut text) None) (below n)
 front_faults layout k text n right = map-range_with_len-same _ _ 0 n (λ cut low high.
-    rw rejection_end (elim (cases_option (byte_fault layout k (take cut text))) [
-      | inl none ↦ rw none
-      | inr one ↦
-          let stays = byte_fault-more layout k (take cut text) (drop cut text) one.0 one.1 in
-          absurd (cc (right, rw (take-append-drop cut text) at stays))
-    ]))
+    let stays = byte_fault-more layout k (take cut text) (drop cut text) in
+    rw rejection_end (grind (arith, take-append-drop cut text)))
 
 pub fault_stays : FaultStays
 fault_stays layout text more k fault e =

@@ -110,8 +110,8 @@ module _ (layout : Layout) (k : ℕ) where
       let before : Stand = stand_of layout text in
       let good = (sound layout k text right few).1 in
       let faults = end_faults layout k before.now text good in
-      let reached = stand_lines layout text good in
-      grind (arith, nat_tests, one_line, good_end layout before.complete before.now text)
+      let ended = good_end layout before.complete before.now text in
+      grind (arith, nat_tests, one_line, stand_lines layout text good)
 
   -- ---- without a fault there is a file
 

@@ -109,8 +109,8 @@ quiet_byte r last text b complete lost less ns other line f good words numbers =
 
 last_short : (text : List ℕ) → length (last_digits text) ≤ length text
 unfolding open_part
-last_short = by_push (λ text. length (last_digits text) ≤ length text) (omega arith) (λ text b short.
-    rw (open_part-push is_no_digit text b, length_push text b) (grind (arith, length_push)))
+last_short = by_push (λ text. length (last_digits text) ≤ length text) (omega arith)
+    (λ text b short. grind (arith, open_part-push, length_push))
 
 -- ---- the end of a number
 
@@ -122,9 +122,7 @@ pub number_part : (has_word : Bool) (r : Blocks) (last : Line) (text : List ℕ)
 number_part has_word r last text complete now live five line f = elim (cases_Bool (is_empty (last_digits text))) [
   | inl none ↦
       let right : number_fault r.layout now text ≡ None = grind arith in
-      let empty = eqb-true _ 0 none in
-      let at_end : last.digits.first ≡ last.digits.offset = omega (arith, line.first, line.offset) in
-      rw (right, line_numbers text, none, eq-eqb _ _ at_end) f
+      rw (right, line_numbers text, none) (grind (arith, nat_tests, f, line))
   | inr some ↦
       let value = digits_value 10 (last_digits text) in
       let first = length text - length (last_digits text) in

@@ -59,10 +59,9 @@ end_outcome phases.Done r text e f =
     let enough = done_enough r text f e in
     let none = enough_right r.layout r.wanted text None enough in
     let stays = rw append-nil at (block_stays r.layout text [] (r.wanted - 1) (omega (arith, f.some))) in
-    grind (arith, rejection_end r.layout r.wanted text, f, none, stays, le-ltb _ r.wanted enough)
+    grind (arith, nat_tests, rejection_end r.layout r.wanted text, f, none, stays)
 end_outcome (phases.Rejected fault) r text e f =
-    let fine = enough_right r.layout r.wanted f.front (Some f.byte) in
-    grind (arith, fine, f.here, rejection_end r.layout r.wanted text, rejected_fault r text fault f)
+    grind (arith, enough_right, f.here, rejection_end r.layout r.wanted text, rejected_fault r text fault f)
 end_outcome phase r text e f = live_end r text f (rw e)
 
 -- ---- the verdict

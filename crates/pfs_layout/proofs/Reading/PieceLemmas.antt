@@ -98,7 +98,7 @@ module _ {old now : Fields} {piece : List ℕ} {i : ℕ} (t : TakenTo old now pi
   pub taken_then : {next : Fields} {n : ℕ} → ((text : List ℕ) → HasRead now text
       → TakeMeets now text (drop i piece) n next) → (text : List ℕ) → HasRead old text
       → TakeMeets old text piece (i + n) next
-  taken_then {next = next} {n = n} then text s =
+  taken_then {n = n} then text s =
       let m = then (text ++ take i piece) (has_read_of (t.follows text s)) in
       record {
         layout = m.layout ∙ t.layout;
@@ -275,7 +275,7 @@ module _ {old new : Fields} {text piece : List ℕ} {used : ℕ} (m : TakeMeets 
           let stood : fault ≢ Memory → IsRejected new (text ++ piece) fault = λ other.
           let here = subst (λ p. HasReadIn p new taken) e (m.has_read (λ z. other (cc))) in
           rw (whole_text text piece used) (grind (arith, here, append_assoc {A = ℕ})) in
-          grind (arith, m.memory, m.layout, m.wanted, stood, rejected_fault new (text ++ piece) fault)
+          grind (arith, m, stood, rejected_fault new (text ++ piece) fault)
       by_phase phase e =
           let live : is_live new.phase ≡ true = rw e in
           let follows = live_follows new taken live (m.has_read (live-memory new.phase live)) in
