@@ -1,8 +1,8 @@
 -- What more input and wider limits change.
 use Rattle.pfs_layout.proofs.Words.{◌≡◌, ℕ, List, [], ◌∷◌, ◌++◌, Some, append_assoc, append-nil, by_push, Layout}
 use Rattle.pfs_layout.proofs.Words.{LayoutFault, byte_fault, ◌≤◌, length, arith, lit≤, AllByRecursion, map, take, drop}
-use Rattle.pfs_layout.proofs.Words.{take-append-drop, None, inl, inr, rejection, fault_of_place, below, limits, Front}
-use Rattle.pfs_layout.proofs.Words.{Problem, AreBlocks, IsInstance, IsBlock, IsSomeBlock, lines, cases_option}
+use Rattle.pfs_layout.proofs.Words.{take-append-drop, None, rejection, fault_of_place, below, limits}
+use Rattle.pfs_layout.proofs.Words.{Problem, IsInstance, IsBlock, IsSomeBlock}
 use Rattle.pfs_layout.specs.Laws.{FaultStays, FreeAfter, IsWider, WiderLimits, earlier_limits, EarlierFiles}
 use Rattle.pfs_layout.proofs.Files.FileLemmas.{file_completes, completes_file}
 use Rattle.pfs_layout.proofs.Files.VerdictLemmas.{enough_holds, holds_longer, one_held}

@@ -4,7 +4,7 @@ use Rattle.pfs_layout.proofs.Words.{sym, arith, append_assoc, append-nil, length
 use Rattle.pfs_layout.proofs.Words.{list_all, list_all-append, fold-append, Layout, is_digit, limits, Problem, size_of}
 use Rattle.pfs_layout.proofs.Words.{is_mixed, is_number_line, is_no_digit, numbers, are_due, due, due_count, Block, ap}
 use Rattle.pfs_layout.proofs.Words.{seeking, inside, standing, completed, stand_after, IsSomeBlock, IsBlock, false, inl}
-use Rattle.pfs_layout.proofs.Words.{Some, ◌==◌, inr, mul-le-mul, cases_Bool, eqb-false, or_parts, flat_map-append, Now}
+use Rattle.pfs_layout.proofs.Words.{Some, ◌==◌, inr, mul-le-mul, cases_Bool, eqb-false, flat_map-append, Now}
 use Rattle.pfs_layout.proofs.Words.{by_push, is_within_limits, stated_size, lost, Stand, begun, with_line, after_line}
 use Rattle.pfs_layout.proofs.Words.{stand, instance_of, lines, AreBlocks, IsInstanceFile, Completes, Seeks, length_push}
 use Rattle.std.proofs.Common.{fold}
@@ -130,7 +130,8 @@ AreOf-push : (layout : Layout) (complete : List Block) (text own : List (List �
     → AreBlockLines layout (complete ++ block ∷ []) (text ++ own)
 AreOf-push layout [] text own block are is = (own, [], rw are (sym (append-nil own)), is, refl)
 AreOf-push layout (first ∷ more) text own block are is =
-    (are.0, are.1 ++ own, rw are.2 (append_assoc are.0 are.1 own), are.3, AreOf-push layout more are.1 own block are.4 is)
+    let others = AreOf-push layout more are.1 own block are.4 is in
+    (are.0, are.1 ++ own, rw are.2 (append_assoc are.0 are.1 own), are.3, others)
 
 -- these lines are those of the complete blocks, and after them lines that fit the state
 pub record IsMade (layout : Layout) (text : List (List ℕ)) (reached : Stand) : Type 0 where

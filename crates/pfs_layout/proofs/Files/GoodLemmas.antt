@@ -2,7 +2,7 @@
 use Rattle.pfs_layout.proofs.Words.{◌≡◌, ℕ, ◌+◌, ◌-◌, ◌<◌, ◌≤◌, Bool, true, false, not, ◌&&◌, ◌||◌, List, [], ◌∷◌, ◌++◌}
 use Rattle.pfs_layout.proofs.Words.{length, Option, Some, None, if◌then◌else◌, inl, inr, append-nil, append_assoc}
 use Rattle.pfs_layout.proofs.Words.{length-append, nat_le, refl, sym, ◌∙◌, ap, arith, ◌⊎◌, list_any, is_none, option_or}
-use Rattle.pfs_layout.proofs.Words.{digits_value, cases_Bool, cases_lt, cases_eq, le-ltb, nat_tests, length_push}
+use Rattle.pfs_layout.proofs.Words.{digits_value, cases_Bool, le-ltb, nat_tests, length_push}
 use Rattle.pfs_layout.proofs.Words.{list_any-append, list_all-append, fold-append, LONGEST_INPUT, Layout, LayoutFault}
 use Rattle.pfs_layout.proofs.Words.{TooLong, is_digit, is_blank, is_line_end, is_empty, by_push, enumerate_from-append}
 use Rattle.pfs_layout.proofs.Words.{Size, ended_parts, open_part, ended_lines, open_line, is_mixed, numbers}

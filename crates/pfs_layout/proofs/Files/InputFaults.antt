@@ -1,8 +1,8 @@
 -- Every fault that the definitions find at a place is one of the input: not a failed read, a failed allocation or a
 -- seed that is out of range.
 use Rattle.pfs_layout.proofs.Words.{arith, ◌≡◌, ℕ, Bool, true, false, List, take, Option, Some, None, slice_get, Layout}
-use Rattle.pfs_layout.proofs.Words.{LayoutFault, SeedRange, Read, Memory, Size, Due, mixed_line, misfit, wrong_number}
-use Rattle.pfs_layout.proofs.Words.{size_fault, wrong_size, ends_early, fault_of_place, RejectsInstance, Block}
+use Rattle.pfs_layout.proofs.Words.{LayoutFault, SeedRange, Read, Memory, Due, mixed_line, misfit, wrong_number}
+use Rattle.pfs_layout.proofs.Words.{wrong_size, ends_early, fault_of_place, RejectsInstance, Block}
 
 abbrev pub is_input_fault : LayoutFault → Bool
 is_input_fault SeedRange = false

@@ -5,10 +5,9 @@ use Rattle.pfs_layout.proofs.Words.{all_but_last, all_and_last, length_push, is_
 use Rattle.pfs_layout.proofs.Words.{stand_after, instance_of, cases_Bool, append-nil, first_some, after_line, option_or}
 use Rattle.pfs_layout.proofs.Words.{ends_early, mixed_line, byte_fault, wrong_size, nat_tests, open_line, [], Completes}
 use Rattle.pfs_layout.proofs.Words.{cases_lt, eqb-true, is_empty, standing, accepted, is_none, Problem, true, by_push}
-use Rattle.pfs_layout.proofs.Words.{numbers, seeking, rejection, or_none, last_of, length, nat_le, ne_eqb}
-use Rattle.pfs_layout.proofs.Words.{false, Layout}
+use Rattle.pfs_layout.proofs.Words.{numbers, seeking, rejection, or_none, last_of, length, nat_le, false, Layout}
 use Rattle.pfs_layout.proofs.Words.{inside, limits, arith, lines, Block, Stand, stand, Front, Seeks, List, ◌++◌, refl}
-use Rattle.pfs_layout.proofs.Words.{Some, None, lost, ◌-◌, ◌<◌, ◌≤◌, ◌∷◌, sym, ◌∙◌, inl, inr, Now, ap, ℕ}
+use Rattle.pfs_layout.proofs.Words.{Some, None, lost, ◌-◌, ◌<◌, ◌≤◌, ◌∷◌, sym, inl, inr, Now, ap, ℕ}
 use Rattle.pfs_layout.specs.Rejection.{faults}
 use Rattle.pfs_layout.proofs.Published.PlaceLemmas.{byte_fault-push, rejection_end}
 use Rattle.pfs_layout.proofs.Files.GoodLemmas.{is_good, good_end, fault_within_limit, gap_fault, stand_of, stand-push}
@@ -50,7 +49,8 @@ stand_lines layout text good =
     let before : Stand = stand_of layout text in
     let m = made layout (ended_lines text) in
     let nothing = nothing_on (open_line text) in
-    grind (arith, stand_filled layout text, lines_ended text, empty_line layout before.complete before.now m.tail, m.fits)
+    let same = empty_line layout before.complete before.now m.tail in
+    grind (arith, stand_filled layout text, lines_ended text, m.fits)
 
 -- a block that was complete before the last line remains
 pub block_stays : (layout : Layout) (text more : List ℕ) (i : ℕ) → i < length (stand_of layout text).complete

@@ -1,25 +1,20 @@
 -- One more byte: the fault of its place, or what the fields mean after it.
 use Rattle.pfs_layout.proofs.Words.{◌++◌, ◌∷◌, [], ◌≡◌, ℕ, ◌<◌, Bool, true, false, ◌||◌, List, length, refl, arith}
 use Rattle.pfs_layout.proofs.Words.{Some, None, if◌then◌else◌, inl, inr, ◌≢◌, ◌+◌, ◌-◌, ◌≤◌, count_by, ◌∙◌, Option}
-use Rattle.pfs_layout.proofs.Words.{list_any, cases_Bool, lt-ltb, or_parts, eqb-true, eqb-false, eq-eqb, ne_eqb}
-use Rattle.pfs_layout.proofs.Words.{nat_tests, list_any-append, is_empty, Layout, LayoutFault, Line, Blocks, is_digit}
-use Rattle.pfs_layout.proofs.Words.{is_blank, is_line_end, is_word_byte, open_line, ended_numbers, last_digits}
-use Rattle.pfs_layout.proofs.Words.{open_part, is_mixed, is_no_digit, numbers, Block, Now, seeking, inside, lost}
-use Rattle.pfs_layout.proofs.Words.{standing, Stand, stand_after, mixed_line, wrong_size, last_number_ended, line_ended}
-use Rattle.pfs_layout.proofs.Words.{has_numbers_alone, open_number, after_byte, is_live, FollowsLine}
-use Rattle.pfs_layout.proofs.Words.{FollowsNow, FollowsBlocks, digits_value, length_push, by_push, are_due, ◌⊎◌}
-use Rattle.pfs_layout.proofs.Words.{common_steps, Memory, Phase, no_numbers}
-use Rattle.pfs_layout.proofs.Words.{number_ended, HoldsNumbers}
-use Rattle.pfs_layout.specs.Private.Step.{number_ended_in}
+use Rattle.pfs_layout.proofs.Words.{list_any, cases_Bool, lt-ltb, or_parts, eqb-false, ne_eqb, nat_tests}
+use Rattle.pfs_layout.proofs.Words.{list_any-append, is_empty, Layout, Line, Blocks, is_digit, is_blank, is_line_end}
+use Rattle.pfs_layout.proofs.Words.{is_word_byte, open_line, ended_numbers, last_digits, open_part, is_mixed, numbers}
+use Rattle.pfs_layout.proofs.Words.{Block, Now, seeking, inside, lost, standing, stand_after, mixed_line, wrong_size}
+use Rattle.pfs_layout.proofs.Words.{last_number_ended, line_ended, has_numbers_alone, open_number, after_byte, is_live}
+use Rattle.pfs_layout.proofs.Words.{FollowsLine, FollowsNow, FollowsBlocks, digits_value, length_push, by_push, are_due}
+use Rattle.pfs_layout.proofs.Words.{◌⊎◌, common_steps, Memory, Phase, number_ended, HoldsNumbers, cases_option, Number}
 use Rattle.std.proofs.lemmas.Bool.{or_right}
 use Rattle.pfs_layout.specs.declared.blocks.Phase.TheVariants as phases
 use Rattle.pfs_layout.proofs.Files.GoodLemmas.{GoodNow, fault_within_limit, wrong_number_is, line_numbers}
 use Rattle.pfs_layout.proofs.Files.GoodLemmas.{no_last, number_fault, due_line, gap_fault}
 use Rattle.pfs_layout.proofs.Files.LineLemmas.{ended_numbers-push, open_part-push}
-use Rattle.pfs_layout.proofs.Words.{cases_option}
-use Rattle.pfs_layout.proofs.Reading.NumberSteps.{IsRejection, Outcome, misfit_in, number_step}
+use Rattle.pfs_layout.proofs.Reading.NumberSteps.{Outcome, misfit_in, number_step}
 use Rattle.pfs_layout.proofs.Reading.LineSteps.{sought_line, body_line}
-use Rattle.pfs_layout.specs.declared.scan.Number.{Number}
 
 -- ---- what the check of a number leaves unchanged
 

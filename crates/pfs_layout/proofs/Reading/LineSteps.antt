@@ -1,12 +1,11 @@
 -- The end of a line: the fault that it has, or what the fields mean after it.
-use Rattle.pfs_layout.proofs.Words.{◌≡◌, ◌≢◌, ℕ, ◌+◌, ◌<◌, min, Bool, true, false, List, [], ◌++◌, length, refl}
-use Rattle.pfs_layout.proofs.Words.{◌∙◌, ap, arith, Option, Some, None, if◌then◌else◌, inl, inr, option_map, list_any}
-use Rattle.pfs_layout.proofs.Words.{lt-ltb, le-ltb, eq-eqb, ne_eqb, and_parts, cases_Bool, cases_lt, nat_tests}
-use Rattle.pfs_layout.proofs.Words.{append-nil, length-append, length_push, slice_get-push, Layout}
-use Rattle.pfs_layout.proofs.Words.{CEILING, SizeLine, Phase, Blocks, is_word_byte, Size, is_within_limits, is_mixed}
-use Rattle.pfs_layout.proofs.Words.{is_number_line, numbers, due_count, stated_size, are_due, Block, seeking, inside}
-use Rattle.pfs_layout.proofs.Words.{stand_after, standing, completed, instance_of, begun, with_line, size_fault}
-use Rattle.pfs_layout.proofs.Words.{line_ended, block_of, HoldsNumbers, FollowsBlocks}
+use Rattle.pfs_layout.proofs.Words.{◌≡◌, ℕ, ◌+◌, ◌<◌, min, Bool, true, false, List, [], ◌++◌, length, ap, arith, Option}
+use Rattle.pfs_layout.proofs.Words.{Some, None, if◌then◌else◌, inl, inr, option_map, list_any, and_parts, cases_Bool}
+use Rattle.pfs_layout.proofs.Words.{nat_tests, append-nil, length-append, length_push, slice_get-push, Layout, CEILING}
+use Rattle.pfs_layout.proofs.Words.{SizeLine, Phase, Blocks, is_word_byte, Size, is_within_limits, is_mixed}
+use Rattle.pfs_layout.proofs.Words.{is_number_line, numbers, stated_size, are_due, Block, seeking, inside, stand_after}
+use Rattle.pfs_layout.proofs.Words.{standing, completed, instance_of, begun, with_line, size_fault, line_ended}
+use Rattle.pfs_layout.proofs.Words.{block_of, HoldsNumbers, FollowsBlocks}
 use Rattle.std.proofs.lemmas.Bool.{not-true}
 use Rattle.pfs_layout.specs.declared.blocks.Phase.TheVariants as phases
 use Rattle.pfs_layout.specs.Block.{after_size}

@@ -1,25 +1,20 @@
 -- One more number: the fault that it has, or what the fields mean after it.
 use Rattle.pfs_layout.proofs.Words.{◌≡◌, ◌≢◌, ℕ, ◌+◌, ◌*◌, ◌%◌, ◌<◌, List, [], ◌∷◌, ◌++◌, length, get_or, refl, sym}
 use Rattle.pfs_layout.proofs.Words.{◌∙◌, arith, common_steps, length-replicate, length-set, same_from_place, mul-add-lt}
-use Rattle.pfs_layout.proofs.Words.{rows, with_time, Layout, OrLib, Size, place_of_time}
-use Rattle.pfs_layout.proofs.Words.{instance_of, min, Bool, true, ap, Option, Some, None, if◌then◌else◌}
-use Rattle.pfs_layout.proofs.Words.{◌==◌, inl, inr, option_map, cases_Bool, eqb-true, ne_eqb}
-use Rattle.pfs_layout.proofs.Words.{lt-ltb, nat_tests, length_push, append_assoc, length-append}
-use Rattle.pfs_layout.proofs.Words.{mod-mul-add, Problem, CEILING, SizeLine, is_due}
-use Rattle.pfs_layout.proofs.Words.{due_at, Stand, Block, Now, seeking, inside, lost, standing, rejected}
-use Rattle.pfs_layout.proofs.Words.{body_validated, number_ended, time_count, HoldsNumbers}
-use Rattle.pfs_layout.proofs.Words.{FollowsBody, is_live, block_begun_by, block_of, FollowsBlocks, no_numbers}
-use Rattle.pfs_layout.proofs.Words.{LayoutFault, Blocks, misfit}
+use Rattle.pfs_layout.proofs.Words.{rows, with_time, Layout, OrLib, Size, place_of_time, instance_of, min, Bool, true}
+use Rattle.pfs_layout.proofs.Words.{ap, Option, Some, None, if◌then◌else◌, ◌==◌, inl, inr, cases_Bool, eqb-true, ne_eqb}
+use Rattle.pfs_layout.proofs.Words.{nat_tests, length_push, append_assoc, length-append, mod-mul-add, CEILING, SizeLine}
+use Rattle.pfs_layout.proofs.Words.{is_due, due_at, Stand, Block, Now, seeking, inside, lost, standing, body_validated}
+use Rattle.pfs_layout.proofs.Words.{number_ended, HoldsNumbers, FollowsBody, is_live, FollowsBlocks, no_numbers}
+use Rattle.pfs_layout.proofs.Words.{LayoutFault, Blocks, misfit, Due}
 use Rattle.std.proofs.Math.ListN.{set}
 use Rattle.std.proofs.Math.Nat.{mul_comm}
 use Rattle.std.proofs.lemmas.List.{get_or_push, get_or-replicate}
-use Rattle.pfs_layout.specs.Private.Step.{with_number, next_of, after_time, after_machine, due_next}
-use Rattle.pfs_layout.specs.Private.Step.{with_problem_time, counted}
+use Rattle.pfs_layout.specs.Private.Step.{with_number, next_of, after_time, due_next, counted}
 use Rattle.pfs_layout.proofs.Files.DueLemmas.{listed_time, size_within}
 use Rattle.pfs_layout.proofs.Tables.{table, length-table, table_at, same_table}
-use Rattle.std.specs.Prelude.{is_some, replicate}
+use Rattle.std.specs.Prelude.{replicate}
 use Rattle.pfs_layout.specs.declared.body.Body.{Body}
-use Rattle.pfs_layout.specs.declared.body.Due.{Due}
 use Rattle.pfs_layout.specs.declared.blocks.Phase.TheVariants as phases
 
 -- ---- the problem of a block with one number more
@@ -144,7 +139,8 @@ module _ {has_word : Bool} (r : Blocks) (complete : List Block) (block : Block) 
       let same : min CEILING v ≡ v = grind (arith, nat_tests) in
       let number = instance_of-time r.layout block.size so_far v r.body.job r.body.machine in
       let body = after_time_follows follows e in
-      rw same (grind (arith, nat_tests, f, follows.place, number, length_push, length-append {A = ℕ}, append_assoc {A = ℕ}))
+      let place = follows.place in
+      rw same (grind (arith, nat_tests, f, number, length_push, length-append {A = ℕ}, append_assoc {A = ℕ}))
   due_counts (Due.Machine machine) e is =
       let place = follows.place in
       grind (arith, nat_tests, f, instance_of-machine, length_push, length-append {A = ℕ}, append_assoc {A = ℕ})

@@ -1,9 +1,9 @@
 -- What `finish` promises: the end of the input is checked as a line end would be, and then for what is missing.
-use Rattle.pfs_layout.proofs.Words.{◌≡◌, ℕ, ◌-◌, ◌≤◌, true, List, [], refl, sym, ◌∙◌, arith, Option, Some, None, inl}
-use Rattle.pfs_layout.proofs.Words.{inr, Result, Ok, Err, option_or, result_err, nat_tests, lt-ltb, le-ltb, append-nil}
-use Rattle.pfs_layout.proofs.Words.{Problem, LayoutFault, Phase, Blocks, lines, ends_early, fault_of_place, rejection}
-use Rattle.pfs_layout.proofs.Words.{accepted, line_ended, has_numbers_alone, at_end, is_live, Fields, Follows}
-use Rattle.pfs_layout.proofs.Words.{HasReadIn, HasRead, FinishMeets}
+use Rattle.pfs_layout.proofs.Words.{◌≡◌, ℕ, ◌-◌, ◌≤◌, true, List, [], refl, ◌∙◌, arith, Option, Some, None, inl, inr}
+use Rattle.pfs_layout.proofs.Words.{Result, Ok, Err, option_or, result_err, nat_tests, lt-ltb, append-nil, Problem}
+use Rattle.pfs_layout.proofs.Words.{LayoutFault, Phase, Blocks, lines, ends_early, fault_of_place, rejection, accepted}
+use Rattle.pfs_layout.proofs.Words.{line_ended, has_numbers_alone, at_end, is_live, Fields, Follows, HasReadIn, HasRead}
+use Rattle.pfs_layout.proofs.Words.{FinishMeets, cases_option}
 use Rattle.std.specs.Result.{result_ok}
 use Rattle.pfs_layout.specs.declared.blocks.Phase.TheVariants as phases
 use Rattle.pfs_layout.specs.Private.Step.{end_fault}
@@ -11,7 +11,6 @@ use Rattle.pfs_layout.proofs.Files.FileLemmas.{made}
 use Rattle.pfs_layout.proofs.Files.GoodLemmas.{stand_of, sound, fault_within_limit, enough_right}
 use Rattle.pfs_layout.proofs.Files.VerdictLemmas.{end_faults, stand_lines, block_stays, unrejected_holds}
 use Rattle.pfs_layout.proofs.Files.VerdictLemmas.{holds_accepted}
-use Rattle.pfs_layout.proofs.Words.{cases_option}
 use Rattle.pfs_layout.proofs.Published.LawLemmas.{accepted_law}
 use Rattle.pfs_layout.proofs.Published.PlaceLemmas.{rejection_is, rejection_end}
 use Rattle.pfs_layout.proofs.Reading.ReaderSteps.{carries}

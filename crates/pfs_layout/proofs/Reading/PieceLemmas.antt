@@ -1,24 +1,19 @@
 -- What a reader promises for a piece.
-use Rattle.pfs_layout.proofs.Words.{nat_tests, ◌≡◌, ◌≢◌, ℕ, ◌+◌, ◌<◌, ◌≤◌, true, not, ◌&&◌, List, [], ◌∷◌, ◌++◌, length}
-use Rattle.pfs_layout.proofs.Words.{take, get_or, refl, ◌∙◌, arith, inl, inr, ◌-◌, cases_eq, append_assoc}
-use Rattle.pfs_layout.proofs.Words.{LONGEST_INPUT, Memory, Line, Blocks, is_digit, after_byte, IsReady, open_number}
-use Rattle.pfs_layout.proofs.Words.{Fields, fields, Follows, HasRead, EndsWantedSize, drop, subst, Some, Option}
-use Rattle.pfs_layout.proofs.Words.{append-nil, take_all, take-append-drop, LayoutFault, TooLong, Phase, byte_fault}
-use Rattle.pfs_layout.proofs.Words.{rejected, block_read, number_ended, HasReadIn, IsReader, FeedMeets, is_blank}
-use Rattle.pfs_layout.proofs.Words.{last_number_ended, is_live}
-use Rattle.pfs_layout.specs.declared.scan.Number.{Number}
-use Rattle.pfs_layout.specs.Private.Step.{TakeMeets, TakenTo, stored}
-use Rattle.pfs_layout.proofs.Words.{LONGEST_TIME, Taillard, OrLib, sym, ap, cases_lt, ◌%◌, None, false}
-use Rattle.std.proofs.lemmas.List.{get_or-drop, length-drop}
+use Rattle.pfs_layout.proofs.Words.{last_number_ended, take-append-drop, EndsWantedSize, LONGEST_INPUT, append_assoc, ℕ}
+use Rattle.pfs_layout.proofs.Words.{number_ended, LONGEST_TIME, open_number, LayoutFault, after_byte, append-nil, arith}
+use Rattle.pfs_layout.proofs.Words.{byte_fault, block_read, nat_tests, HasReadIn, FeedMeets, cases_eq, is_digit, length}
+use Rattle.pfs_layout.proofs.Words.{take_all, rejected, IsReader, is_blank, Taillard, cases_lt, IsReady, Follows, subst}
+use Rattle.pfs_layout.proofs.Words.{HasRead, TooLong, is_live, get_or, Memory, Blocks, Fields, fields, Option, Phase}
+use Rattle.pfs_layout.proofs.Words.{OrLib, false, true, ◌&&◌, List, ◌++◌, take, refl, Line, drop, Some, None, ◌≡◌, ◌≢◌}
+use Rattle.pfs_layout.proofs.Words.{◌+◌, ◌<◌, ◌≤◌, not, ◌∷◌, ◌∙◌, inl, inr, ◌-◌, sym, ◌%◌, [], ap, TakenTo, Number}
+use Rattle.pfs_layout.specs.Private.Step.{TakeMeets, stored, Pushes, LacksMemory}
+use Rattle.std.proofs.lemmas.List.{get_or-drop, length-drop, take_more, take-take, length-take-le, get_or-take}
 use Rattle.pfs_layout.specs.declared.scan.Digits.{Digits}
 use Rattle.std.proofs.Math.Seq.{take-add}
-use Rattle.pfs_layout.proofs.Reading.ReaderSteps.{has_read_of}
-use Rattle.std.proofs.lemmas.List.{take_more, take-take, length-take-le, get_or-take}
+use Rattle.pfs_layout.proofs.Reading.ReaderSteps.{has_read_of, carries, live_follows, step_has_read, follows_ready}
+use Rattle.pfs_layout.proofs.Reading.ReaderSteps.{wants_more, sought_now, begun_now}
 use Rattle.pfs_layout.specs.declared.blocks.Phase.TheVariants as phases
-use Rattle.pfs_layout.specs.Private.Step.{Pushes, LacksMemory}
 use Rattle.pfs_layout.proofs.Files.GoodLemmas.{stand_of, long_fault, sound}
-use Rattle.pfs_layout.proofs.Reading.ReaderSteps.{carries, live_follows, step_has_read, follows_ready, wants_more}
-use Rattle.pfs_layout.proofs.Reading.ReaderSteps.{sought_now, begun_now}
 use Rattle.pfs_layout.proofs.Reading.ByteSteps.{live-memory, rejected_memory, live_few}
 use Rattle.pfs_layout.specs.Reader.{IsRejected, progress_of}
 use Rattle.pfs_layout.proofs.Published.PlaceLemmas.{byte_fault-push}

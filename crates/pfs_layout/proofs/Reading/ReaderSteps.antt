@@ -1,28 +1,24 @@
 -- What a reader has read, before the first byte and after one more byte.
-use Rattle.pfs_layout.proofs.Words.{CEILING, ◌-◌, ◌≡◌, ℕ, ◌+◌, ◌≤◌, Bool, true, length, Option, Some, None, arith, refl}
-use Rattle.pfs_layout.proofs.Words.{◌⊎◌, inl, inr, Blocks, last_number_ended, is_live, ◌*◌, ◌<◌, not, ◌&&◌, ◌||◌, List}
-use Rattle.pfs_layout.proofs.Words.{[], ◌∷◌, ◌++◌, count_by, if◌then◌else◌, ◌==◌, list_any, length_push}
-use Rattle.pfs_layout.proofs.Words.{list_any-append, is_digit, is_line_end, is_word_byte, open_line, is_no_digit}
-use Rattle.pfs_layout.proofs.Words.{last_digits, FollowsLine, lt-ltb, Layout, Line, ended_parts, open_part}
-use Rattle.pfs_layout.proofs.Words.{ended_numbers, stand, byte_fault, fields, HasRead, sym, ◌∙◌, subst, mul-le-mul}
-use Rattle.pfs_layout.proofs.Words.{nat_tests, length-append, cases_Bool, LONGEST_INPUT, LayoutFault}
-use Rattle.pfs_layout.proofs.Words.{is_blank, Size, is_within_limits, due_count, Block, seeking, inside, instance_of}
-use Rattle.pfs_layout.proofs.Words.{standing, fault_of_place, min, no_numbers, has_numbers_alone, open_number, IsReady}
-use Rattle.pfs_layout.proofs.Words.{Fields, block_read, FollowsBlocks, Follows, IsReader}
+use Rattle.pfs_layout.proofs.Words.{CEILING, ◌-◌, ◌≡◌, ℕ, ◌+◌, ◌≤◌, Bool, true, length, Option, Some, None, arith, ◌⊎◌}
+use Rattle.pfs_layout.proofs.Words.{inl, inr, Blocks, is_live, ◌*◌, ◌<◌, not, ◌&&◌, ◌||◌, List, [], ◌∷◌, ◌++◌}
+use Rattle.pfs_layout.proofs.Words.{if◌then◌else◌, ◌==◌, list_any, length_push, list_any-append, is_digit, is_line_end}
+use Rattle.pfs_layout.proofs.Words.{is_word_byte, open_line, is_no_digit, last_digits, FollowsLine, Layout, Line}
+use Rattle.pfs_layout.proofs.Words.{ended_parts, open_part, ended_numbers, stand, byte_fault, fields, HasRead, sym, ◌∙◌}
+use Rattle.pfs_layout.proofs.Words.{subst, mul-le-mul, nat_tests, length-append, cases_Bool, LONGEST_INPUT, LayoutFault}
+use Rattle.pfs_layout.proofs.Words.{is_blank, due_count, Block, seeking, inside, instance_of, standing, fault_of_place}
+use Rattle.pfs_layout.proofs.Words.{min, no_numbers, open_number, IsReady, Fields, block_read, FollowsBlocks, Follows}
+use Rattle.pfs_layout.proofs.Words.{IsReader, cases_option, after_byte, line_ended}
 use Rattle.pfs_layout.specs.declared.blocks.Phase.TheVariants as phases
 use Rattle.pfs_layout.specs.Private.Step.{Pushes, CanCount}
 use Rattle.std.proofs.lemmas.Int.Digits.{digits_value_push}
 use Rattle.std.proofs.lemmas.List.Sums.{sum_by_push, count_by-le-length}
 use Rattle.pfs_layout.proofs.Files.LineLemmas.{open_part-push}
-use Rattle.pfs_layout.proofs.Words.{cases_option}
 use Rattle.pfs_layout.proofs.Published.PlaceLemmas.{byte_fault-push}
 use Rattle.pfs_layout.proofs.Files.GoodLemmas.{ended_none, fault_within_limit, place_fault, GoodNow, stand_of, sound}
 use Rattle.pfs_layout.proofs.Files.GoodLemmas.{stand_of-on, stand_of-end, open_line-on, open_line-end}
 use Rattle.pfs_layout.proofs.Files.DueLemmas.{size_within}
 use Rattle.pfs_layout.proofs.Reading.NumberSteps.{IsRejection, Outcome, holds_none}
-use Rattle.pfs_layout.proofs.Words.{after_byte, line_ended}
-use Rattle.pfs_layout.proofs.Reading.ByteSteps.{live_few, valid_gap, byte_on, end_byte, live-memory}
-use Rattle.pfs_layout.proofs.Reading.ByteSteps.{keeps_last}
+use Rattle.pfs_layout.proofs.Reading.ByteSteps.{live_few, valid_gap, byte_on, end_byte, live-memory, keeps_last}
 
 -- ---- the last line with one byte more
 

@@ -1,6 +1,5 @@
 -- Each byte moves the reader forward: a digit changes no block, and a space may end a number.
-use Rattle.pfs_layout.proofs.Words.{sym, ◌∙◌, arith, nat_tests, ◌≤◌, LONGEST_TIME, ap}
-use Rattle.pfs_layout.specs.Lines.{is_blank}
+use Rattle.pfs_layout.proofs.Words.{sym, ◌∙◌, arith, nat_tests, ◌≤◌, LONGEST_TIME, ap, is_blank}
 use Rattle.pfs_layout.proofs.Reading.PieceLemmas.{digit_validated, blank_validated, number_validated, machine_ended}
 use Rattle.pfs_layout.proofs.Reading.PieceLemmas.{open_value, pair_ended, taken_on, taken_quiet, taken_ready}
 use Rattle.pfs_layout.proofs.Reading.PieceLemmas.{taken_used}

@@ -1,6 +1,5 @@
 -- Each byte moves the reader forward: a digit changes no block, and a space may end a time.
-use Rattle.pfs_layout.proofs.Words.{sym, ◌∙◌, arith, nat_tests, ◌≤◌, LONGEST_TIME, ap}
-use Rattle.pfs_layout.specs.Lines.{is_blank}
+use Rattle.pfs_layout.proofs.Words.{sym, ◌∙◌, arith, nat_tests, ◌≤◌, LONGEST_TIME, ap, is_blank}
 use Rattle.pfs_layout.proofs.Reading.PieceLemmas.{digit_validated, blank_validated, number_validated, time_ended}
 use Rattle.pfs_layout.proofs.Reading.PieceLemmas.{open_value, taken_on, taken_quiet, taken_ready, taken_used}
 use Rattle.pfs_layout.proofs.blocks.Blocks.take_times.Goals.{in-Some+else-body-last_job, in_default}
