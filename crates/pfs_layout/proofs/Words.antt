@@ -1,7 +1,7 @@
 -- The vocabulary of this crate's proofs: the names of std, of pfs_base and of the crate's own definitions that
 -- several files of lemmas use, and two lemmas on options.
 pub use Rattle.std.proofs.Common.{◌%◌, ◌&&◌, ◌*◌, ◌+◌, ◌++◌, ◌-◌, ◌/◌, ◌<◌, ◌==◌, Bool, List, None, Option, Some, []}
-pub use Rattle.std.proofs.Common.{add-one, ap, arith, codes, count_by, drop, false, flat_map, get_or, if◌then◌else◌}
+pub use Rattle.std.proofs.Common.{add-one, ap, arith, count_by, drop, false, flat_map, get_or, if◌then◌else◌}
 pub use Rattle.std.proofs.Common.{inl, inr, length, lit≤, map, min, mul-le-mul, nat_le, not, refl, rules, subst, suc}
 pub use Rattle.std.proofs.Common.{sym, take, true, zero, ◌||◌, ℕ, ◌↔◌, ◌∙◌, ◌∷◌, ◌≡◌, ◌≢◌, ◌≤◌, ◌⊎◌}
 pub use Rattle.std.proofs.lemmas.Bool.{and_parts, cases_Bool, cases_eq, cases_lt, eq-eqb, eqb-false, eqb-true, le-ltb}
@@ -46,11 +46,11 @@ unfoldable pub use Rattle.pfs_layout.specs.Generator.{generated, seed_after}
 pub use Rattle.pfs_layout.specs.Laws.{Completes, Seeks}
 unfoldable pub use Rattle.pfs_layout.specs.Lines.{ended_numbers, ended_parts, lines, numbers, open_part}
 pub use Rattle.pfs_layout.specs.Private.Step.{IsReady, at_end, body_validated, has_numbers_alone, after_byte}
-pub use Rattle.pfs_layout.specs.Private.Step.{last_number_ended, no_numbers, open_number, rejected}
+pub use Rattle.pfs_layout.specs.Private.Step.{last_number_ended, no_numbers, open_number, rejected, TakenTo}
 unfoldable pub use Rattle.pfs_layout.specs.Private.Step.{line_ended, number_ended}
 pub use Rattle.pfs_layout.specs.Reader.{EndsWantedSize, FeedMeets, Fields, FinishMeets, Follows, FollowsBlocks}
 pub use Rattle.pfs_layout.specs.Reader.{FollowsBody, FollowsLine, FollowsNow, HoldsFew, HoldsNumbers, IsReader}
-pub use Rattle.pfs_layout.specs.Reader.{HasRead, HasReadIn, block_begun_by, block_of, fields, is_live, time_count}
+pub use Rattle.pfs_layout.specs.Reader.{HasRead, HasReadIn, block_of, fields, is_live, time_count}
 unfoldable pub use Rattle.pfs_layout.specs.Reader.{block_read}
 pub use Rattle.pfs_layout.specs.Rejection.{LayoutFault, RejectsInstance, misfit, size_fault}
 unfoldable pub use Rattle.pfs_layout.specs.Rejection.{accepted, byte_fault, ends_early, fault_of_place, mixed_line}
@@ -62,6 +62,7 @@ pub use Rattle.pfs_layout.specs.declared.blocks.Progress.{Progress}
 pub use Rattle.pfs_layout.specs.declared.fault.LayoutFault.TheVariants.{Memory, Read, SeedRange, TooLong}
 pub use Rattle.pfs_layout.specs.declared.layout.Layout.TheVariants.{OrLib, Taillard}
 pub use Rattle.pfs_layout.specs.declared.scan.Line.{Line}
+pub use Rattle.pfs_layout.specs.declared.scan.Number.{Number}
 pub use Rattle.pfs_layout.specs.declared.scan.TheConstants.{CEILING}
 pub use Rattle.pfs_layout.specs.declared.size_line.SizeLine.{SizeLine}
 

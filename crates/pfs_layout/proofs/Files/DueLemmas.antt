@@ -139,10 +139,11 @@ due_passes layout problem within = are_due_by_place layout (size_of problem) (du
 abbrev pub listed_time : Layout → Size → List ℕ → ℕ → ℕ → ℕ
 listed_time layout size numbers job machine = get_or numbers (place_of_time layout size job machine) 0
 
-module _ (layout : Layout) (block : Block) where
-  pub length-times : length (instance_of layout block).shop.times ≡ block.size.jobs * block.size.machines
-  unfolding instance_of
-  length-times = length-table (listed_time layout block.size block.numbers) block.size.jobs block.size.machines
+pub length-times : (layout : Layout) (block : Block)
+    → length (instance_of layout block).shop.times ≡ block.size.jobs * block.size.machines
+unfolding instance_of
+length-times layout block =
+    length-table (listed_time layout block.size block.numbers) block.size.jobs block.size.machines
 
 -- ---- from a problem to its due numbers and back
 
@@ -171,43 +172,35 @@ due_number layout size numbers k all h =
     let placed = AllPass-from_list_all test (enumerate_from 0 numbers) all k (0, 0) in
     grind (arith, placed, length-enumerate_from {X = ℕ}, get_or-enumerate_from {X = ℕ})
 
--- a complete block's numbers are those that are due for its problem
-pub due_instance : (layout : Layout) (block : Block) → are_due layout block.size block.numbers ≡ true
-    → length block.numbers ≡ due_count layout block.size → due layout (instance_of layout block).shop ≡ block.numbers
-unfolding instance_of
-due_instance layout block all full =
-    let count = length-due layout (instance_of layout block) in
-    same_number_lists (due layout (instance_of layout block).shop) block.numbers (count ∙ sym full) (λ k h.
-    elim (place_is layout (instance_of layout block) k (omega (arith, count))) [
-      | a_time job machine j m place ↦
-          rw place (time_due layout (instance_of layout block) job machine j m
-          ∙ table_at (listed_time layout block.size block.numbers) block.size.jobs block.size.machines job machine
-          0 j m)
-      | a_number machine wanted is ↦
-          grind (arith, nat_tests, is, wanted, full, count, due_number layout block.size block.numbers k all)
-    ])
+module _ (layout : Layout) (block : Block) (all : are_due layout block.size block.numbers ≡ true)
+    (full : length block.numbers ≡ due_count layout block.size) where
+  -- a complete block's numbers are those that are due for its problem
+  pub due_instance : due layout (instance_of layout block).shop ≡ block.numbers
+  unfolding instance_of
+  due_instance =
+      let count = length-due layout (instance_of layout block) in
+      let number = table_at (listed_time layout block.size block.numbers) block.size.jobs block.size.machines in
+      same_number_lists (due layout (instance_of layout block).shop) block.numbers (count ∙ sym full) (λ k h.
+      elim (place_is layout (instance_of layout block) k (omega (arith, count))) [
+        | a_time job machine j m place ↦
+            rw place (time_due layout (instance_of layout block) job machine j m ∙ number job machine 0 j m)
+        | a_number machine wanted is ↦
+            grind (arith, nat_tests, is, wanted, full, count, due_number layout block.size block.numbers k all)
+      ])
 
--- ---- a complete block's problem is within the limits
+  -- that problem is within the limits
+  pub times_short : All (λ time. time ≤ LONGEST_TIME) (instance_of layout block).shop.times
+  unfolding instance_of
+  times_short = all_table (listed_time layout block.size block.numbers) block.size.jobs block.size.machines
+      (λ time. time ≤ LONGEST_TIME) (λ job machine j m.
+      let place : ℕ = place_of_time layout block.size job machine in
+      let within = place_within layout block.size job machine j m in
+      let time = due_time layout block.size job machine j m in
+      grind (arith, nat_tests, full, due_number layout block.size block.numbers place all))
 
-pub times_short : (layout : Layout) (block : Block) → are_due layout block.size block.numbers ≡ true
-    → length block.numbers ≡ due_count layout block.size
-    → All (λ time. time ≤ LONGEST_TIME) (instance_of layout block).shop.times
-unfolding instance_of
-times_short layout block all full =
-    all_table (listed_time layout block.size block.numbers) block.size.jobs block.size.machines
-    (λ time. time ≤ LONGEST_TIME)
-    (λ job machine j m.
-    let place : ℕ = place_of_time layout block.size job machine in
-    let within = place_within layout block.size job machine j m in
-    let time = due_time layout block.size job machine j m in
-    grind (arith, nat_tests, full, due_number layout block.size block.numbers place all))
-
-pub instance_within : (layout : Layout) (block : Block) → is_within_limits block.size ≡ true
-    → are_due layout block.size block.numbers ≡ true → length block.numbers ≡ due_count layout block.size
-    → IsInstance limits (instance_of layout block)
-unfolding instance_of
-instance_within layout block size all full =
-    grind (arith, size_within block.size size, length-times layout block, times_short layout block all full)
+  pub instance_within : is_within_limits block.size ≡ true → IsInstance limits (instance_of layout block)
+  unfolding instance_of
+  instance_within size = grind (arith, size_within block.size size, length-times layout block, times_short)
 
 -- ---- numbers that pass the check begin what is due for some problem
 
@@ -242,9 +235,8 @@ module _ (layout : Layout) (size : Size) (numbers : List ℕ) (all : are_due lay
   filled_passes : are_due layout size (filled layout size numbers) ≡ true
   unfolding instance_of
   filled_passes = are_due_by_place layout size (filled layout size numbers) (λ k h.
-      let none_long = all_table (λ job machine. 0) size.jobs size.machines (λ time. time ≤ LONGEST_TIME)
-      (λ job machine j m. omega arith) in
-      let idle_passes = due_passes layout (instance_of layout (begun size)) none_long in
+      let idle_passes = due_passes layout (instance_of layout (begun size)) (all_table (λ job machine. 0) size.jobs
+      size.machines (λ time. time ≤ LONGEST_TIME) (λ job machine j m. omega arith)) in
       grind (arith, elements, length-filled, length-due layout (instance_of layout (begun size)), due_number))
 
   begin_due : BeginDue layout size numbers

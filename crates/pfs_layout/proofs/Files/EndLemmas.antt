@@ -1,8 +1,8 @@
 -- What more input and wider limits change.
 use Rattle.pfs_layout.proofs.Words.{◌≡◌, ℕ, List, [], ◌∷◌, ◌++◌, Some, append_assoc, append-nil, by_push, Layout}
 use Rattle.pfs_layout.proofs.Words.{LayoutFault, byte_fault, ◌≤◌, length, arith, lit≤, AllByRecursion, map, take, drop}
-use Rattle.pfs_layout.proofs.Words.{take-append-drop, None, inl, inr, rejection, fault_of_place, below, limits, Front}
-use Rattle.pfs_layout.proofs.Words.{Problem, AreBlocks, IsInstance, IsBlock, IsSomeBlock, lines, cases_option}
+use Rattle.pfs_layout.proofs.Words.{take-append-drop, None, rejection, fault_of_place, below, limits}
+use Rattle.pfs_layout.proofs.Words.{Problem, IsInstance, IsBlock, IsSomeBlock}
 use Rattle.pfs_layout.specs.Laws.{FaultStays, FreeAfter, IsWider, WiderLimits, earlier_limits, EarlierFiles}
 use Rattle.pfs_layout.proofs.Files.FileLemmas.{file_completes, completes_file}
 use Rattle.pfs_layout.proofs.Files.VerdictLemmas.{enough_holds, holds_longer, one_held}
@@ -22,12 +22,8 @@ pub front_faults : (layout : Layout) (k : ℕ) (text : List ℕ) (n : ℕ) → b
     → map (λ cut. rejection layout (take cut text) k) (below n)
     ≡ map (λ cut. fault_of_place layout k (take cut text) None) (below n)
 front_faults layout k text n right = map-range_with_len-same _ _ 0 n (λ cut low high.
-    rw rejection_end (elim (cases_option (byte_fault layout k (take cut text))) [
-      | inl none ↦ rw none
-      | inr one ↦
-          let stays = byte_fault-more layout k (take cut text) (drop cut text) one.0 one.1 in
-          absurd (cc (right, rw (take-append-drop cut text) at stays))
-    ]))
+    let stays = byte_fault-more layout k (take cut text) (drop cut text) in
+    rw rejection_end (grind (arith, take-append-drop cut text)))
 
 pub fault_stays : FaultStays
 fault_stays layout text more k fault e =
@@ -54,16 +50,7 @@ free_after layout text more k problem some right enough =
 
 module _ (narrow wide : Limits) (wider : IsWider narrow wide) where
   instance_wider : (problem : Problem) → IsInstance narrow problem → IsInstance wide problem
-  instance_wider problem is = record {
-    within = record {
-      sizes = search arith;
-      every_time = is.within.every_time;
-      short_times = λ k d h. omega (arith, is.within.short_times k d h, wider.time);
-    };
-    seed = omega arith;
-    upper = omega arith;
-    lower = omega arith;
-  }
+  instance_wider problem is = grind (arith, is.within, is.within.short_times, wider)
 
   -- the other parts of a block don't depend on the limits
   block_wider : (layout : Layout) (problem : Problem) (block : List (List ℕ)) → IsBlock narrow layout problem block
@@ -81,9 +68,7 @@ wider_limits narrow wide layout input k problem wider file =
     let each = blocks_wider narrow wide wider layout file.blocks.earlier file.blocks.each in
     let own = block_wider narrow wide wider layout problem file.blocks.own file.blocks.is_own in
     let short : length file.text ≤ wide.input = omega (arith, file.short, wider.input) in
-    let front : Front wide input = search in
-    let blocks : AreBlocks wide layout k problem (lines file.text) = search in
-    record { front = front; blocks = blocks }
+    record { front = search; blocks = search }
 
 pub earlier_files : EarlierFiles
 earlier_files layout input k problem = wider_limits earlier_limits limits layout input k problem (record {

@@ -4,7 +4,7 @@ use Rattle.pfs_layout.proofs.Words.{sym, arith, append_assoc, append-nil, length
 use Rattle.pfs_layout.proofs.Words.{list_all, list_all-append, fold-append, Layout, is_digit, limits, Problem, size_of}
 use Rattle.pfs_layout.proofs.Words.{is_mixed, is_number_line, is_no_digit, numbers, are_due, due, due_count, Block, ap}
 use Rattle.pfs_layout.proofs.Words.{seeking, inside, standing, completed, stand_after, IsSomeBlock, IsBlock, false, inl}
-use Rattle.pfs_layout.proofs.Words.{Some, ◌==◌, inr, mul-le-mul, cases_Bool, eqb-false, or_parts, flat_map-append, Now}
+use Rattle.pfs_layout.proofs.Words.{Some, ◌==◌, inr, mul-le-mul, cases_Bool, eqb-false, flat_map-append, Now}
 use Rattle.pfs_layout.proofs.Words.{by_push, is_within_limits, stated_size, lost, Stand, begun, with_line, after_line}
 use Rattle.pfs_layout.proofs.Words.{stand, instance_of, lines, AreBlocks, IsInstanceFile, Completes, Seeks, length_push}
 use Rattle.std.proofs.Common.{fold}
@@ -53,15 +53,12 @@ module _ (layout : Layout) (complete : List Block) where
       → fold (stand_after layout) (standing complete seeking) block ≡ completed complete (due_block layout problem)
   unfolding stand_after
   block_fold problem block b =
-      let tail : List (List ℕ) = b.front ++ b.last ∷ [] in
-      let lines = append_assoc b.skipped (b.size_line ∷ b.front) (b.last ∷ []) in
-      let skipped = skip_fold b.skipped b.no_numbers in
       let within : is_within_limits (size_of problem) ≡ true = grind (arith, nat_tests, b.within) in
       let body = body_fold (size_of problem) [] b.front b.last b.front_unmixed b.last_numbers
       (due layout problem.shop) (sym b.holds) (due_passes layout problem b.within.within.short_times)
       (length-due layout problem) in
-      let joined = fold-append (stand_after layout) (standing complete seeking) b.skipped (b.size_line ∷ tail) in
-      grind (arith, b.number_line, b.states)
+      rw (b.parts, append_assoc, fold-append, skip_fold b.skipped b.no_numbers)
+      (grind (arith, b.number_line, b.states))
 
 -- blocks lead to this count of complete ones, the last of which is the problem's
 pub record LeadsTo (layout : Layout) (complete : List Block) (problem : Problem) (count : ℕ) (text : List (List ℕ))
@@ -79,13 +76,12 @@ blocks_lead layout complete problem [] own each b =
 blocks_lead layout complete problem (block ∷ earlier) own each b =
     let first : Block = due_block layout each.0.0 in
     let more = blocks_lead layout (complete ++ first ∷ []) problem earlier own each.1 b in
-    let rest : List (List ℕ) = flat_map (λ block. block) earlier ++ own in
-    let lines = append_assoc block (flat_map (λ block. block) earlier) own in
-    let joined = fold-append (stand_after layout) (standing complete seeking) block rest in
     record {
       before = first ∷ more.before;
       as_many = omega (arith, more.as_many);
-      end = rw (lines, joined, block_fold layout complete each.0.0 block each.0.1) (rw more.end (simp append_assoc));
+      end =
+          rw (append_assoc, fold-append, block_fold layout complete each.0.0 block each.0.1, more.end)
+          (simp append_assoc);
     }
 
 -- ---- which lines lead to complete blocks
@@ -94,8 +90,7 @@ blocks_lead layout complete problem (block ∷ earlier) own each b =
 pub no_numbers : (line : List ℕ) → list_any is_digit line ≡ false → numbers line ≡ []
 unfolding numbers
 no_numbers [] none = refl
-no_numbers (b ∷ line) none =
-    let parts = or_parts (is_digit b) (list_any is_digit line) none in rw parts.0 (no_numbers line parts.1)
+no_numbers (b ∷ line) none = grind (arith, no_numbers line)
 
 -- ---- lines that are made of blocks
 
@@ -161,13 +156,12 @@ module _ (layout : Layout) (text : List (List ℕ)) (complete : List Block) (lin
       → IsMade layout (text ++ line ∷ []) (standing complete (inside (begun size)))
   began m size states numbered within =
       let sizes = (size_within size within).sizes in
-      let some = mul-le-mul sizes.some_job sizes.some_machine in
       grown (inside (begun size)) m (record {
         skipped = m.tail;
         size_line = line;
         front = [];
         opens = grind (arith, m.fits);
-        short = λ none. grind (arith, some);
+        short = λ none. grind (arith, mul-le-mul sizes.some_job sizes.some_machine);
       })
 
   finished : (block : Block) → IsMade layout text (standing complete (inside block)) → is_mixed line ≡ false
@@ -197,7 +191,7 @@ module _ (layout : Layout) (text : List (List ℕ)) (complete : List Block) (lin
             | inr none ↦ absurd (m.fits.short (rw (no_numbers line none, append-nil) at whole))
           ];
           holds = grind (arith, all_due, m.fits.opens);
-          within = instance_within layout (with_line block line) m.fits.opens.within right whole;
+          within = instance_within layout (with_line block line) right whole m.fits.opens.within;
         });
         fits = refl;
       }
@@ -254,14 +248,7 @@ file_completes layout input k problem f =
 are_blocks : (layout : Layout) (text : List (List ℕ)) (earlier : List Block) (own : Block)
     → AreBlockLines layout (earlier ++ own ∷ []) text
     → AreBlocks limits layout (length earlier + 1) (instance_of layout own) text
-are_blocks layout text [] own are = record {
-  earlier = [];
-  own = are.0;
-  parts = rw (are.2, are.4) (append-nil are.0);
-  count = refl;
-  each = tt;
-  is_own = are.3;
-}
+are_blocks layout text [] own are = grind (arith, are.3, append-nil {A = List ℕ})
 are_blocks layout text (block ∷ earlier) own are =
     let more = are_blocks layout are.1 earlier own are.4 in
     record {

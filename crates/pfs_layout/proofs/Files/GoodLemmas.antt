@@ -2,7 +2,7 @@
 use Rattle.pfs_layout.proofs.Words.{◌≡◌, ℕ, ◌+◌, ◌-◌, ◌<◌, ◌≤◌, Bool, true, false, not, ◌&&◌, ◌||◌, List, [], ◌∷◌, ◌++◌}
 use Rattle.pfs_layout.proofs.Words.{length, Option, Some, None, if◌then◌else◌, inl, inr, append-nil, append_assoc}
 use Rattle.pfs_layout.proofs.Words.{length-append, nat_le, refl, sym, ◌∙◌, ap, arith, ◌⊎◌, list_any, is_none, option_or}
-use Rattle.pfs_layout.proofs.Words.{digits_value, cases_Bool, cases_lt, cases_eq, le-ltb, nat_tests, length_push}
+use Rattle.pfs_layout.proofs.Words.{digits_value, cases_Bool, le-ltb, nat_tests, length_push}
 use Rattle.pfs_layout.proofs.Words.{list_any-append, list_all-append, fold-append, LONGEST_INPUT, Layout, LayoutFault}
 use Rattle.pfs_layout.proofs.Words.{TooLong, is_digit, is_blank, is_line_end, is_empty, by_push, enumerate_from-append}
 use Rattle.pfs_layout.proofs.Words.{Size, ended_parts, open_part, ended_lines, open_line, is_mixed, numbers}
@@ -20,8 +20,7 @@ are_due-push : (layout : Layout) (size : Size) (ns : List ℕ) (n : ℕ)
     → are_due layout size (ns ++ n ∷ []) ≡ (are_due layout size ns && is_due (due_at layout size (length ns)) n)
 unfolding are_due
 are_due-push layout size ns n =
-    let e : 0 + length ns ≡ length ns = omega arith in
-    rw (enumerate_from-append 0 ns (n ∷ []), list_all-append, e, and-true) refl
+    rw (enumerate_from-append 0 ns (n ∷ []), list_all-append) (grind (arith, and-true))
 
 misfit_is : (due : Due) (n offset : ℕ) → is_none (misfit due n offset) ≡ is_due due n
 misfit_is due n offset = grind (arith, nat_tests)
@@ -61,11 +60,9 @@ pub due_line : (layout : Layout) (block : Block) (text : List ℕ)
     → are_due layout block.size (block.numbers ++ numbers (open_line text))
     ≡ (are_due layout block.size (block.numbers ++ ended_numbers (open_line text))
     && is_none (number_fault layout (inside block) text))
-due_line layout block text = elim (cases_Bool (is_empty (last_digits text))) [
-  | inl none ↦ rw (line_numbers text, none, and-true) refl
-  | inr some ↦ rw (line_numbers text, some, ← append_assoc)
-      (grind (arith, are_due-push, misfit_is, length-append {A = ℕ}))
-]
+due_line layout block text =
+    rw (line_numbers text)
+    (grind (arith, and-true, are_due-push, misfit_is, length-append {A = ℕ}, append_assoc {A = ℕ}))
 
 -- ---- the fault of a byte
 
@@ -106,10 +103,9 @@ pub good_on : (layout : Layout) (now : Now) (text : List ℕ) (b : ℕ) → is_l
 unfolding mixed_line wrong_size
 good_on layout seeking text b on = rw on
 good_on layout (inside block) text b on =
-    let numbers = due_line layout block text in
     let fault = wrong_number_is layout block text b in
     let none = no_last text in
-    grind (arith, nat_tests, line_numbers text, ended_numbers-push (open_line text) b, list_any-append {X = ℕ})
+    grind (arith, nat_tests, due_line layout block text, line_numbers text, ended_numbers-push, list_any-append {X = ℕ})
 good_on layout lost text b on = refl
 
 pub ended_none : ended_numbers [] ≡ []
@@ -121,11 +117,10 @@ pub good_end : (layout : Layout) (complete : List Block) (now : Now) (text : Lis
     → is_good layout (after_line layout complete now (open_line text)).now []
     ≡ (is_good layout now (open_line text) && is_none (fault_within_limit layout now text 10))
 unfolding wrong_size are_due
-good_end layout complete seeking text = let none = ended_none in grind (arith, nat_tests)
+good_end layout complete seeking text = grind (arith, nat_tests, ended_none)
 good_end layout complete (inside block) text =
-    let numbers = due_line layout block text in
-    let none = ended_none in
-    rw (gap_fault layout block text 10 refl) (grind (arith, append-nil {A = ℕ}))
+    rw (gap_fault layout block text 10 refl)
+    (grind (arith, append-nil {A = ℕ}, due_line layout block text, ended_none))
 good_end layout complete lost text = refl
 
 -- ---- a text with one byte more
@@ -231,21 +226,15 @@ module _ (layout : Layout) (k : ℕ) where
       let before : Stand = stand_of layout text in
       let size = length_push text b in
       let so_far = validated (omega arith) in
-      rw (byte_fault-push layout k text b) (elim (cases_lt (length before.complete) k) [
-        | inr enough ↦
-            let longer = fewer_before layout text (b ∷ []) in
-            grind (arith, nat_tests, enough_right text (Some b) enough)
-        | inl few ↦
-            let here = place_fault text b few (omega arith) in
-            elim (cases_Bool (is_line_end b)) [
-              | inl ends ↦
-                  let good = good_end layout before.complete before.now text in
-                  let line = one_line layout before (open_line text) in
-                  rw (stand_of-end layout text b ends, open_line-end text b ends) (grind (arith, nat_tests))
-              | inr on ↦
-                  let good = good_on layout before.now text b on in
-                  rw (stand_of-on layout text b on, open_line-on text b on) (grind (arith, nat_tests))
-            ]
+      let here = place_fault text b in
+      let enough = enough_right text (Some b) in
+      rw (byte_fault-push layout k text b) (elim (cases_Bool (is_line_end b)) [
+        | inl ends ↦
+            let good = good_end layout before.complete before.now text in
+            rw (stand_of-end layout text b ends, open_line-end text b ends) (grind (arith, nat_tests, one_line))
+        | inr on ↦
+            let good = good_on layout before.now text b on in
+            rw (stand_of-on layout text b on, open_line-on text b on) (grind (arith, nat_tests))
       ])
 
   pub validated : (text : List ℕ) → Validated text
@@ -260,13 +249,9 @@ module _ (layout : Layout) (k : ℕ) where
   -- a good text with one more byte, without a fault, is within the limit
   short_more : (text : List ℕ) (b : ℕ) → byte_fault layout k (text ++ b ∷ []) ≡ None → Few text
       → length text ≤ LONGEST_INPUT → AllGood text ≡ true → length (text ++ b ∷ []) ≤ LONGEST_INPUT
-  short_more text b right few short good = elim (cases_eq (length text) LONGEST_INPUT) [
-    | inl full ↦
-        let long = long_fault text b few good full in
-        let none = (faultless_front text b right).1 in
-        absurd (cc)
-    | inr differs ↦ omega (arith, length_push text b)
-  ]
+  short_more text b right few short good =
+      let none = (faultless_front text b right).1 in
+      grind (arith, length_push text b, long_fault text b few good)
 
   -- while no byte has a fault and fewer than k blocks are complete, the text is within the limit and all is good
   pub sound : (text : List ℕ) → byte_fault layout k text ≡ None → Few text

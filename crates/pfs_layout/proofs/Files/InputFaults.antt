@@ -1,8 +1,8 @@
 -- Every fault that the definitions find at a place is one of the input: not a failed read, a failed allocation or a
 -- seed that is out of range.
 use Rattle.pfs_layout.proofs.Words.{arith, ◌≡◌, ℕ, Bool, true, false, List, take, Option, Some, None, slice_get, Layout}
-use Rattle.pfs_layout.proofs.Words.{LayoutFault, SeedRange, Read, Memory, Size, Due, mixed_line, misfit, wrong_number}
-use Rattle.pfs_layout.proofs.Words.{size_fault, wrong_size, ends_early, fault_of_place, RejectsInstance, Block}
+use Rattle.pfs_layout.proofs.Words.{LayoutFault, SeedRange, Read, Memory, Due, mixed_line, misfit, wrong_number}
+use Rattle.pfs_layout.proofs.Words.{wrong_size, ends_early, fault_of_place, RejectsInstance, Block}
 
 abbrev pub is_input_fault : LayoutFault → Bool
 is_input_fault SeedRange = false
@@ -18,22 +18,15 @@ of_input (Some fault) = is_input_fault fault
 of_misfit : (due : Due) (number offset : ℕ) → of_input (misfit due number offset) ≡ true
 of_misfit due number offset = grind arith
 
-of_size : (stated : Option Size) (line : ℕ) → of_input (size_fault stated line) ≡ true
-of_size stated line = grind arith
-
 module _ (layout : Layout) (text : List ℕ) (next : Option ℕ) where
   of_number : (block : Block) → of_input (wrong_number layout block text next) ≡ true
   unfolding wrong_number
   of_number block = grind (arith, of_misfit)
 
-  of_early : (k : ℕ) → of_input (ends_early layout k text next) ≡ true
-  unfolding ends_early
-  of_early k = grind arith
-
   -- the fault of a place, if it has one, is one of the input
   pub of_place : (k : ℕ) → of_input (fault_of_place layout k text next) ≡ true
-  unfolding fault_of_place mixed_line wrong_size
-  of_place k = grind (arith, of_number, of_early, of_size)
+  unfolding fault_of_place mixed_line wrong_size ends_early
+  of_place k = grind (arith, of_number)
 
 -- a rejected input has a fault of the input
 pub rejected_input : (layout : Layout) (input : List ℕ) (k : ℕ) (fault : LayoutFault)

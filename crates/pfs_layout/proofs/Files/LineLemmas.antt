@@ -36,8 +36,7 @@ split-push : (p : ℕ → Bool) (xs : List ℕ) (b : ℕ)
     → slice_split p (xs ++ b ∷ []) ≡ (if p b then slice_split p xs ++ [] ∷ []
     else all_but_last (slice_split p xs) ++ (last_of [] (slice_split p xs) ++ b ∷ []) ∷ [])
 split-push p [] b = refl
-split-push p (x ∷ xs) b =
-    let s = split_some p xs in rw (split-push p xs b, s.is) (grind arith)
+split-push p (x ∷ xs) b = let s = split_some p xs in rw (split-push p xs b, s.is) (grind arith)
 
 pub ended_parts-push : (p : ℕ → Bool) (xs : List ℕ) (b : ℕ)
     → ended_parts p (xs ++ b ∷ []) ≡ (if p b then ended_parts p xs ++ open_part p xs ∷ [] else ended_parts p xs)

@@ -5,10 +5,9 @@ use Rattle.pfs_layout.proofs.Words.{all_but_last, all_and_last, length_push, is_
 use Rattle.pfs_layout.proofs.Words.{stand_after, instance_of, cases_Bool, append-nil, first_some, after_line, option_or}
 use Rattle.pfs_layout.proofs.Words.{ends_early, mixed_line, byte_fault, wrong_size, nat_tests, open_line, [], Completes}
 use Rattle.pfs_layout.proofs.Words.{cases_lt, eqb-true, is_empty, standing, accepted, is_none, Problem, true, by_push}
-use Rattle.pfs_layout.proofs.Words.{numbers, seeking, rejection, or_none, last_of, length, nat_le, ne_eqb}
-use Rattle.pfs_layout.proofs.Words.{false, Layout}
+use Rattle.pfs_layout.proofs.Words.{numbers, seeking, rejection, or_none, last_of, length, nat_le, false, Layout}
 use Rattle.pfs_layout.proofs.Words.{inside, limits, arith, lines, Block, Stand, stand, Front, Seeks, List, ◌++◌, refl}
-use Rattle.pfs_layout.proofs.Words.{Some, None, lost, ◌-◌, ◌<◌, ◌≤◌, ◌∷◌, sym, ◌∙◌, inl, inr, Now, ap, ℕ}
+use Rattle.pfs_layout.proofs.Words.{Some, None, lost, ◌-◌, ◌<◌, ◌≤◌, ◌∷◌, sym, inl, inr, Now, ap, ℕ}
 use Rattle.pfs_layout.specs.Rejection.{faults}
 use Rattle.pfs_layout.proofs.Published.PlaceLemmas.{byte_fault-push, rejection_end}
 use Rattle.pfs_layout.proofs.Files.GoodLemmas.{is_good, good_end, fault_within_limit, gap_fault, stand_of, stand-push}
@@ -35,8 +34,7 @@ empty_line : (layout : Layout) (complete : List Block) (now : Now) (tail : List 
 unfolding numbers ended_numbers ended_parts
 empty_line layout complete seeking tail good is = refl
 empty_line layout complete (inside block) tail good is =
-    let due = rw append-nil at good in
-    rw (append-nil block.numbers, due, ne_eqb _ _ is.short)
+    grind (arith, nat_tests, is.short, append-nil {A = ℕ})
 empty_line layout complete lost tail good is = absurd (cc)
 
 -- all lines lead to the state after the ended lines and the open line
@@ -47,15 +45,12 @@ stand_filled layout text filled = rw (lines-parts text, filled) (stand-push layo
 pub stand_lines : (layout : Layout) (text : List ℕ) → is_good layout (stand_of layout text).now (open_line text) ≡ true
     → stand layout (lines text) ≡ stand_after layout (stand_of layout text) (open_line text)
 unfolding stand_after
-stand_lines layout text good = elim (cases_Bool (is_empty (open_line text))) [
-  | inr filled ↦ stand_filled layout text filled
-  | inl empty ↦
-      let before : Stand = stand_of layout text in
-      let nothing = nothing_on (open_line text) empty in
-      let m = made layout (ended_lines text) in
-      rw (lines_ended text nothing, nothing)
-      (sym (empty_line layout before.complete before.now m.tail (rw nothing at good) m.fits))
-]
+stand_lines layout text good =
+    let before : Stand = stand_of layout text in
+    let m = made layout (ended_lines text) in
+    let nothing = nothing_on (open_line text) in
+    let same = empty_line layout before.complete before.now m.tail in
+    grind (arith, stand_filled layout text, lines_ended text, m.fits)
 
 -- a block that was complete before the last line remains
 pub block_stays : (layout : Layout) (text more : List ℕ) (i : ℕ) → i < length (stand_of layout text).complete
@@ -63,12 +58,9 @@ pub block_stays : (layout : Layout) (text more : List ℕ) (i : ℕ) → i < len
 block_stays layout text more i within =
     let all : List ℕ = text ++ more in
     let ended = extends layout text more in
+    let more = line_extends layout (stand_of layout text).complete (stand_of layout all) (open_line all) ended in
     let longer : Extends (stand_of layout text).complete (stand layout (lines all)).complete =
-    elim (cases_Bool (is_empty (open_line all))) [
-      | inl empty ↦ rw (lines_ended all (nothing_on (open_line all) empty)) ended
-      | inr filled ↦ rw (stand_filled layout all filled)
-          (line_extends layout (stand_of layout text).complete (stand_of layout all) (open_line all) ended)
-    ] in
+    grind (arith, ended, more, lines_ended all, nothing_on (open_line all), stand_filled layout all) in
     rw longer.1 (slice_get-append (stand_of layout text).complete longer.0 i within)
 
 -- the fault of the end is that of a line end there, and if there is none, the fault of what is missing
@@ -76,30 +68,25 @@ pub end_faults : (layout : Layout) (k : ℕ) (now : Now) (text : List ℕ) → i
     → first_some (faults layout k now text None)
     ≡ option_or (fault_within_limit layout now text 10) (ends_early layout k text None)
 unfolding mixed_line wrong_number wrong_size
-end_faults layout k seeking text good = elim (cases_Bool (is_empty (open_line text))) [
-  | inl empty ↦ rw (nothing_on (open_line text) empty) (grind arith)
-  | inr filled ↦ grind arith
-]
+end_faults layout k seeking text good = grind (arith, nothing_on (open_line text))
 end_faults layout k (inside block) text good = rw (gap_fault layout block text 10 refl) (grind arith)
 end_faults layout k lost text good = absurd (cc)
+
+-- a list of blocks that isn't empty has a last one
+last_block : (blocks : List Block) → 1 ≤ length blocks
+    → (earlier : List Block) × (own : Block) × (blocks ≡ earlier ++ own ∷ [])
+last_block [] some = absurd (omega arith)
+last_block (block ∷ blocks) some =
+    (all_but_last (block ∷ blocks), last_of block (block ∷ blocks), all_and_last block block blocks)
 
 -- the last of the complete blocks is some problem's
 pub seeks_completes : (layout : Layout) (input : List ℕ) (k : ℕ) → 1 ≤ k → (s : Seeks layout input k)
     → (problem : Problem) × (c : Completes layout input k problem) × (c.seeks ≡ s)
-seeks_completes layout input k some s = by_complete (stand layout (lines s.text)).complete refl
-  where
-    by_complete : (blocks : List Block) → (stand layout (lines s.text)).complete ≡ blocks
-        → (problem : Problem) × (c : Completes layout input k problem) × (c.seeks ≡ s)
-    by_complete [] e = absurd (omega (arith, some, s.complete, ap length e))
-    by_complete (block ∷ blocks) e =
-        let earlier : List Block = all_but_last (block ∷ blocks) in
-        let own : Block = last_of block (block ∷ blocks) in
-        let parts : (stand layout (lines s.text)).complete ≡ earlier ++ own ∷ [] =
-        e ∙ all_and_last block block blocks in (
-          instance_of layout own,
-          record { seeks = s; earlier = earlier; own = own; parts = parts; is = refl },
-          refl,
-        )
+seeks_completes layout input k some s =
+    let last = last_block (stand layout (lines s.text)).complete (omega (arith, s.complete)) in
+    let c : Completes layout input k (instance_of layout last.1) =
+    record { seeks = s; earlier = last.0; own = last.1; parts = last.2; is = refl } in
+    (instance_of layout last.1, c, refl)
 
 module _ (layout : Layout) (k : ℕ) where
   -- no byte of a text has a fault
@@ -123,10 +110,8 @@ module _ (layout : Layout) (k : ℕ) where
       let before : Stand = stand_of layout text in
       let good = (sound layout k text right few).1 in
       let faults = end_faults layout k before.now text good in
-      let reached = stand_lines layout text good in
-      let line = one_line layout before (open_line text) in
       let ended = good_end layout before.complete before.now text in
-      grind (arith, nat_tests)
+      grind (arith, nat_tests, one_line, stand_lines layout text good)
 
   -- ---- without a fault there is a file
 
@@ -134,8 +119,7 @@ module _ (layout : Layout) (k : ℕ) where
   sought : (text : List ℕ) (reached : Stand) → Few layout k text
       → reached ≡ stand_after layout (stand_of layout text) (open_line text) → k ≤ length reached.complete
       → (length reached.complete ≡ k) × (reached.now ≡ seeking)
-  sought text reached few is enough =
-      let line = one_line layout (stand_of layout text) (open_line text) in grind (arith, length_push {X = Block})
+  sought text reached few is enough = grind (arith, one_line, length_push {X = Block})
 
   -- the input has the problem's file, which ends with a line end
   abbrev pub EndedHolds : List ℕ → Problem → Type 0
@@ -215,8 +199,8 @@ module _ (layout : Layout) (k : ℕ) where
             let right : Faultless c.text = grind (arith, nat_tests, c.complete, c.now) in
             let none : c.rest ≡ [] = grind (arith, c.ended) in
             let same : input ≡ c.text = rw (none, append-nil) at c.whole in
-            let last = end_is c.text right few in
-            rw (rejection_end layout k input, same, right) (grind (arith, nat_tests, c.complete, c.now))
+            rw (rejection_end layout k input, same, right)
+            (grind (arith, nat_tests, c.complete, c.now, end_is c.text right few))
       ]
 
   -- ---- the problem of a file is that of the k-th block

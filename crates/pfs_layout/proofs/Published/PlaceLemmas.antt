@@ -16,8 +16,7 @@ module _ {A : Type 0} (f : ℕ → Option A) where
   first_push n =
       let e : 0 + n ≡ n = omega arith in
       ap (λ ns. first_some (map f ns)) (range_with_len-push 0 n)
-      ∙ rw (map-append f (below n) ((0 + n) ∷ []), first_some-append (map f (below n)) (f (0 + n) ∷ []), e)
-      (grind arith)
+      ∙ rw (map-append f (below n), first_some-append (map f (below n)), e) (grind arith)
 
   first_none : (n : ℕ) → first_some (map f (below n)) ≡ None → (q : ℕ) → q < n → f q ≡ None
   first_none zero e q h = absurd (omega arith)

@@ -1,25 +1,20 @@
 -- One more byte: the fault of its place, or what the fields mean after it.
 use Rattle.pfs_layout.proofs.Words.{◌++◌, ◌∷◌, [], ◌≡◌, ℕ, ◌<◌, Bool, true, false, ◌||◌, List, length, refl, arith}
 use Rattle.pfs_layout.proofs.Words.{Some, None, if◌then◌else◌, inl, inr, ◌≢◌, ◌+◌, ◌-◌, ◌≤◌, count_by, ◌∙◌, Option}
-use Rattle.pfs_layout.proofs.Words.{list_any, cases_Bool, lt-ltb, or_parts, eqb-true, eqb-false, eq-eqb, ne_eqb}
-use Rattle.pfs_layout.proofs.Words.{nat_tests, list_any-append, is_empty, Layout, LayoutFault, Line, Blocks, is_digit}
-use Rattle.pfs_layout.proofs.Words.{is_blank, is_line_end, is_word_byte, open_line, ended_numbers, last_digits}
-use Rattle.pfs_layout.proofs.Words.{open_part, is_mixed, is_no_digit, numbers, Block, Now, seeking, inside, lost}
-use Rattle.pfs_layout.proofs.Words.{standing, Stand, stand_after, mixed_line, wrong_size, last_number_ended, line_ended}
-use Rattle.pfs_layout.proofs.Words.{has_numbers_alone, open_number, after_byte, is_live, FollowsLine}
-use Rattle.pfs_layout.proofs.Words.{FollowsNow, FollowsBlocks, digits_value, length_push, by_push, are_due, ◌⊎◌}
-use Rattle.pfs_layout.proofs.Words.{common_steps, Memory, Phase, no_numbers}
-use Rattle.pfs_layout.proofs.Words.{number_ended, HoldsNumbers}
-use Rattle.pfs_layout.specs.Private.Step.{number_ended_in}
+use Rattle.pfs_layout.proofs.Words.{list_any, cases_Bool, lt-ltb, or_parts, eqb-false, ne_eqb, nat_tests}
+use Rattle.pfs_layout.proofs.Words.{list_any-append, is_empty, Layout, Line, Blocks, is_digit, is_blank, is_line_end}
+use Rattle.pfs_layout.proofs.Words.{is_word_byte, open_line, ended_numbers, last_digits, open_part, is_mixed, numbers}
+use Rattle.pfs_layout.proofs.Words.{Block, Now, seeking, inside, lost, standing, stand_after, mixed_line, wrong_size}
+use Rattle.pfs_layout.proofs.Words.{last_number_ended, line_ended, has_numbers_alone, open_number, after_byte, is_live}
+use Rattle.pfs_layout.proofs.Words.{FollowsLine, FollowsNow, FollowsBlocks, digits_value, length_push, by_push, are_due}
+use Rattle.pfs_layout.proofs.Words.{◌⊎◌, common_steps, Memory, Phase, number_ended, HoldsNumbers, cases_option, Number}
 use Rattle.std.proofs.lemmas.Bool.{or_right}
 use Rattle.pfs_layout.specs.declared.blocks.Phase.TheVariants as phases
 use Rattle.pfs_layout.proofs.Files.GoodLemmas.{GoodNow, fault_within_limit, wrong_number_is, line_numbers}
 use Rattle.pfs_layout.proofs.Files.GoodLemmas.{no_last, number_fault, due_line, gap_fault}
 use Rattle.pfs_layout.proofs.Files.LineLemmas.{ended_numbers-push, open_part-push}
-use Rattle.pfs_layout.proofs.Words.{cases_option}
-use Rattle.pfs_layout.proofs.Reading.NumberSteps.{IsRejection, Outcome, misfit_in, number_step}
+use Rattle.pfs_layout.proofs.Reading.NumberSteps.{Outcome, misfit_in, number_step}
 use Rattle.pfs_layout.proofs.Reading.LineSteps.{sought_line, body_line}
-use Rattle.pfs_layout.specs.declared.scan.Number.{Number}
 
 -- ---- what the check of a number leaves unchanged
 
@@ -44,31 +39,12 @@ rejected_memory phase = inr (λ e. cc)
 
 -- ---- a number
 
-keeps_in : (phase : Phase) (r : Blocks) (value first : ℕ) → r.phase ≡ phase → is_live phase ≡ true
-    → Keeps r (number_ended_in phase r value first)
-keeps_in phases.Body r value first e live = grind arith
-keeps_in phase r value first e live = grind (arith, common_steps)
-
 pub keeps_number : (r : Blocks) (value first : ℕ) → is_live r.phase ≡ true → Keeps r (number_ended r value first)
 unfolding number_ended
-keeps_number r value first live = keeps_in r.phase r value first refl live
+keeps_number r value first live = grind (arith, common_steps)
 
 pub keeps_last : (r : Blocks) (number : Option Number) → is_live r.phase ≡ true → Keeps r (last_number_ended r number)
-keeps_last r None live = grind arith
-keeps_last r (Some number) live = keeps_number r number.value number.first live
-
--- ---- the end of a line
-
--- what the end of a line leaves unchanged, and what it changes apart from the block
-pub record KeepsAtLineEnd (old new : Blocks) : Type 0 where
-  pub layout : new.layout ≡ old.layout
-  pub wanted : new.wanted ≡ old.wanted
-  pub line : new.line ≡ old.line + 1
-  pub size_line : new.size_line ≡ no_numbers
-
-pub line_end_keeps : (r : Blocks) (numbers : Bool) → KeepsAtLineEnd r (line_ended r numbers)
-unfolding line_ended
-line_end_keeps r numbers = grind arith
+keeps_last r number live = grind (arith, keeps_number)
 
 -- ---- a reader that needs more bytes
 
@@ -102,11 +78,14 @@ sought_fine : (layout : Layout) (text : List ℕ) (b : ℕ) → is_line_end b �
 unfolding wrong_size
 sought_fine layout text b on = rw on
 
-quiet_sought : (r : Blocks) (last : Line) (text : List ℕ) (b : ℕ) (complete : List Block) (less : Bool) (ns : List ℕ)
-    → (is_blank b || is_line_end b) ≡ false → FollowsText r text complete seeking
+-- it has a fault if it mixes a line of a block
+quiet_byte : (r : Blocks) (last : Line) (text : List ℕ) (b : ℕ) (complete : List Block) (now : Now) (less : Bool)
+    (ns : List ℕ) → (is_blank b || is_line_end b) ≡ false → FollowsLine last text
+    → FollowsText r text complete now → GoodNow r.layout now (open_line text)
     → less ≡ list_any is_word_byte (open_line text ++ b ∷ []) → ns ≡ ended_numbers (open_line text ++ b ∷ [])
-    → Outcome r less (standing complete seeking) ns (after_byte r last b) (fault_within_limit r.layout seeking text b)
-quiet_sought r last text b complete less ns other f words numbers =
+    → Outcome r less (standing complete now) ns (after_byte r last b) (fault_within_limit r.layout now text b)
+unfolding mixed_line
+quiet_byte r last text b complete seeking less ns other line f good words numbers =
     let phase = f.now.phase in
     let pushed = ended_numbers-push (open_line text) b in
     let any = list_any-append is_word_byte (open_line text) (b ∷ []) in
@@ -116,35 +95,17 @@ quiet_sought r last text b complete less ns other f words numbers =
     let numbers : less ≡ false → HoldsNumbers r.size_line ns =
     λ e. let p = plain e in grind (arith, f.now.numbers) in
     rw (sought, same) (grind (arith, numbers))
-
-quiet_inside : (r : Blocks) (last : Line) (text : List ℕ) (b : ℕ) (complete : List Block) (block : Block)
-    (less : Bool) (ns : List ℕ) → (is_blank b || is_line_end b) ≡ false
-    → FollowsLine last text → FollowsText r text complete (inside block)
-    → GoodNow r.layout (inside block) (open_line text)
-    → less ≡ list_any is_word_byte (open_line text ++ b ∷ []) → ns ≡ ended_numbers (open_line text ++ b ∷ [])
-    → Outcome r less (standing complete (inside block)) ns (after_byte r last b)
-    (fault_within_limit r.layout (inside block) text b)
-unfolding mixed_line
-quiet_inside r last text b complete block less ns other line f good words numbers =
+quiet_byte r last text b complete (inside block) less ns other line f good words numbers =
     let fault = wrong_number_is r.layout block text b in
     let all = line_numbers text in
     let none = no_last text in
     grind (arith, nat_tests, ended_numbers-push, list_any-append {X = ℕ})
-
--- it has a fault if it mixes a line of a block
-quiet_byte : (r : Blocks) (last : Line) (text : List ℕ) (b : ℕ) (complete : List Block) (now : Now)
-    → (is_blank b || is_line_end b) ≡ false → FollowsLine last text → FollowsText r text complete now
-    → GoodNow r.layout now (open_line text)
-    → FollowsOn r last text b complete now
-quiet_byte r last text b complete seeking other line f good = quiet_sought r last text b complete _ _ other f refl refl
-quiet_byte r last text b complete (inside block) other line f good =
-    quiet_inside r last text b complete block _ _ other line f good refl refl
-quiet_byte r last text b complete lost other line f good = absurd f.now
+quiet_byte r last text b complete lost less ns other line f good words numbers = absurd f.now
 
 last_short : (text : List ℕ) → length (last_digits text) ≤ length text
 unfolding open_part
-last_short = by_push (λ text. length (last_digits text) ≤ length text) (omega arith) (λ text b short.
-    rw (open_part-push is_no_digit text b, length_push text b) (grind (arith, length_push)))
+last_short = by_push (λ text. length (last_digits text) ≤ length text) (omega arith)
+    (λ text b short. grind (arith, open_part-push, length_push))
 
 -- ---- the end of a number
 
@@ -156,9 +117,7 @@ pub number_part : (has_word : Bool) (r : Blocks) (last : Line) (text : List ℕ)
 number_part has_word r last text complete now live five line f = elim (cases_Bool (is_empty (last_digits text))) [
   | inl none ↦
       let right : number_fault r.layout now text ≡ None = grind arith in
-      let empty = eqb-true _ 0 none in
-      let at_end : last.digits.first ≡ last.digits.offset = omega (arith, line.first, line.offset) in
-      rw (right, line_numbers text, none, eq-eqb _ _ at_end) f
+      rw (right, line_numbers text, none) (grind (arith, nat_tests, f, line))
   | inr some ↦
       let value = digits_value 10 (last_digits text) in
       let first = length text - length (last_digits text) in
@@ -171,43 +130,25 @@ number_part has_word r last text complete now live five line f = elim (cases_Boo
       (number_step r complete now _ value first f live five)
 ]
 
--- a blank ends the last number of its line
-blank_byte : (r : Blocks) (last : Line) (text : List ℕ) (b : ℕ) (complete : List Block) (now : Now)
-    → (is_blank b || is_line_end b) ≡ true → is_line_end b ≡ false → is_live r.phase ≡ true
-    → length r.size_line.values ≡ 5 → FollowsLine last text → FollowsText r text complete now
-    → FollowsOn r last text b complete now
-blank_byte r last text b complete now gap on live five line f =
-    let fault : fault_within_limit r.layout now text b ≡ number_fault r.layout now text =
-    grind (arith, sought_fine, gap_fault) in
-    let words : list_any is_word_byte (open_line text ++ b ∷ []) ≡ list_any is_word_byte (open_line text) =
-    grind (arith, nat_tests, list_any-append {X = ℕ}) in
-    let ended : ended_numbers (open_line text ++ b ∷ []) ≡ numbers (open_line text) =
-    grind (arith, nat_tests, ended_numbers-push) in
-    rw (words, ended, valid_gap r last b gap, on, fault) (number_part _ r last text complete now live five line f)
-
 -- any byte that doesn't end the line
 pub byte_on : (r : Blocks) (last : Line) (text : List ℕ) (b : ℕ) (complete : List Block) (now : Now)
     → is_line_end b ≡ false → is_live r.phase ≡ true → length r.size_line.values ≡ 5
     → FollowsLine last text → FollowsText r text complete now → GoodNow r.layout now (open_line text)
     → FollowsOn r last text b complete now
 byte_on r last text b complete now on live five line f good = elim (cases_Bool (is_blank b || is_line_end b)) [
-  | inl gap ↦ blank_byte r last text b complete now gap on live five line f
-  | inr other ↦ quiet_byte r last text b complete now other line f good
+  -- a blank ends the last number of its line
+  | inl gap ↦
+      let fault : fault_within_limit r.layout now text b ≡ number_fault r.layout now text =
+      grind (arith, sought_fine, gap_fault) in
+      let words : list_any is_word_byte (open_line text ++ b ∷ []) ≡ list_any is_word_byte (open_line text) =
+      grind (arith, nat_tests, list_any-append {X = ℕ}) in
+      let ended : ended_numbers (open_line text ++ b ∷ []) ≡ numbers (open_line text) =
+      grind (arith, nat_tests, ended_numbers-push) in
+      rw (words, ended, valid_gap r last b gap, on, fault) (number_part _ r last text complete now live five line f)
+  | inr other ↦ quiet_byte r last text b complete now _ _ other line f good refl refl
 ]
 
 -- ---- the end of a line
-
--- the end of a line changes no fault
-rejected_line : (r next : Blocks) (fault : LayoutFault) (numbered : Bool) → IsRejection r fault next
-    → IsRejection r fault (line_ended next numbered)
-unfolding line_ended
-rejected_line r next fault numbered rejects = grind arith
-
--- the end of a line has the outcome that it has after the line's last number
-outcome_after : (r between next : Blocks) (stood : Stand) (fault : Option LayoutFault) → Keeps r between
-    → between.held ≡ r.held → Outcome between false stood [] next fault → Outcome r false stood [] next fault
-outcome_after r between next stood None keeps held o = o
-outcome_after r between next stood (Some fault) keeps held o = grind arith
 
 pub end_byte : (r : Blocks) (last : Line) (text : List ℕ) (b : ℕ) (complete : List Block) (now : Now)
     → is_line_end b ≡ true → is_live r.phase ≡ true
@@ -215,7 +156,7 @@ pub end_byte : (r : Blocks) (last : Line) (text : List ℕ) (b : ℕ) (complete 
     → FollowsLine last text → FollowsText r text complete now → GoodNow r.layout now (open_line text)
     → Outcome r false (stand_after r.layout (standing complete now) (open_line text)) [] (after_byte r last b)
     (fault_within_limit r.layout now text b)
-unfolding wrong_size
+unfolding wrong_size line_ended
 end_byte r last text b complete seeking end live five lines line f good =
     let ended : Blocks = last_number_ended r (open_number last.digits) in
     let keeps = keeps_last r (open_number last.digits) live in
@@ -225,8 +166,8 @@ end_byte r last text b complete seeking end live five lines line f good =
     let sought : ended.phase ≡ phases.Seeking = rw (lt-ltb _ _ few) at part.now.phase in
     let outcome = sought_line ended complete (open_line text) (has_numbers_alone last.kinds) part sought few
     (rw (line.has_digit, line.has_word)) in
-    rw (valid_gap r last b (or_right (is_blank b) _ end), end)
-    (outcome_after r ended _ _ _ keeps (keeps.held sought) (rw (keeps.layout, keeps.line ∙ lines) at outcome))
+    let same = rw (keeps.layout, keeps.line ∙ lines) at outcome in
+    rw (valid_gap r last b (or_right (is_blank b) _ end), end) (grind (arith, keeps, keeps.held sought, same))
 end_byte r last text b complete (inside block) end live five lines line f good =
     let ended : Blocks = last_number_ended r (open_number last.digits) in
     let numbered = has_numbers_alone last.kinds in
@@ -242,6 +183,6 @@ end_byte r last text b complete (inside block) end live five lines line f good =
           let next = body_line ended complete block (open_line text) numbered (rw none at part) unmixed
           (rw (← keeps.layout) at due) in
           rw none (rw keeps.layout at next)
-      | inr one ↦ rw one.1 (rejected_line r ended one.0 numbered (rw one.1 at part))
+      | inr one ↦ let rejects = rw one.1 at part in rw one.1 (grind (arith, rejects))
     ])
 end_byte r last text b complete lost end live five lines line f good = absurd f.now

@@ -50,7 +50,7 @@ feed_few old text piece (Ok progress) new m none =
     let h = rw (m.layout, m.wanted) at (few_in new.phase new (text ++ take progress.used piece) m.ok.1) in
     let whole : text ++ piece ≡ h.front ++ (h.rest ++ left) =
     cc (whole_text text piece progress.used, h.whole, append_assoc h.front h.rest left) in
-    record { front = h.front; rest = h.rest ++ left; whole = whole; few = h.few }
+    search
 feed_few old text piece (Err fault) new m none = elim (rejected_memory (phases.Rejected fault)) [
   | inl memory ↦ grind arith
   | inr other ↦ rw (m.layout, m.wanted) at (few_in new.phase new (text ++ piece) (m.rejected (λ e. other (rw e))))

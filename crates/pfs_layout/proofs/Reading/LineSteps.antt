@@ -1,12 +1,11 @@
 -- The end of a line: the fault that it has, or what the fields mean after it.
-use Rattle.pfs_layout.proofs.Words.{◌≡◌, ◌≢◌, ℕ, ◌+◌, ◌<◌, min, Bool, true, false, List, [], ◌++◌, length, refl}
-use Rattle.pfs_layout.proofs.Words.{◌∙◌, ap, arith, Option, Some, None, if◌then◌else◌, inl, inr, option_map, list_any}
-use Rattle.pfs_layout.proofs.Words.{lt-ltb, le-ltb, eq-eqb, ne_eqb, and_parts, cases_Bool, cases_lt, nat_tests}
-use Rattle.pfs_layout.proofs.Words.{append-nil, length-append, length_push, slice_get-push, Layout}
-use Rattle.pfs_layout.proofs.Words.{CEILING, SizeLine, Phase, Blocks, is_word_byte, Size, is_within_limits, is_mixed}
-use Rattle.pfs_layout.proofs.Words.{is_number_line, numbers, due_count, stated_size, are_due, Block, seeking, inside}
-use Rattle.pfs_layout.proofs.Words.{stand_after, standing, completed, instance_of, begun, with_line, size_fault}
-use Rattle.pfs_layout.proofs.Words.{line_ended, block_of, HoldsNumbers, FollowsBlocks}
+use Rattle.pfs_layout.proofs.Words.{◌≡◌, ℕ, ◌+◌, ◌<◌, min, Bool, true, false, List, [], ◌++◌, length, ap, arith, Option}
+use Rattle.pfs_layout.proofs.Words.{Some, None, if◌then◌else◌, inl, inr, option_map, list_any, and_parts, cases_Bool}
+use Rattle.pfs_layout.proofs.Words.{nat_tests, append-nil, length-append, length_push, slice_get-push, Layout, CEILING}
+use Rattle.pfs_layout.proofs.Words.{SizeLine, Phase, Blocks, is_word_byte, Size, is_within_limits, is_mixed}
+use Rattle.pfs_layout.proofs.Words.{is_number_line, numbers, stated_size, are_due, Block, seeking, inside, stand_after}
+use Rattle.pfs_layout.proofs.Words.{standing, completed, instance_of, begun, with_line, size_fault, line_ended}
+use Rattle.pfs_layout.proofs.Words.{block_of, HoldsNumbers, FollowsBlocks}
 use Rattle.std.proofs.lemmas.Bool.{not-true}
 use Rattle.pfs_layout.specs.declared.blocks.Phase.TheVariants as phases
 use Rattle.pfs_layout.specs.Block.{after_size}
@@ -38,8 +37,7 @@ unfolding stated_size stated_by
 clips layout line ns h = grind (arith, h.values)
 
 pub same_within : (size : Size) → is_within_limits (clipped size) ≡ is_within_limits size
-same_within size =
-    grind (arith, nat_tests)
+same_within size = grind (arith, nat_tests)
 
 -- a size within the limits is stored unchanged
 clipped_is : (size : Size) → is_within_limits size ≡ true → clipped size ≡ size
@@ -47,48 +45,22 @@ clipped_is size within = let w = size_within size within in grind arith
 
 -- ---- a block begins
 
-no_block : (complete : List Block) (wanted : ℕ) (more : List ℕ) → length complete < wanted
-    → block_of wanted (standing complete seeking) more ≡ None
-no_block complete wanted more few = grind (arith, nat_tests)
-
 begun_follows : (r : Blocks) (complete : List Block) (size : Size)
     → FollowsBlocks false r (standing complete seeking) [] → r.complete < r.wanted → is_within_limits size ≡ true
     → FollowsBlocks false (block_begun r size) (standing complete (inside (begun size))) []
 unfolding instance_of
 begun_follows r complete size f few within =
-    let least : length complete < r.wanted = omega (arith, f.complete) in
-    let none = rw (no_block complete r.wanted [] least) at f.held in
-    record {
-      complete = f.complete;
-      now = record {
-        phase = refl;
-        few = few;
-        fits = within;
-        body = grind (arith, size_within size within);
-      };
-      instance = rw (f.complete, lt-ltb _ _ least) (grind arith);
-      held = rw (none, lt-ltb _ _ least) (grind arith);
-    }
-
--- the next block is sought on the next line too, of which no number was read
-seeks_on : {has_word : Bool} (r : Blocks) (complete : List Block) (more : List ℕ)
-    → FollowsBlocks has_word r (standing complete seeking) more
-    → FollowsBlocks false (at_next_line r) (standing complete seeking) []
-seeks_on r complete more f = search (holds_none)
+    grind (arith, nat_tests, f, size_within size within)
 
 -- the size line of a sought block
 size_step : (stated kept : Option Size) (r : Blocks) (complete : List Block) → Clips kept stated
     → FollowsBlocks false (at_next_line r) (standing complete seeking) [] → r.complete < r.wanted
     → Outcome r false (standing complete (after_size stated)) []
     (size_validated (at_next_line r) r.line kept) (size_fault stated r.line)
-size_step None kept r complete same f few =
-    rw same (record { phase = refl; held = refl; layout = refl; wanted = refl })
-size_step (Some size) kept r complete same f few = elim (cases_Bool (is_within_limits size)) [
-  | inl within ↦
-      rw (same ∙ ap Some (clipped_is size within), within) (begun_follows (at_next_line r) complete size f few within)
-  | inr beyond ↦
-      rw (same, same_within size, beyond) (record { phase = refl; held = refl; layout = refl; wanted = refl })
-]
+size_step None kept r complete same f few = rw same (search)
+size_step (Some size) kept r complete same f few =
+    let begun = begun_follows (at_next_line r) complete size f few in
+    rw (same, same_within size) (grind (arith, clipped_is size))
 
 -- what the end of a line does in this phase
 ended_in : (r : Blocks) (numbered : Bool) (phase : Phase) → r.phase ≡ phase
@@ -105,7 +77,7 @@ pub sought_line : (r : Blocks) (complete : List Block) (line : List ℕ) (number
     (if is_number_line line then size_fault (stated_size r.layout (numbers line)) r.line else None)
 unfolding stand_after
 sought_line r complete line numbered f phase few same =
-    let next = seeks_on r complete (numbers line) f in
+    let next : FollowsBlocks false (at_next_line r) (standing complete seeking) [] = search (holds_none) in
     rw (ended_in r numbered phases.Seeking phase, same) (elim (cases_Bool (is_number_line line)) [
       | inl number_line ↦
           let plain = not-true _ (and_parts _ _ number_line).1 in
@@ -134,23 +106,6 @@ body_line r complete block line numbered f unmixed due =
     let few : length complete < r.wanted = omega (arith, f.complete, f.now.few) in
     let count : length whole.numbers + 0 ≡ length block.numbers + length (numbers line) =
     omega (arith, length-append block.numbers (numbers line)) in
-    rw (unmixed, due) (elim (cases_lt r.body.validated r.body.due) [
-      | inl less ↦
-          let short : length whole.numbers ≢ due_count r.layout block.size =
-          λ z. omega (arith, body.due, body.validated, count) in
-          rw (ended_in r numbered phases.Body f.now.phase, lt-ltb _ _ less, ne_eqb _ _ short) (record {
-            complete = f.complete;
-            now = record { phase = f.now.phase; few = f.now.few; fits = f.now.fits; body = rw count body };
-            instance = rw append-nil f.instance;
-            held = rw append-nil f.held;
-          })
-      | inr all ↦
-          let full : length whole.numbers ≡ due_count r.layout block.size =
-          omega (arith, body.due, body.validated, body.few, count) in
-          rw (ended_in r numbered phases.Body f.now.phase, le-ltb _ _ all, eq-eqb _ _ full) (record {
-            complete = omega (arith, f.complete, length_push complete whole);
-            now = record { phase = grind (arith, nat_tests); numbers = λ plain. holds_none };
-            instance = rw (completed_is r.wanted complete block line few) f.instance;
-            held = rw (completed_is r.wanted complete block line few) f.held;
-          })
-    ])
+    let read = completed_is r.wanted complete block line few in
+    rw (unmixed, due, ended_in r numbered phases.Body f.now.phase)
+    (grind (arith, nat_tests, f, body, count, holds_none, length_push, append-nil {A = ℕ}))

@@ -1,25 +1,20 @@
 -- One more number: the fault that it has, or what the fields mean after it.
 use Rattle.pfs_layout.proofs.Words.{◌≡◌, ◌≢◌, ℕ, ◌+◌, ◌*◌, ◌%◌, ◌<◌, List, [], ◌∷◌, ◌++◌, length, get_or, refl, sym}
 use Rattle.pfs_layout.proofs.Words.{◌∙◌, arith, common_steps, length-replicate, length-set, same_from_place, mul-add-lt}
-use Rattle.pfs_layout.proofs.Words.{rows, with_time, Layout, OrLib, Size, place_of_time}
-use Rattle.pfs_layout.proofs.Words.{instance_of, min, Bool, true, ap, Option, Some, None, if◌then◌else◌}
-use Rattle.pfs_layout.proofs.Words.{◌==◌, inl, inr, option_map, cases_Bool, eqb-true, ne_eqb}
-use Rattle.pfs_layout.proofs.Words.{lt-ltb, nat_tests, length_push, append_assoc, length-append}
-use Rattle.pfs_layout.proofs.Words.{mod-mul-add, Problem, CEILING, SizeLine, is_due}
-use Rattle.pfs_layout.proofs.Words.{due_at, Stand, Block, Now, seeking, inside, lost, standing, rejected}
-use Rattle.pfs_layout.proofs.Words.{body_validated, number_ended, time_count, HoldsNumbers}
-use Rattle.pfs_layout.proofs.Words.{FollowsBody, is_live, block_begun_by, block_of, FollowsBlocks, no_numbers}
-use Rattle.pfs_layout.proofs.Words.{LayoutFault, Blocks, misfit}
+use Rattle.pfs_layout.proofs.Words.{rows, with_time, Layout, OrLib, Size, place_of_time, instance_of, min, Bool, true}
+use Rattle.pfs_layout.proofs.Words.{ap, Option, Some, None, if◌then◌else◌, ◌==◌, inl, inr, cases_Bool, eqb-true, ne_eqb}
+use Rattle.pfs_layout.proofs.Words.{nat_tests, length_push, append_assoc, length-append, mod-mul-add, CEILING, SizeLine}
+use Rattle.pfs_layout.proofs.Words.{is_due, due_at, Stand, Block, Now, seeking, inside, lost, standing, body_validated}
+use Rattle.pfs_layout.proofs.Words.{number_ended, HoldsNumbers, FollowsBody, is_live, FollowsBlocks, no_numbers}
+use Rattle.pfs_layout.proofs.Words.{LayoutFault, Blocks, misfit, Due}
 use Rattle.std.proofs.Math.ListN.{set}
 use Rattle.std.proofs.Math.Nat.{mul_comm}
 use Rattle.std.proofs.lemmas.List.{get_or_push, get_or-replicate}
-use Rattle.pfs_layout.specs.Private.Step.{with_number, next_of, after_time, after_machine, due_next}
-use Rattle.pfs_layout.specs.Private.Step.{with_problem_time, counted}
+use Rattle.pfs_layout.specs.Private.Step.{with_number, next_of, after_time, due_next, counted}
 use Rattle.pfs_layout.proofs.Files.DueLemmas.{listed_time, size_within}
 use Rattle.pfs_layout.proofs.Tables.{table, length-table, table_at, same_table}
-use Rattle.std.specs.Prelude.{is_some, replicate}
+use Rattle.std.specs.Prelude.{replicate}
 use Rattle.pfs_layout.specs.declared.body.Body.{Body}
-use Rattle.pfs_layout.specs.declared.body.Due.{Due}
 use Rattle.pfs_layout.specs.declared.blocks.Phase.TheVariants as phases
 
 -- ---- the problem of a block with one number more
@@ -37,12 +32,6 @@ table_with f g jobs machines job machine v j m here others =
     let same = same_from_place r c job machine machines q m in
     grind (arith, common_steps, same, here, within, others r c p q, table_at f jobs machines r c 0 p q))
 
-same_time_place : (layout : Layout) (size : Size) (r c job machine : ℕ) → r < size.jobs → c < size.machines
-    → job < size.jobs → machine < size.machines
-    → place_of_time layout size r c ≡ place_of_time layout size job machine → (r ≡ job) × (c ≡ machine)
-same_time_place layout size r c job machine p q j m e =
-    grind (arith, same_from_place r c job machine size.machines, same_from_place c r machine job size.jobs)
-
 -- one more number changes no other number of a list
 index_push_other : (ns : List ℕ) (v p : ℕ) → p ≢ length ns → get_or (ns ++ v ∷ []) p 0 ≡ get_or ns p 0
 index_push_other ns v p other = grind (arith, common_steps)
@@ -59,7 +48,7 @@ module _ (layout : Layout) (size : Size) where
       let times = table_with (listed_time layout size ns) (listed_time layout size (ns ++ v ∷ []))
       size.jobs size.machines job machine v j m
       (get_or_push ns v 0 _ (sym at)) (λ r c p q other. index_push_other ns v _ (λ last.
-      let same = same_time_place layout size r c job machine p q j m (last ∙ sym at) in other same.0 same.1)) in
+      grind (arith, same_from_place r c job machine size.machines, same_from_place c r machine job size.jobs))) in
       cc
 
 -- times that are all 0
@@ -88,10 +77,7 @@ holds_none = record { count = refl; values = λ i few. get_or-replicate 5 i 0 0 
 
 pub holds_push : (line : SizeLine) (ns : List ℕ) (v : ℕ) → length line.values ≡ 5 → HoldsNumbers line ns
     → HoldsNumbers (with_number line (min CEILING v)) (ns ++ v ∷ [])
-holds_push line ns v five h = record {
-  count = omega (arith, h.count, length_push ns v);
-  values = λ i few. grind (arith, common_steps, h.count, h.values);
-}
+holds_push line ns v five h = grind (arith, common_steps, h.count, h.values)
 
 -- ---- the next number of a body
 
@@ -111,35 +97,9 @@ module _ {layout : Layout} {size : Size} {count : ℕ} {body : Body} (f : Follow
   unfolding due_at
   due_is = grind (arith, nat_tests, mod-mul-add body.job size.machines body.machine, f.place)
 
-  -- after a time, and after a machine's number
   pub after_time_follows : due_next layout body ≡ Due.Time
       → FollowsBody layout size (count + 1) (after_time layout body)
   after_time_follows due = grind (arith, nat_tests, next_place, f.place)
-
-  pub after_machine_follows : {machine : ℕ} → due_next layout body ≡ Due.Machine machine
-      → FollowsBody layout size (count + 1) (after_machine body)
-  after_machine_follows due = grind (arith, nat_tests, f.place)
-
--- ---- the wanted block's instance
-
--- what is stored of a block, if it is wanted, or if it isn't
-pub record Keeping (layout : Layout) (wanted : Bool) (block : Block) (kept : Option Problem) (count : ℕ) : Type 0 where
-  pub instance : kept ≡ option_map (instance_of layout) (if wanted then Some block else None)
-  pub held : count ≡ time_count layout (if wanted then Some block else None)
-
-module _ {wanted : Bool} {layout : Layout} {size : Size} {ns : List ℕ} (v : ℕ) {body : Body} {instance : Option Problem}
-    {held : ℕ} where
-  pub keeping_time : FollowsBody layout size (length ns) body → due_next layout body ≡ Due.Time
-      → Keeping layout wanted (record { size = size; numbers = ns }) instance held
-      → Keeping layout wanted (record { size = size; numbers = ns ++ v ∷ [] })
-      (option_map (with_problem_time body v) instance) (if is_some instance then held + 1 else held)
-  keeping_time f due k = grind (arith, nat_tests, instance_of-time, length_push, f.place)
-
-  pub keeping_machine : {machine : ℕ} → FollowsBody layout size (length ns) body
-      → due_next layout body ≡ Due.Machine machine
-      → Keeping layout wanted (record { size = size; numbers = ns }) instance held
-      → Keeping layout wanted (record { size = size; numbers = ns ++ v ∷ [] }) instance held
-  keeping_machine f due k = grind (arith, nat_tests, instance_of-machine, length_push)
 
 -- ---- outcomes
 
@@ -149,9 +109,6 @@ pub record IsRejection (old : Blocks) (fault : LayoutFault) (new : Blocks) : Typ
   pub held : new.held ≡ old.held
   pub layout : new.layout ≡ old.layout
   pub wanted : new.wanted ≡ old.wanted
-
-pub rejects : (r : Blocks) (fault : LayoutFault) → IsRejection r fault (rejected r fault)
-rejects r fault = record { phase = refl; held = refl; layout = refl; wanted = refl }
 
 -- the fault, or what the fields mean after these ended numbers of the line, which has a word byte or not
 abbrev pub Outcome : Blocks → Bool → Stand → List ℕ → Blocks → Option LayoutFault → Type 0
@@ -165,94 +122,32 @@ misfit_in layout (inside block) more v first =
     misfit (due_at layout block.size (length block.numbers + length more)) v first
 misfit_in layout lost more v first = None
 
--- ---- the wanted block
-
--- it is the one that has begun, if that is the next to be complete
-pub begun_wanted : (complete : List Block) (wanted : ℕ) (now : Now) (more : List ℕ) → length complete < wanted
-    → block_of wanted (standing complete now) more
-    ≡ (if length complete + 1 == wanted then block_begun_by now more else None)
-begun_wanted complete wanted now more few = rw (lt-ltb (length complete) wanted few)
-
--- what is stored of the block that has begun
-pub keeping_of : (r : Blocks) (complete : List Block) (block : Block) (more : List ℕ) → length complete < r.wanted
-    → r.instance ≡ option_map (instance_of r.layout) (block_of r.wanted (standing complete (inside block)) more)
-    → r.held ≡ time_count r.layout (block_of r.wanted (standing complete (inside block)) more)
-    → Keeping r.layout (length complete + 1 == r.wanted) (record { size = block.size; numbers = block.numbers ++ more })
-    r.instance r.held
-keeping_of r complete block more few instance held =
-    let wanted = begun_wanted complete r.wanted (inside block) more few in
-    record { instance = rw wanted at instance; held = rw wanted at held }
-
--- ---- the next block is sought
-
-sought_number : {has_word : Bool} (r : Blocks) (complete : List Block) (more : List ℕ) (v first : ℕ)
-    → FollowsBlocks has_word r (standing complete seeking) more
-    → is_live r.phase ≡ true → length r.size_line.values ≡ 5
-    → FollowsBlocks has_word (number_ended r (min CEILING v) first) (standing complete seeking) (more ++ v ∷ [])
-unfolding number_ended
-sought_number r complete more v first f live five =
-    let sought : r.phase ≡ phases.Seeking = grind (arith, f.now.phase) in
-    rw sought (record {
-      complete = f.complete;
-      now = record {
-        phase = rw sought at f.now.phase;
-        numbers = λ no_word. holds_push r.size_line more v five (f.now.numbers no_word);
-      };
-      instance = f.instance;
-      held = f.held;
-    })
-
 -- ---- a block has begun
 
 module _ {has_word : Bool} (r : Blocks) (complete : List Block) (block : Block) (more : List ℕ) (v : ℕ)
     (f : FollowsBlocks has_word r (standing complete (inside block)) more) where
-  -- the fault, or what the fields mean with the number
-  abbrev CountsTo : Blocks → Option LayoutFault → Type 0
-  CountsTo next fault = Outcome r has_word (standing complete (inside block)) (more ++ v ∷ []) next fault
-
   abbrev so_far : List ℕ
   so_far = block.numbers ++ more
-
-  -- this is stored, if the block has these numbers
-  abbrev KeepsOf : List ℕ → Option Problem → ℕ → Type 0
-  KeepsOf numbers kept count =
-      Keeping r.layout (length complete + 1 == r.wanted) (record { size = block.size; numbers = numbers }) kept count
-
-  few : length complete < r.wanted
-  few = omega (arith, f.complete, f.now.few)
-
-  keeps : KeepsOf so_far r.instance r.held
-  keeps = keeping_of r complete block more few f.instance f.held
-
-  -- the body has one more number, and so has what is stored
-  counted_follows : {body : Body} {instance : Option Problem} {held : ℕ}
-      → FollowsBody r.layout block.size (length so_far + 1) body → KeepsOf (so_far ++ v ∷ []) instance held
-      → CountsTo (record r { body = body; instance = instance; held = held }) None
-  counted_follows after keeping =
-      let wanted = begun_wanted complete r.wanted (inside block) (more ++ v ∷ []) few in
-      let count : length block.numbers + length (more ++ v ∷ []) ≡ length so_far + 1 =
-      omega (arith, length-append block.numbers more, length_push more v) in
-      record {
-        complete = f.complete;
-        now = record { phase = f.now.phase; few = f.now.few; fits = f.now.fits; body = rw count after };
-        instance = rw (wanted, ← append_assoc) keeping.instance;
-        held = rw (wanted, ← append_assoc) keeping.held;
-      }
 
   follows : FollowsBody r.layout block.size (length so_far) r.body
   follows = rw (← length-append block.numbers more) at f.now.body
 
   -- a number that is what is due: it is below the ceiling
   due_counts : (due : Due) → due_next r.layout r.body ≡ due → is_due due v ≡ true
-      → CountsTo (counted r due (min CEILING v)) None
+      → FollowsBlocks has_word (counted r due (min CEILING v)) (standing complete (inside block)) (more ++ v ∷ [])
   due_counts Due.Time e is =
       let same : min CEILING v ≡ v = grind (arith, nat_tests) in
-      rw same (counted_follows (after_time_follows follows e) (keeping_time v follows e keeps))
+      let number = instance_of-time r.layout block.size so_far v r.body.job r.body.machine in
+      let body = after_time_follows follows e in
+      let place = follows.place in
+      rw same (grind (arith, nat_tests, f, number, length_push, length-append {A = ℕ}, append_assoc {A = ℕ}))
   due_counts (Due.Machine machine) e is =
-      counted_follows (after_machine_follows follows e) (keeping_machine v follows e keeps)
+      let place = follows.place in
+      grind (arith, nat_tests, f, instance_of-machine, length_push, length-append {A = ℕ}, append_assoc {A = ℕ})
   due_counts Due.Nothing e is = grind arith
 
-  begun_number : (first : ℕ) → CountsTo (number_ended r (min CEILING v) first)
+  begun_number : (first : ℕ)
+      → Outcome r has_word (standing complete (inside block)) (more ++ v ∷ []) (number_ended r (min CEILING v) first)
       (misfit (due_at r.layout block.size (length block.numbers + length more)) v first)
   unfolding number_ended
   begun_number first =
@@ -263,7 +158,7 @@ module _ {has_word : Bool} (r : Blocks) (complete : List Block) (block : Block) 
       let is : number_ended r (min CEILING v) first ≡ body_validated r (min CEILING v) first = rw f.now.phase in
       rw (is, due_is f.now.body, clip) (elim (cases_Bool (is_due due v)) [
         | inl is ↦ rw is (due_counts due refl is)
-        | inr other ↦ rw other (rejects r _)
+        | inr other ↦ rw other (search)
       ])
 
 -- one more number, in any state
@@ -272,6 +167,7 @@ pub number_step : {has_word : Bool} (r : Blocks) (complete : List Block) (now : 
     → is_live r.phase ≡ true → length r.size_line.values ≡ 5
     → Outcome r has_word (standing complete now) (more ++ v ∷ []) (number_ended r (min CEILING v) first)
     (misfit_in r.layout now more v first)
-number_step r complete seeking more v first f live five = sought_number r complete more v first f live five
+unfolding number_ended
+number_step r complete seeking more v first f live five = grind (arith, f, holds_push r.size_line more v five)
 number_step r complete (inside block) more v first f live five = begun_number r complete block more v f first
 number_step r complete lost more v first f live five = absurd f.now

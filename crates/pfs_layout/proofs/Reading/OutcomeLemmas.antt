@@ -1,9 +1,9 @@
 -- What `finish` promises: the end of the input is checked as a line end would be, and then for what is missing.
-use Rattle.pfs_layout.proofs.Words.{◌≡◌, ℕ, ◌-◌, ◌≤◌, true, List, [], refl, sym, ◌∙◌, arith, Option, Some, None, inl}
-use Rattle.pfs_layout.proofs.Words.{inr, Result, Ok, Err, option_or, result_err, nat_tests, lt-ltb, le-ltb, append-nil}
-use Rattle.pfs_layout.proofs.Words.{Problem, LayoutFault, Phase, Blocks, lines, ends_early, fault_of_place, rejection}
-use Rattle.pfs_layout.proofs.Words.{accepted, line_ended, has_numbers_alone, at_end, is_live, Fields, Follows}
-use Rattle.pfs_layout.proofs.Words.{HasReadIn, HasRead, FinishMeets}
+use Rattle.pfs_layout.proofs.Words.{◌≡◌, ℕ, ◌-◌, ◌≤◌, true, List, [], refl, ◌∙◌, arith, Option, Some, None, inl, inr}
+use Rattle.pfs_layout.proofs.Words.{Result, Ok, Err, option_or, result_err, nat_tests, lt-ltb, append-nil, Problem}
+use Rattle.pfs_layout.proofs.Words.{LayoutFault, Phase, Blocks, lines, ends_early, fault_of_place, rejection, accepted}
+use Rattle.pfs_layout.proofs.Words.{line_ended, has_numbers_alone, at_end, is_live, Fields, Follows, HasReadIn, HasRead}
+use Rattle.pfs_layout.proofs.Words.{FinishMeets, cases_option}
 use Rattle.std.specs.Result.{result_ok}
 use Rattle.pfs_layout.specs.declared.blocks.Phase.TheVariants as phases
 use Rattle.pfs_layout.specs.Private.Step.{end_fault}
@@ -11,7 +11,6 @@ use Rattle.pfs_layout.proofs.Files.FileLemmas.{made}
 use Rattle.pfs_layout.proofs.Files.GoodLemmas.{stand_of, sound, fault_within_limit, enough_right}
 use Rattle.pfs_layout.proofs.Files.VerdictLemmas.{end_faults, stand_lines, block_stays, unrejected_holds}
 use Rattle.pfs_layout.proofs.Files.VerdictLemmas.{holds_accepted}
-use Rattle.pfs_layout.proofs.Words.{cases_option}
 use Rattle.pfs_layout.proofs.Published.LawLemmas.{accepted_law}
 use Rattle.pfs_layout.proofs.Published.PlaceLemmas.{rejection_is, rejection_end}
 use Rattle.pfs_layout.proofs.Reading.ReaderSteps.{carries}
@@ -59,10 +58,9 @@ end_outcome phases.Done r text e f =
     let enough = done_enough r text f e in
     let none = enough_right r.layout r.wanted text None enough in
     let stays = rw append-nil at (block_stays r.layout text [] (r.wanted - 1) (omega (arith, f.some))) in
-    grind (arith, rejection_end r.layout r.wanted text, f, none, stays, le-ltb _ r.wanted enough)
+    grind (arith, nat_tests, rejection_end r.layout r.wanted text, f, none, stays)
 end_outcome (phases.Rejected fault) r text e f =
-    let fine = enough_right r.layout r.wanted f.front (Some f.byte) in
-    grind (arith, fine, f.here, rejection_end r.layout r.wanted text, rejected_fault r text fault f)
+    grind (arith, enough_right, f.here, rejection_end r.layout r.wanted text, rejected_fault r text fault f)
 end_outcome phase r text e f = live_end r text f (rw e)
 
 -- ---- the verdict
@@ -86,10 +84,9 @@ finish_reports r text s =
     let o = end_outcome r.phase r text refl s in (
       λ fault e. meets o.some (rw (o.fault ∙ e)) (o.fault ∙ e),
       λ e.
-          let none = o.fault ∙ e in
-          let held = unrejected_holds r.layout r.wanted o.some text none in
+          let held = unrejected_holds r.layout r.wanted o.some text (o.fault ∙ e) in
           let is = holds_accepted r.layout r.wanted text held.0 held.1 in
-          (held.0, o.instance e ∙ is, meets o.some is none),
+          (held.0, o.instance e ∙ is, meets o.some is (o.fault ∙ e)),
     )
 
 -- ---- two results for the same bytes
@@ -97,7 +94,5 @@ finish_reports r text s =
 pub same_results : (one other : Fields) (text : List ℕ) (returned second : Result Problem LayoutFault)
     → one.layout ≡ other.layout → one.wanted ≡ other.wanted
     → FinishMeets one text returned → FinishMeets other text second → returned ≡ second
-same_results one other text (Ok problem) second layouts blocks first_meets second_meets =
-    sym ((second_meets.file problem).1 (rw (layouts, blocks) at ((first_meets.file problem).0 refl)))
-same_results one other text (Err fault) second layouts blocks first_meets second_meets =
-    sym ((second_meets.rejected fault).1 (rw (layouts, blocks) at ((first_meets.rejected fault).0 refl)))
+same_results one other text (Ok problem) second layouts blocks m n = grind (arith, m.file problem, n.file problem)
+same_results one other text (Err fault) second layouts blocks m n = grind (arith, m.rejected fault, n.rejected fault)

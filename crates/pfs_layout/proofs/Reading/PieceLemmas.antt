@@ -1,24 +1,19 @@
 -- What a reader promises for a piece.
-use Rattle.pfs_layout.proofs.Words.{nat_tests, ◌≡◌, ◌≢◌, ℕ, ◌+◌, ◌<◌, ◌≤◌, true, not, ◌&&◌, List, [], ◌∷◌, ◌++◌, length}
-use Rattle.pfs_layout.proofs.Words.{take, get_or, refl, ◌∙◌, arith, inl, inr, ◌-◌, cases_eq, append_assoc}
-use Rattle.pfs_layout.proofs.Words.{LONGEST_INPUT, Memory, Line, Blocks, is_digit, after_byte, IsReady, open_number}
-use Rattle.pfs_layout.proofs.Words.{Fields, fields, Follows, HasRead, EndsWantedSize, drop, subst, Some, Option}
-use Rattle.pfs_layout.proofs.Words.{append-nil, take_all, take-append-drop, LayoutFault, TooLong, Phase, byte_fault}
-use Rattle.pfs_layout.proofs.Words.{rejected, block_read, number_ended, HasReadIn, IsReader, FeedMeets, is_blank}
-use Rattle.pfs_layout.proofs.Words.{last_number_ended, is_live}
-use Rattle.pfs_layout.specs.declared.scan.Number.{Number}
-use Rattle.pfs_layout.specs.Private.Step.{TakeMeets, TakenTo, stored}
-use Rattle.pfs_layout.proofs.Words.{LONGEST_TIME, Taillard, OrLib, sym, ap, cases_lt, ◌%◌, None, false}
-use Rattle.std.proofs.lemmas.List.{get_or-drop, length-drop}
+use Rattle.pfs_layout.proofs.Words.{last_number_ended, take-append-drop, EndsWantedSize, LONGEST_INPUT, append_assoc, ℕ}
+use Rattle.pfs_layout.proofs.Words.{number_ended, LONGEST_TIME, open_number, LayoutFault, after_byte, append-nil, arith}
+use Rattle.pfs_layout.proofs.Words.{byte_fault, block_read, nat_tests, HasReadIn, FeedMeets, cases_eq, is_digit, length}
+use Rattle.pfs_layout.proofs.Words.{take_all, rejected, IsReader, is_blank, Taillard, cases_lt, IsReady, Follows, subst}
+use Rattle.pfs_layout.proofs.Words.{HasRead, TooLong, is_live, get_or, Memory, Blocks, Fields, fields, Option, Phase}
+use Rattle.pfs_layout.proofs.Words.{OrLib, false, true, ◌&&◌, List, ◌++◌, take, refl, Line, drop, Some, None, ◌≡◌, ◌≢◌}
+use Rattle.pfs_layout.proofs.Words.{◌+◌, ◌<◌, ◌≤◌, not, ◌∷◌, ◌∙◌, inl, inr, ◌-◌, sym, ◌%◌, [], ap, TakenTo, Number}
+use Rattle.pfs_layout.specs.Private.Step.{TakeMeets, stored, Pushes, LacksMemory}
+use Rattle.std.proofs.lemmas.List.{get_or-drop, length-drop, take_more, take-take, length-take-le, get_or-take}
 use Rattle.pfs_layout.specs.declared.scan.Digits.{Digits}
 use Rattle.std.proofs.Math.Seq.{take-add}
-use Rattle.pfs_layout.proofs.Reading.ReaderSteps.{has_read_of}
-use Rattle.std.proofs.lemmas.List.{take_more, take-take, length-take-le, get_or-take}
+use Rattle.pfs_layout.proofs.Reading.ReaderSteps.{has_read_of, carries, live_follows, step_has_read, follows_ready}
+use Rattle.pfs_layout.proofs.Reading.ReaderSteps.{wants_more, sought_now, begun_now}
 use Rattle.pfs_layout.specs.declared.blocks.Phase.TheVariants as phases
-use Rattle.pfs_layout.specs.Private.Step.{Pushes, LacksMemory}
 use Rattle.pfs_layout.proofs.Files.GoodLemmas.{stand_of, long_fault, sound}
-use Rattle.pfs_layout.proofs.Reading.ReaderSteps.{carries, live_follows, step_has_read, follows_ready, wants_more}
-use Rattle.pfs_layout.proofs.Reading.ReaderSteps.{sought_now, begun_now}
 use Rattle.pfs_layout.proofs.Reading.ByteSteps.{live-memory, rejected_memory, live_few}
 use Rattle.pfs_layout.specs.Reader.{IsRejected, progress_of}
 use Rattle.pfs_layout.proofs.Published.PlaceLemmas.{byte_fault-push}
@@ -98,12 +93,12 @@ module _ {old now : Fields} {piece : List ℕ} {i : ℕ} (t : TakenTo old now pi
   pub taken_then : {next : Fields} {n : ℕ} → ((text : List ℕ) → HasRead now text
       → TakeMeets now text (drop i piece) n next) → (text : List ℕ) → HasRead old text
       → TakeMeets old text piece (i + n) next
-  taken_then {next = next} {n = n} then text s =
+  taken_then {n = n} then text s =
       let m = then (text ++ take i piece) (has_read_of (t.follows text s)) in
       record {
         layout = m.layout ∙ t.layout;
         wanted = m.wanted ∙ t.wanted;
-        has_read = λ well. subst (HasRead next) (taken_after text n) (m.has_read well);
+        has_read = λ well. rw taken_after at (m.has_read well);
         memory = λ e.
             let w = m.memory e in
             (i + w.0, omega (arith, length-drop i piece, w.1), ends_after text w.0 w.2);
@@ -111,39 +106,35 @@ module _ {old now : Fields} {piece : List ℕ} {i : ℕ} (t : TakenTo old now pi
         no_more = λ k less. no_more_after text n k s less m.no_more;
       }
 
--- ---- one byte more, within the limit
-
 -- ---- a number that ends
 
 pub open_value : (digits : Digits) (number : Number) → open_number digits ≡ Some number
     → number.value ≡ digits.value
 open_value digits number is = grind (arith, nat_tests)
 
--- a time of Taillard's layout has ended, and it isn't the last of its machine
-pub time_ended : (r : Blocks) (value first : ℕ) → r.phase ≡ phases.Body → r.layout ≡ Taillard
-    → r.body.validated < r.body.due → value ≤ LONGEST_TIME → r.body.job + 1 < r.body.jobs
-    → record (stored r r.body value) {
-      body = record r.body { validated = r.body.validated + 1; job = r.body.job + 1 };
-    } ≡ number_ended r value first
-unfolding number_ended
-time_ended r value first phase taillard more short on = grind (arith, nat_tests)
+module _ (r : Blocks) (value first : ℕ) (phase : r.phase ≡ phases.Body) (more : r.body.validated < r.body.due) where
+  -- a time of Taillard's layout has ended, and it isn't the last of its machine
+  pub time_ended : r.layout ≡ Taillard → value ≤ LONGEST_TIME → r.body.job + 1 < r.body.jobs
+      → record (stored r r.body value) {
+        body = record r.body { validated = r.body.validated + 1; job = r.body.job + 1 };
+      } ≡ number_ended r value first
+  unfolding number_ended
+  time_ended taillard short on = grind (arith, nat_tests)
 
--- a machine's number of the OR-Library's layout has ended
-pub machine_ended : (r : Blocks) (value first : ℕ) → r.phase ≡ phases.Body → r.layout ≡ OrLib
-    → r.body.validated < r.body.due → r.body.validated % 2 ≡ 0 → value ≡ r.body.machine
-    → record r { body = record r.body { validated = r.body.validated + 1 } } ≡ number_ended r value first
-unfolding number_ended
-machine_ended r value first phase orlib more even is = grind (arith, nat_tests)
+  -- a machine's number of the OR-Library's layout has ended
+  pub machine_ended : r.layout ≡ OrLib → r.body.validated % 2 ≡ 0 → value ≡ r.body.machine
+      → record r { body = record r.body { validated = r.body.validated + 1 } } ≡ number_ended r value first
+  unfolding number_ended
+  machine_ended orlib even is = grind (arith, nat_tests)
 
--- the time after it has ended, and it isn't the last of its job
-pub pair_ended : (r : Blocks) (value first : ℕ) → r.phase ≡ phases.Body → r.layout ≡ OrLib
-    → r.body.validated < r.body.due → r.body.validated % 2 ≢ 0 → value ≤ LONGEST_TIME
-    → r.body.machine + 1 < r.body.machines
-    → record (stored r r.body value) {
-      body = record r.body { validated = r.body.validated + 1; machine = r.body.machine + 1 };
-    } ≡ number_ended r value first
-unfolding number_ended
-pair_ended r value first phase orlib more odd short on = grind (arith, nat_tests)
+  -- the time after it has ended, and it isn't the last of its job
+  pub pair_ended : r.layout ≡ OrLib → r.body.validated % 2 ≢ 0 → value ≤ LONGEST_TIME
+      → r.body.machine + 1 < r.body.machines
+      → record (stored r r.body value) {
+        body = record r.body { validated = r.body.validated + 1; machine = r.body.machine + 1 };
+      } ≡ number_ended r value first
+  unfolding number_ended
+  pair_ended orlib odd short on = grind (arith, nat_tests)
 
 module _ {old now : Fields} {piece : List ℕ} {i : ℕ} (t : TakenTo old now piece i) where
   -- a digit that doesn't mix the line changes no block
@@ -242,11 +233,6 @@ rejected_fault r text fault f =
     rw (f.whole, ← append_assoc f.front (f.byte ∷ []) f.rest)
     (byte_fault-more r.layout r.wanted _ f.rest fault (rw (byte_fault-push, f.sound, f.here)))
 
--- a reader with a fault has read every longer text too
-rejected_more : (r : Fields) (text more : List ℕ) (fault : LayoutFault) → IsRejected r text fault
-    → IsRejected r (text ++ more) fault
-rejected_more r text more fault f = grind (arith, f, append_assoc {A = ℕ})
-
 -- when a reader is done, the wanted block is complete
 pub done_enough : (r : Fields) (text : List ℕ) → Follows r text → r.phase ≡ phases.Done
     → r.wanted ≤ length (stand_of r.layout text).complete
@@ -283,14 +269,13 @@ module _ {old new : Fields} {text piece : List ℕ} {used : ℕ} (m : TakeMeets 
       by_phase (phases.Rejected fault) e =
           let stood : fault ≢ Memory → IsRejected new (text ++ piece) fault = λ other.
           let here = subst (λ p. HasReadIn p new taken) e (m.has_read (λ z. other (cc))) in
-          rw (whole_text text piece used) (rejected_more new taken (drop used piece) fault here) in
-          grind (arith, m.memory, m.layout, m.wanted, stood, rejected_fault new (text ++ piece) fault)
+          rw (whole_text text piece used) (grind (arith, here, append_assoc {A = ℕ})) in
+          grind (arith, m, stood, rejected_fault new (text ++ piece) fault)
       by_phase phase e =
           let live : is_live new.phase ≡ true = rw e in
-          let all : used ≡ length piece = whole live in
           let follows = live_follows new taken live (m.has_read (live-memory new.phase live)) in
-          let right = rw (take_all used piece (omega arith), m.layout, m.wanted) at follows.sound in
-          grind (arith, m, e, all)
+          let right = rw (take_all used piece (omega (arith, whole live)), m.layout, m.wanted) at follows.sound in
+          grind (arith, m, e, whole live)
 
 -- a reader that needs no more bytes uses none
 pub idle_meets : (r : Fields) (text piece : List ℕ) → HasRead r text → TakeMeets r text piece 0 r

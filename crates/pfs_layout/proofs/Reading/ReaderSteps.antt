@@ -1,50 +1,26 @@
 -- What a reader has read, before the first byte and after one more byte.
-use Rattle.pfs_layout.proofs.Words.{CEILING, ◌-◌, ◌≡◌, ℕ, ◌+◌, ◌≤◌, Bool, true, length, Option, Some, None, arith, refl}
-use Rattle.pfs_layout.proofs.Words.{◌⊎◌, inl, inr, Blocks, last_number_ended, is_live, ◌*◌, ◌<◌, not, ◌&&◌, ◌||◌, List}
-use Rattle.pfs_layout.proofs.Words.{[], ◌∷◌, ◌++◌, count_by, if◌then◌else◌, ◌==◌, list_any, length_push}
-use Rattle.pfs_layout.proofs.Words.{list_any-append, is_digit, is_line_end, is_word_byte, open_line, is_no_digit}
-use Rattle.pfs_layout.proofs.Words.{last_digits, FollowsLine, lt-ltb, Layout, Line, ended_parts, open_part}
-use Rattle.pfs_layout.proofs.Words.{ended_numbers, stand, byte_fault, fields, HasRead, sym, ◌∙◌, subst, mul-le-mul}
-use Rattle.pfs_layout.proofs.Words.{nat_tests, length-append, cases_Bool, LONGEST_INPUT, LayoutFault}
-use Rattle.pfs_layout.proofs.Words.{is_blank, Size, is_within_limits, due_count, Block, seeking, inside, instance_of}
-use Rattle.pfs_layout.proofs.Words.{standing, fault_of_place, min, no_numbers, has_numbers_alone, open_number, IsReady}
-use Rattle.pfs_layout.proofs.Words.{Fields, block_read, FollowsBlocks, Follows, IsReader}
+use Rattle.pfs_layout.proofs.Words.{CEILING, ◌-◌, ◌≡◌, ℕ, ◌+◌, ◌≤◌, Bool, true, length, Option, Some, None, arith, ◌⊎◌}
+use Rattle.pfs_layout.proofs.Words.{inl, inr, Blocks, is_live, ◌*◌, ◌<◌, not, ◌&&◌, ◌||◌, List, [], ◌∷◌, ◌++◌}
+use Rattle.pfs_layout.proofs.Words.{if◌then◌else◌, ◌==◌, list_any, length_push, list_any-append, is_digit, is_line_end}
+use Rattle.pfs_layout.proofs.Words.{is_word_byte, open_line, is_no_digit, last_digits, FollowsLine, Layout, Line}
+use Rattle.pfs_layout.proofs.Words.{ended_parts, open_part, ended_numbers, stand, byte_fault, fields, HasRead, sym, ◌∙◌}
+use Rattle.pfs_layout.proofs.Words.{subst, mul-le-mul, nat_tests, length-append, cases_Bool, LONGEST_INPUT, LayoutFault}
+use Rattle.pfs_layout.proofs.Words.{is_blank, due_count, Block, seeking, inside, instance_of, standing, fault_of_place}
+use Rattle.pfs_layout.proofs.Words.{min, no_numbers, open_number, IsReady, Fields, block_read, FollowsBlocks, Follows}
+use Rattle.pfs_layout.proofs.Words.{IsReader, cases_option, after_byte, line_ended}
 use Rattle.pfs_layout.specs.declared.blocks.Phase.TheVariants as phases
 use Rattle.pfs_layout.specs.Private.Step.{Pushes, CanCount}
-use Rattle.std.specs.Char.{digit_value}
-use Rattle.std.specs.Str.Parse.{digits_value_after}
-use Rattle.std.proofs.lemmas.List.Sums.{sum_by-append, count_by-le-length}
+use Rattle.std.proofs.lemmas.Int.Digits.{digits_value_push}
+use Rattle.std.proofs.lemmas.List.Sums.{sum_by_push, count_by-le-length}
 use Rattle.pfs_layout.proofs.Files.LineLemmas.{open_part-push}
-use Rattle.pfs_layout.proofs.Words.{cases_option}
 use Rattle.pfs_layout.proofs.Published.PlaceLemmas.{byte_fault-push}
 use Rattle.pfs_layout.proofs.Files.GoodLemmas.{ended_none, fault_within_limit, place_fault, GoodNow, stand_of, sound}
 use Rattle.pfs_layout.proofs.Files.GoodLemmas.{stand_of-on, stand_of-end, open_line-on, open_line-end}
 use Rattle.pfs_layout.proofs.Files.DueLemmas.{size_within}
-use Rattle.pfs_layout.proofs.Reading.NumberSteps.{IsRejection, Outcome, keeping_of, holds_none}
-use Rattle.pfs_layout.proofs.Words.{after_byte}
-use Rattle.pfs_layout.proofs.Reading.ByteSteps.{live_few, valid_gap, byte_on, end_byte, live-memory}
-use Rattle.pfs_layout.proofs.Reading.ByteSteps.{keeps_last, line_end_keeps}
+use Rattle.pfs_layout.proofs.Reading.NumberSteps.{IsRejection, Outcome, holds_none}
+use Rattle.pfs_layout.proofs.Reading.ByteSteps.{live_few, valid_gap, byte_on, end_byte, live-memory, keeps_last}
 
 -- ---- the last line with one byte more
-
-value_after-push : (n : ℕ) (ds : List ℕ) (b : ℕ)
-    → digits_value_after 10 n (ds ++ b ∷ []) ≡ digits_value_after 10 n ds * 10 + digit_value b
-value_after-push n [] b = refl
-value_after-push n (d ∷ ds) b = value_after-push (n * 10 + digit_value d) ds b
-
-pub count_push : (text : List ℕ) (b : ℕ)
-    → count_by is_line_end (text ++ b ∷ []) ≡ count_by is_line_end text + (if is_line_end b then 1 else 0)
-count_push text b = grind (arith, sum_by-append (λ x. if is_line_end x then 1 else 0) text (b ∷ []))
-
--- whether some byte of the last line passes a test
-any_push : (p : ℕ → Bool) (text : List ℕ) (b : ℕ)
-    → list_any p (open_line (text ++ b ∷ [])) ≡ (not (b == 10) && (list_any p (open_line text) || p b))
-any_push p text b =
-    grind (arith, open_part-push is_line_end text b, list_any-append p (open_line text) (b ∷ []))
-
-last_digits-push : (text : List ℕ) (b : ℕ)
-    → last_digits (text ++ b ∷ []) ≡ (if is_digit b then last_digits text ++ b ∷ [] else [])
-last_digits-push text b = grind (arith, open_part-push is_no_digit text b)
 
 pub line_push : {old new : Line} {b : ℕ} → new.digits.offset ≡ old.digits.offset + 1
     → new.digits.first ≡ (if is_digit b then old.digits.first else old.digits.offset + 1)
@@ -56,13 +32,14 @@ line_push {b = b} offset first value digit word = record {
   offset = offset;
   follows = λ text f.
       let count = length_push text b in
-      let run = last_digits-push text b in
+      let run = open_part-push is_no_digit text b in
+      let line = open_part-push is_line_end text b in
       record {
         offset = omega (arith, offset, f.offset);
         first = grind (arith, first, run, length_push (last_digits text) b, f.first, f.offset);
-        value = grind (arith, value, run, value_after-push 0 (last_digits text) b, f.value);
-        has_digit = grind (arith, digit, any_push is_digit text b, f.has_digit);
-        has_word = grind (arith, word, any_push is_word_byte text b, f.has_word);
+        value = grind (arith, value, run, digits_value_push 10 (last_digits text) b, f.value);
+        has_digit = grind (arith, digit, line, list_any-append {X = ℕ}, f.has_digit);
+        has_word = grind (arith, word, line, list_any-append {X = ℕ}, f.has_word);
       };
 }
 
@@ -73,26 +50,7 @@ pub new_has_read : (last : Line) (r : Blocks) → FollowsLine last [] → 1 ≤ 
     → r ≡ record r { complete = 0; line = 1; phase = phases.Seeking; size_line = no_numbers; instance = None; held = 0 }
     → HasRead (fields last r) []
 unfolding byte_fault ended_parts open_part stand ended_numbers
-new_has_read last r line some is = rw is (record {
-  some = some;
-  sound = refl;
-  short = omega arith;
-  last_line = line;
-  line = refl;
-  few_numbers = omega arith;
-  five_values = refl;
-  blocks = record {
-    complete = refl;
-    now = record {
-      phase = rw (lt-ltb 0 r.wanted some);
-      numbers = λ plain. holds_none;
-    };
-    instance = grind arith;
-    held = grind arith;
-  };
-})
-
--- ---- one more byte
+new_has_read last r line some is = rw is (grind (arith, nat_tests, holds_none))
 
 -- ---- what a byte leaves unchanged
 
@@ -105,11 +63,11 @@ pub record Carries (old new : Blocks) (ends : Bool) : Type 0 where
 
 pub carries : (r : Blocks) (last : Line) (b : ℕ) → is_live r.phase ≡ true
     → Carries r (after_byte r last b) (is_line_end b)
+unfolding line_ended
 carries r last b live =
     let number = open_number last.digits in
-    let ends = line_end_keeps (last_number_ended r number) (has_numbers_alone last.kinds) in
     elim (cases_Bool (is_blank b || is_line_end b)) [
-      | inl gap ↦ rw (valid_gap r last b gap) (grind (arith, keeps_last r number live, ends))
+      | inl gap ↦ rw (valid_gap r last b gap) (grind (arith, keeps_last r number live))
       | inr other ↦ grind (arith, nat_tests)
     ]
 
@@ -150,15 +108,7 @@ module _ {r : Fields} {text : List ℕ} (f : Follows r text) (last : Line) (next
   rejected_has_read : (fault : LayoutFault) → fault_of_place r.layout r.wanted text (Some b) ≡ Some fault
       → IsRejection r.blocks fault next → HasRead (fields last next) (text ++ b ∷ [])
   unfolding block_read
-  rejected_has_read fault here n = rw n.phase (record {
-    front = text;
-    byte = b;
-    rest = [];
-    whole = refl;
-    sound = rw (n.layout, n.wanted) f.sound;
-    here = rw (n.layout, n.wanted) here;
-    held = rw (n.held, n.layout, n.wanted) f.blocks.held;
-  })
+  rejected_has_read fault here n = grind (arith, n, f.sound, f.blocks.held)
 
   follows_on : Pushes r.last b last → length text < LONGEST_INPUT
       → fault_of_place r.layout r.wanted text (Some b) ≡ None
@@ -167,11 +117,11 @@ module _ {r : Fields} {text : List ℕ} (f : Follows r text) (last : Line) (next
   follows_on pushes short here c blocks =
       let count = length_push text b in
       record {
-        some = omega (arith, c.wanted, f.some);
+        some = rw c.wanted f.some;
         sound = rw (c.layout, c.wanted, byte_fault-push r.layout r.wanted text b, f.sound) here;
         short = omega arith;
         last_line = pushes.follows text f.last_line;
-        line = rw (c.line, f.line, count_push text b) (omega arith);
+        line = grind (arith, c.line, f.line, sum_by_push (λ x. if is_line_end x then 1 else 0) text b);
         few_numbers = omega (arith, c.few, f.few_numbers);
         five_values = elim c.five [ inl same ↦ same ∙ f.five_values | inr five ↦ five ];
         blocks = subst (λ l. OutcomeAfter r.blocks l (text ++ b ∷ []) next None) (sym c.layout) blocks;
@@ -196,10 +146,6 @@ step_has_read {r = r} {text = text} {after = after} b f live short pushes =
 
 -- ---- what a reader that needs more bytes may do next
 
-due_few : (layout : Layout) (size : Size) → is_within_limits size ≡ true → due_count layout size < LONGEST_INPUT
-due_few layout size within =
-    let sizes = (size_within size within).sizes in grind (arith, mul-le-mul sizes.few_jobs sizes.few_machines)
-
 -- the state that the ended lines lead to, by the phase
 pub sought_now : {r : Fields} {text : List ℕ} → Follows r text → r.phase ≡ phases.Seeking
     → (stand_of r.layout text).now ≡ seeking
@@ -218,28 +164,16 @@ can_count {r = r} {text = text} f phase =
     let block = begun.0 in
     let follows : FollowsBlocks _ r.blocks (standing complete (inside block)) more = rw begun.1 at f.blocks in
     let body = follows.now.body in
-    let least : length complete < r.wanted = omega (arith, follows.complete, follows.now.few) in
-    let kept = keeping_of r.blocks complete block more least follows.instance follows.held in
-    let all : Block = record { size = block.size; numbers = block.numbers ++ more } in
     let count = length-append block.numbers more in
-    let held : r.held ≤ r.body.validated = grind (arith, kept.held, body.validated) in
-    let due = due_few r.layout block.size follows.now.fits in
-    record {
-      few = body.few;
-      job = body.job;
-      machine = body.machine;
-      held = omega (arith, body.due, body.few);
-      instance = rw kept.instance (grind (arith, body.jobs, body.machines));
-    }
+    let held : r.held ≤ r.body.validated = grind (arith, nat_tests, follows, body.validated) in
+    let sizes = (size_within block.size follows.now.fits).sizes in
+    let due : due_count r.layout block.size < LONGEST_INPUT =
+    grind (arith, mul-le-mul sizes.few_jobs sizes.few_machines) in
+    grind (arith, nat_tests, body, follows)
 
 pub follows_ready : {r : Fields} {text : List ℕ} → Follows r text → is_live r.phase ≡ true → IsReady r.blocks
-follows_ready {text = text} f live = record {
-  live = live;
-  can = can_count f;
-  count = omega (arith, f.few_numbers, f.short);
-  complete = wants_more f live;
-  line = omega (arith, f.line, f.short, count_by-le-length is_line_end text);
-}
+follows_ready {text = text} f live =
+    grind (arith, f, can_count f, wants_more f live, count_by-le-length is_line_end text)
 
 pub reader_ready : {r : Fields} → IsReader r → is_live r.phase ≡ true → IsReady r.blocks
 reader_ready {r = r} some live =

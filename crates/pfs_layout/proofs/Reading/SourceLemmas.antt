@@ -1,15 +1,14 @@
 -- A reader that reads the pieces of a source.
-use Rattle.pfs_layout.proofs.Words.{◌≡◌, ◌≢◌, ℕ, ◌<◌, ◌≤◌, true, false, List, [], ◌++◌, length, take, drop, refl, subst}
-use Rattle.pfs_layout.proofs.Words.{arith, Option, Some, inl, inr, Bool, ap, Result, Ok, Err, slice_index, ◌↔◌}
-use Rattle.pfs_layout.proofs.Words.{result_err, append_assoc, take_all, limits, Problem, Layout, LayoutFault, Read}
-use Rattle.pfs_layout.proofs.Words.{Memory, Progress, IsInstanceFile, RejectsInstance, is_live, Fields, Follows}
-use Rattle.pfs_layout.proofs.Words.{HasReadIn, HasRead, EndsWantedSize, FeedMeets, FinishMeets, byte_fault}
+use Rattle.pfs_layout.proofs.Words.{RejectsInstance, IsInstanceFile, EndsWantedSize, append_assoc, cases_option, length}
+use Rattle.pfs_layout.proofs.Words.{slice_index, LayoutFault, FinishMeets, result_err, byte_fault, HasReadIn, FeedMeets}
+use Rattle.pfs_layout.proofs.Words.{take_all, Progress, Problem, is_live, Follows, HasRead, Option, Result, limits, ◌≡◌}
+use Rattle.pfs_layout.proofs.Words.{Layout, Memory, Fields, false, subst, arith, true, List, ◌++◌, take, drop, refl, []}
+use Rattle.pfs_layout.proofs.Words.{Some, Bool, Read, ◌≢◌, ◌<◌, ◌≤◌, inl, inr, Err, ◌↔◌, ap, Ok, ℕ}
 use Rattle.std.specs.Prelude.{IfSome}
 use Rattle.std.specs.Io.KnownBytes.{Keeps, Consumes}
 use Rattle.pfs_layout.specs.declared.blocks.Phase.TheVariants as phases
 use Rattle.pfs_layout.specs.declared.reader.TheConstants.{PIECE}
 use Rattle.pfs_layout.specs.Reader.{IsUndecided, ReadsAsFar}
-use Rattle.pfs_layout.proofs.Words.{cases_option}
 use Rattle.pfs_layout.proofs.Files.EndLemmas.{fault_stays, free_after}
 use Rattle.pfs_layout.proofs.Reading.PieceLemmas.{whole_text, rejected_fault, done_enough, live_wants}
 use Rattle.pfs_layout.proofs.Reading.ReaderSteps.{live_follows}

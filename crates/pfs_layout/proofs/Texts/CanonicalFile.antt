@@ -13,6 +13,7 @@ use Rattle.pfs_layout.specs.CanonicalText.{head_lines, as_written, size_numbers}
 use Rattle.pfs_layout.specs.Block.{numbers_of, preamble_of}
 use Rattle.pfs_layout.specs.Laws.{CanonicalLaw, CanonicalTextsFit}
 use Rattle.pfs_layout.proofs.Files.VerdictLemmas.{all_of}
+use Rattle.std.proofs.lemmas.List.Elements.{recursion_from_All}
 use Rattle.std.proofs.lemmas.Fmt.{length-decimal-le, decimal_is_IsNumeral}
 use Rattle.std.proofs.lemmas.List.Concat.{length-flat_map}
 use Rattle.std.proofs.lemmas.List.FromFn.{length-range_with_len, map-range_with_len_more}
@@ -56,8 +57,7 @@ length-head_lines layout size fit =
 -- ---- the rows
 
 fit_by_place : (ns : List ℕ) → ((k : ℕ) → k < length ns → get_or ns k 0 < 2 ^ 64) → NumeralsFit ns
-fit_by_place [] each = tt
-fit_by_place (n ∷ ns) each = (each 0 (omega arith), fit_by_place ns (λ k h. each (suc k) (omega arith)))
+fit_by_place ns each = recursion_from_All _ ns (All-from_get_or (λ n. n < 2 ^ 64) ns 0 each)
 
 pub row_fits : (layout : Layout) (shop : FlowShop) (row : ℕ) → IsWithin limits shop
     → NumeralsFit (due_row layout shop row)
@@ -135,8 +135,7 @@ numbers_spaced (n ∷ m ∷ ns) fit =
     (grind (arith, numeral.0.0, numeral.1, numbers_spaced (m ∷ ns) fit.1))
 
 number_line : (ns : List ℕ) → 0 < length ns → NumeralsFit ns → is_number_line (spaced ns) ≡ true
-number_line ns some fit =
-    grind (arith, numbers_spaced ns fit, no_numbers (spaced ns), no_word_byte ns fit)
+number_line ns some fit = grind (arith, numbers_spaced ns fit, no_numbers (spaced ns), no_word_byte ns fit)
 
 -- ---- the lines of a text
 

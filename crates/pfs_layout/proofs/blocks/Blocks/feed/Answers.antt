@@ -51,7 +51,6 @@ returns-clause-reader c =
 
 pub returns-clause-meets : goal.returns-clause-meets
 returns-clause-meets c text s =
-    let within = c.take-2.ensures.within in
     let size = length-take (LONGEST_INPUT - c.args.last.now.digits.offset) c.args.piece.now in
     let dead = sym c.is_live-2.ensures ∙ c.if-is_live.false in
     rw c.progress-2.ensures

@@ -1,6 +1,5 @@
 -- The reader after the bytes so far, which needs more.
-use Rattle.pfs_layout.proofs.Words.{◌-◌, ◌≤◌, length, fields}
-use Rattle.pfs_layout.specs.Private.Step.{TakenTo}
+use Rattle.pfs_layout.proofs.Words.{◌-◌, ◌≤◌, length, fields, TakenTo}
 use Rattle.pfs_layout.proofs.blocks.Blocks.take.Given as goal
 
 abbrev pub invariant-loop-at : goal.invariant-loop-at

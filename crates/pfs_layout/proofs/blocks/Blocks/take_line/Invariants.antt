@@ -1,6 +1,5 @@
 -- The reader after the bytes so far, which needs more.
-use Rattle.pfs_layout.proofs.Words.{fields}
-use Rattle.pfs_layout.specs.Private.Step.{TakenTo}
+use Rattle.pfs_layout.proofs.Words.{fields, TakenTo}
 use Rattle.pfs_layout.proofs.blocks.Blocks.take_line.Given as goal
 
 abbrev pub invariant-loop-b : goal.invariant-loop-b

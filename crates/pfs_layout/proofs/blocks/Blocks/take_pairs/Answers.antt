@@ -1,6 +1,5 @@
 -- Each byte moves the reader forward: a digit changes no block, and a space may end a number.
-use Rattle.pfs_layout.proofs.Words.{sym, ◌∙◌, arith, nat_tests, ◌≤◌, LONGEST_TIME, ap}
-use Rattle.pfs_layout.specs.Lines.{is_blank}
+use Rattle.pfs_layout.proofs.Words.{sym, ◌∙◌, arith, nat_tests, ◌≤◌, LONGEST_TIME, ap, is_blank}
 use Rattle.pfs_layout.proofs.Reading.PieceLemmas.{digit_validated, blank_validated, number_validated, machine_ended}
 use Rattle.pfs_layout.proofs.Reading.PieceLemmas.{open_value, pair_ended, taken_on, taken_quiet, taken_ready}
 use Rattle.pfs_layout.proofs.Reading.PieceLemmas.{taken_used}
@@ -12,13 +11,9 @@ pub loop-byte-preserved-then-is_digit : goal.loop-byte-preserved-then-is_digit
 loop-byte-preserved-then-is_digit c =
     let inv = c.loop-byte.invariant in
     let digit = sym c.is_digit.ensures ∙ c.if-is_digit.true in
-    record {
-      taken = taken_quiet inv.taken (omega arith) c.requires.room c.push_digit.ensures.pushes
-          (digit_validated inv.taken (rw (digit, inv.plain)));
-      phase = inv.phase;
-      plain = c.push_digit.ensures.word ∙ inv.plain;
-      short = grind (arith, nat_tests, digit, c.push_digit.ensures.value, c.if-line-from.false);
-    }
+    let taken = taken_quiet inv.taken (omega arith) c.requires.room c.push_digit.ensures.pushes
+    (digit_validated inv.taken (rw (digit, inv.plain))) in
+    grind (arith, nat_tests, inv, taken, digit, c.push_digit.ensures, c.if-line-from.false)
 
 pub store_time-requires-clause-can : goal.store_time-requires-clause-can
 store_time-requires-clause-can c =
@@ -38,7 +33,7 @@ loop-byte-preserved c =
           elim w.if-body-eq0.branch [
             | then-body-eq0+else-number-body v ↦
                 let next = number_validated inv.taken blank is
-                (machine_ended _ _ _ inv.phase layout (omega arith) v.if-body-eq0.true v.if-number-body.false) in
+                (machine_ended _ _ _ inv.phase (omega arith) layout v.if-body-eq0.true v.if-number-body.false) in
                 rw (w.self-is, w.body-is, v.self-is, v.body-is) (record {
                   taken = taken_on inv.taken (omega arith) c.requires.room (c.push_blank.ensures.pushes _ blank)
                       (λ well. next) (rw inv.phase);
@@ -49,7 +44,7 @@ loop-byte-preserved c =
             | else-body-eq0+else-body-2 v ↦
                 let on = v.if-body-2.false in
                 let next = number_validated inv.taken blank is
-                (pair_ended _ _ _ inv.phase layout (omega arith) v.if-body-eq0.false short (omega arith)) in
+                (pair_ended _ _ _ inv.phase (omega arith) layout v.if-body-eq0.false short (omega arith)) in
                 rw (w.self-is, w.body-is, v.self-is, v.body-is) (record {
                   taken = taken_on inv.taken (omega arith) c.requires.room (c.push_blank.ensures.pushes _ blank)
                       (λ well. rw v.store_time.ensures next) (rw (v.store_time.ensures, inv.phase));
@@ -58,13 +53,10 @@ loop-byte-preserved c =
                   short = rw c.push_blank.ensures.digits (omega arith);
                 })
           ]
-      | in_default w ↦ rw (w.self-is, w.body-is) (record {
-        taken = taken_quiet inv.taken (omega arith) c.requires.room (c.push_blank.ensures.pushes _ blank)
-            (grind (arith, w.in_default) ∙ blank_validated inv.taken blank c.number.ensures);
-        phase = inv.phase;
-        plain = rw c.push_blank.ensures.kinds inv.plain;
-        short = rw c.push_blank.ensures.digits (omega arith);
-      })
+      | in_default w ↦
+          let taken = taken_quiet inv.taken (omega arith) c.requires.room (c.push_blank.ensures.pushes _ blank)
+          (grind (arith, w.in_default) ∙ blank_validated inv.taken blank c.number.ensures) in
+          rw (w.self-is, w.body-is) (grind (arith, inv, taken, c.push_blank.ensures))
     ]
 
 pub returns-clause-taken : goal.returns-clause-taken

@@ -1,6 +1,5 @@
 -- Each byte moves the reader forward: a digit changes no block, and a space may end a time.
-use Rattle.pfs_layout.proofs.Words.{sym, ◌∙◌, arith, nat_tests, ◌≤◌, LONGEST_TIME, ap}
-use Rattle.pfs_layout.specs.Lines.{is_blank}
+use Rattle.pfs_layout.proofs.Words.{sym, ◌∙◌, arith, nat_tests, ◌≤◌, LONGEST_TIME, ap, is_blank}
 use Rattle.pfs_layout.proofs.Reading.PieceLemmas.{digit_validated, blank_validated, number_validated, time_ended}
 use Rattle.pfs_layout.proofs.Reading.PieceLemmas.{open_value, taken_on, taken_quiet, taken_ready, taken_used}
 use Rattle.pfs_layout.proofs.blocks.Blocks.take_times.Goals.{in-Some+else-body-last_job, in_default}
@@ -10,15 +9,9 @@ pub loop-byte-preserved-then-is_digit : goal.loop-byte-preserved-then-is_digit
 loop-byte-preserved-then-is_digit c =
     let inv = c.loop-byte.invariant in
     let digit = sym c.is_digit.ensures ∙ c.if-is_digit.true in
-    record {
-      taken = taken_quiet inv.taken (omega arith) c.requires.room c.push_digit.ensures.pushes
-          (digit_validated inv.taken (rw (digit, inv.plain)));
-      phase = inv.phase;
-      plain = c.push_digit.ensures.word ∙ inv.plain;
-      short = grind (arith, nat_tests, digit, c.push_digit.ensures.value, c.if-line-from.false);
-      within = inv.within;
-      due = inv.due;
-    }
+    let taken = taken_quiet inv.taken (omega arith) c.requires.room c.push_digit.ensures.pushes
+    (digit_validated inv.taken (rw (digit, inv.plain))) in
+    grind (arith, nat_tests, inv, taken, digit, c.push_digit.ensures, c.if-line-from.false)
 
 pub store_time-requires-clause-can : goal.store_time-requires-clause-can
 store_time-requires-clause-can c =
@@ -36,7 +29,7 @@ loop-byte-preserved c =
           let is = sym c.number.ensures ∙ w.in-Some.is in
           let short : w.in-Some.number.value ≤ LONGEST_TIME = rw (open_value _ _ is) inv.short in
           let next = number_validated inv.taken blank is
-          (time_ended _ _ _ inv.phase layout (omega (arith, inv.due)) short (omega (arith, inv.within))) in
+          (time_ended _ _ _ inv.phase (omega (arith, inv.due)) layout short (omega (arith, inv.within))) in
           rw (w.self-is, w.body-is) (record {
             taken = taken_on inv.taken (omega arith) c.requires.room (c.push_blank.ensures.pushes _ blank)
                 (λ well. rw w.store_time.ensures next) (rw (w.store_time.ensures, inv.phase));
@@ -46,15 +39,10 @@ loop-byte-preserved c =
             within = omega (arith, inv.within);
             due = omega (arith, inv.due);
           })
-      | in_default w ↦ rw (w.self-is, w.body-is) (record {
-        taken = taken_quiet inv.taken (omega arith) c.requires.room (c.push_blank.ensures.pushes _ blank)
-            (grind (arith, w.in_default) ∙ blank_validated inv.taken blank c.number.ensures);
-        phase = inv.phase;
-        plain = rw c.push_blank.ensures.kinds inv.plain;
-        short = rw c.push_blank.ensures.digits (omega arith);
-        within = inv.within;
-        due = inv.due;
-      })
+      | in_default w ↦
+          let taken = taken_quiet inv.taken (omega arith) c.requires.room (c.push_blank.ensures.pushes _ blank)
+          (grind (arith, w.in_default) ∙ blank_validated inv.taken blank c.number.ensures) in
+          rw (w.self-is, w.body-is) (grind (arith, inv, taken, c.push_blank.ensures))
     ]
 
 pub returns-clause-taken : goal.returns-clause-taken

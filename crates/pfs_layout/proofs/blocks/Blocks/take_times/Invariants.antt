@@ -1,8 +1,7 @@
 -- The reader after the bytes so far, which needs more: the body is a local variable. The last number is no longer than
 -- a time may be. Until the last job, a time is due.
-use Rattle.pfs_layout.proofs.Words.{◌≡◌, ◌+◌, ◌<◌, ◌≤◌, false, LONGEST_TIME, fields}
+use Rattle.pfs_layout.proofs.Words.{◌≡◌, ◌+◌, ◌<◌, ◌≤◌, false, LONGEST_TIME, fields, TakenTo}
 use Rattle.pfs_layout.specs.declared.blocks.Phase.TheVariants as phases
-use Rattle.pfs_layout.specs.Private.Step.{TakenTo}
 use Rattle.pfs_layout.proofs.blocks.Blocks.take_times.Given as goal
 
 abbrev pub invariant-loop-byte : goal.invariant-loop-byte

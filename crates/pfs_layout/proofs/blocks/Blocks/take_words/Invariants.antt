@@ -1,6 +1,5 @@
 -- The reader after the bytes so far, which needs more. The line has a word byte, and no digit.
-use Rattle.pfs_layout.proofs.Words.{◌≡◌, true, false, None, fields, open_number}
-use Rattle.pfs_layout.specs.Private.Step.{TakenTo}
+use Rattle.pfs_layout.proofs.Words.{◌≡◌, true, false, None, fields, open_number, TakenTo}
 use Rattle.pfs_layout.proofs.blocks.Blocks.take_words.Given as goal
 
 abbrev pub invariant-loop-byte : goal.invariant-loop-byte
