@@ -240,7 +240,7 @@ def library_in(copy: Copy) -> Iterator[None]:
                       ["cc", "-fPIC", "-c", "lib/out/call.c", "-o", objects[1]],
                       ["cc", "-shared", "-Wl,-soname,libpfs.so.0", "-o", "lib/out/libpfs.so.0", *objects],
                       ["ar", "rcD", "lib/out/libpfs.a", *objects]):
-            output_of([*words], copy.top)
+            output_of(words, copy.top)
         yield
     finally:
         shutil.rmtree(out)
