@@ -21,7 +21,8 @@ from support.terminals import Terminal
 from support.tools import Done, csv_rows, output_of, run_tool, wait_until, with_path, write_script
 from support.warm import Warm
 
-# A replacement of pfs, which notes its words. In these cases it does something else, unless the file `fixed` exists.
+# A replacement of pfs, which notes its arguments, and in these cases does something else, unless the file `fixed`
+# exists.
 REPLACEMENT = """#!/bin/sh
 pfs={pfs}
 echo "$*" >> {folder}/notes
@@ -990,8 +991,8 @@ def submit(experiment: Experiment, slurm: Cluster) -> Done:
 
 @on_slurm
 def test_on_slurm_the_csv_is_the_same(experiment: Experiment, slurm: Cluster) -> None:
-    """The runs are one array of as many tasks as were asked for, and each is made by one task. Runs whose results are
-    gone are made again, and no others."""
+    """The runs are one array of the requested number of tasks, and each is made by one task. Runs whose results are gone
+    are made again, and no others."""
     got = submit(experiment, slurm)
     assert (got.status, got.stderr.splitlines()[-1]) == (0, TWELVE.removesuffix("\n"))
     assert experiment.rows() == experiment.wanted()
