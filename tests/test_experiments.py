@@ -991,8 +991,8 @@ def submit(experiment: Experiment, slurm: Cluster) -> Done:
 
 @on_slurm
 def test_on_slurm_the_csv_is_the_same(experiment: Experiment, slurm: Cluster) -> None:
-    """The runs are one array of the requested number of tasks, and each is made by one task. Runs whose results are gone
-    are made again, and no others."""
+    """The runs are one array of the requested number of tasks, and each is made by one task. Runs whose results are
+    gone are made again, and no others."""
     got = submit(experiment, slurm)
     assert (got.status, got.stderr.splitlines()[-1]) == (0, TWELVE.removesuffix("\n"))
     assert experiment.rows() == experiment.wanted()

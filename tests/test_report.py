@@ -684,32 +684,20 @@ def test_a_panel_shows_the_gaps_of_the_take_and_the_passes_in_its_title(take: in
 
 # The times
 
-@pytest.fixture
-def times(plotted: Plotted) -> Picture:
-    return plotted("time", TIMED, axes="figure_1")
-
-
 @of_timed
 @pytest.mark.parametrize(("size", "parts"), [
     ("20-5", {"median": [3, 3], "box": [2, 2, 2, 4, 4], "least": [1, 2], "greatest": [4, 10]}),
     ("100-10", {"median": [7, 7], "box": [7, 7, 7, 7, 7], "least": [7, 7], "greatest": [7, 7]}),
 ], ids=["20 by 5", "100 by 10"])
 def test_a_box_has_the_nanoseconds_a_cell_of_most_rounds(size: str, parts: dict[str, list[float]],
-                                                         times: Picture) -> None:
+                                                         plotted: Plotted) -> None:
+    """It is above its size, and the title names these rounds."""
+    times = plotted("time", TIMED, axes="figure_1")
     scale = times.down()
     found = {part: sorted(round(scale(y), 3) for _, y in times.line(f"{part}-{size}")) for part in parts}
     assert found == parts, f"nanoseconds a cell in the box of {size}"
-
-
-@of_timed
-def test_a_box_is_above_its_size(times: Picture) -> None:
-    for size in ("20-5", "100-10"):
-        label, = times.find(size.replace("-", "×"))
-        across = [x for x, _ in times.line(f"median-{size}")]
-        assert sum(across) / len(across) == pytest.approx(label.x, abs=0.5)
-
-
-@of_timed
-def test_the_title_of_the_times_names_the_most_rounds(times: Picture) -> None:
+    label, = times.find(size.replace("-", "×"))
+    across = [x for x, _ in times.line(f"median-{size}")]
+    assert sum(across) / len(across) == pytest.approx(label.x, abs=0.5)
     assert len(times.find("Time per cell at 100 rounds, with the start of the process")) == 1
     assert len(times.find("processor time per table cell, ns")) == 1
