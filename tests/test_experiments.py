@@ -592,45 +592,28 @@ def test_an_invalid_library_is_reported(path: str, experiment: Experiment) -> No
 
 # Other programs
 
-# It prints the jobs in the order of their numbers, uses the time that its seed stands for, and notes its arguments.
-MINE = """#!/usr/bin/env python3
-import os, signal, sys, time
-path, seed, seconds = sys.argv[1:]
-with open(path) as file:
-    jobs = int(file.readlines()[1].split()[0])
-line = " ".join(map(str, range(1, jobs + 1)))
-if seed == "1":
-    print(line)
-elif seed == "2":
-    print("order", jobs)
-    print(line)
-    print("makespan 1448" if jobs == 20 else "makespan 1")
-elif seed == "3":
-    os.kill(os.getpid(), signal.SIGSEGV)
-elif seed == "4":
-    print("Traceback: something", file=sys.stderr)
-    sys.exit(3)
-elif seed == "5":
-    print("the best order is 3 2 1")
-elif seed == "6":
-    pass
-elif seed == "7":
-    print("1 1 1")
-elif seed == "8":
-    os.fork()
-    while True:
-        pass
-elif seed == "9":
-    while True:
-        print(line)
-elif seed == "10":
-    print(line.replace(" ", ", ") + ",")
+# It prints the jobs in the order of their numbers, or does what its seed stands for.
+MINE = r"""#!/bin/sh
+jobs=$(sed -n '2s/ .*//p' "$1")
+line=$(seq -s ' ' "$jobs")
+case $2 in
+1) echo "$line" ;;
+2) test "$jobs" = 20 && makespan=1448 || makespan=1
+   printf 'order %s\n%s\nmakespan %s\n' "$jobs" "$line" "$makespan" ;;
+3) kill -SEGV $$ ;;
+4) echo 'Traceback: something' >&2; exit 3 ;;
+5) echo 'the best order is 3 2 1' ;;
+7) echo '1 1 1' ;;
+8) while :; do :; done & while :; do :; done ;;
+9) yes "$line" ;;
+10) echo "$line" | sed 's/ /, /g; s/$/,/' ;;
+esac
 """
 OTHER = """instances = ["shops/a"]
 time_factors = [10]
 seeds = [1, 2, 3, 4, 5, 6, 7, 8, 9, 10]
 method = "mine"
-command = "./mine.py {instance} {seed} {seconds}"
+command = "./mine {instance} {seed} {seconds}"
 """
 STATUSES = [
     "ok", "ok", "mine: signal 11", "mine: exit 3, Traceback: something",
@@ -642,7 +625,7 @@ STATUSES = [
 
 
 def with_other(experiment: Experiment, plan: str = OTHER) -> Experiment:
-    write_script(experiment.folder / "mine.py", MINE)
+    write_script(experiment.folder / "mine", MINE)
     experiment.plan(plan)
     return experiment
 

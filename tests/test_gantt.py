@@ -338,7 +338,7 @@ def test_the_comment_on_the_colours_has_the_numbers_of_the_page(top: pathlib.Pat
 @pytest.mark.parametrize("jobs", [FEW + 1, FEW + 2, FEW + 3, 500])
 def test_neighbours_of_many_jobs_are_distinguishable(jobs: int, drawn: Drawn) -> None:
     """Also if an operation that takes no time is between them; and each of them from idle time."""
-    case = units(jobs)._replace(order=[*range(jobs, 0, -1)])
+    case = units(jobs)._replace(name=f"the last of {jobs} first", order=[*range(jobs, 0, -1)])
     fills = colours_in_turn(case, drawn(case))
     assert len(fills) == jobs
     for apart in (1, 2):

@@ -275,7 +275,7 @@ BESIDE = ["share/pfs.1", "README.md", "crates/pfs_tests/src/lib.rt", "crates/pfs
 
 @pytest.mark.parametrize("name", [*SOURCES, *BESIDE])
 def test_a_newer_source_has_the_program_built(name: str, copy: Copy, folder: pathlib.Path) -> None:
-    """What is beside the sources has nothing built."""
+    """Other files have nothing built."""
     path = copy.top / name
     copy.built()
     try:
