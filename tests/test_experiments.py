@@ -712,7 +712,7 @@ def test_a_program_that_closes_its_streams_is_ended(top: pathlib.Path, folder: p
     too long together. One that waits for a second isn't."""
     got = printed_by(top, RUNS.format(change=""), folder, "0.1", "exec >&- 2>&-; sleep 1000", "sleep 1000 & echo 1",
                      "sleep 1; echo 2",
-                     "for each in $(seq 60); do (for at in $(seq 10000); do :; done); done; sleep 1000")
+                     "for each in $(seq 600); do (for at in $(seq 10000); do :; done); done; sleep 1000")
     assert re.fullmatch(r"still running after \d s, instead of 0.1 s of processor time\n1\n2\n"
                         r"took too long: \d+\.\d\d s of processor time instead of 0.1 s\n", got), got
 
