@@ -14,7 +14,8 @@ from support.library import Library
 from support.needs import missing
 from support.program import Program
 
-pytest_plugins = ["support.needs", "support.fixtures", "support.folders", "support.shuffle", "support.slowest"]
+pytest_plugins = ["support.needs", "support.folders", "support.shuffle", "support.slowest", "support.tools",
+                  "support.warm", "support.ssh", "support.slurm", "support.experiments", "support.installed"]
 
 TOP = pathlib.Path(__file__).resolve().parent.parent
 LIBRARY = TOP / "lib" / "out" / "libpfs.so.0"

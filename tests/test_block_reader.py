@@ -52,74 +52,35 @@ BLOCKS = [
 ]
 
 
-def of_one_block(length: int) -> str:
-    """The result of the reader for the first bytes of THREE_JOBS."""
-    if length <= 80:
-        return "NoBlock { found: 0 }"
-    if length <= 88:
-        return "SizeCount { line: 2 }"
-    if length <= 109:
-        return "Truncated { have: 0 }"
-    if length <= 119:
-        return f"Truncated {{ have: {(length - 108) // 2} }}"
-    return TIMES
-
-
-def of_two_blocks(length: int) -> str:
-    """The result of the reader of the second block for the first bytes of TWO_BLOCKS."""
-    if length <= 29:
-        return "NoBlock { found: 0 }"
-    if length <= 31:
-        return "SizeCount { line: 5 }"
-    if length <= 35:
-        return "Truncated { have: 0 }"
-    if length <= 48:
-        return "NoBlock { found: 1 }"
-    if length <= 50:
-        return "SizeCount { line: 9 }"
-    if length <= 74:
-        return f"Truncated {{ have: {(length - 51) // 4} }}"
-    return TIMES
-
-
-def assert_cuts(pfs_calls: Program, cwd: pathlib.Path, block: str, text: bytes, answer: str) -> None:
-    """A reader of this block returns this for a text in one piece, in two pieces cut anywhere, and byte by byte."""
-    ran = pfs_calls.run(f"cuts {block}", cwd, text)
-    assert ran == Ran(f"{answer}\n".encode() * (len(text) + 2), b"", 0)
+# A text of which each first part is read, by the block, and the results with the most bytes of the parts that have
+# them.
+PARTS = {
+    "taillard 1": (THREE_JOBS, [
+        (80, "NoBlock { found: 0 }"), (88, "SizeCount { line: 2 }"), (109, "Truncated { have: 0 }"),
+        *((109 + 2 * have, f"Truncated {{ have: {have} }}") for have in range(1, 6)), (121, TIMES)]),
+    "orlib 2": (TWO_BLOCKS, [
+        (29, "NoBlock { found: 0 }"), (31, "SizeCount { line: 5 }"), (35, "Truncated { have: 0 }"),
+        (48, "NoBlock { found: 1 }"), (50, "SizeCount { line: 9 }"),
+        *((54 + 4 * have, f"Truncated {{ have: {have} }}") for have in range(6)), (80, TIMES)]),
+}
+CASES = [
+    *((block, text[:length], next(result for most, result in results if length <= most))
+      for block, (text, results) in PARTS.items() for length in range(len(text) + 1)),
+    *(("taillard 1", THREE_JOBS[:front] + end, result) for front, end, result in ENDS),
+    *(("taillard 1", text, result) for text, result in OTHERS), *BLOCKS]
 
 
 def test_the_texts_have_the_lengths_that_the_tables_assume() -> None:
     assert (len(THREE_JOBS), len(TWO_BLOCKS), len(OTHERS[0][0])) == (121, 80, 126)
 
 
-@pytest.mark.parametrize("length", range(len(THREE_JOBS) + 1))
-def test_a_prefix_of_one_block_has_one_result_wherever_it_is_cut(pfs_calls: Program, folder: pathlib.Path,
-                                                                 length: int) -> None:
-    assert_cuts(pfs_calls, folder, "taillard 1", THREE_JOBS[:length], of_one_block(length))
-
-
-@pytest.mark.parametrize("length", range(len(TWO_BLOCKS) + 1))
-def test_a_prefix_of_two_blocks_has_one_result_wherever_it_is_cut(pfs_calls: Program, folder: pathlib.Path,
-                                                                  length: int) -> None:
-    assert_cuts(pfs_calls, folder, "orlib 2", TWO_BLOCKS[:length], of_two_blocks(length))
-
-
-@pytest.mark.parametrize("front, end, answer", ENDS, ids=[shown(end) for _, end, _ in ENDS])
-def test_another_ending_has_one_result_wherever_it_is_cut(pfs_calls: Program, folder: pathlib.Path, front: int,
-                                                          end: bytes, answer: str) -> None:
-    assert_cuts(pfs_calls, folder, "taillard 1", THREE_JOBS[:front] + end, answer)
-
-
-@pytest.mark.parametrize("text, answer", OTHERS, ids=[shown(text) for text, _ in OTHERS])
-def test_another_text_has_one_result_wherever_it_is_cut(pfs_calls: Program, folder: pathlib.Path, text: bytes,
-                                                        answer: str) -> None:
-    assert_cuts(pfs_calls, folder, "taillard 1", text, answer)
-
-
-@pytest.mark.parametrize("block, text, answer", BLOCKS, ids=[f"{block}: {answer}" for block, _, answer in BLOCKS])
-def test_another_block_has_one_result_wherever_it_is_cut(pfs_calls: Program, folder: pathlib.Path, block: str,
-                                                         text: bytes, answer: str) -> None:
-    assert_cuts(pfs_calls, folder, block, text, answer)
+@pytest.mark.parametrize(("block", "text", "result"), CASES, ids=[
+    f"{block}, {len(text)} bytes that end with {shown(text[-20:])}" for block, text, _ in CASES])
+def test_a_text_has_one_result_wherever_it_is_cut(pfs_calls: Program, folder: pathlib.Path, block: str, text: bytes,
+                                                  result: str) -> None:
+    """By a reader of this block, in one piece, in two pieces cut anywhere, and byte by byte."""
+    ran = pfs_calls.run(f"cuts {block}", folder, text)
+    assert ran == Ran(f"{result}\n".encode() * (len(text) + 2), b"", 0)
 
 
 def fed(pfs_calls: Program, cwd: pathlib.Path, block: str, pieces: list[bytes]) -> list[str]:

@@ -7,6 +7,8 @@ import shutil
 import subprocess
 from collections.abc import Callable
 from concurrent.futures import Future
+from contextlib import nullcontext
+from types import SimpleNamespace
 from typing import Any
 
 import pytest
@@ -112,22 +114,11 @@ def test_the_crate_with_the_longest_chain_above_it_goes_first(repository: pathli
     assert niceness == {"low": "no", "left": "no", "right": "19", "above": "no", "app": "no"}
 
 
-class AtOnce:
-    """In the place of a pool of threads: what is submitted is done before anything else is."""
-
-    def __init__(self, _: int) -> None:
-        """As many threads as there are crates."""
-
-    def __enter__(self) -> "AtOnce":
-        return self
-
-    def __exit__(self, *_: object) -> None:
-        """Nothing is left to wait for."""
-
-    def submit(self, call: Callable[..., Any], *words: Any) -> "Future[Any]":
-        future: Future[Any] = Future()
-        future.set_result(call(*words))
-        return future
+def at_once(call: Callable[..., Any], *words: Any) -> "Future[Any]":
+    """In the place of submitting it to a pool of threads: it is done before anything else is."""
+    future: Future[Any] = Future()
+    future.set_result(call(*words))
+    return future
 
 
 @pytest.mark.parametrize(("crates", "due"), [
@@ -147,7 +138,7 @@ def test_of_crates_that_may_begin_the_one_with_the_longest_chain_goes_first(
         return module.Build(0, 0.0, pathlib.Path(os.devnull))
 
     monkeypatch.setattr(module, "build", build_noting)
-    monkeypatch.setattr(module, "ThreadPoolExecutor", AtOnce)
+    monkeypatch.setattr(module, "ThreadPoolExecutor", lambda _: nullcontext(SimpleNamespace(submit=at_once)))
     below: dict[str, list[str]] = {}
     for part in re.findall(r"(\w+):((?: \w+(?![\w:]))*)", crates):
         below[part[0]] = part[1].split()
@@ -216,7 +207,7 @@ def test_ctrl_c_has_its_status(top: pathlib.Path, monkeypatch: pytest.MonkeyPatc
         raise KeyboardInterrupt
 
     monkeypatch.setattr(module, "build_all", interrupt)
-    monkeypatch.setattr(module, "sys", type("none", (), {"argv": ["build"]}))
+    monkeypatch.setattr(module, "sys", SimpleNamespace(argv=["build"]))
     monkeypatch.setattr(module.shutil, "which", str)
     assert module.main() == 130
 

@@ -10,8 +10,6 @@ from support.needs import tool
 from support.tree import files_below
 
 TOP = pathlib.Path(__file__).resolve().parent.parent
-# Folders that aren't part of the repository or have no scripts.
-PASSED_OVER = {"out", "dist", "__pycache__", "crates", "docs"}
 # By what their first lines name, or by the endings of their names.
 KINDS = {"python3": "python", "sh": "shell", "bash": "shell"}
 ENDINGS = {".py": "python", ".bash": "shell", ".fish": "fish"}
@@ -22,15 +20,7 @@ TYPED = [("tests/", "tools/", "experiments/"), ("bench/",)]
 @functools.cache
 def scripts(kind: str) -> list[str]:
     """The scripts of a kind, by their paths."""
-    return sorted(str(path.relative_to(TOP)) for path in files_below(TOP, is_passed_over) if kind_of(path) == kind)
-
-
-def is_hidden(folder: str) -> bool:
-    return folder.startswith(".") and folder != ".ci"
-
-
-def is_passed_over(folder: str) -> bool:
-    return folder in PASSED_OVER or is_hidden(folder)
+    return sorted(str(path.relative_to(TOP)) for path in files_below(TOP, "crates", "docs") if kind_of(path) == kind)
 
 
 def kind_of(path: pathlib.Path) -> str:
@@ -42,9 +32,9 @@ def kind_of(path: pathlib.Path) -> str:
     return "zsh" if first.startswith("#compdef ") else ENDINGS.get(path.suffix, "")
 
 
-def assert_silent(words: list[str]) -> None:
+def assert_silent(words: list[str], cwd: pathlib.Path = TOP) -> None:
     """The checker succeeds and prints nothing."""
-    done = subprocess.run(words, cwd=TOP, stdout=subprocess.PIPE, stderr=subprocess.STDOUT, text=True)
+    done = subprocess.run(words, cwd=cwd, stdout=subprocess.PIPE, stderr=subprocess.STDOUT, text=True)
     assert done.stdout == "", f"what {words[0]} says"
     assert done.returncode == 0
 
@@ -60,19 +50,15 @@ def test_scripts_are_found_by_their_first_lines() -> None:
 @pytest.mark.parametrize("folders", TYPED, ids=",".join)
 def test_python_is_typed(folders: tuple[str, ...]) -> None:
     typed = [path for path in scripts("python") if path.startswith(folders)]
-    words = [tool("mypy"), "--strict", "--scripts-are-modules", "--no-error-summary",
-             f"--cache-dir={TOP}/out/mypy-{folders[0][:-1]}"]
-    done = subprocess.run([*words, *typed], cwd=TOP, capture_output=True, text=True)
-    assert done.stdout + done.stderr == ""
-    assert done.returncode == 0
+    assert_silent([tool("mypy"), "--strict", "--scripts-are-modules", "--no-error-summary",
+                   f"--cache-dir={TOP}/out/mypy-{folders[0][:-1]}", *typed])
 
 
 @pytest.mark.seconds(20)
 def test_the_package_for_python_is_typed() -> None:
     """By its own settings: its tests have names that those here have too."""
-    words = [tool("mypy"), "--no-error-summary", f"--cache-dir={TOP}/out/mypy-python", "src", "tests", "examples"]
-    done = subprocess.run(words, cwd=TOP / "python", capture_output=True, text=True)
-    assert (done.stdout + done.stderr, done.returncode) == ("", 0)
+    assert_silent([tool("mypy"), "--no-error-summary", f"--cache-dir={TOP}/out/mypy-python", "src", "tests",
+                   "examples"], TOP / "python")
 
 
 @pytest.mark.seconds(20)
@@ -87,8 +73,7 @@ def test_nothing_is_used_that_the_oldest_python_lacks(which: str) -> None:
              f"--cache-dir={TOP}/out/mypy-oldest-{which}"]
     installed = [path for path in scripts("python") if re.match(r"experiments/|tools/gantt$|tools/[^/]*\.py$", path)]
     words += ["src"] if which == "package" else installed
-    done = subprocess.run(words, cwd=TOP / ("python" if which == "package" else ""), capture_output=True, text=True)
-    assert (done.stdout + done.stderr, done.returncode) == ("", 0)
+    assert_silent(words, TOP / ("python" if which == "package" else ""))
 
 
 def test_pyflakes_finds_nothing() -> None:
@@ -138,8 +123,7 @@ def faults_of(path: pathlib.Path) -> list[str]:
 
 
 def test_each_file_keeps_the_rules_of_editorconfig() -> None:
-    paths = [*files_below(TOP, lambda folder: folder in ("out", "dist", "__pycache__") or is_hidden(folder))]
-    faults = {str(path.relative_to(TOP)): faults_of(path) for path in paths}
+    faults = {str(path.relative_to(TOP)): faults_of(path) for path in files_below(TOP)}
     assert len(faults) > 500
     assert {path: found for path, found in faults.items() if found} == {}
 

@@ -1,6 +1,6 @@
-"""The completions of bash, zsh and fish, each run in its own shell, compared with the usage text: commands, options
-that the line does not have yet, layouts, and files where a path may be given. What zsh and fish say of an option and a
-path is what it is for; the ranges in it are written by tools/facts."""
+"""The completions of bash, zsh and fish for pfs, pfs-gantt and pfs-experiments, each run in its own shell, compared
+with the usage texts: commands, options that the line does not have yet, layouts, formats, and files where a path may be
+given. What zsh and fish say of an option and a path is what it is for; the ranges in it are written by tools/facts."""
 import os
 import pathlib
 import re
@@ -15,20 +15,26 @@ from support.program import Program, Ran
 from support.terminals import Terminal
 from support.usage import LAYOUTS, commands
 
+TOP = pathlib.Path(__file__).resolve().parent.parent
+SCRIPTS = TOP / "share" / "completions"
 FILES = ["best", "three", "two words"]
+# What a path may be.
+HERE = {*FILES, "folder"}
 SHELLS = ["bash", "zsh", "fish"]
 MOST_SECONDS = 120
 
 # For each line: bash's words, of which the `=` of `--layout=orlib` is one, then the function, and what it returns.
 # Where it leaves the word to bash's default, the completion is a file name.
 BASH = """
-source {script}
+source {scripts}/pfs.bash
+source {scripts}/pfs-tools.bash
 compopt() {{ [ "$*" != '-o default' ] || is_file=1; }}
 offer() {{
-    local last=${{@: -1}} is_file=
+    local last=${{@: -1}} is_file= function=_pfs_tools
     COMP_WORDS=("$@") COMP_CWORD=$(($# - 1))
     [ "$last" != = ] || last=
-    {function} "$1" "$last" "${{@: -2:1}}"
+    [ "$1" != pfs ] || function=_pfs
+    $function "$1" "$last" "${{@: -2:1}}"
     [ -z "$is_file" ] || mapfile -t COMPREPLY < <(compgen -f -- "$last")
     printf '%s\\n' "${{COMPREPLY[@]}}" '='
 }}
@@ -36,7 +42,8 @@ offer() {{
 
 # Each line is a word, and perhaps a tab and its description.
 FISH = """
-source {script}
+source {scripts}/pfs.fish
+source {scripts}/pfs-tools.fish
 function offer
     complete -C $argv[1]
     echo =
@@ -47,7 +54,7 @@ end
 # heading follow it after a tab.
 ZSH = """
 PROMPT=
-fpath=({folder} $fpath)
+fpath=({scripts} $fpath)
 autoload -Uz compinit
 compinit -u -D
 zstyle ':completion:*' format '%d'
@@ -95,7 +102,7 @@ def option_lines(command: str, options: dict[str, str]) -> Iterator[Line]:
         if not value:
             yield Line(f"pfs {command} {option} --", others)
             # It takes no value: a path may follow.
-            yield Line(f"pfs {command} {option} ", set(FILES) | {"folder"})
+            yield Line(f"pfs {command} {option} ", HERE)
             yield Line(f"pfs {command} {option} b", {"best"})
             continue
         values = LAYOUTS if value == "L" else set()
@@ -112,7 +119,7 @@ def option_lines(command: str, options: dict[str, str]) -> Iterator[Line]:
 def path_lines(command: str, options: dict[str, str], most_paths: int) -> Iterator[Line]:
     needed = "".join(f"{option} orlib " for option, value in options.items() if value == "L")
     for count in range(most_paths + 1):
-        files = set(FILES) | {"folder"} if count < most_paths else set()
+        files = HERE if count < most_paths else set()
         yield Line(f"pfs {command} {needed}" + "three " * count, files)
         yield Line(f"pfs {command} " + "three " * count + needed, files)
         yield Line(f"pfs {command} -- " + "three " * count, files)
@@ -131,7 +138,38 @@ def lines() -> Iterator[Line]:
         yield from path_lines(command, options, len(paths))
 
 
-ASKED = list({line.text: line for line in lines()}.values())
+def options_of(path: str, usage: str) -> dict[str, str]:
+    """The options of the usage text in a script, each with its value or nothing."""
+    found = re.search(usage, (TOP / path).read_text(), re.MULTILINE | re.DOTALL)
+    assert found, path
+    return dict(re.findall(r"\[?(--[\w-]+)(?: ([A-Za-z|]+))?\]?", found[1]))
+
+
+GANTT = options_of("tools/gantt", 'usage: (.*?)"""')
+EXPERIMENTS = {name: options_of(f"experiments/{name}", '^USAGE = "(.*?)"$')
+               for name in ("run", "slurm", "check", "report")}
+# What a value of an option may be; no file where it is a number or a text.
+VALUES: dict[str, set[str]] = {
+    "B": set(), "UNIT": set(), "INCHES": set(), "DPI": set(), "N": set(), "png|svg|pdf": {"png", "svg", "pdf"},
+    "PROGRAM": HERE, "FILE": HERE, "CSV": HERE}
+
+
+def tool_lines() -> Iterator[Line]:
+    yield Line("pfs-experiments ", {*EXPERIMENTS, "taillard"})
+    yield Line("pfs-experiments re", {"report"})
+    for text in ("pfs-experiments taillard ", "pfs-gantt ", "pfs-gantt three "):
+        yield Line(text, HERE)
+    for start, options in (("pfs-gantt", GANTT), *((f"pfs-experiments {name}", each)
+                                                   for name, each in EXPERIMENTS.items())):
+        yield Line(f"{start} --", set(options))
+        yield Line(f"{start} thr", {"three"})
+        for option, value in options.items():
+            yield Line(f"{start} {option[:4]}", {each for each in options if each.startswith(option[:4])})
+            if value:
+                yield Line(f"{start} {option} ", VALUES[value])
+
+
+ASKED = list({line.text: line for line in (*lines(), *tool_lines())}.values())
 
 
 # How a shell is asked
@@ -163,25 +201,24 @@ def run_all(words: list[str], text: str, folder: pathlib.Path) -> list[Answer]:
     return split_results(done.stdout)
 
 
-def bash(asked: list[str], folder: pathlib.Path, scripts: pathlib.Path, name: str = "pfs") -> list[Answer]:
-    script = shlex.quote(str(scripts / f"{name}.bash"))
-    text = BASH.format(script=script, function=f"_{name.replace('-', '_')}")
+def bash(asked: list[str], folder: pathlib.Path) -> list[Answer]:
+    text = BASH.format(scripts=shlex.quote(str(SCRIPTS)))
     for line in asked:
         words = [word for part in line.split(" ") for word in re.split("(=)", part) if word or word == part]
         text += "offer " + shlex.join(words) + "\n"
     return run_all(["bash", "--norc"], text, folder)
 
 
-def fish(asked: list[str], folder: pathlib.Path, scripts: pathlib.Path, name: str = "pfs") -> list[Answer]:
-    text = FISH.format(script=shlex.quote(str(scripts / f"{name}.fish")))
+def fish(asked: list[str], folder: pathlib.Path) -> list[Answer]:
+    text = FISH.format(scripts=shlex.quote(str(SCRIPTS)))
     return run_all(["fish", "--no-config"], text + "".join(f"offer '{line}'\n" for line in asked), folder)
 
 
-def zsh(asked: list[str], folder: pathlib.Path, scripts: pathlib.Path) -> list[Answer]:
+def zsh(asked: list[str], folder: pathlib.Path) -> list[Answer]:
     """Zsh completes at a terminal only: so it is given one."""
     offered, start = folder.parent / "offered", folder.parent / "start"
     offered.touch()
-    start.write_text(ZSH.format(folder=shlex.quote(str(scripts)), offered=shlex.quote(str(offered))))
+    start.write_text(ZSH.format(scripts=shlex.quote(str(SCRIPTS)), offered=shlex.quote(str(offered))))
     env = dict(os.environ, TERM="dumb", HOME=str(folder.parent))
     with Terminal(["zsh", "-f", "-i"], folder, env=env) as terminal:
         terminal.write(f"source {shlex.quote(str(start))}\n")
@@ -192,13 +229,12 @@ def zsh(asked: list[str], folder: pathlib.Path, scripts: pathlib.Path) -> list[A
     return split_results(offered.read_text())
 
 
-ASK: dict[str, Callable[[list[str], pathlib.Path, pathlib.Path], list[Answer]]] = {
-    "bash": bash, "zsh": zsh, "fish": fish}
+ASK: dict[str, Callable[[list[str], pathlib.Path], list[Answer]]] = {"bash": bash, "zsh": zsh, "fish": fish}
 Answers = Callable[[str, str], Answer]
 
 
 @pytest.fixture(scope="module")
-def answers(top: pathlib.Path, tmp_path_factory: pytest.TempPathFactory) -> Answers:
+def answers(tmp_path_factory: pytest.TempPathFactory) -> Answers:
     """What a shell offers for a line. Each shell is started once, for all lines."""
     found: dict[str, dict[str, Answer]] = {}
 
@@ -206,7 +242,7 @@ def answers(top: pathlib.Path, tmp_path_factory: pytest.TempPathFactory) -> Answ
         if shell not in found:
             tool(shell)
             asked = [line.text for line in ASKED]
-            got = ASK[shell](asked, with_files(tmp_path_factory.mktemp(shell)), top / "share" / "completions")
+            got = ASK[shell](asked, with_files(tmp_path_factory.mktemp(shell)))
             assert len(got) == len(asked), f"answers of {shell}"
             found[shell] = dict(zip(asked, got))
         return found[shell][line]
@@ -220,8 +256,8 @@ def in_shells(*shells: str) -> pytest.MarkDecorator:
 
 # What is offered
 
-def test_the_usage_text_has_commands() -> None:
-    assert len(commands()) > 5
+def test_the_usage_texts_have_commands_and_options() -> None:
+    assert len(commands()) > 5 and len(GANTT) == 6 and sum(map(len, EXPERIMENTS.values())) > 12
 
 
 @pytest.mark.parametrize("line", ASKED, ids=[repr(line.text) for line in ASKED])
@@ -239,10 +275,10 @@ def test_each_layout_that_is_offered_is_taken(layout: str, pfs: Program, folder:
 
 
 @pytest.mark.parametrize("option", sorted({option for options, _ in commands().values() for option in options}))
-def test_fish_knows_which_options_have_a_value(top: pathlib.Path, option: str) -> None:
+def test_fish_knows_which_options_have_a_value(option: str) -> None:
     """By -x, which no other option has: then a word that follows it would be its value."""
     values = {name: value for options, _ in commands().values() for name, value in options.items()}
-    text = (top / "share" / "completions" / "pfs.fish").read_text().replace("\\\n", " ")
+    text = (SCRIPTS / "pfs.fish").read_text().replace("\\\n", " ")
     found = [line.split(" -d ")[0].split() for line in text.splitlines()
              if line.startswith("complete ") and f" -l {option[2:]} " in line]
     assert found and {"-x" in words for words in found} == {bool(values[option])}, f"-x of {option}"

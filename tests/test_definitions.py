@@ -5,7 +5,7 @@ import pathlib
 import re
 
 import pytest
-from support.definitions import WORD, Definition, all_definitions, cited, is_no_law, page, reached
+from support.definitions import WORD, Definition, all_definitions, cited, page, reached
 
 # Words that the whole program's and the search's promise rest on.
 HEADLINE = ["take_for", "words_for", "neh_cells", "rounds_cells", "solution_text", "PrintsSolution", "ReportsFault",
@@ -72,7 +72,7 @@ def got(top: pathlib.Path) -> set[str]:
 def test_each_definition_that_is_cited_is_in_the_page(top: pathlib.Path) -> None:
     crates = top / "crates"
     own = all_definitions(crates)
-    missing = {each for each in cited(crates, is_no_law) if each in own and each.name not in got(top)}
+    missing = {each for each in cited(crates, "laws.rt") if each in own and each.name not in got(top)}
     assert missing == set()
 
 
@@ -132,11 +132,13 @@ ghost use Rattle.low.specs.Sums.{{tripled}};
 
 @pytest.fixture
 def crates(folder: pathlib.Path) -> pathlib.Path:
-    for crate, file, text in (("low", "Sums", LOW), ("high", "Times", HIGH)):
+    """The public function `four` of the crate above cites its definition, and imports one of the crate below."""
+    for crate, file, text, lib in (("low", "Sums", LOW, ""), ("high", "Times", HIGH, "pub mod inner;\n")):
         (folder / crate / "specs").mkdir(parents=True)
         (folder / crate / "specs" / f"{file}.antt").write_text(text)
         (folder / crate / "src").mkdir()
-        (folder / crate / "src" / "lib.rt").write_text("")
+        (folder / crate / "src" / "lib.rt").write_text(lib)
+    (folder / "high" / "src" / "inner.rt").write_text(CODE.format(item="pub fn four(n: u64) -> u64"))
     return folder
 
 
@@ -169,15 +171,11 @@ def test_what_a_folder_has_is_reached(crates: pathlib.Path) -> None:
     (crates / "low" / "specs" / "Sums.antt").rename(crates / "low" / "specs" / "Inner" / "Sums.antt")
     times = crates / "high" / "specs" / "Times.antt"
     times.write_text(times.read_text().replace("specs.Sums", "specs.Inner.Sums"))
-    (crates / "high" / "src" / "lib.rt").write_text("pub mod inner;\n")
-    (crates / "high" / "src" / "inner.rt").write_text(CODE.format(item="pub fn four(n: u64) -> u64"))
     assert reached(crates) == {FOUR, Definition("low", "Inner.Sums", "doubled")}
     assert "| Inner.Sums | `doubled` | twice the number |" in page(crates)
 
 
 def test_the_page_has_the_comments_of_the_definitions(crates: pathlib.Path) -> None:
-    (crates / "high" / "src" / "lib.rt").write_text("pub mod inner;\n")
-    (crates / "high" / "src" / "inner.rt").write_text(CODE.format(item="pub fn four(n: u64) -> u64"))
     assert re.findall(r"^\| (?!File|-).*$|^##.*$", page(crates), re.MULTILINE) \
         == ["## high", r"| Times | `Fourfold` | four of it, by doubled \| and not by thrice |",
             "## low", "| Sums | `doubled` | twice the number |"]

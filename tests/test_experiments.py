@@ -1,6 +1,5 @@
 """The CSV of an experiment has the results of pfs itself: with GNU parallel, here and over ssh, and on a Slurm cluster
 of one node, also if its runs were killed at various moments and repeated, and if two experiments start at once."""
-import ast
 import json
 import os
 import pathlib
@@ -12,7 +11,7 @@ from collections.abc import Callable
 from typing import IO, Any, NamedTuple
 
 import pytest
-from support.experiments import HALF, HEAD, OLD_HEAD, PLAN, Experiment, planned
+from support.experiments import HALF, HEAD, OLD_HEAD, PLAN, REPORT_FILES, Experiment
 from support.library import Library
 from support.needs import missing, tool
 from support.program import Program
@@ -22,20 +21,15 @@ from support.terminals import Terminal
 from support.tools import Done, csv_rows, output_of, run_tool, wait_until, with_path, write_script
 from support.warm import Warm
 
-# A replacement of pfs, whose searches with some of the seeds fail.
-FAILING = """#!/bin/sh
-case "$*" in
-"solve "*"--seed 1 "*) {pfs} "$@" | sed 's/^makespan .*/makespan 1/';;
-"solve "*"--seed 2 "*) kill -9 $$;;
-"solve "*"--seed 3 "*) echo "no memory, perhaps" >&2; exit 4;;
-"solve "*"--seed 4 "*) echo "nothing that could be read";;
-*) exec {pfs} "$@";;
+# A replacement of pfs, which notes its arguments, and in these cases does something else, unless the file `fixed`
+# exists.
+REPLACEMENT = """#!/bin/sh
+pfs={pfs}
+echo "$*" >> {folder}/notes
+test -e {folder}/fixed || case "$*" in
+{cases}
 esac
-"""
-# One that kills the run itself, unless the file `fixed` exists.
-KILLING = """#!/bin/sh
-case "$*" in solve*"--seed 2 "*) test -e {folder}/fixed || kill -9 $PPID;; esac
-exec {pfs} "$@"
+exec $pfs "$@"
 """
 ONE, SIX, EIGHT, TWELVE = (f"out.csv: {count} runs, 0 of them failed, 0 still to run\n" for count in (1, 6, 8, 12))
 
@@ -46,6 +40,22 @@ over_ssh = pytest.mark.xdist_group("ssh")
 @pytest.fixture(scope="module", autouse=True)
 def parallel() -> None:
     tool("parallel")
+
+
+def replacement(experiment: Experiment, cases: str) -> pathlib.Path:
+    text = REPLACEMENT.format(pfs=experiment.pfs.path, folder=experiment.folder, cases=cases)
+    return write_script(experiment.folder / "program", text)
+
+
+def assert_refused(got: Done, *said: str) -> None:
+    """With one line, which has these texts."""
+    assert (got.status, got.stdout, got.stderr.count("\n")) == (2, "", 1), got.stderr[-500:]
+    assert [text for text in said if text not in got.stderr] == [], got.stderr[-500:]
+
+
+def printed_by(top: pathlib.Path, code: str, *words: str | pathlib.Path) -> str:
+    """What Python prints of this code, which imports modules of the experiments."""
+    return output_of(["/usr/bin/python3", "-B", "-c", code, *words], top / "experiments")
 
 
 # Plans
@@ -100,16 +110,13 @@ INVALID = {
 
 @pytest.mark.parametrize(("text", "named"), INVALID.values(), ids=INVALID)
 def test_an_invalid_plan_is_rejected_with_its_fault(text: str, named: str, experiment: Experiment) -> None:
-    got = experiment.plan(text).run()
-    assert (got.status, got.stdout) == (2, "")
-    assert re.fullmatch(f"experiments/run: .*{re.escape(named)}.*\n", got.stderr), got.stderr[-500:]
+    assert_refused(experiment.plan(text).run(), "experiments/run: ", named)
     assert sorted(os.listdir(experiment.folder)) == ["plan.toml", "shops"]
 
 
 def test_a_missing_plan_is_rejected(experiment: Experiment) -> None:
     (experiment.folder / "plan.toml").unlink()
-    got = experiment.run()
-    assert (got.status, got.stdout, got.stderr.count("\n")) == (2, "", 1)
+    assert_refused(experiment.run())
     assert os.listdir(experiment.folder) == ["shops"]
 
 
@@ -123,8 +130,7 @@ PATHS = {"a folder": "shops", "below a file": "plan.toml/out.csv", "a name that 
 
 @pytest.mark.parametrize("path", PATHS.values(), ids=PATHS)
 def test_an_impossible_csv_is_rejected_before_the_first_run(path: str, experiment: Experiment) -> None:
-    got = experiment.run(path, program=experiment.waiting())
-    assert (got.status, got.stdout, got.stderr.count("\n")) == (2, "", 1), got.stderr
+    assert_refused(experiment.run(path, program=experiment.waiting()))
     assert experiment.started() == [] and sorted(os.listdir(experiment.folder)) == ["plan.toml", "shops", "waiting"]
 
 
@@ -132,14 +138,12 @@ def test_a_python_that_is_too_old_is_reported(experiment: Experiment) -> None:
     """One that has neither tomllib nor tomli."""
     for name in ("tomllib", "tomli"):
         (experiment.folder / f"{name}.py").write_text("raise ImportError\n")
-    got = experiment.run(env=dict(os.environ, PYTHONPATH=str(experiment.folder)))
-    assert (got.status, got.stdout, got.stderr.count("\n"), "3.11" in got.stderr) == (2, "", 1, True), got.stderr
+    assert_refused(experiment.run(env=dict(os.environ, PYTHONPATH=str(experiment.folder))), "3.11")
 
 
 @pytest.mark.parametrize("many", ["0", "-1", "x", "1.5"])
 def test_an_invalid_number_of_tasks_is_rejected(many: str, experiment: Experiment) -> None:
-    got = experiment.script("slurm", f"--tasks={many}", "plan.toml", "out.csv")
-    assert (got.status, got.stdout, got.stderr.count("\n")) == (2, "", 1), got.stderr
+    assert_refused(experiment.script("slurm", f"--tasks={many}", "plan.toml", "out.csv"))
 
 
 # Sizes in KiB, at which there is no more room for the scripts, an instance, the plan, the CSV, or some of the orders.
@@ -155,7 +159,7 @@ def test_a_full_disk_is_reported(kib: int, experiment: Experiment) -> None:
     small = experiment.folder / "small"
     small.mkdir()
     run = " ".join(map(str, experiment.words("run", "plan.toml", "small/out.csv", "--jobs", "1",
-                                            program=small_program(experiment))))
+                                            program=replacement(experiment, ""))))
     script = (f"mount -t tmpfs -o size={kib}k none small && {run} 2> report; echo $? > status; "
               "find small -name '*.new' > halves; "
               f"mount -o remount,size=9m small && {run} 2> again; echo $? > status2; cp small/out.csv all.csv")
@@ -170,10 +174,6 @@ def test_a_full_disk_is_reported(kib: int, experiment: Experiment) -> None:
     assert ((experiment.folder / "status2").read_text(), (experiment.folder / "again").read_text()) \
         == ("0\n", "small/out.csv: 6 runs, 0 of them failed, 0 still to run\n")
     assert experiment.rows("all.csv") == experiment.wanted(rounds=(10,))
-
-
-def small_program(experiment: Experiment) -> pathlib.Path:
-    return write_script(experiment.folder / "program", f"#!/bin/sh\nexec {experiment.pfs.path} \"$@\"\n")
 
 
 # Programs and files that are damaged
@@ -199,7 +199,7 @@ def test_a_program_that_hangs_is_not_pfs(top: pathlib.Path, folder: pathlib.Path
     program = write_script(folder / "hangs", "#!/bin/sh\nexec sleep 60\n")
     code = ("import commands, sys, time; commands.PATIENCE = 0.1; begun = time.monotonic(); "
             "print(commands.prints(sys.argv[1], b'1'), time.monotonic() - begun < 30)")
-    assert output_of(["/usr/bin/python3", "-B", "-c", code, program], top / "experiments") == "False True\n"
+    assert printed_by(top, code, program) == "False True\n"
 
 
 DAMAGED = {
@@ -228,36 +228,29 @@ def test_a_sequence_of_other_runs_is_reported_on_one_line(made: Experiment) -> N
     begun = json.loads((made.runs / "plan.json").read_text())
     for sequence in ([1, 2], [1] * 12, list(range(12)), ["x"] * 12, 5):
         (made.runs / "plan.json").write_text(json.dumps({**begun, "sequence": sequence}))
-        got = made.run()
-        assert (got.status, got.stdout, got.stderr.count("\n"), "plan.json is damaged" in got.stderr) \
-            == (2, "", 1, True), f"{sequence}: {got.stderr[-500:]}"
+        assert_refused(made.run(), "plan.json is damaged")
 
 
 def test_a_folder_without_its_program_is_reported_on_one_line(made: Experiment) -> None:
     stage, = made.runs.glob("pfs-experiment-*")
     stage.rename(made.folder / "elsewhere")
-    got = made.run()
-    assert (got.status, got.stdout, got.stderr.count("\n"), "no copy of the program" in got.stderr) \
-        == (2, "", 1, True), got.stderr[-500:]
+    assert_refused(made.run(), "no copy of the program")
 
 
 RESULTS = {
     "not UTF-8": b"\xff\n", "a quote": b'1,"\n', "a zero byte": b"1,\0\n", "no numbers": b"o\n1,x,y,z,t,ok\n",
     "a number of 5,000 digits": b"o\n1,%s,1,1,1.000000,ok\n" % (b"9" * 5000), "no order": b"1,1,1,1,1.000000,ok\n",
 }
+LOGS = {"not UTF-8": b"\xff\n" * 3, "empty": b"", "short lines": b"1\t2\n" * 20,
+        "words for numbers": b"1\t" * 20 + b"\n"}
 
 
-@pytest.mark.parametrize("data", RESULTS.values(), ids=RESULTS)
-def test_a_run_whose_result_is_damaged_is_repeated(data: bytes, half_made: Experiment) -> None:
-    (half_made.runs / "results" / "1").write_bytes(data)
-    assert half_made.run() == Done(0, "", SIX)
-    assert half_made.rows() == half_made.wanted(rounds=(10,))
-
-
-@pytest.mark.parametrize("data", [b"\xff\n" * 3, b"", b"1\t2\n" * 20, b"1\t" * 20 + b"\n"],
-                         ids=["not UTF-8", "empty", "short lines", "words for numbers"])
-def test_after_damage_to_the_log_the_csv_is_the_same(data: bytes, half_made: Experiment) -> None:
-    (half_made.runs / "joblog").write_bytes(data)
+@pytest.mark.parametrize(("name", "data"), [
+    *(pytest.param("results/1", data, id=f"a result: {what}") for what, data in RESULTS.items()),
+    *(pytest.param("joblog", data, id=f"the log: {what}") for what, data in LOGS.items())])
+def test_after_damage_the_csv_is_the_same(name: str, data: bytes, half_made: Experiment) -> None:
+    """The run whose result is damaged is repeated."""
+    (half_made.runs / name).write_bytes(data)
     assert half_made.run() == Done(0, "", SIX)
     assert half_made.rows() == half_made.wanted(rounds=(10,))
 
@@ -270,8 +263,7 @@ def test_names_that_are_not_utf8_are_reported_on_one_line(experiment: Experiment
     assert got == Done(2, "", "experiments/run: plan.toml: the name b'shops/\\xff' is not UTF-8\n")
     (experiment.folder / name).rename(experiment.folder / os.fsdecode(b"plan\xff"))
     for words in (["plan\udcff", "out.csv"], ["plan.toml", "\udcff.csv"]):
-        got = run_tool(experiment.words("run", *words), experiment.folder)
-        assert (got.status, got.stdout, got.stderr.count("\n")) == (2, "", 1), got.stderr[-500:]
+        assert_refused(experiment.script("run", *words))
 
 
 # Files that are replaced as a whole
@@ -303,8 +295,7 @@ def test_no_link_is_followed(experiment: Experiment) -> None:
     for name in ("lock", "plan.json.new", "runs.tsv.new"):
         (experiment.runs / name).symlink_to(experiment.folder / "victim")
     (experiment.folder / "out.csv.new").symlink_to(experiment.folder / "victim")
-    got = experiment.run()
-    assert (got.status, got.stderr.count("\n")) == (2, 1), got.stderr[-500:]
+    assert_refused(experiment.run())
     (experiment.runs / "lock").unlink()
     assert experiment.run() == Done(0, "", TWELVE)
     assert (experiment.folder / "victim").read_text() == "kept\n"
@@ -332,8 +323,7 @@ def test_a_second_start_makes_nothing_again(half_made: Experiment) -> None:
     assert (half_made.folder / "out.csv").read_text() == first
     for other in (PLAN.replace("[10, 30]", "[30]"), PLAN.replace("1, 2, 3", "1, 2"), PLAN.replace("*", "a"),
                   PLAN + "layout = \"orlib\"\n"):
-        got = half_made.plan(other).run()
-        assert (got.status, got.stderr.count("\n"), "another plan" in got.stderr) == (2, 1, True), other
+        assert_refused(half_made.plan(other).run(), "another plan")
         assert (half_made.folder / "out.csv").read_text() == first
 
 
@@ -344,9 +334,8 @@ def test_readme_names_the_keys_of_a_plan_and_their_defaults(top: pathlib.Path) -
              if line.startswith("| `")]
     got = {key: cell for names, _, cell in cells for key, cell in
             zip(re.findall("`(\\w+)`", names), [each.strip() for each in cell.split(",")] * 9)}
-    shown = output_of(["/usr/bin/python3", "-c", "import plan; print(sorted(plan.KEYS), plan.NUMBERS)"],
-                       top / "experiments", env=dict(os.environ, PYTHONDONTWRITEBYTECODE="1"))
-    keys, numbers = (ast.literal_eval(part) for part in re.split(r"(?<=\]) (?=\{)", shown.strip()))
+    code = "import json, plan; print(json.dumps([sorted(plan.KEYS), plan.NUMBERS]))"
+    keys, numbers = json.loads(printed_by(top, code))
     assert sorted(got) == keys, "the keys in experiments/README.md"
     for key, usual in numbers.items():
         wanted = f"`{usual}`" if usual is not None else "that of `pfs solve`"
@@ -579,7 +568,7 @@ for other in (seed + 11400714819323198485, seed + 1, seed):
 
 def test_no_round_begins_after_the_time(top: pathlib.Path) -> None:
     code = "import time, timed; print([*timed.counts(time.process_time() - 1, 0.5)])"
-    assert output_of(["/usr/bin/python3", "-B", "-c", code], top / "experiments") == "[]\n"
+    assert printed_by(top, code) == "[]\n"
 
 
 def test_an_instance_that_pfs_rejects_fails_by_time_too(experiment: Experiment, with_library: dict[str, str]) -> None:
@@ -603,45 +592,28 @@ def test_an_invalid_library_is_reported(path: str, experiment: Experiment) -> No
 
 # Other programs
 
-# It prints the jobs in the order of their numbers, uses the time that its seed stands for, and notes its arguments.
-MINE = """#!/usr/bin/env python3
-import os, signal, sys, time
-path, seed, seconds = sys.argv[1:]
-with open(path) as file:
-    jobs = int(file.readlines()[1].split()[0])
-line = " ".join(map(str, range(1, jobs + 1)))
-if seed == "1":
-    print(line)
-elif seed == "2":
-    print("order", jobs)
-    print(line)
-    print("makespan 1448" if jobs == 20 else "makespan 1")
-elif seed == "3":
-    os.kill(os.getpid(), signal.SIGSEGV)
-elif seed == "4":
-    print("Traceback: something", file=sys.stderr)
-    sys.exit(3)
-elif seed == "5":
-    print("the best order is 3 2 1")
-elif seed == "6":
-    pass
-elif seed == "7":
-    print("1 1 1")
-elif seed == "8":
-    os.fork()
-    while True:
-        pass
-elif seed == "9":
-    while True:
-        print(line)
-elif seed == "10":
-    print(line.replace(" ", ", ") + ",")
+# It prints the jobs in the order of their numbers, or does what its seed stands for.
+MINE = r"""#!/bin/sh
+jobs=$(sed -n '2s/ .*//p' "$1")
+line=$(seq -s ' ' "$jobs")
+case $2 in
+1) echo "$line" ;;
+2) test "$jobs" = 20 && makespan=1448 || makespan=1
+   printf 'order %s\n%s\nmakespan %s\n' "$jobs" "$line" "$makespan" ;;
+3) kill -SEGV $$ ;;
+4) echo 'Traceback: something' >&2; exit 3 ;;
+5) echo 'the best order is 3 2 1' ;;
+7) echo '1 1 1' ;;
+8) while :; do :; done & while :; do :; done ;;
+9) yes "$line" ;;
+10) echo "$line" | sed 's/ /, /g; s/$/,/' ;;
+esac
 """
 OTHER = """instances = ["shops/a"]
 time_factors = [10]
 seeds = [1, 2, 3, 4, 5, 6, 7, 8, 9, 10]
 method = "mine"
-command = "./mine.py {instance} {seed} {seconds}"
+command = "./mine {instance} {seed} {seconds}"
 """
 STATUSES = [
     "ok", "ok", "mine: signal 11", "mine: exit 3, Traceback: something",
@@ -653,7 +625,7 @@ STATUSES = [
 
 
 def with_other(experiment: Experiment, plan: str = OTHER) -> Experiment:
-    write_script(experiment.folder / "mine.py", MINE)
+    write_script(experiment.folder / "mine", MINE)
     experiment.plan(plan)
     return experiment
 
@@ -687,8 +659,8 @@ def test_orders_of_another_program_are_audited(experiment: Experiment) -> None:
     assert [row[:2] for row in before] == [("1", "ok"), ("2", "check: exit 1, wrong makespan")]
     assert experiment.run().status == 1
     assert experiment.columns("seed", "status", "seconds") == before
-    got = experiment.plan((experiment.folder / "plan.toml").read_text().replace("{seed}", "1")).run()
-    assert (got.status, got.stderr.count("\n"), "another command" in got.stderr) == (2, 1, True), got.stderr
+    assert_refused(experiment.plan((experiment.folder / "plan.toml").read_text().replace("{seed}", "1")).run(),
+                   "another command")
 
 
 @over_ssh
@@ -712,13 +684,23 @@ def test_the_report_compares_another_program_with_pfs(made: Experiment, warm: Wa
     assert {row for row in rows if row[0] != row[1]} == {("mine", "pfs", "1")}
 
 
+# What comes of each command line in a folder, where it has this many seconds.
+RUNS = """import others, sys
+others.PATIENCE = 0.5
+{change}
+folder, seconds, *lines = sys.argv[1:]
+for line in lines:
+    try:
+        print(others.run_command(["sh", "-c", line], folder, float(seconds))[0].strip())
+    except others.Failed as failure:
+        print(failure)
+"""
+
+
 def test_a_program_that_waits_is_ended(top: pathlib.Path, folder: pathlib.Path) -> None:
     """It uses no processor time. With it end the processes that it has started."""
-    write_script(folder / "waits", "#!/bin/sh\nsleep 1000 & echo $! > child\nsleep 1000\n")
-    (folder / "try.py").write_text(f"import sys\nsys.path.insert(0, {str(top / 'experiments')!r})\nimport others\n"
-                                   "others.PATIENCE = 0.5\ntry:\n    others.run_command(['./waits'], '.', 0.01)\n"
-                                   "except others.Failed as failure:\n    print(failure)\n")
-    got = output_of(["/usr/bin/python3", "-B", "try.py"], folder)
+    line = "sleep 1000 & echo $! > child; sleep 1000"
+    got = printed_by(top, RUNS.format(change=""), folder, "0.01", line)
     assert re.fullmatch(r"still running after \d s, instead of 0.01 s of processor time\n", got), got
     child = (folder / "child").read_text().strip()
     wait_until(lambda: not pathlib.Path(f"/proc/{child}").exists() or "Z" in pathlib.Path(
@@ -728,48 +710,34 @@ def test_a_program_that_waits_is_ended(top: pathlib.Path, folder: pathlib.Path) 
 def test_a_program_that_closes_its_streams_is_ended(top: pathlib.Path, folder: pathlib.Path) -> None:
     """And so are one that has ended, but has left a process with open streams, and one whose short processes have taken
     too long together. One that waits for a second isn't."""
-    (folder / "try.py").write_text(f"""
-import sys
-sys.path.insert(0, {str(top / "experiments")!r})
-import others
-others.PATIENCE = 0.5
-for words in ("exec >&- 2>&-; sleep 1000", "sleep 1000 & echo 1", "sleep 1; echo 2",
-              "for each in $(seq 60); do (for at in $(seq 10000); do :; done); done; sleep 1000"):
-    try:
-        print(others.run_command(["sh", "-c", words], ".", 0.1)[0].strip())
-    except others.Failed as failure:
-        print(failure)
-""")
-    got = output_of(["/usr/bin/python3", "-B", "try.py"], folder)
+    got = printed_by(top, RUNS.format(change=""), folder, "0.1", "exec >&- 2>&-; sleep 1000", "sleep 1000 & echo 1",
+                     "sleep 1; echo 2",
+                     "for each in $(seq 600); do (for at in $(seq 10000); do :; done); done; sleep 1000")
     assert re.fullmatch(r"still running after \d s, instead of 0.1 s of processor time\n1\n2\n"
                         r"took too long: \d+\.\d\d s of processor time instead of 0.1 s\n", got), got
 
 
 def test_time_is_measured_at_the_end_too(top: pathlib.Path, folder: pathlib.Path) -> None:
     """Of a program that ends before the time is looked at, with the processes that it has waited for."""
-    (folder / "try.py").write_text(f"import sys\nsys.path.insert(0, {str(top / 'experiments')!r})\nimport others\n"
-                                   "others.check_time = lambda *_: None\nwork = 'i=0; while [ $i -lt 100000 ]; do "
-                                   "i=$((i+1)); done'\nfor words in (work, f'({work})'):\n    try:\n"
-                                   "        others.run_command(['sh', '-c', f'{words}; echo 1'], '.', 0.001)\n"
-                                   "    except others.Failed as failure:\n        print(failure)\n")
-    got = output_of(["/usr/bin/python3", "-B", "try.py"], folder)
+    work = "i=0; while [ $i -lt 100000 ]; do i=$((i+1)); done"
+    got = printed_by(top, RUNS.format(change="others.check_time = lambda *_: None"), folder, "0.001",
+                     f"{work}; echo 1", f"({work}); echo 1")
     failed = re.fullmatch(r"(took too long: \d+\.\d\d s of processor time instead of 0.001 s\n){2}", got)
     assert failed, f"two programs that took too long: {got!r}"
 
 
 # Runs that fail
 
-@pytest.fixture(scope="module")
-def failing(top: pathlib.Path, pfs: Program, tmp_path_factory: pytest.TempPathFactory) -> tuple[Experiment, Done]:
-    """A plan whose runs fail but for those of one seed, and what its first start tells."""
-    experiment = planned(top, pfs, tmp_path_factory.mktemp("failing"), PLAN.replace("[1, 2, 3]", "[0, 1, 2, 3, 4]"))
-    program = write_script(experiment.folder / "failing", FAILING.format(pfs=pfs.path))
-    return experiment, experiment.run(program=program)
+FAILING = """"solve "*"--seed 1 "*) $pfs "$@" | sed 's/^makespan .*/makespan 1/'; exit;;
+"solve "*"--seed 2 "*) kill -9 $$;;
+"solve "*"--seed 3 "*) echo "no memory, perhaps" >&2; exit 4;;
+"solve "*"--seed 4 "*) echo "nothing that could be read"; exit;;"""
 
 
-@pytest.mark.xdist_group("failing")
-def test_the_csv_has_a_failed_run_with_its_status(failing: tuple[Experiment, Done]) -> None:
-    experiment, got = failing
+def test_the_csv_has_a_failed_run_with_its_status(experiment: Experiment, warm: Warm) -> None:
+    """It isn't made again, and the report counts it."""
+    program = replacement(experiment, FAILING)
+    got = experiment.plan(PLAN.replace("[1, 2, 3]", "[0, 1, 2, 3, 4]")).run(program=program)
     statuses = ["ok", "check: exit 1, wrong makespan", "solve: signal 9", "solve: exit 4, no memory, perhaps",
                 "solve: no cells printed"]
     *lines, last = got.stderr.splitlines()
@@ -780,27 +748,15 @@ def test_the_csv_has_a_failed_run_with_its_status(failing: tuple[Experiment, Don
     assert [row.status for row in rows] == statuses * 4
     assert [row for row in rows if row.status == "ok"] == experiment.wanted(seeds=(0,))
     assert {row[8:12] for row in rows if row.status != "ok"} == {("",) * 4}, "results of runs that failed"
-
-
-@pytest.mark.xdist_group("failing")
-def test_a_run_that_fails_is_not_made_again(failing: tuple[Experiment, Done]) -> None:
-    experiment, _ = failing
     before = (experiment.folder / "out.csv").read_text()
-    assert experiment.run(program=experiment.folder / "failing").status == 1
+    assert experiment.run(program=program).status == 1
     assert (experiment.folder / "out.csv").read_text() == before
-
-
-@pytest.mark.xdist_group("failing")
-def test_the_report_counts_runs_that_failed(failing: tuple[Experiment, Done], warm: Warm) -> None:
-    experiment, _ = failing
     warm.run_tool([experiment.top / "experiments" / "report", "out.csv", "report"], experiment.folder)
     assert experiment.columns("runs", "failed", csv_name="report/table.csv") == [("1", "4")] * 4
 
 
 def test_a_killed_run_is_reported_and_made_by_the_next_start(experiment: Experiment) -> None:
-    program = write_script(experiment.folder / "killing",
-                           KILLING.format(folder=experiment.folder, pfs=experiment.pfs.path))
-    got = experiment.plan(HALF).run(program=program)
+    got = experiment.plan(HALF).run(program=replacement(experiment, 'solve*"--seed 2 "*) kill -9 $PPID;;'))
     assert got == Done(1, "", "shops/a (rounds 10, take 4, passes 0, seed 2) and 1 more failed: "
                                "lost: exit 137, signal 0\n"
                                "out.csv: 6 runs, 2 of them failed, 0 still to run\n")
@@ -812,30 +768,18 @@ def test_a_killed_run_is_reported_and_made_by_the_next_start(experiment: Experim
 
 def test_ten_kinds_of_errors_are_reported(experiment: Experiment) -> None:
     """Of twelve, which differ in a word, that stands for the seed."""
-    program = write_script(experiment.folder / "program", f"""#!/bin/sh
-case $1 in solve) echo "fault $(echo "$*" | sed 's/.*--seed \\([0-9]*\\).*/\\1/' | tr 0-9 a-j)" >&2; exit 2;; esac
-exec {experiment.pfs.path} "$@"
-""")
+    program = replacement(experiment, """"solve "*)
+    echo "fault $(echo "$*" | sed 's/.*--seed \\([0-9]*\\).*/\\1/' | tr 0-9 a-j)" >&2; exit 2;;""")
     got = experiment.plan(ONLY_B + f"rounds = [1]\nseeds = {[*range(12)]}\n").run(program=program)
     *lines, more, _ = got.stderr.splitlines()
     assert (len(lines), more) == (10, "2 more kinds of errors") and lines[9].endswith("exit 2, fault j")
 
 
-MEMORY = """#!/bin/sh
-test -e {folder}/fixed && exec {pfs} "$@"
-case "$*" in
-"solve "*"--seed 1 "*) kill -9 $$;;
-"solve "*"--seed 2 "*) echo "pfs: no memory" >&2; exit 4;;
-"check "*) kill -15 $$;;
-esac
-exec {pfs} "$@"
-"""
-
-
 def test_a_run_whose_program_was_killed_is_made_by_the_next_start(experiment: Experiment) -> None:
     """By a signal, or because memory ran out, in the search or in the audit."""
-    program = write_script(experiment.folder / "program",
-                           MEMORY.format(folder=experiment.folder, pfs=experiment.pfs.path))
+    program = replacement(experiment, """"solve "*"--seed 1 "*) kill -9 $$;;
+"solve "*"--seed 2 "*) echo "pfs: no memory" >&2; exit 4;;
+"check "*) kill -15 $$;;""")
     assert experiment.plan(HALF).run(program=program).status == 1
     assert [row.status for row in experiment.rows()] \
         == ["solve: signal 9", "solve: exit 4, pfs: no memory", "check: signal 15"] * 2
@@ -845,12 +789,7 @@ def test_a_run_whose_program_was_killed_is_made_by_the_next_start(experiment: Ex
 
 
 def test_failed_runs_are_repeated_on_request(experiment: Experiment) -> None:
-    program = write_script(experiment.folder / "program", f"""#!/bin/sh
-echo "$*" >> {experiment.folder}/notes
-test -e {experiment.folder}/fixed && exec {experiment.pfs.path} "$@"
-case "$*" in "solve "*"--seed 1 "*) echo "some fault" >&2; exit 2;; esac
-exec {experiment.pfs.path} "$@"
-""")
+    program = replacement(experiment, '"solve "*"--seed 1 "*) echo "some fault" >&2; exit 2;;')
     assert experiment.plan(HALF).run(program=program).status == 1
     (experiment.folder / "fixed").touch()
     (experiment.folder / "notes").unlink()
@@ -900,13 +839,12 @@ def start(experiment: Experiment, *words: str, name: str = "run", env: dict[str,
           stderr: int | IO[bytes] = subprocess.DEVNULL) -> Started:
     """Starts the plan with the program that waits. A script before GNU parallel notes its process."""
     noted = experiment.folder / "parallel"
-    bin_folder = experiment.folder / "bin"
-    if not bin_folder.exists():
-        bin_folder.mkdir()
-        write_script(bin_folder / "parallel", f"#!/bin/sh\necho $$ > {noted}\nexec {tool('parallel')} \"$@\"\n")
+    first = write_script(experiment.folder / "bin" / "parallel",
+                         f"#!/bin/sh\necho $$ > {noted}\nexec {tool('parallel')} \"$@\"\n")
     line = experiment.words(name, *words, program=experiment.waiting())
-    process = subprocess.Popen(line, cwd=experiment.folder, env=env or with_path(bin_folder), stdin=subprocess.DEVNULL,
-                               stdout=subprocess.DEVNULL, stderr=stderr, start_new_session=True)
+    process = subprocess.Popen(line, cwd=experiment.folder, env=env or with_path(first.parent),
+                               stdin=subprocess.DEVNULL, stdout=subprocess.DEVNULL, stderr=stderr,
+                               start_new_session=True)
     return Started(process, noted)
 
 
@@ -1000,35 +938,19 @@ def test_on_a_terminal_the_share_that_is_done_is_shown(experiment: Experiment) -
         assert b"citation" not in terminal.seen.lower()
 
 
-@pytest.fixture(scope="module")
-def made_over_ssh(ssh_server: Server, top: pathlib.Path, pfs: Program,
-                  tmp_path_factory: pytest.TempPathFactory) -> tuple[Experiment, Done]:
-    experiment = planned(top, pfs, tmp_path_factory.mktemp("over_ssh"))
+@over_ssh
+def test_over_ssh_the_csv_is_the_same(ssh_server: Server, experiment: Experiment) -> None:
+    """All runs are made on the other machine, and nothing is left there."""
     (experiment.folder / "machines").write_text(ssh_server.line)
-    return experiment, experiment.run("out.csv", "--sshloginfile", "machines")
-
-
-@over_ssh
-def test_over_ssh_the_csv_is_the_same(made_over_ssh: tuple[Experiment, Done]) -> None:
-    experiment, got = made_over_ssh
-    assert got == Done(0, "", TWELVE)
+    assert experiment.run("out.csv", "--sshloginfile", "machines") == Done(0, "", TWELVE)
     assert experiment.rows() == experiment.wanted()
-
-
-@over_ssh
-def test_over_ssh_all_runs_are_made_on_the_other_machine(made_over_ssh: tuple[Experiment, Done]) -> None:
-    lines = (made_over_ssh[0].runs / "joblog").read_text().splitlines()[1:]
+    lines = (experiment.runs / "joblog").read_text().splitlines()[1:]
     assert {line.split("\t")[1].split()[-1] for line in lines} == {"127.0.0.1"}
-
-
-@over_ssh
-def test_over_ssh_nothing_is_left_there(made_over_ssh: tuple[Experiment, Done], ssh_server: Server) -> None:
     assert [path.name for path in ssh_server.home.iterdir() if path.name != ".parallel"] == []
 
 
 def test_the_copies_on_other_machines_stay_while_runs_are_left(experiment: Experiment) -> None:
     """With a replacement of GNU parallel that makes no run."""
-    (experiment.folder / "bin").mkdir()
     write_script(experiment.folder / "bin" / "parallel", f"#!/bin/sh\necho \"$*\" >> {experiment.folder}/calls\n")
     got = experiment.run("out.csv", "--sshloginfile", "machines", env=with_path(experiment.folder / "bin"))
     assert got == Done(1, "", "out.csv: 0 runs, 0 of them failed, 12 still to run\n")
@@ -1044,15 +966,6 @@ def number_of(got: str) -> str:
     return str(numbers[0])
 
 
-@pytest.fixture(scope="module")
-def made_on_slurm(slurm: Cluster, top: pathlib.Path, pfs: Program,
-                  tmp_path_factory: pytest.TempPathFactory) -> tuple[Experiment, Done, dict[str, int]]:
-    """An experiment, what it printed, and how often each run's search was started. A test makes two runs again."""
-    experiment = planned(top, pfs, tmp_path_factory.mktemp("on_slurm"))
-    done = submit(experiment, slurm)
-    return experiment, done, experiment.searches()
-
-
 def submit(experiment: Experiment, slurm: Cluster) -> Done:
     """The program that notes its searches has no gate to wait at here."""
     return experiment.script("slurm", "--tasks", "4", "plan.toml", "out.csv", "--time=5", env=slurm.env,
@@ -1060,36 +973,22 @@ def submit(experiment: Experiment, slurm: Cluster) -> Done:
 
 
 @on_slurm
-def test_on_slurm_the_csv_is_the_same(made_on_slurm: tuple[Experiment, Done, dict[str, int]]) -> None:
-    experiment, got, _ = made_on_slurm
+def test_on_slurm_the_csv_is_the_same(experiment: Experiment, slurm: Cluster) -> None:
+    """The runs are one array of the requested number of tasks, and each is made by one task. Runs whose results are
+    gone are made again, and no others."""
+    got = submit(experiment, slurm)
     assert (got.status, got.stderr.splitlines()[-1]) == (0, TWELVE.removesuffix("\n"))
     assert experiment.rows() == experiment.wanted()
-
-
-@on_slurm
-def test_on_slurm_each_run_is_made_by_one_task(made_on_slurm: tuple[Experiment, Done, dict[str, int]]) -> None:
-    assert set(made_on_slurm[2].values()) == {1}, "how often each run was made"
-
-
-@on_slurm
-def test_on_slurm_the_runs_are_one_array_of_that_many_tasks(made_on_slurm: tuple[Experiment, Done, dict[str, int]],
-                                                          slurm: Cluster) -> None:
-    number = number_of(made_on_slurm[1].stderr)
+    assert set(experiment.searches().values()) == {1}, "how often each run was made"
+    number = number_of(got.stderr)
     assert slurm.tells("scontrol", "-o", "show", "job", number).count(f"ArrayJobId={number} ") == 4
-
-
-@on_slurm
-def test_on_slurm_runs_whose_results_are_gone_are_made_again_and_no_others(
-        made_on_slurm: tuple[Experiment, Done, dict[str, int]], slurm: Cluster) -> None:
-    experiment, *_ = made_on_slurm
     results = experiment.runs / "results"
     before = {path.name: path.stat().st_mtime_ns for path in results.iterdir()}
-    wanted = experiment.rows()
     (results / "5").unlink()
     (results / "12").write_text("12,1")
     got = submit(experiment, slurm)
     assert got.status == 0 and number_of(got.stderr)
-    assert experiment.rows() == wanted
+    assert experiment.rows() == experiment.wanted()
     after = {path.name: path.stat().st_mtime_ns for path in results.iterdir()}
     assert {name for name in after if after[name] != before.get(name)} == {"5", "12"}
     assert submit(experiment, slurm) == Done(0, "", TWELVE), "a start where nothing is left to do"
@@ -1131,27 +1030,19 @@ def waiting_for(experiment: Experiment, slurm: Cluster) -> str:
     return reason()
 
 
-def cancel(slurm: Cluster, number: str) -> None:
-    slurm.tells("scancel", "--full", number)
-
-
-def run_out_of_time(slurm: Cluster, number: str) -> None:
-    """Slurm looks for such tasks twice a minute."""
-    slurm.tells("scontrol", "update", f"JobId={number}", "EndTime=now")
-
-
 @on_slurm
-@pytest.mark.parametrize("end, why", [(cancel, ""), (run_out_of_time, "DUE TO TIME LIMIT ")],
+@pytest.mark.parametrize(("end", "why"), [("scancel --full {}", ""),
+                                          ("scontrol update JobId={} EndTime=now", "DUE TO TIME LIMIT ")],
                          ids=["cancelled", "out of time"])
-def test_what_slurm_says_of_a_task_that_it_ended_is_in_the_csv(
-        experiment: Experiment, slurm: Cluster, end: Callable[[Cluster, str], None], why: str) -> None:
-    """And the next start makes its runs."""
+def test_what_slurm_says_of_a_task_that_it_ended_is_in_the_csv(experiment: Experiment, slurm: Cluster, end: str,
+                                                               why: str) -> None:
+    """And the next start makes its runs. Slurm looks for tasks that are out of time twice a minute."""
     experiment.plan(HALF)
     words = ["--tasks", "2", "plan.toml", "out.csv", "--time=5"]
     with experiment.gate(), open(experiment.folder / "report", "wb") as got:
         begun = start(experiment, *words, name="slurm", env=slurm.env, stderr=got)
         wait_until(lambda: len(experiment.started()) == 2, "two tasks make a run each")
-        end(slurm, number_of((experiment.folder / "report").read_text()))
+        slurm.tells(*end.format(number_of((experiment.folder / "report").read_text())).split())
         assert begun.process.wait(100) == 1
     lost = experiment.rows()
     assert [row.seed for row in lost] == ["1", "2"], "the runs that were begun"
@@ -1173,7 +1064,6 @@ rm results/7
 
 def test_a_task_that_ran_out_of_time_is_reported_by_its_last_run(experiment: Experiment) -> None:
     """The first of six tasks makes the runs 1 and 7, and ends in the second one."""
-    (experiment.folder / "bin").mkdir()
     write_script(experiment.folder / "bin" / "sbatch", OUT_OF_TIME)
     got = experiment.script("slurm", "--tasks", "6", "plan.toml", "out.csv", env=with_path(experiment.folder / "bin"))
     assert got.status == 1 and got.stderr.endswith("out.csv: 2 runs, 1 of them failed, 10 still to run\n")
@@ -1190,7 +1080,7 @@ def test_the_last_array_says_how_a_run_ended(top: pathlib.Path, folder: pathlib.
         (folder / "slurm" / name).write_bytes(b"\xff\nrun 1\nslurmstepd: error: %s\n" % name.encode())
         os.utime(folder / "slurm" / name, (age, age))
     code = "import pathlib, sys, results; print(results.endings(pathlib.Path(sys.argv[1])))"
-    assert output_of(["/usr/bin/python3", "-B", "-c", code, folder], top / "experiments") == "{'1': 'lost: 10-1.log'}\n"
+    assert printed_by(top, code, folder) == "{'1': 'lost: 10-1.log'}\n"
 
 
 @on_slurm
@@ -1212,7 +1102,6 @@ def asked(experiment: Experiment) -> Callable[..., list[str]]:
     def ask(plan: str, *words: str) -> list[str]:
         experiment.plan(plan)
         noted = experiment.folder / "words"
-        (experiment.folder / "bin").mkdir()
         write_script(experiment.folder / "bin" / "sbatch", f"#!/bin/sh\nprintf '%s\\n' \"$@\" > {noted}\n")
         experiment.script("slurm", *words, "plan.toml", "out.csv", env=with_path(experiment.folder / "bin"))
         return noted.read_text().splitlines()
@@ -1241,7 +1130,6 @@ def test_slurm_is_asked_for_an_array_of(plan: str, words: list[str], array: str,
 
 def test_a_dry_run_prints_the_line_of_slurm(experiment: Experiment) -> None:
     """And submits nothing. The line makes the runs."""
-    (experiment.folder / "bin").mkdir()
     write_script(experiment.folder / "bin" / "sbatch", "#!/bin/sh\necho \"$@\" > submitted\n")
     env = with_path(experiment.folder / "bin")
     got = experiment.script("slurm", "--dry-run", "plan.toml", "out.csv", "--time=5", env=env)
@@ -1291,8 +1179,8 @@ def test_the_manual_page_has_the_exit_statuses(page: str, experiment: Experiment
     assert "failed" in got[str(failed.status)], "the status of a plan with runs that fail"
     assert "wrong" in " ".join(got[str(wrong.status)].split()), "the status of an audit that finds a wrong order"
     for each in rejected:
-        assert "rejected" in got[str(each.status)], f"the status of what is rejected: {each}"
-        assert each.stderr.count("\n") == 1, each.stderr
+        assert_refused(each)
+    assert "rejected" in got["2"], "the status of what is rejected"
 
 
 def shortened(plan: str) -> str:
@@ -1308,9 +1196,8 @@ def test_the_examples_of_the_manual_page_lead_to_a_report(page: str, top: pathli
     assert len(lines) == 4 and lines[0].split()[0] == "cp", lines
     name = pathlib.Path(lines[0].split()[1]).name
     (folder / name).write_text(shortened((top / "experiments" / name).read_text()))
-    (folder / "bin").mkdir()
-    shutil.copy(pfs.path, folder / "bin" / "pfs")
     write_script(folder / "bin" / "pfs-experiments", f"#!/bin/sh\nexec {top}/tools/pfs-experiments \"$@\"\n")
+    shutil.copy(pfs.path, folder / "bin" / "pfs")
     for line in lines[1:]:
         got = run_tool(["sh", "-c", line], folder, env=with_path(folder / "bin"))
         assert got.status == 0, f"{line}: {got.stderr[-500:]}"
@@ -1325,27 +1212,17 @@ def test_a_script_without_words_prints_its_usage(script: str, top: pathlib.Path,
     shutil.copy(top / "python" / "src" / "pfs" / "_atomic.py", folder / "libexec" / "pfs" / "experiments")
     (folder / "bin").mkdir()
     shutil.copy(top / "tools" / "pfs-experiments", folder / "bin")
-    lines: list[tuple[list[str | pathlib.Path], str]] = [
-        ([top / "experiments" / script], f"experiments/{script}"),
-        ([folder / "bin" / "pfs-experiments", script], f"pfs-experiments {script}")]
-    for line, name in lines:
-        got = run_tool(line, folder)
-        assert (got.status, got.stdout, got.stderr.count("\n")) == (2, "", 1), got.stderr
-        assert f"usage: {name} " in got.stderr, got.stderr
+    assert_refused(run_tool([top / "experiments" / script], folder), f"usage: experiments/{script} ")
+    assert_refused(run_tool([folder / "bin" / "pfs-experiments", script], folder), f"usage: pfs-experiments {script} ")
 
 
 # The whole way
 
-def lines_of_way(page: pathlib.Path) -> list[str]:
-    """The commands of the block that begins with what has to be installed."""
-    block = re.findall(r"```\n(sudo apt-get install parallel .*?)```", page.read_text(), re.DOTALL)
-    return [line.partition("#")[0].strip() for line in "".join(block).splitlines()]
-
-
 @pytest.mark.seconds(20)
 def test_the_lines_of_the_way_lead_to_the_reports_plots(top: pathlib.Path, pfs: Program, folder: pathlib.Path,
                                                         matplotlib: None) -> None:
-    """In a copy that has the built program, which is taken as it is, and a plan of fewer runs."""
+    """In a copy that has the built program, which is taken as it is, and a plan of fewer runs. The lines are those of
+    the block that begins with what has to be installed."""
     shutil.copytree(top / "experiments", folder / "experiments", ignore=shutil.ignore_patterns("out", "__pycache__"))
     plan = folder / "experiments" / "example.toml"
     plan.write_text(shortened(plan.read_text()))
@@ -1354,11 +1231,11 @@ def test_the_lines_of_the_way_lead_to_the_reports_plots(top: pathlib.Path, pfs: 
         shutil.copy(top / name, folder / name)
     (folder / "crates" / "pfs" / "out").mkdir(parents=True)
     shutil.copy(pfs.path, folder / "crates" / "pfs" / "out" / "pfs")
-    lines = lines_of_way(top / "experiments" / "README.md")
+    page = (top / "experiments" / "README.md").read_text()
+    block, = re.findall(r"```\n(sudo apt-get install parallel .*?)```", page, re.DOTALL)
+    lines = [line.partition("#")[0].strip() for line in block.splitlines()]
     assert len(lines) == 6
     for line in lines[1:]:
-        assert run_tool([*line.split(" ")], folder).status == 0, line
-    assert sorted(os.listdir(folder / "report")) \
-        == ["gap.png", "means.png", "rpd.png", "seconds.png", "sizes.csv", "sizes.md", "sizes.tex", "table.csv",
-            "table.md", "time.png"]
+        assert run_tool(line.split(" "), folder).status == 0, line
+    assert sorted(os.listdir(folder / "report")) == REPORT_FILES
     assert sum(int(row["runs"]) for row in csv_rows(folder / "report" / "table.csv")) == 3 * (1 + 2 * 3)

@@ -5,18 +5,18 @@ import os
 import pathlib
 import random
 import re
-import sys
+import struct
 from collections.abc import Callable
 from typing import NamedTuple
 
 import pytest
 from support.colours import Lab, difference, least_difference
 from support.files import generated
-from support.large import LIMITED
+from support.large import run_limited
 from support.needs import tool
 from support.pictures import Letters, Picture, contrast, value_of
 from support.program import Program, Ran
-from support.tools import Done, output_of, run_tool, with_path
+from support.tools import Done, run_tool, with_path
 from support.warm import Warm
 
 pytestmark = pytest.mark.long
@@ -158,6 +158,11 @@ def at_random(number: int) -> Case:
     return Case(f"random {number}, {jobs} by {machines}", order, schedule_of(times))
 
 
+def units(jobs: int, machines: int = 1) -> Case:
+    """Jobs that take one unit on each machine."""
+    return Case(f"{jobs} by {machines}, units", list(range(1, jobs + 1)), schedule_of([[1] * machines] * jobs), ())
+
+
 def drawn_by_taillard(jobs: int, machines: int, seed: int) -> Case:
     rows = [[int(word) for word in line.split()] for line in generated(jobs, machines, seed).splitlines()[3:]]
     times = [list(job) for job in zip(*rows)]
@@ -187,21 +192,32 @@ def cases(kept: Callable[[Case], bool] = lambda case: True) -> pytest.MarkDecora
     return pytest.mark.parametrize("case", params)
 
 
+def picture_of(gantt: Gantt, folder: pathlib.Path, *words: str, text: str = THREE) -> Picture:
+    """What is drawn with these words, without a message."""
+    assert gantt(folder, *words, "picture.svg", text=text) == Ran(b"", b"", 0)
+    return Picture(folder / "picture.svg")
+
+
+Drawn = Callable[[Case], Picture]
+
+
 @pytest.fixture(scope="module")
-def drawn(gantt: Gantt, tmp_path_factory: pytest.TempPathFactory) -> Callable[[Case], Picture]:
+def drawn(gantt: Gantt, tmp_path_factory: pytest.TempPathFactory) -> Drawn:
     """The picture of a case, which is drawn once."""
     pictures: dict[str, Picture] = {}
 
     def draw(case: Case) -> Picture:
         if case.name not in pictures:
             folder = tmp_path_factory.mktemp("picture")
-            assert gantt(folder, *case.options, "picture.svg", text=case.text()) == Ran(b"", b"", 0)
-            pictures[case.name] = Picture(folder / "picture.svg")
+            pictures[case.name] = picture_of(gantt, folder, *case.options, text=case.text())
         return pictures[case.name]
     return draw
 
 
-Drawn = Callable[[Case], Picture]
+@pytest.fixture
+def picture(case: Case, drawn: Drawn) -> Picture:
+    """The picture of the test's case."""
+    return drawn(case)
 
 
 # Bars
@@ -211,8 +227,7 @@ def is_near(first: float, second: float, scale: float) -> bool:
 
 
 @cases()
-def test_each_operation_has_its_bar_at_its_time(case: Case, drawn: Drawn) -> None:
-    picture = drawn(case)
+def test_each_operation_has_its_bar_at_its_time(case: Case, picture: Picture) -> None:
     for machine in case.machines():
         wanted = case.operations(machine)
         bars = picture.bars(f"machine-{machine + 1}")
@@ -223,8 +238,7 @@ def test_each_operation_has_its_bar_at_its_time(case: Case, drawn: Drawn) -> Non
 
 
 @cases()
-def test_each_bar_is_on_its_machines_row(case: Case, drawn: Drawn) -> None:
-    picture = drawn(case)
+def test_each_bar_is_on_its_machines_row(case: Case, picture: Picture) -> None:
     for machine in case.machines():
         for bar in picture.bars(f"machine-{machine + 1}") + picture.bars(f"strip-{machine + 1}"):
             assert (bar.top + bar.bottom) / 2 == pytest.approx(machine + 1, abs=0.2), "row of a bar"
@@ -232,8 +246,7 @@ def test_each_bar_is_on_its_machines_row(case: Case, drawn: Drawn) -> None:
 
 
 @cases()
-def test_each_row_has_a_grey_strip_from_0_to_the_makespan(case: Case, drawn: Drawn) -> None:
-    picture = drawn(case)
+def test_each_row_has_a_grey_strip_from_0_to_the_makespan(case: Case, picture: Picture) -> None:
     for machine in case.machines():
         strip, = picture.bars(f"strip-{machine + 1}")
         assert strip.fill == IDLE
@@ -250,8 +263,8 @@ def colours_of(case: Case, picture: Picture) -> dict[int, set[str]]:
 
 
 @cases()
-def test_a_job_has_one_colour_and_other_jobs_have_others(case: Case, drawn: Drawn) -> None:
-    colours = colours_of(case, drawn(case))
+def test_a_job_has_one_colour_and_other_jobs_have_others(case: Case, picture: Picture) -> None:
+    colours = colours_of(case, picture)
     assert [job for job, each in colours.items() if len(each) != 1] == [], "jobs of several colours"
     assert len(set().union(*colours.values())) >= 0.98 * len(colours), "colours, for so many jobs"
 
@@ -289,34 +302,23 @@ def colours_in_turn(case: Case, picture: Picture) -> list[str]:
 PAGE = (pathlib.Path(__file__).resolve().parent.parent / "docs" / "PICTURES.md").read_text()
 
 
-class Colours(NamedTuple):
-    """How much the colours of jobs differ, as the page says."""
-    few: int
-    least: float
-    some: int
-    least_of_some: float
-    neighbours: float
-
-
-def colours_named() -> Colours:
-    got = re.search(r"Any two of up to (\d+) jobs have colours that differ by ([\d.]+) or more \(CIEDE2000; of (\d+) "
-                     r"jobs by ([\d.]+)\).* Of more jobs, neighbours in the order differ by ([\d.]+) or more", PAGE)
-    assert got, "no sentence on the colours"
-    return Colours(int(got[1]), float(got[2]), int(got[3]), float(got[4]), float(got[5]))
-
-
-COLOURS = colours_named()
+# How much the colours of jobs differ, as the page says.
+COLOURS = re.search(r"Any two of up to (\d+) jobs have colours that differ by ([\d.]+) or more \(CIEDE2000; of (\d+) "
+                    r"jobs by ([\d.]+)\).* Of more jobs, neighbours in the order differ by ([\d.]+) or more", PAGE)
+assert COLOURS, "no sentence on the colours"
+FEW, SOME = int(COLOURS[1]), int(COLOURS[3])
+LEAST, LEAST_OF_SOME, OF_NEIGHBOURS = float(COLOURS[2]), float(COLOURS[4]), float(COLOURS[5])
 
 
 def difference_of_any_two(jobs: int, drawn: Drawn) -> float:
     """The least one for all eyes, also to the grey of idle time."""
-    case = Case(f"colours of {jobs}", list(range(1, jobs + 1)), schedule_of([[1]] * jobs), ())
+    case = units(jobs)
     fills = [*colours_in_turn(case, drawn(case)), IDLE]
     assert len(fills) == jobs + 1
     return min(least_difference(one, other) for at, one in enumerate(fills) for other in fills[:at])
 
 
-@pytest.mark.parametrize(("jobs", "got"), [(COLOURS.some, COLOURS.least_of_some), (COLOURS.few, COLOURS.least)])
+@pytest.mark.parametrize(("jobs", "got"), [(SOME, LEAST_OF_SOME), (FEW, LEAST)])
 def test_any_two_of_few_jobs_differ_as_much_as_the_page_says(jobs: int, got: float, drawn: Drawn) -> None:
     """Rounded to a tenth."""
     assert round(difference_of_any_two(jobs, drawn), 1) == got, f"the colours of {jobs} jobs"
@@ -328,27 +330,26 @@ def test_any_two_of_eight_jobs_are_distinguishable(drawn: Drawn) -> None:
 
 def test_the_comment_on_the_colours_has_the_numbers_of_the_page(top: pathlib.Path) -> None:
     comment = " ".join((top / "tools" / "chart.py").read_text().replace("#", " ").split())
-    assert f"differ by {COLOURS.least} (CIEDE2000) or more" in comment
-    assert f"the first {COLOURS.some} differ by {COLOURS.least_of_some} or more" in comment
-    assert f" FEW = {COLOURS.few} " in comment
+    assert f"differ by {LEAST} (CIEDE2000) or more" in comment
+    assert f"the first {SOME} differ by {LEAST_OF_SOME} or more" in comment
+    assert f" FEW = {FEW} " in comment
 
 
-@pytest.mark.parametrize("jobs", [COLOURS.few + 1, COLOURS.few + 2, COLOURS.few + 3, 500])
+@pytest.mark.parametrize("jobs", [FEW + 1, FEW + 2, FEW + 3, 500])
 def test_neighbours_of_many_jobs_are_distinguishable(jobs: int, drawn: Drawn) -> None:
     """Also if an operation that takes no time is between them; and each of them from idle time."""
-    case = Case(f"colours of {jobs}", list(range(jobs, 0, -1)), schedule_of([[1]] * jobs), ())
+    case = units(jobs)._replace(name=f"the last of {jobs} first", order=[*range(jobs, 0, -1)])
     fills = colours_in_turn(case, drawn(case))
     assert len(fills) == jobs
     for apart in (1, 2):
         least = min(map(least_difference, fills, fills[apart:]))
-        assert least >= COLOURS.neighbours, f"colours of jobs that are {apart} apart differ by {least}"
+        assert least >= OF_NEIGHBOURS, f"colours of jobs that are {apart} apart differ by {least}"
     assert min(least_difference(fill, IDLE) for fill in fills) >= 5
 
 
 @cases()
-def test_the_edges_of_bars_leave_an_operation_of_one_unit_to_be_seen(case: Case, drawn: Drawn) -> None:
+def test_the_edges_of_bars_leave_an_operation_of_one_unit_to_be_seen(case: Case, picture: Picture) -> None:
     """The edges are white lines, half of which lies on each of the adjacent bars."""
-    picture = drawn(case)
     for machine in case.machines():
         unit = picture.across().on_picture(min((end - start for _, start, end in case.operations(machine)), default=0))
         for _, style in picture.shapes(f"machine-{machine + 1}"):
@@ -361,8 +362,7 @@ def test_the_outline_of_the_path_leaves_an_operation_of_one_unit_to_be_seen(widt
                                                                             folder: pathlib.Path) -> None:
     """Half of its line lies on the first and on the last operation that it surrounds, each a unit long here."""
     case = Case("one unit", [1, 2], schedule_of([[1, 300], [2, 1]]), ("--critical", "--width", width))
-    assert gantt(folder, *case.options, "picture.svg", text=case.text()) == Ran(b"", b"", 0)
-    picture = Picture(folder / "picture.svg")
+    picture = picture_of(gantt, folder, *case.options, text=case.text())
     unit = picture.across().on_picture(1)
     for machine in case.machines():
         (_, style), = picture.shapes(f"critical-{machine + 1}")
@@ -390,8 +390,7 @@ def numbers_on(picture: Picture) -> list[Letters]:
 
 
 @cases()
-def test_each_number_is_in_the_middle_of_a_bar_of_its_job(case: Case, drawn: Drawn) -> None:
-    picture = drawn(case)
+def test_each_number_is_in_the_middle_of_a_bar_of_its_job(case: Case, picture: Picture) -> None:
     for letters in numbers_on(picture):
         machine, job = bar_below(case, picture, letters)
         assert int(letters.text) == job, f"number on the bar of job {job} on machine {machine}: {letters}"
@@ -407,9 +406,8 @@ def room(case: Case, picture: Picture, machine: int) -> list[tuple[int, float, f
 
 
 @cases()
-def test_a_row_has_a_number_on_each_bar_where_it_fits_or_none_where_few_fit(case: Case, drawn: Drawn) -> None:
+def test_a_row_has_a_number_on_each_bar_where_it_fits_or_none_where_few_fit(case: Case, picture: Picture) -> None:
     """Few are less than half of them."""
-    picture = drawn(case)
     numbers = [bar_below(case, picture, letters) for letters in numbers_on(picture)]
     for machine in case.machines():
         bars = room(case, picture, machine)
@@ -424,8 +422,7 @@ def test_a_row_has_a_number_on_each_bar_where_it_fits_or_none_where_few_fit(case
 
 
 @cases()
-def test_each_number_can_be_read_on_its_bar(case: Case, drawn: Drawn) -> None:
-    picture = drawn(case)
+def test_each_number_can_be_read_on_its_bar(case: Case, picture: Picture) -> None:
     fills = colours_of(case, picture)
     for letters in numbers_on(picture):
         (fill,) = fills[int(letters.text)]
@@ -434,16 +431,10 @@ def test_each_number_can_be_read_on_its_bar(case: Case, drawn: Drawn) -> None:
         assert letters.size == LETTERS
 
 
-@cases(lambda case: case.name == "500 by 20")
-def test_narrow_bars_have_no_numbers(case: Case, drawn: Drawn) -> None:
-    assert len(drawn(case).texts()) < 60
-
-
 # Axes
 
 @cases()
-def test_time_goes_to_the_right_and_machines_go_down(case: Case, drawn: Drawn) -> None:
-    picture = drawn(case)
+def test_time_goes_to_the_right_and_machines_go_down(case: Case, picture: Picture) -> None:
     for kind, wanted in (("xtick", range(0, max(1, case.makespan) + 1)), ("ytick", range(1, len(case.machines()) + 1))):
         marks = picture.marks(kind)
         numbers = [mark.number for mark in marks]
@@ -453,8 +444,7 @@ def test_time_goes_to_the_right_and_machines_go_down(case: Case, drawn: Drawn) -
 
 
 @cases()
-def test_each_row_shows_its_machines_idle_share(case: Case, drawn: Drawn) -> None:
-    picture = drawn(case)
+def test_each_row_shows_its_machines_idle_share(case: Case, picture: Picture) -> None:
     row = picture.down()
     got = {round(row(letters.y - BELOW_MIDDLE * letters.size)): letters for letters in picture.texts()
             if re.fullmatch("[0-9]+ %", letters.text)}
@@ -468,8 +458,7 @@ def test_each_row_shows_its_machines_idle_share(case: Case, drawn: Drawn) -> Non
 
 
 @cases(lambda case: case is WITH_BOUND)
-def test_labels_of_the_axes_are_next_to_them(case: Case, drawn: Drawn) -> None:
-    picture = drawn(case)
+def test_labels_of_the_axes_are_next_to_them(picture: Picture) -> None:
     time, = picture.find("time (min)")
     machine, = picture.find("machine")
     idle, = picture.find("idle")
@@ -479,15 +468,13 @@ def test_labels_of_the_axes_are_next_to_them(case: Case, drawn: Drawn) -> None:
 
 
 @cases(lambda case: case is PLAIN)
-def test_the_unit_of_time_is_the_instances_where_none_is_named(case: Case, drawn: Drawn) -> None:
-    picture = drawn(case)
+def test_the_unit_of_time_is_the_instances_where_none_is_named(picture: Picture) -> None:
     assert [letters.text for letters in picture.texts() if letters.text.startswith("time")] \
         == ["time (units of the instance)"]
 
 
 @cases(lambda case: case in (WITH_BOUND, PLAIN))
-def test_the_title_is_above_the_rows(case: Case, drawn: Drawn) -> None:
-    picture = drawn(case)
+def test_the_title_is_above_the_rows(case: Case, picture: Picture) -> None:
     beside = ", bound 9 (dashed), critical path outlined" if case is WITH_BOUND else ""
     letters, = picture.find("3 jobs on 2 machines: makespan 10" + beside)
     assert picture.down()(letters.y) < 0.5
@@ -496,8 +483,7 @@ def test_the_title_is_above_the_rows(case: Case, drawn: Drawn) -> None:
 # The bound and the critical path
 
 @cases(lambda case: case is WITH_BOUND)
-def test_the_bound_is_a_dashed_line_at_its_time_through_all_rows(case: Case, drawn: Drawn) -> None:
-    picture = drawn(case)
+def test_the_bound_is_a_dashed_line_at_its_time_through_all_rows(picture: Picture) -> None:
     (points, style), = picture.shapes("bound")
     assert all(is_near(picture.across()(x), 9, 10) for x, _ in points), points
     rows = [picture.down()(y) for _, y in points]
@@ -505,13 +491,11 @@ def test_the_bound_is_a_dashed_line_at_its_time_through_all_rows(case: Case, dra
     assert value_of(style, "stroke-dasharray") != "", f"a line of this style is solid: {style}"
 
 
-AT_THE_END = read_table("the bound is the makespan", THREE, "--bound", "10", "--critical")
-
-
-@pytest.mark.parametrize("case", [WITH_BOUND, AT_THE_END], ids=["before the end", "at the end"])
-def test_nothing_cuts_or_hides_the_bounds_line(case: Case, drawn: Drawn) -> None:
+@pytest.mark.parametrize("case", [
+    WITH_BOUND, WITH_BOUND._replace(name="the bound is the makespan", options=("--bound", "10", "--critical"))],
+    ids=["before the end", "at the end"])
+def test_nothing_cuts_or_hides_the_bounds_line(picture: Picture) -> None:
     """A wider white line is drawn under it, and over the bars and the path."""
-    picture = drawn(case)
     names = list(picture.groups)
     assert names.index("bound") > names.index("beside-bound") > names.index("critical-2"), names
     for name in ("bound", "beside-bound"):
@@ -523,13 +507,13 @@ def test_nothing_cuts_or_hides_the_bounds_line(case: Case, drawn: Drawn) -> None
 
 
 @cases(lambda case: case is PLAIN)
-def test_a_plain_picture_has_neither_bound_nor_path(case: Case, drawn: Drawn) -> None:
-    assert not {"bound", "critical-1", "critical-2"} & drawn(case).groups.keys()
+def test_a_plain_picture_has_neither_bound_nor_path(picture: Picture) -> None:
+    assert not {"bound", "critical-1", "critical-2"} & picture.groups.keys()
 
 
 @cases(lambda case: "--critical" in case.options)
-def test_the_critical_path_leads_from_0_to_the_makespan_without_idle_time(case: Case, drawn: Drawn) -> None:
-    picture, at = drawn(case), 0.0
+def test_the_critical_path_leads_from_0_to_the_makespan_without_idle_time(case: Case, picture: Picture) -> None:
+    at = 0.0
     for machine in case.machines():
         for outline in picture.bars(f"critical-{machine + 1}"):
             assert is_near(outline.start, at, case.makespan), f"start of the path on machine {machine + 1}"
@@ -543,22 +527,16 @@ def test_the_critical_path_leads_from_0_to_the_makespan_without_idle_time(case: 
 
 # Papers
 
-def size_of(picture: Picture) -> tuple[float, float]:
-    """Width and height in points, from the background shape."""
-    (points, _), = picture.shapes("patch_1")
-    return max(x for x, _ in points), max(y for _, y in points)
-
-
 def test_letters_can_be_read_at_the_width_of_a_column(drawn: Drawn) -> None:
     """They have 8 points or more, and none is outside the picture; a letter is at most 0.65 of its height wide."""
     picture = drawn(PAPER)
-    width, _ = size_of(picture)
+    width = max(x for x, _ in picture.line("patch_1"))
     assert width == pytest.approx(3.5 * 72, abs=0.1)
     for letters in picture.texts():
         assert letters.size >= 8, letters
         reach = 0.65 * letters.size * len(letters.text)
         ends = {"middle": (-0.5, 0.5), "end": (-1.0, 0.0)}.get(letters.anchor, (0.0, 1.0))
-        if letters.text not in ("machine",):
+        if letters.text != "machine":
             assert letters.x + ends[0] * reach > -2 and letters.x + ends[1] * reach < width + 10, letters
 
 
@@ -571,35 +549,27 @@ def test_marks_of_time_dont_touch_each_other(drawn: Drawn) -> None:
 
 
 def test_no_title_is_none(gantt: Gantt, folder: pathlib.Path) -> None:
-    assert gantt(folder, "--no-title", "picture.svg") == Ran(b"", b"", 0)
-    assert [letters for letters in Picture(folder / "picture.svg").texts() if "jobs" in letters.text] == []
+    picture = picture_of(gantt, folder, "--no-title")
+    assert [letters for letters in picture.texts() if "jobs" in letters.text] == []
 
 
 @pytest.mark.parametrize("unit", ["$x_{$", "$x$", "\\$", "a < b & c", "\u00b5s"])
 def test_a_unit_is_text(unit: str, gantt: Gantt, folder: pathlib.Path) -> None:
-    assert gantt(folder, "--unit", unit, "picture.svg") == Ran(b"", b"", 0)
-    assert len(Picture(folder / "picture.svg").find(f"time ({unit})")) == 1
+    assert len(picture_of(gantt, folder, "--unit", unit).find(f"time ({unit})")) == 1
     assert gantt(folder, "--unit", unit, "picture.png") == Ran(b"", b"", 0)
 
 
-@pytest.mark.parametrize(("words", "size"), [((), (1320, 235)), (("--width", "3.5"), (385, 235)),
-                                             (("--dpi", "300"), (3600, 642))], ids=["usual", "narrow", "fine"])
-def test_a_png_has_the_requested_size(words: tuple[str, ...], size: tuple[int, int], gantt: Gantt,
+@pytest.mark.parametrize(("words", "text", "size"), [
+    ([], THREE, (1320, 235)), (["--width", "3.5"], THREE, (385, 235)), (["--dpi", "300"], THREE, (3600, 642)),
+    (["--dpi", "20"], units(1, 200).text(), (240, 266)),
+], ids=["usual", "narrow", "fine", "the most rows"])
+def test_a_png_has_the_requested_size(words: list[str], text: str, size: tuple[int, int], gantt: Gantt,
                                       folder: pathlib.Path) -> None:
-    """Inches times dots per inch; two rows of 0.42 inches and 1.3 inches for the rest."""
-    assert gantt(folder, *words, "picture.png") == Ran(b"", b"", 0)
-    assert size_of_png(folder / "picture.png") == pytest.approx(size, abs=1)
-
-
-def size_of_png(path: pathlib.Path) -> tuple[int, int]:
-    png = path.read_bytes()
-    return int.from_bytes(png[16:20], "big"), int.from_bytes(png[20:24], "big")
-
-
-def test_the_most_rows_are_12_inches_high(gantt: Gantt, folder: pathlib.Path) -> None:
-    case = Case("200 rows", [1], schedule_of([[1] * 200]), ())
-    assert gantt(folder, "--dpi", "20", "picture.png", text=case.text()) == Ran(b"", b"", 0)
-    assert size_of_png(folder / "picture.png") == pytest.approx((240, 266), abs=1)
+    """Inches times dots per inch; two rows of 0.42 inches and 1.3 inches for the rest. The most rows are 12 inches
+    high."""
+    assert gantt(folder, *words, "picture.png", text=text) == Ran(b"", b"", 0)
+    png = (folder / "picture.png").read_bytes()
+    assert struct.unpack(">II", png[16:24]) == pytest.approx(size, abs=1)
 
 
 MANUAL = (pathlib.Path(__file__).resolve().parent.parent / "share" / "pfs-gantt.1").read_text()
@@ -684,8 +654,8 @@ def test_sizes_over_the_limits_are_rejected_at_once(gantt: Gantt, folder: pathli
 def test_a_table_without_end(top: pathlib.Path, folder: pathlib.Path, matplotlib: None, path: str) -> None:
     with open(folder / "long", "wb") as file:
         file.truncate(67_108_865)
-    words: list[str | pathlib.Path] = [tool("prlimit"), "--as=4000000000", top / "tools" / "gantt", path, "picture.svg"]
-    assert run_tool(words, folder) == Done(2, "", "gantt: not a time table: longer than 67,108,864 bytes\n")
+    got = run_tool([tool("prlimit"), "--as=4000000000", top / "tools" / "gantt", path, "picture.svg"], folder)
+    assert got == Done(2, "", "gantt: not a time table: longer than 67,108,864 bytes\n")
 
 
 @pytest.mark.parametrize("module", ["numpy", "matplotlib"])
@@ -706,9 +676,8 @@ def test_a_full_disk_keeps_the_old_picture(top: pathlib.Path, folder: pathlib.Pa
                                            ending: str) -> None:
     (folder / "table").write_text(THREE)
     (folder / f"picture.{ending}").write_text("the old one")
-    words: list[str | pathlib.Path] = [tool("prlimit"), "--fsize=1000"]
-    words += [top / "tools" / "gantt", "table", f"picture.{ending}"]
-    assert run_tool(words, folder) == Done(2, "", f"gantt: [Errno 27] File too large: 'picture.{ending}'\n")
+    got = run_tool([tool("prlimit"), "--fsize=1000", top / "tools" / "gantt", "table", f"picture.{ending}"], folder)
+    assert got == Done(2, "", f"gantt: [Errno 27] File too large: 'picture.{ending}'\n")
     assert (folder / f"picture.{ending}").read_text() == "the old one", "the picture was written in place"
     assert sorted(os.listdir(folder)) == [f"picture.{ending}", "table"]
 
@@ -745,7 +714,7 @@ def test_a_pixel_of_an_image_has_the_mean_of_the_colours_at_its_time(image: Pict
     assert {fill for line in (pixels[0], pixels[each - 1], pixels[-1]) for fill in line} == {"#ffffff"}, "between rows"
 
 
-@pytest.mark.parametrize("case", [steps(5_000), Case("many", list(range(1, 1051)), schedule_of([[1] * 20] * 1050))],
+@pytest.mark.parametrize("case", [steps(5_000), units(1050, 20)],
                          ids=["10,000 of 5,000 jobs", "21,000 of 1,050 jobs"])
 def test_very_many_operations_are_an_image(case: Case, gantt: Gantt, folder: pathlib.Path) -> None:
     assert b"are an image" in gantt(folder, "picture.svg", text=case.text()).stderr
@@ -758,8 +727,7 @@ def test_from_this_number_of_operations_on_the_rows_are_an_image(gantt: Gantt, f
     assert got, "no sentence on the operations"
     jobs = int(got[1].replace(",", "")) // 20
     for count, is_image in ((jobs, False), (jobs + 1, True)):
-        case = Case("many", list(range(1, count + 1)), schedule_of([[1] * 20] * count), ())
-        ran = gantt(folder, "picture.svg", text=case.text())
+        ran = gantt(folder, "picture.svg", text=units(count, 20).text())
         assert (b"are an image" in ran.stderr) == is_image, f"{20 * count:,} operations"
 
 
@@ -774,15 +742,6 @@ def greatest(pfs: Program, tmp_path_factory: pytest.TempPathFactory) -> pathlib.
     return folder
 
 
-def measured(words: list[str | pathlib.Path], folder: pathlib.Path) -> tuple[float, int]:
-    """The processor seconds and the bytes of memory that a script takes, which has to succeed."""
-    files: list[str | pathlib.Path] = ["/dev/null", folder / "output", folder / "errors"]
-    line = output_of([sys.executable, "-I", "-S", LIMITED, "4000000000", "100", *files, *words], folder)
-    status, seconds, memory = line.split()
-    assert status == "0"
-    return float(seconds), int(memory)
-
-
 @pytest.mark.seconds(10)
 @pytest.mark.xdist_group("gantt, greatest")
 @pytest.mark.parametrize("ending", BEGINNINGS)
@@ -790,9 +749,9 @@ def test_the_greatest_table_is_drawn_soon_and_small(ending: str, top: pathlib.Pa
                                                     greatest: pathlib.Path) -> None:
     """Within 20 seconds, 300 MB of memory and 20 MB of file."""
     picture = greatest / f"picture.{ending}"
-    seconds, memory = measured([top / "tools" / "gantt", "--critical", "table", picture.name], greatest)
-    assert picture.read_bytes().startswith(BEGINNINGS[ending])
-    assert (seconds < 20, memory < 300e6, picture.stat().st_size < 20e6) == (True,) * 3, (seconds, memory)
+    ran = run_limited(Program(top / "tools" / "gantt"), ["--critical", "table", picture.name], greatest, 4_000_000_000)
+    assert ran.status == 0 and picture.read_bytes().startswith(BEGINNINGS[ending])
+    assert (ran.seconds < 20, ran.resident < 300e6, picture.stat().st_size < 20e6) == (True,) * 3, ran
 
 
 # Files
@@ -802,9 +761,8 @@ def test_what_pfs_prints_is_drawn(pfs: Program, gantt: Gantt, folder: pathlib.Pa
     (folder / "shop").write_bytes(generated(60, 5, 5))
     (folder / "order").write_bytes(pfs.run("solve --layout taillard shop", folder).stdout)
     table = pfs.run("table --layout taillard shop order", folder).stdout.decode()
-    assert gantt(folder, "--critical", "picture.svg", text=table) == Ran(b"", b"", 0)
     case = read_table("60 by 5", table)
-    picture = Picture(folder / "picture.svg")
+    picture = picture_of(gantt, folder, "--critical", text=table)
     assert [len(picture.bars(f"machine-{machine + 1}")) for machine in case.machines()] == [60] * 5
 
 
@@ -832,8 +790,11 @@ def assert_rejected(ran: Ran, folder: pathlib.Path, before: list[pathlib.Path]) 
 
 
 @pytest.mark.parametrize("text", BAD.values(), ids=BAD)
-def test_an_invalid_table_is_rejected(text: str, gantt: Gantt, folder: pathlib.Path) -> None:
-    assert_rejected(gantt(folder, "picture.svg", text=text), folder, [])
+def test_an_invalid_table_is_rejected_and_the_old_picture_stays(text: str, gantt: Gantt, folder: pathlib.Path) -> None:
+    old = folder / "picture.svg"
+    old.write_text("old")
+    assert_rejected(gantt(folder, "picture.svg", text=text), folder, [old])
+    assert old.read_text() == "old"
 
 
 @pytest.mark.parametrize("end", range(len(THREE)))
@@ -845,10 +806,3 @@ def test_a_table_that_is_cut_is_rejected(end: int, gantt: Gantt, folder: pathlib
 def test_invalid_arguments_are_rejected(words: list[str], gantt: Gantt, folder: pathlib.Path) -> None:
     (folder / "folder.svg").mkdir()
     assert_rejected(gantt(folder, *words), folder, [folder / "folder.svg"])
-
-
-def test_an_invalid_table_keeps_the_old_picture(gantt: Gantt, folder: pathlib.Path) -> None:
-    old = folder / "picture.svg"
-    old.write_text("old")
-    assert_rejected(gantt(folder, "picture.svg", text=THREE[:-2]), folder, [old])
-    assert old.read_text() == "old"

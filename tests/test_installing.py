@@ -74,12 +74,10 @@ def test_the_installed_program_runs(installed: Installed, folder: pathlib.Path) 
     assert_runs(installed.prefix / "bin" / "pfs", folder)
 
 
-def test_bash_finds_its_installed_completion(installed: Installed, folder: pathlib.Path) -> None:
-    found_by_bash(installed.prefix, folder)
-
-
-def test_fish_finds_its_installed_completion(installed: Installed, folder: pathlib.Path) -> None:
-    found_by_fish(installed.prefix, folder)
+@pytest.mark.parametrize("find", [found_by_bash, found_by_fish])
+def test_a_shell_finds_its_installed_completion(find: Callable[[pathlib.Path, pathlib.Path], None],
+                                                installed: Installed, folder: pathlib.Path) -> None:
+    find(installed.prefix, folder)
 
 
 def test_zsh_finds_its_installed_completion(copy: Copy, folder: pathlib.Path) -> None:
@@ -275,33 +273,18 @@ SOURCES = ["crates.txt", "crates/pfs/stdin", "crates/pfs/src/main.rt", "crates/p
 BESIDE = ["share/pfs.1", "README.md", "crates/pfs_tests/src/lib.rt", "crates/pfs_calls/src/main.rt"]
 
 
-Builds = Callable[[str], list[str]]
-
-
-@pytest.fixture
-def builds_with_newer(copy: Copy, folder: pathlib.Path) -> Builds:
-    """In which folders an installation builds, where this file is newer than the program."""
-    def built(name: str) -> list[str]:
-        path = copy.top / name
-        copy.built()
-        try:
-            os.utime(path, (NEW + 1, NEW + 1))
-            assert copy.make("install", f"DESTDIR={folder}").status == 0
-        finally:
-            os.utime(path, (OLD, OLD))
-            os.utime(copy.top / PROGRAM, (NEW, NEW))
-        return copy.built()
-    return built
-
-
-@pytest.mark.parametrize("name", SOURCES)
-def test_a_newer_source_has_the_program_built(name: str, copy: Copy, builds_with_newer: Builds) -> None:
-    assert builds_with_newer(name) == [str(copy.top / "crates" / "pfs")], f"where {name} has the program built"
-
-
-@pytest.mark.parametrize("name", BESIDE)
-def test_what_is_no_source_has_nothing_built(name: str, builds_with_newer: Builds) -> None:
-    assert builds_with_newer(name) == []
+@pytest.mark.parametrize("name", [*SOURCES, *BESIDE])
+def test_a_newer_source_has_the_program_built(name: str, copy: Copy, folder: pathlib.Path) -> None:
+    """Other files have nothing built."""
+    path = copy.top / name
+    copy.built()
+    try:
+        os.utime(path, (NEW + 1, NEW + 1))
+        assert copy.make("install", f"DESTDIR={folder}").status == 0
+    finally:
+        os.utime(path, (OLD, OLD))
+        os.utime(copy.top / PROGRAM, (NEW, NEW))
+    assert copy.built() == [str(copy.top / "crates" / "pfs")] * (name in SOURCES), f"what a newer {name} has built"
 
 
 def test_a_missing_program_is_built_and_no_older_one(copy: Copy, folder: pathlib.Path) -> None:
@@ -461,20 +444,17 @@ def test_what_examples_leave_is_no_change(copy: Copy, pfs: Program, folder: path
 
 # One version
 
-def numbers_stated(top: pathlib.Path) -> dict[str, list[str]]:
-    """The version that each file tells; only the package for Python need not be there."""
-    patterns = {"CHANGELOG.md": r"^## \[(\d.*?)\]", "CITATION.cff": r"^version: (.*)$",
-                "lib/pfs.h": r'^#define PFS_VERSION "(.*)"$', "share/pfs.1": r"^\.Os pfs (.*)$",
-                "share/pfs.3": r"^\.Os pfs (.*)$",
-                "share/pfs-gantt.1": r"^\.Os pfs (.*)$", "share/pfs-experiments.1": r"^\.Os pfs (.*)$",
-                "python/pfs-plan.1": r"^\.Os pfs (.*)$",
-                "python/src/pfs/_version.py": r'^VERSION\b.* = "(.*)"$'}
-    return {name: re.findall(pattern, (top / name).read_text(), re.MULTILINE)[:1]
-            for name, pattern in patterns.items() if "python" not in name or (top / name).exists()}
+STATED = {"CHANGELOG.md": r"^## \[(\d.*?)\]", "CITATION.cff": r"^version: (.*)$",
+          "lib/pfs.h": r'^#define PFS_VERSION "(.*)"$', "python/src/pfs/_version.py": r'^VERSION\b.* = "(.*)"$'}
+STATED |= dict.fromkeys(("share/pfs.1", "share/pfs.3", "share/pfs-gantt.1", "share/pfs-experiments.1",
+                         "python/pfs-plan.1"), r"^\.Os pfs (.*)$")
 
 
-def test_all_that_states_a_version_states_the_same(top: pathlib.Path) -> None:
-    assert numbers_stated(top) == dict.fromkeys(numbers_stated(top), [VERSION])
+@pytest.mark.parametrize("name", STATED)
+def test_all_that_states_a_version_states_the_same(name: str, top: pathlib.Path) -> None:
+    """Only the package for Python need not be there."""
+    if "python" not in name or (top / name).exists():
+        assert re.findall(STATED[name], (top / name).read_text(), re.MULTILINE)[:1] == [VERSION]
 
 
 def test_the_release_has_one_date(top: pathlib.Path) -> None:

@@ -3,7 +3,7 @@ import pathlib
 
 import pytest
 from support.printed import printed, shown
-from support.program import Program, Ran
+from support.program import Program
 
 ORDER = b"order 3\n2 1 3\nmakespan 10\n"
 ORDER2 = b"order2 3 2\n2 1 3\nmakespan 10\n"
@@ -21,9 +21,6 @@ STATED: list[tuple[bytes, str, int | None, int]] = [
 
 # Texts with a syntax fault, and the length of the longest prefix with which a valid text begins.
 SYNTAX = [
-    (b"", 0),
-    (b"order", 5),
-    (b"order 3", 7),
     (b"order 0\n", 6),
     (b"order 03\n2 1 3\nmakespan 10\n", 6),
     (b"order 5001\n", 9),
@@ -39,7 +36,6 @@ SYNTAX = [
     (b"order 3\n2 1 3\nmakespan 10\n\n", 26),
     (b"order 3\n1 1 4\nmakespan x\n", 23),
     (b"order 3 2\n2 1 3\nmakespan 10\n", 7),
-    (b"order2", 6),
     (b"order3 3\n2 1 3\nmakespan 10\n", 5),
     (b"order22 3 2\n2 1 3\nmakespan 10\n", 6),
     (b"order2\n2 1 3\nmakespan 10\n", 6),
@@ -68,49 +64,28 @@ JOBS = [
     (b"order2 3 2\n2 2 3\nmakespan 1\n", "Repeated", 2),
 ]
 
-# Each proper prefix of an order file, by its length.
-FRONTS = [text[:length] for text in (ORDER, ORDER2) for length in range(len(text))]
+
+def order_of(jobs: str, machines: int | None, makespan: int) -> str:
+    """What is printed of an order file that is read."""
+    return f"jobs {jobs}, {'None' if machines is None else f'Some({machines})'} machines, makespan {makespan}"
 
 
-def read(pfs_calls: Program, cwd: pathlib.Path, text: bytes, at_once: int) -> Ran:
-    """Run the reader on a text that it gets in pieces of this many bytes."""
-    return pfs_calls.run(f"order_file {at_once}", cwd, text)
+# A text and its result; one that is cut is rejected at its end.
+CASES = [
+    *((text, order_of(jobs, machines, makespan)) for text, jobs, machines, makespan in STATED),
+    *((text, f"Syntax {{ offset: {offset} }}") for text, offset in SYNTAX),
+    *((text, f"{fault} {{ place: {place} }}") for text, fault, place in JOBS),
+    *((text[:length], f"Syntax {{ offset: {length} }}") for text in (ORDER, ORDER2) for length in range(len(text))),
+    (b"x" * 65536, "Syntax { offset: 0 }"), (b"x" * 65537, "TooLong"),
+]
 
 
-@pytest.mark.parametrize("at_once", [1, 7, 100])
-@pytest.mark.parametrize("text, jobs, machines, makespan", STATED, ids=[shown(text) for text, *_ in STATED])
-def test_an_order_file_is_read(pfs_calls: Program, folder: pathlib.Path, text: bytes, jobs: str, machines: int | None,
-                               makespan: int, at_once: int) -> None:
-    stated = "None" if machines is None else f"Some({machines})"
-    wanted = printed(f"jobs {jobs}, {stated} machines, makespan {makespan}")
-    assert read(pfs_calls, folder, text, at_once) == wanted
-
-
-@pytest.mark.parametrize("at_once", [1, 100])
-@pytest.mark.parametrize("text, offset", SYNTAX, ids=[shown(text) for text, _ in SYNTAX])
-def test_a_syntax_fault_is_reported_at_its_offset(pfs_calls: Program, folder: pathlib.Path, text: bytes, offset: int,
-                                                  at_once: int) -> None:
-    assert read(pfs_calls, folder, text, at_once) == printed(f"Syntax {{ offset: {offset} }}")
-
-
-@pytest.mark.parametrize("at_once", [1, 100])
-@pytest.mark.parametrize("text, fault, place", JOBS, ids=[shown(text) for text, *_ in JOBS])
-def test_a_wrong_job_is_reported_at_its_place(pfs_calls: Program, folder: pathlib.Path, text: bytes, fault: str,
-                                              place: int, at_once: int) -> None:
-    assert read(pfs_calls, folder, text, at_once) == printed(f"{fault} {{ place: {place} }}")
-
-
-@pytest.mark.parametrize("front", FRONTS, ids=[shown(front) for front in FRONTS])
-def test_a_cut_file_is_rejected_at_its_end(pfs_calls: Program, folder: pathlib.Path, front: bytes) -> None:
-    assert read(pfs_calls, folder, front, 100) == printed(f"Syntax {{ offset: {len(front)} }}")
-
-
-def test_a_byte_too_many_is_too_long(pfs_calls: Program, folder: pathlib.Path) -> None:
-    assert read(pfs_calls, folder, b"x" * 65537, 100_000) == printed("TooLong")
-
-
-def test_the_longest_text_is_validated(pfs_calls: Program, folder: pathlib.Path) -> None:
-    assert read(pfs_calls, folder, b"x" * 65536, 100_000) == printed("Syntax { offset: 0 }")
+@pytest.mark.parametrize("at_once", [1, 7, 100_000])
+@pytest.mark.parametrize(("text", "result"), CASES, ids=[f"{shown(text[:60])}, {len(text)} bytes" for text, _ in CASES])
+def test_a_text_has_its_result(pfs_calls: Program, folder: pathlib.Path, text: bytes, result: str,
+                               at_once: int) -> None:
+    """In pieces of this many bytes."""
+    assert pfs_calls.run(f"order_file {at_once}", folder, text) == printed(result)
 
 
 @pytest.mark.parametrize("machines", [None, 1, 2, 200])
@@ -120,5 +95,4 @@ def test_what_is_written_is_read(pfs_calls: Program, folder: pathlib.Path, machi
     text = f"{first}\n1 2 3\nmakespan 0\n"
     ran = pfs_calls.run("write_order" if machines is None else f"write_order {machines}", folder)
     assert ran == printed(*text.splitlines(), f"{len(text)} bytes")
-    stated = "None" if machines is None else f"Some({machines})"
-    assert read(pfs_calls, folder, text.encode(), 100) == printed(f"jobs 0 1 2, {stated} machines, makespan 0")
+    assert pfs_calls.run("order_file 100", folder, text.encode()) == printed(order_of("0 1 2", machines, 0))

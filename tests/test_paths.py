@@ -23,14 +23,10 @@ FOREIGN = {"Csize_t", "M_MMAP_THRESHOLD", "M_TRIM_THRESHOLD", "R_xlen_t", "c_voi
 TEXTS = {".antt", ".c", ".cpp", ".edit", ".fish", ".h", ".hpp", ".html", ".in", ".py", ".rt", ".toml", ".txt", ".1", ""}
 
 
-def is_passed_over(folder: str) -> bool:
-    return folder in ("out", "dist", "__pycache__") or (folder.startswith(".") and folder != ".ci")
-
-
 def missing_of(page: str, top: pathlib.Path) -> list[str]:
     """The paths that a page names and no path of the repository ends with."""
     there = set[str]()
-    for path in files_below(top, is_passed_over):
+    for path in files_below(top):
         parts = path.relative_to(top).parts
         named = [parts, *(parts[:count] for count in range(1, len(parts)))]
         if path.suffix in MODULES:
@@ -64,7 +60,7 @@ def test_a_path_that_does_not_exist_is_found(folder: pathlib.Path, named: str, m
 @functools.cache
 def names_of_sources() -> set[str]:
     """All words of the sources and of their paths, except this file."""
-    paths = [path for path in files_below(TOP, is_passed_over) if path.suffix in TEXTS]
+    paths = [path for path in files_below(TOP) if path.suffix in TEXTS]
     texts = [*map(str, paths), *(path.read_text() for path in paths if path.name != "test_paths.py")]
     return {word for text in texts for word in re.findall(r"[A-Za-z]\w*", text)}
 

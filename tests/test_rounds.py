@@ -18,32 +18,21 @@ ONE_BEST = "3 3 3 1 0 3 0 1 0 6 0"
 # Rounds after NEH, each with its instance, random words and passes, and with the results of NEH and of the round with
 # the cells counted so far. An insertion that leads to k jobs on m machines counts k*k*m cells.
 AFRESH = {
-    "the order of three jobs is built again": (
-        THREE_JOBS, "0 0", 0, ("2 1 3", 10, 28), ("2 1 3", 10, 28 + 26)),
-    "ties go to the lower job and the earliest place": (
-        EQUAL_TIMES, "1", 0, ("3 2 1", 4, 28), ("2 3 1", 4, 28 + 18)),
-    "an order of the same makespan is kept": (
-        TWO_JOBS, "1", 0, ("2 1", 8, 5), ("1 2", 8, 5 + 4)),
-    "taken jobs go back in the order of removal": (
-        TWO_JOBS, "0 0", 0, ("2 1", 8, 5), ("1 2", 8, 5 + 5)),
-    "a longer order is not kept": (
-        ONE_BEST, "1 1 0", 0, ("3 2 1", 7, 42), ("3 2 1", 7, 42 + 42)),
-    "one job goes out and back": (
-        ONE_JOB, "7", 0, ("1", 0, 1), ("1", 0, 1 + 1)),
+    "the order of three jobs is built again": (THREE_JOBS, "0 0", 0, ("2 1 3", 10, 28), ("2 1 3", 10, 28 + 26)),
+    "ties go to the lower job and the earliest place": (EQUAL_TIMES, "1", 0, ("3 2 1", 4, 28), ("2 3 1", 4, 28 + 18)),
+    "an order of the same makespan is kept": (TWO_JOBS, "1", 0, ("2 1", 8, 5), ("1 2", 8, 5 + 4)),
+    "taken jobs go back in the order of removal": (TWO_JOBS, "0 0", 0, ("2 1", 8, 5), ("1 2", 8, 5 + 5)),
+    "a longer order is not kept": (ONE_BEST, "1 1 0", 0, ("3 2 1", 7, 42), ("3 2 1", 7, 42 + 42)),
+    "one job goes out and back": (ONE_JOB, "7", 0, ("1", 0, 1), ("1", 0, 1 + 1)),
 }
 
 # The same with rows of heads and tails; an insertion then counts (4k-2)*m cells.
 BY_ROWS = {
-    "the order of three jobs is built again": (
-        THREE_JOBS, "0 0", 0, ("2 1 3", 10, 36), ("2 1 3", 10, 36 + 32)),
-    "an order of the same makespan is kept": (
-        TWO_JOBS, "1", 0, ("2 1", 8, 8), ("1 2", 8, 8 + 6)),
-    "a longer order is not kept": (
-        ONE_BEST, "1 1 0", 0, ("3 2 1", 7, 54), ("3 2 1", 7, 54 + 54)),
-    "an order that a pass makes equal is kept": (
-        ONE_BEST, "1 1 0", 1, ("3 2 1", 7, 54), ("3 2 1", 7, 54 + 144)),
-    "one job goes out and back": (
-        ONE_JOB, "7", 0, ("1", 0, 2), ("1", 0, 2 + 2)),
+    "the order of three jobs is built again": (THREE_JOBS, "0 0", 0, ("2 1 3", 10, 36), ("2 1 3", 10, 36 + 32)),
+    "an order of the same makespan is kept": (TWO_JOBS, "1", 0, ("2 1", 8, 8), ("1 2", 8, 8 + 6)),
+    "a longer order is not kept": (ONE_BEST, "1 1 0", 0, ("3 2 1", 7, 54), ("3 2 1", 7, 54 + 54)),
+    "an order that a pass makes equal is kept": (ONE_BEST, "1 1 0", 1, ("3 2 1", 7, 54), ("3 2 1", 7, 54 + 144)),
+    "one job goes out and back": (ONE_JOB, "7", 0, ("1", 0, 2), ("1", 0, 2 + 2)),
 }
 
 # Rounds that start from the jobs in the order of their numbers, with the cells that each inserter counts. The last two

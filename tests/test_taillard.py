@@ -2,6 +2,7 @@
 and `pfs check` prints the published bound of each. The quality of orders in README is what searches find on some of
 them."""
 import fnmatch
+import os
 import pathlib
 import re
 import statistics
@@ -21,8 +22,11 @@ each_instance = pytest.mark.parametrize("name", NAMES)
 pytestmark = pytest.mark.xdist_group("taillard")
 
 
+Listed = dict[str, dict[str, str]]
+
+
 @pytest.fixture(scope="module")
-def listed(top: pathlib.Path) -> dict[str, dict[str, str]]:
+def listed(top: pathlib.Path) -> Listed:
     """The rows of the list, by name."""
     return {row["instance"]: row for row in csv_rows(top / "experiments" / "taillard.csv")}
 
@@ -35,29 +39,25 @@ def shops(top: pathlib.Path, pfs: Program, tmp_path_factory: pytest.TempPathFact
     return folder / "shops"
 
 
-def test_the_list_has_the_120_names(listed: dict[str, dict[str, str]]) -> None:
+def test_the_list_has_ten_instances_of_each_size(listed: Listed) -> None:
     assert list(listed) == NAMES
-
-
-def test_the_list_has_ten_instances_of_each_size(listed: dict[str, dict[str, str]]) -> None:
     assert [(int(row["jobs"]), int(row["machines"])) for row in listed.values()] \
         == [size for size in SIZES for _ in range(10)]
 
 
 def test_the_files_are_those_of_the_list(shops: pathlib.Path) -> None:
-    assert sorted(path.name for path in shops.iterdir()) == NAMES
+    assert sorted(os.listdir(shops)) == NAMES
 
 
 @each_instance
-def test_the_times_are_those_of_the_recurrence(name: str, listed: dict[str, dict[str, str]],
-                                               shops: pathlib.Path) -> None:
+def test_the_times_are_those_of_the_recurrence(name: str, listed: Listed, shops: pathlib.Path) -> None:
     row = listed[name]
     assert (shops / name).read_bytes() == generated(int(row["jobs"]), int(row["machines"]), int(row["time_seed"]))
 
 
 @each_instance
-def test_the_bound_is_the_published_one(name: str, listed: dict[str, dict[str, str]], shops: pathlib.Path,
-                                        pfs: Program, folder: pathlib.Path) -> None:
+def test_the_bound_is_the_published_one(name: str, listed: Listed, shops: pathlib.Path, pfs: Program,
+                                        folder: pathlib.Path) -> None:
     jobs = int(listed[name]["jobs"])
     value = pfs.run(["value", "--layout", "taillard", str(shops / name)], folder)
     numbers = " ".join(str(job) for job in range(1, jobs + 1))
@@ -96,8 +96,7 @@ def test_other_words_get_the_usage(words: list[str], top: pathlib.Path, folder: 
     assert list(folder.iterdir()) == []
 
 
-def test_best_known_makespans_are_of_all_instances(best_known: dict[str, int],
-                                                   listed: dict[str, dict[str, str]]) -> None:
+def test_best_known_makespans_are_of_all_instances(best_known: dict[str, int], listed: Listed) -> None:
     assert list(best_known) == NAMES
     assert [name for name, span in best_known.items() if span < int(listed[name]["lower_bound"])] == []
 
@@ -138,16 +137,9 @@ def tables_of(top: pathlib.Path) -> list[str]:
     return re.findall(r"^\| Rounds \|.*\n(?:\|.*\n)+", (top / "README.md").read_text(), re.MULTILINE)
 
 
-def deviations_in(table: str, rounds: int) -> list[str]:
-    """The RPD of each size after these rounds."""
-    row = re.search(rf"^\| {rounds:,}(?: \(NEH\))? \|(.*)\|$", table, re.MULTILINE)
-    assert row, f"no row of {rounds} rounds"
-    return [cell.strip() for cell in row[1].split("|")][1::2]
-
-
 @pytest.mark.parametrize(("rounds", "passes"), [(0, 0), (1000, 0), (10000, 0), (1000, 1)])
 def test_readme_has_the_deviations_of_searches(rounds: int, passes: int, best_known: dict[str, int],
-                                               listed: dict[str, dict[str, str]], shops: pathlib.Path, pfs: Program,
+                                               listed: Listed, shops: pathlib.Path, pfs: Program,
                                                top: pathlib.Path) -> None:
     """They have two decimals. The other rows take minutes."""
     deviations: dict[tuple[int, int], list[float]] = {size: [] for size in TABLE_SIZES}
@@ -159,6 +151,8 @@ def test_readme_has_the_deviations_of_searches(rounds: int, passes: int, best_kn
         span = int(ran.stdout.split()[-1])
         assert span >= best, "a makespan below the best known one"
         deviations[size].append(100 * (span - best) / best)
-    printed = deviations_in(tables_of(top)[TABLE_PASSES.index(passes)], rounds)
+    row = re.search(rf"^\| {rounds:,}(?: \(NEH\))? \|(.*)\|$", tables_of(top)[TABLE_PASSES.index(passes)], re.MULTILINE)
+    assert row, f"no row of {rounds} rounds"
+    printed = [cell.strip() for cell in row[1].split("|")][1::2]
     for some, text in zip(deviations.values(), printed, strict=True):
         assert re.fullmatch(r"\d+\.\d\d", text) and abs(statistics.fmean(some) - float(text)) < 0.0051, printed

@@ -177,11 +177,6 @@ def cubes_of(shop: Instance) -> int:
     return shop.jobs**3 * shop.machines
 
 
-def rounds_of(shop: Instance) -> int:
-    """The rounds of a search of this shop."""
-    return 3 if cubes_of(shop) <= MOST_CUBES else 1
-
-
 # The second program takes about a tenth of a microsecond for each cube of the jobs on each machine.
 each_shop = pytest.mark.parametrize("name", [
     pytest.param(name, marks=pytest.mark.seconds(cubes_of(shop) // 5_000_000)) for name, (shop, _) in SHOPS.items()])
@@ -233,7 +228,7 @@ def test_a_wide_wavefront_finds_what_heads_and_tails_do(pfs_calls: Program, fold
 @each_shop
 def test_solve_prints_what_the_second_program_does(pfs: Program, folder: pathlib.Path, name: str) -> None:
     shop, _ = SHOPS[name]
-    rounds = rounds_of(shop)
+    rounds = 3 if cubes_of(shop) <= MOST_CUBES else 1
     (folder / "shop").write_bytes(second_program.canonical(shop, b"taillard"))
     options = {b"--take": 3, b"--rounds": rounds, b"--seed": 1, b"--passes": 1, b"--cells": True}
     expected = second_program.solved(shop, options).decode().splitlines()

@@ -5,7 +5,6 @@ contract cites, and those that these are written with. Run alone it prints a pag
 usage: tests/support/definitions.py"""
 import pathlib
 import re
-from collections.abc import Callable
 from typing import NamedTuple
 
 TOP = pathlib.Path(__file__).resolve().parent.parent.parent
@@ -108,22 +107,16 @@ def clauses(part: str) -> str:
     return "\n".join(shown)
 
 
-def is_any(path: pathlib.Path) -> bool:
-    return True
-
-
-def is_no_law(path: pathlib.Path) -> bool:
-    return path.name != "laws.rt"
-
-
-def cited(crates: pathlib.Path, counts: Callable[[pathlib.Path], bool] = is_any) -> set[Definition]:
-    """The definitions that contracts of public functions cite, in the files that count."""
+def cited(crates: pathlib.Path, passed_over: str = "") -> set[Definition]:
+    """The definitions that contracts of public functions cite, but for those of files of this name."""
     found = set()
     for crate in sorted(crates.iterdir()):
         if not (crate / "src" / "lib.rt").exists() or crate.name in OF_TESTS:
             continue
         modules, names = exported(crate)
-        for path in filter(counts, sorted(crate.glob("src/**/*.rt"))):
+        for path in crate.glob("src/**/*.rt"):
+            if path.name == passed_over:
+                continue
             whole = path.relative_to(crate / "src").with_suffix("").parts[0] in modules
             imports = imports_of(path.read_text())
             for part in public_parts(path, whole, names):

@@ -24,6 +24,9 @@ SHOPS = {"a": (20, 5, 873654221), "b": (3, 2, 7)}
 # The columns of earlier versions, and those of today.
 OLD_HEAD = "instance,jobs,machines,rounds,take,passes,seed,repetition,makespan,bound,gap_percent,cells,seconds,status"
 HEAD = OLD_HEAD + ",order,reference,source"
+# What a report of one method consists of.
+REPORT_FILES = ["gap.png", "means.png", "rpd.png", "seconds.png", "sizes.csv", "sizes.md", "sizes.tex", "table.csv",
+                "table.md", "time.png"]
 
 # Notes each search, and then waits at the gate, a pipe, as long as there is one.
 WAITING = """#!/bin/sh

@@ -192,20 +192,15 @@ def private_files() -> Iterator[None]:
         os.umask(old)
 
 
-def modes_below(folder: pathlib.Path) -> dict[str, int]:
-    """The mode of each file and folder below a folder."""
-    return {str(path.relative_to(folder)): path.stat().st_mode & 0o7777 for path in sorted(folder.rglob("*"))
-            if not path.is_symlink()}
-
-
 def assert_usual_modes(folder: pathlib.Path) -> None:
     """Programs and scripts are run by all, and all else is read by all."""
     wrong = {}
-    for path, mode in modes_below(folder).items():
-        is_script = "/libexec/" in f"/{path}" and not path.endswith((".py", ".csv", "/task", "installed-folders"))
-        is_run = (folder / path).is_dir() or is_script or re.search(r"(^|/)(bin|runtime.d)/", path)
+    for path in (path for path in folder.rglob("*") if not path.is_symlink()):
+        name, mode = f"/{path.relative_to(folder)}", path.stat().st_mode & 0o7777
+        is_script = "/libexec/" in name and not name.endswith((".py", ".csv", "/task", "installed-folders"))
+        is_run = path.is_dir() or is_script or "/bin/" in name or "/runtime.d/" in name
         if mode != (0o755 if is_run else 0o644):
-            wrong[path] = oct(mode)
+            wrong[name] = oct(mode)
     assert wrong == {}, "modes that aren't the usual ones"
 
 
@@ -240,7 +235,7 @@ def library_in(copy: Copy) -> Iterator[None]:
                       ["cc", "-fPIC", "-c", "lib/out/call.c", "-o", objects[1]],
                       ["cc", "-shared", "-Wl,-soname,libpfs.so.0", "-o", "lib/out/libpfs.so.0", *objects],
                       ["ar", "rcD", "lib/out/libpfs.a", *objects]):
-            output_of([*words], copy.top)
+            output_of(words, copy.top)
         yield
     finally:
         shutil.rmtree(out)

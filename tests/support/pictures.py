@@ -1,13 +1,14 @@
 """Reads an SVG that matplotlib has drawn, in the units of its axes."""
 import base64
+import io
 import math
 import pathlib
 import re
-import struct
 import xml.etree.ElementTree as ET
-import zlib
 from collections.abc import Iterator
 from typing import NamedTuple
+
+import pytest
 
 SVG = "{http://www.w3.org/2000/svg}"
 LINK = "{http://www.w3.org/1999/xlink}"
@@ -137,28 +138,10 @@ class Picture:
 
 
 def pixels_of(png: bytes) -> list[list[str]]:
-    """The colours of a PNG of 8 bits a part, line by line."""
-    width, height, _, kind = struct.unpack(">IIBB", png[16:26])
-    depth, at, packed = {2: 3, 6: 4}[kind], 8, b""
-    while at < len(png):
-        length, name = struct.unpack(">I4s", png[at:at + 8])
-        packed += png[at + 8:at + 8 + length] if name == b"IDAT" else b""
-        at += 12 + length
-    data, line, rows = zlib.decompress(packed), bytes(width * depth), []
-    for start in range(0, height * (width * depth + 1), width * depth + 1):
-        line = unfiltered(data[start], data[start + 1:start + 1 + width * depth], line, depth)
-        rows.append([f"#{line[x:x + 3].hex()}" for x in range(0, width * depth, depth)])
-    return rows
-
-
-def unfiltered(kind: int, line: bytes, above: bytes, depth: int) -> bytes:
-    """A line of a PNG, whose bytes are stored as differences from those to the left and above."""
-    made = bytearray(line)
-    for at, byte in enumerate(line) if kind else ():
-        left, corner = (made[at - depth], above[at - depth]) if at >= depth else (0, 0)
-        near = min((left, above[at], corner), key=lambda each: abs(left + above[at] - corner - each))
-        made[at] = (byte + (left, above[at], (left + above[at]) // 2, near)[kind - 1]) % 256
-    return bytes(made)
+    """The colours of a PNG, line by line. Matplotlib needs the package that reads it."""
+    image = pytest.importorskip("PIL.Image").open(io.BytesIO(png)).convert("RGB")
+    colours = [f"#{bytes(colour).hex()}" for colour in image.getdata()]
+    return [colours[at:at + image.width] for at in range(0, len(colours), image.width)]
 
 
 def points_of(path: ET.Element) -> list[tuple[float, float]]:

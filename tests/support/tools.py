@@ -7,7 +7,7 @@ import pathlib
 import subprocess
 import sys
 import time
-from collections.abc import Callable
+from collections.abc import Callable, Sequence
 from typing import Any, NamedTuple
 
 import pytest
@@ -24,7 +24,7 @@ class Done(NamedTuple):
     stderr: str
 
 
-def run_tool(words: list[str | pathlib.Path], cwd: pathlib.Path, **how: Any) -> Done:
+def run_tool(words: Sequence[str | pathlib.Path], cwd: pathlib.Path, **how: Any) -> Done:
     """Run a script in a folder. By default its input is empty; `how` has other arguments of `subprocess.run`."""
     how = {"stdin": subprocess.DEVNULL} | how
     done = subprocess.run([str(word) for word in words], cwd=cwd, capture_output=True, text=True, timeout=MOST_SECONDS,
@@ -32,7 +32,7 @@ def run_tool(words: list[str | pathlib.Path], cwd: pathlib.Path, **how: Any) -> 
     return Done(done.returncode, done.stdout, done.stderr)
 
 
-def output_of(words: list[str | pathlib.Path], cwd: pathlib.Path, **how: Any) -> str:
+def output_of(words: Sequence[str | pathlib.Path], cwd: pathlib.Path, **how: Any) -> str:
     """Run a script that has to succeed, and return its output."""
     got = run_tool(words, cwd, **how)
     assert got.status == 0, f"{words}: {got}"
@@ -46,7 +46,8 @@ def csv_rows(path: pathlib.Path) -> list[dict[str, str]]:
 
 
 def write_script(path: pathlib.Path, text: str) -> pathlib.Path:
-    """Writes a script that can be run."""
+    """Writes a script that can be run, and the folder that it is in."""
+    path.parent.mkdir(parents=True, exist_ok=True)
     path.write_text(text)
     path.chmod(0o755)
     return path
