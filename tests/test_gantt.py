@@ -709,9 +709,17 @@ def test_a_pixel_of_an_image_has_the_mean_of_the_colours_at_its_time(image: Pict
                     if first < end and start < last]
             busy = sum(last - first for first, last in here) / (end - start)
             assert (fill == IDLE) == (busy < 1e-9), f"pixel {at} of machine {machine + 1}: {fill}, {busy:.3f} busy"
-    long = {fill for at, fill in enumerate(pixels[each // 2]) if 1000 < 2600 * at / 1050 < 1595}
-    assert len(long) == 1, "colours of the one long operation"
     assert {fill for line in (pixels[0], pixels[each - 1], pixels[-1]) for fill in line} == {"#ffffff"}, "between rows"
+
+
+def test_an_operation_has_the_colour_of_its_bar_in_an_image(image: Picture, gantt: Gantt, folder: pathlib.Path) -> None:
+    """With more pixels the rows are bars."""
+    case = steps(2000)
+    gantt(folder, "--dpi", "300", "bars.svg", text=case.text())
+    _, pixels = image.image()
+    line = pixels[len(pixels) // 4]
+    long = {fill for at, fill in enumerate(line) if 1000 < 2600 * at / len(line) < 1595}
+    assert long == colours_of(case, Picture(folder / "bars.svg"))[1001], "colours of the one long operation"
 
 
 @pytest.mark.parametrize("case", [steps(5_000), units(1050, 20)],
