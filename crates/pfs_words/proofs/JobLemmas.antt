@@ -55,18 +55,18 @@ module _ (names : Names) (word : Text) (words : List Text) (are : AreLayoutNames
       let same : faultless.0 ≡ form = ap (λ o. unwrap_or o form) (sym faultless.1 ∙ named) in
       faulty (subst (λ a. fault_of a words ≡ []) same faultless.2))
 
-  -- the same for a command of that form
-  pub rejected_by : {app form : App} → app ≡ form → form_of names word ≡ Some form → is_simple_and_free form ≡ true
-      → takes app words ≡ false → (is_simple_and_free app ≡ true → fault_of app words ≡ [] → ⊥)
-      → AsksForNothing word words
-  rejected_by is named simple denied faulty = rejected_by_form named (subst (λ a. takes a words ≡ false) is denied)
-      (λ none. faulty (ap is_simple_and_free is ∙ simple) (subst (λ a. fault_of a words ≡ []) (sym is) none))
-
--- an error that is `Usage` only if the command line asks for no job
-pub fails : {word : Text} {words : List Text} {fault : UsageFault} (result : Result Job UsageFault)
-    → result ≡ Err fault → (fault ≡ Usage → AsksForNothing word words) → Plans word words result
-fails (Ok job) is usage = cc
-fails (Err fault) is usage = record { job = tt; within = tt; usage = λ e. usage (cc) }
+  -- the same for the result of a failed parse by a command of that form
+  pub fails : {app form : App} {fault : UsageFault} {parse : Result ArgMatches UsageFault}
+      (result : Result Job UsageFault) → result ≡ Err fault → parse ≡ Err fault → app ≡ form
+      → form_of names word ≡ Some form → is_simple_and_free form ≡ true → (parse ≡ Err Usage → takes app words ≡ false)
+      → (parse ≡ Err Usage → is_simple_and_free app ≡ true → fault_of app words ≡ [] → ⊥) → Plans word words result
+  fails (Ok job) failed parsed is named simple denied faulty = cc
+  fails (Err fault) failed parsed is named simple denied faulty = record {
+    job = tt;
+    within = tt;
+    usage = λ e. rejected_by_form named (subst (λ a. takes a words ≡ false) is (denied (cc)))
+        (λ none. faulty (cc) (ap is_simple_and_free is ∙ simple) (subst (λ a. fault_of a words ≡ []) (sym is) none));
+  }
 
 -- ---- one argument
 
@@ -96,23 +96,22 @@ within_range least most (Some t) passes = let passed = passes t refl in (passed.
 -- facts about the argument whose rule has index k in the form that `words` were parsed by
 module _ {command : Command} {form : App} {words : List Text} {m : ArgMatches} (parse : IsParseOf command words m)
     (is : app_of command ≡ form) where
-  pub text_given : (k : ℕ) (r : Rule) → slice_get form.top.rules k ≡ Some r → has_place form k r ≡ true
+  pub text_given : (k : ℕ) {r : Rule} → slice_get form.top.rules k ≡ Some r → has_place form k r ≡ true
       → asks_value r ≡ true → HasTextAt m r.id
-  text_given k r = form_has_value command m form k r is parse.facts
+  text_given k {r} = form_has_value command m form k r is parse.facts
 
-  pub layout_given : (k : ℕ) (id : Text) (names : Names) → AreLayoutNames names
-      → slice_get form.top.rules k ≡ Some (layout_rule names id) → has_place form k (layout_rule names id) ≡ true
-      → HasLayout m id
-  layout_given k id names are at place =
+  pub layout_given : (k : ℕ) {id : Text} {names : Names} → slice_get form.top.rules k ≡ Some (layout_rule names id)
+      → has_place form k (layout_rule names id) ≡ true → AreLayoutNames names → HasLayout m id
+  layout_given k {id} {names} at place are =
       let rule = layout_rule names id in
-      let (t, said) = text_given k rule at place refl in
+      let (t, said) = text_given k at place refl in
       let passed = form_passes command m form k rule is parse.facts at place t said (parser.Names names) refl in
       elim (listed names.now (layout_name Taillard) (layout_name OrLib) t are passed) [
         | inl taillard ↦ (Taillard, said ∙ ap Some taillard)
         | inr orlib ↦ (OrLib, said ∙ ap Some orlib)
       ]
 
-  module _ (k : ℕ) (r : Rule) {least most : ℕ} (at : slice_get form.top.rules k ≡ Some r)
+  module _ (k : ℕ) {r : Rule} {least most : ℕ} (at : slice_get form.top.rules k ≡ Some r)
       (parsed : r.parser ≡ Some (parser.Unsigned least most)) (place : has_place form k r ≡ true) where
     number_passes : (t : Text) → first_of r.id (rows_of (found_of m)) ≡ Some t → IsUnsignedIn least most t
     number_passes t said =
@@ -123,7 +122,7 @@ module _ {command : Command} {form : App} {words : List Text} {m : ArgMatches} (
 
     pub some_number_given : asks_value r ≡ true → HasNumber m r.id
     some_number_given asks =
-        let (t, said) = text_given k r at place asks in
+        let (t, said) = text_given k at place asks in
         (t, said, number_if_given t said)
 
     pub number_in_range : {o : Option ℕ} → SaysMaybeNumber (rows_of (found_of m)) r.id o
