@@ -7,6 +7,7 @@ use Rattle.std.specs.List.{list_any}
 use Rattle.std.specs.Str.{bytes_eq}
 use Rattle.std.proofs.lemmas.Bool.{or_cases}
 use Rattle.std.proofs.lemmas.Slice.Eq.{bytes_eq-Decides}
+use Rattle.std.proofs.lemmas.Bool.Decides.{nat_tests}
 use Rattle.clap.specs.Words.{App, Rule, Text, app_of, fault_of, first_of, found_of, is_simple_and_free, matches_of}
 use Rattle.clap.specs.Words.{rows_of, takes}
 use Rattle.clap.specs.Faults.{is_free_app}
@@ -51,9 +52,7 @@ module _ (names : Names) (word : Text) (words : List Text) (are : AreLayoutNames
   -- the form of the command `word` doesn't take the arguments
   pub rejected_by_form : {form : App} → form_of names word ≡ Some form → takes form words ≡ false
       → (fault_of form words ≡ [] → ⊥) → AsksForNothing word words
-  rejected_by_form {form} named denied faulty = rejected (rw named denied) (λ faultless.
-      let same : faultless.0 ≡ form = ap (λ o. unwrap_or o form) (sym faultless.1 ∙ named) in
-      faulty (subst (λ a. fault_of a words ≡ []) same faultless.2))
+  rejected_by_form {form} named denied faulty = rejected (rw named denied) (λ (app, is, none). faulty (cc))
 
   -- the same for the result of a failed parse by a command of that form
   pub fails : {app form : App} {fault : UsageFault} {parse : Result ArgMatches UsageFault}
@@ -64,8 +63,7 @@ module _ (names : Names) (word : Text) (words : List Text) (are : AreLayoutNames
   fails (Err fault) failed parsed is named simple denied faulty = record {
     job = tt;
     within = tt;
-    usage = λ e. rejected_by_form named (subst (λ a. takes a words ≡ false) is (denied (cc)))
-        (λ none. faulty (cc) (ap is_simple_and_free is ∙ simple) (subst (λ a. fault_of a words ≡ []) (sym is) none));
+    usage = λ e. rejected_by_form named (cc (denied (cc))) (λ none. faulty (cc) (cc) (cc));
   }
 
 -- ---- one argument
@@ -76,22 +74,11 @@ listed names a b t are any =
     let among : list_any (λ name. bytes_eq name t) (texts names) ≡ true =
     sym (list_any-map (λ name. bytes_eq name t) (λ s. s.now) names) ∙ any in
     let one : (bytes_eq a t || (bytes_eq b t || false)) ≡ true = rw are at among in
-    elim (or_cases _ _ one) [
-      | inl first ↦ inl (sym ((bytes_eq-Decides a t).0 first))
-      | inr others ↦ elim (or_cases _ _ others) [
-        | inl second ↦ inr (sym ((bytes_eq-Decides b t).0 second))
-        | inr none ↦ absurd (cc)
-      ]
-    ]
-
--- a number in any range of 64-bit numbers is a 64-bit number
-any_unsigned : (least most : ℕ) (t : Text) → IsUnsignedIn least most t → IsUnsignedIn 0 18446744073709551615 t
-any_unsigned least most t passed = let fits = passed.1 in (passed.0, fits, omega arith, omega arith)
+    grind (arith, nat_tests, bytes_eq-Decides)
 
 within_range : (least most : ℕ) (said : Option Text) → ((t : Text) → said ≡ Some t → IsUnsignedIn least most t)
     → IfSome (option_map number_said said) (λ n. (least ≤ n) × (n ≤ most))
-within_range least most None passes = tt
-within_range least most (Some t) passes = let passed = passes t refl in (passed.2, passed.3)
+within_range least most said passes = grind arith
 
 -- facts about the argument whose rule has index k in the form that `words` were parsed by
 module _ {command : Command} {form : App} {words : List Text} {m : ArgMatches} (parse : IsParseOf command words m)
@@ -118,10 +105,10 @@ module _ {command : Command} {form : App} {words : List Text} {m : ArgMatches} (
         form_passes command m form k r is parse.facts at place t said (parser.Unsigned least most) parsed
 
     pub number_if_given : MayHaveNumber m r.id
-    number_if_given t said = any_unsigned least most t (number_passes t said)
+    number_if_given t said = let (digits, fits, low, high) = number_passes t said in (digits, fits, omega arith, omega arith)
 
-    pub some_number_given : asks_value r ≡ true → HasNumber m r.id
-    some_number_given asks =
+    pub number_given : asks_value r ≡ true → HasNumber m r.id
+    number_given asks =
         let (t, said) = text_given k at place asks in
         (t, said, number_if_given t said)
 
@@ -131,7 +118,7 @@ module _ {command : Command} {form : App} {words : List Text} {m : ArgMatches} (
         subst (λ o. IfSome o (λ n. (least ≤ n) × (n ≤ most))) says (within_range least most _ number_passes)
 
   faultless : is_simple_and_free form ≡ true → fault_of form words ≡ []
-  faultless simple = subst (λ a. fault_of a words ≡ []) is (parse.faultless (ap is_simple_and_free is ∙ simple))
+  faultless simple = cc (parse.faultless (cc))
 
   rows_are : is_simple_and_free form ≡ true → rows_of (found_of m) ≡ matches_of form words
   rows_are simple =

@@ -1,24 +1,24 @@
 use Rattle.std.proofs.Common.{arith, rules, codes, refl}
-use Rattle.pfs_words.proofs.JobLemmas.{fails, layout_given, number_if_given, number_in_range, planned, some_number_given, text_given}
+use Rattle.pfs_words.proofs.JobLemmas.{fails, layout_given, number_if_given, number_in_range, planned, number_given, text_given}
 use Rattle.pfs_words.proofs.planning.plan_solve.Goals as goal
 
 pub number_in_if-requires : goal.number_in_if-requires
 number_in_if-requires c = number_if_given c.in_ok-matches.ensures.ok c.in_ok-solve_command.ensures 3 refl refl refl
 
 pub number_in-requires : goal.number_in-requires
-number_in-requires c = some_number_given c.in_ok-matches.ensures.ok c.in_ok-solve_command.ensures 2 refl refl refl refl
+number_in-requires c = number_given c.in_ok-matches.ensures.ok c.in_ok-solve_command.ensures 2 refl refl refl refl
 
 pub number_in-requires-2 : goal.number_in-requires-2
-number_in-requires-2 c = some_number_given c.in_ok-matches.ensures.ok c.in_ok-solve_command.ensures 4 refl refl refl refl
+number_in-requires-2 c = number_given c.in_ok-matches.ensures.ok c.in_ok-solve_command.ensures 4 refl refl refl refl
 
 pub number_in-requires-3 : goal.number_in-requires-3
-number_in-requires-3 c = some_number_given c.in_ok-matches.ensures.ok c.in_ok-solve_command.ensures 5 refl refl refl refl
+number_in-requires-3 c = number_given c.in_ok-matches.ensures.ok c.in_ok-solve_command.ensures 5 refl refl refl refl
 
 pub layout_in-requires : goal.layout_in-requires
 layout_in-requires c = layout_given c.in_ok-matches.ensures.ok c.in_ok-solve_command.ensures 0 refl refl (search rules)
 
 pub number_in-requires-4 : goal.number_in-requires-4
-number_in-requires-4 c = some_number_given c.in_ok-matches.ensures.ok c.in_ok-solve_command.ensures 1 refl refl refl refl
+number_in-requires-4 c = number_given c.in_ok-matches.ensures.ok c.in_ok-solve_command.ensures 1 refl refl refl refl
 
 pub path_in-requires : goal.path_in-requires
 path_in-requires c = text_given c.in_ok-matches.ensures.ok c.in_ok-solve_command.ensures 7 refl refl refl

@@ -1,12 +1,12 @@
 use Rattle.std.proofs.Common.{rules, codes, refl}
-use Rattle.pfs_words.proofs.JobLemmas.{fails, layout_given, number_in_range, planned, some_number_given, text_given}
+use Rattle.pfs_words.proofs.JobLemmas.{fails, layout_given, number_in_range, planned, number_given, text_given}
 use Rattle.pfs_words.proofs.planning.plan_table.Goals as goal
 
 pub layout_in-requires : goal.layout_in-requires
 layout_in-requires c = layout_given c.in_ok-matches.ensures.ok c.in_ok-command.ensures 0 refl refl (search rules)
 
 pub number_in-requires : goal.number_in-requires
-number_in-requires c = some_number_given c.in_ok-matches.ensures.ok c.in_ok-command.ensures 1 refl refl refl refl
+number_in-requires c = number_given c.in_ok-matches.ensures.ok c.in_ok-command.ensures 1 refl refl refl refl
 
 pub path_in-requires : goal.path_in-requires
 path_in-requires c = text_given c.in_ok-matches.ensures.ok c.in_ok-command.ensures 2 refl refl refl
