@@ -76,10 +76,6 @@ listed names a b t are any =
     let one : (bytes_eq a t || (bytes_eq b t || false)) ≡ true = rw are at among in
     grind (arith, nat_tests, bytes_eq-Decides)
 
-within_range : (least most : ℕ) (said : Option Text) → ((t : Text) → said ≡ Some t → IsUnsignedIn least most t)
-    → IfSome (option_map number_said said) (λ n. (least ≤ n) × (n ≤ most))
-within_range least most said passes = grind arith
-
 -- facts about the argument whose rule has index k in the form that `words` were parsed by
 module _ {command : Command} {form : App} {words : List Text} {m : ArgMatches} (parse : IsParseOf command words m)
     (is : app_of command ≡ form) where
@@ -115,15 +111,15 @@ module _ {command : Command} {form : App} {words : List Text} {m : ArgMatches} (
     pub number_in_range : {o : Option ℕ} → SaysMaybeNumber (rows_of (found_of m)) r.id o
         → IfSome o (λ n. (least ≤ n) × (n ≤ most))
     number_in_range says =
-        subst (λ o. IfSome o (λ n. (least ≤ n) × (n ≤ most))) says (within_range least most _ number_passes)
+        let within = number_passes in rw (← says) (grind arith)
 
   faultless : is_simple_and_free form ≡ true → fault_of form words ≡ []
   faultless simple = cc (parse.faultless (cc))
 
   rows_are : is_simple_and_free form ≡ true → rows_of (found_of m) ≡ matches_of form words
   rows_are simple =
-      let simple_form = (both (is_simple form) (is_free_app (built form)) simple).0 in
-      (parse.rows (ap is_simple is ∙ simple_form)).0 ∙ ap (λ a. matches_of a words) is
+      let (simple_form, free) = both (is_simple form) (is_free_app (built form)) simple in
+      cc ((parse.rows (cc)).0)
 
   -- a job whose values the parse has is what the command line asks for
   pub planned : (names : Names) (word : Text) → AreLayoutNames names → form_of names word ≡ Some form
