@@ -1,11 +1,10 @@
 -- What a parse by a form gives to the functions that read a job's values.
 use Rattle.std.proofs.Common.{◌≡◌, ◌∙◌, ◌⊎◌, ◌≤◌, ◌||◌, ℕ, true, false, ap, inl, inr, List, [], ◌∷◌}
-use Rattle.std.proofs.Common.{Option, Some, None, Ok, Err, arith, option_map, refl, subst, sym, unwrap_or}
+use Rattle.std.proofs.Common.{Option, Some, Ok, Err, arith, refl, sym}
 use Rattle.std.specs.Prelude.{IfSome, Result, slice_get}
 use Rattle.std.specs.Borrow.{Bor}
 use Rattle.std.specs.List.{list_any}
 use Rattle.std.specs.Str.{bytes_eq}
-use Rattle.std.proofs.lemmas.Bool.{or_cases}
 use Rattle.std.proofs.lemmas.Slice.Eq.{bytes_eq-Decides}
 use Rattle.std.proofs.lemmas.Bool.Decides.{nat_tests}
 use Rattle.clap.specs.Words.{App, Rule, Text, app_of, fault_of, first_of, found_of, is_simple_and_free, matches_of}
@@ -20,7 +19,7 @@ use Rattle.clap.specs.declared.parser.matches.ArgMatches.{ArgMatches}
 use Rattle.clap.proofs.WalkLemmas.{both, list_any-map}
 use Rattle.pfs_words.specs.Commands.{AreLayoutNames, Names, form_of, layout_name, layout_rule}
 use Rattle.pfs_words.specs.Jobs.{IsFaultlessLine, AsksFor, AsksForNothing, IsWithinLimits, SaysJob, SaysMaybeNumber}
-use Rattle.pfs_words.specs.Jobs.{command_of, number_said, takes_line}
+use Rattle.pfs_words.specs.Jobs.{command_of, takes_line}
 use Rattle.pfs_words.specs.Private.Parses.{HasLayout, HasNumber, HasTextAt, IsParseOf, MayHaveNumber, Plans}
 use Rattle.pfs_words.specs.declared.job.Job.{Job}
 use Rattle.pfs_words.specs.declared.usage.UsageFault.{UsageFault}
@@ -113,22 +112,16 @@ module _ {command : Command} {form : App} {words : List Text} {m : ArgMatches} (
     number_in_range says =
         let within = number_passes in rw (← says) (grind arith)
 
-  faultless : is_simple_and_free form ≡ true → fault_of form words ≡ []
-  faultless simple = cc (parse.faultless (cc))
-
-  rows_are : is_simple_and_free form ≡ true → rows_of (found_of m) ≡ matches_of form words
-  rows_are simple =
-      let (simple_form, free) = both (is_simple form) (is_free_app (built form)) simple in
-      cc ((parse.rows (cc)).0)
-
   -- a job whose values the parse has is what the command line asks for
   pub planned : (names : Names) (word : Text) → AreLayoutNames names → form_of names word ≡ Some form
       → is_simple_and_free form ≡ true → (job : Job) → word ≡ command_of job → SaysJob (rows_of (found_of m)) job
       → IsWithinLimits job → Plans word words (Ok job)
   unfolding AsksFor
-  planned names word are named simple job same says within = record {
-    job =
-        (names, are, same, ((form, named, faultless simple), subst (λ rows. SaysJob rows job) (rows_are simple) says));
-    within = within;
-    usage = λ bad. cc;
-  }
+  planned names word are named simple job same says within =
+      let faultless : fault_of form words ≡ [] = cc (parse.faultless (cc)) in
+      let (simple_form, free) = both (is_simple form) (is_free_app (built form)) simple in
+      let rows : rows_of (found_of m) ≡ matches_of form words = cc ((parse.rows (cc)).0) in record {
+        job = (names, are, same, ((form, named, faultless), rw rows at says));
+        within = within;
+        usage = λ bad. cc;
+      }
