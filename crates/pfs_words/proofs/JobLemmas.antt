@@ -100,7 +100,8 @@ module _ {command : Command} {form : App} {words : List Text} {m : ArgMatches} (
         form_passes command m form k r is parse.facts at place t said (parser.Unsigned least most) parsed
 
     pub number_if_given : MayHaveNumber m r.id
-    number_if_given t said = let (digits, fits, low, high) = number_passes t said in (digits, fits, omega arith, omega arith)
+    number_if_given t said =
+        let (digits, fits, low, high) = number_passes t said in (digits, fits, omega arith, omega arith)
 
     pub number_given : asks_value r ≡ true → HasNumber m r.id
     number_given asks =

@@ -1,5 +1,6 @@
 use Rattle.std.proofs.Common.{arith, rules, codes, refl}
-use Rattle.pfs_words.proofs.JobLemmas.{fails, layout_given, number_if_given, number_in_range, planned, number_given, text_given}
+use Rattle.pfs_words.proofs.JobLemmas.{fails, layout_given, number_given, number_if_given, number_in_range, planned}
+use Rattle.pfs_words.proofs.JobLemmas.{text_given}
 use Rattle.pfs_words.proofs.planning.plan_solve.Goals as goal
 
 pub number_in_if-requires : goal.number_in_if-requires
