@@ -11,11 +11,6 @@ returns-in_err-file g c = λ input unread.
 pub returns : goal.returns
 returns g c = λ input unread.
     let run = c.run_engine-returned in
-    let opens = c.in_ok-file in
-    let left = g.F.File.Source.left in
-    let ended = g.F.File.Source.has_ended in
-    let file = source_use (left opens.file) (left run.new.file) (g.F.File.Source.has_failed run.new.file)
-    (ended opens.file) (ended run.new.file) in
-    gives_run c.args.job.now _ input _ (file ∷ []) _ _ _ _ c.ending.ensures c.requires.path
-    (reads_file _ _ _ file opens.ensures.given opens.ensures.fresh opens.ensures.log c.close.ensures.log)
-    (run.ensures input unread)
+    let opens = c.in_ok-file.ensures in
+    gives_run c.args.job.now _ input _ _ _ _ _ _ c.ending.ensures c.requires.path
+    (reads_file _ _ _ _ opens.given opens.fresh opens.log c.close.ensures.log) (run.ensures input unread)

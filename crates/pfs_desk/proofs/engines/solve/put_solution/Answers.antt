@@ -18,19 +18,11 @@ put_named-requires-clause-fits g c =
 
 pub returns-then-with_cells : goal.returns-then-with_cells
 returns-then-with_cells g c =
-    let old = g.W.Sink.written c.args.writer.now in
-    let new = g.W.Sink.written c.put_named.new.writer in
-    let failed = g.W.Sink.has_failed c.put_named.new.writer in
-    let Printed : List ℕ → Type 0 = λ text. Sends old new failed 0 text c.put_named.result in
-    subst Printed (sym (solution_counted c.args.solution.now.order c.args.machines c.args.solution.now.makespan
-    c.args.with_cells c.args.solution.now.cells c.if-with_cells.true))
+    rw (solution_counted c.args.solution.now.order c.args.machines c.args.solution.now.makespan c.args.with_cells
+        c.args.solution.now.cells c.if-with_cells.true)
     (then_sends _ _ _ c.put_named.result c.in_ok-sent.ensures c.put_named.ensures.text)
 
 pub returns-else-with_cells : goal.returns-else-with_cells
 returns-else-with_cells g c =
-    let old = g.W.Sink.written c.args.writer.now in
-    let new = g.W.Sink.written c.write_order.new.writer in
-    let failed = g.W.Sink.has_failed c.write_order.new.writer in
-    let Printed : List ℕ → Type 0 = λ text. SendsAll old new failed 0 text c.in_ok-sent.sent in
-    subst Printed (sym (solution_alone c.args.solution.now.order c.args.machines c.args.solution.now.makespan
-    c.args.with_cells c.args.solution.now.cells c.if-with_cells.false)) c.in_ok-sent.ensures
+    rw (solution_alone c.args.solution.now.order c.args.machines c.args.solution.now.makespan c.args.with_cells
+        c.args.solution.now.cells c.if-with_cells.false) c.in_ok-sent.ensures
