@@ -31,9 +31,7 @@ asks_for f [] asked none some = none refl
 asks_for f (x ∷ xs) asked none some = some (f x) (map f xs) refl
 
 appended : (b c : Option (List ℕ)) (text : List ℕ) → Appends (Some []) b text → Keeps b c → c ≡ Some text
-appended None c text p q = absurd p
-appended (Some y) None text p q = absurd q
-appended (Some y) (Some z) text p q = ap Some (q ∙ p)
+appended b c text p q = grind arith
 
 -- a prefix of a prefix of a text is a prefix of the text
 front_of_parts : (out : Option (List ℕ)) (held : List ℕ) (sent k reported : ℕ) (text : List ℕ)
@@ -59,13 +57,7 @@ none_of_none (x ∷ xs) held p = cc
 -- a stop that reports no failed write is kept
 stays : (stop : Stop) (held : List ℕ) (sent : ℕ) (ended : Result Outcome Stop) → reports_write (Err stop) ≡ false
     → EndsOutput (Err stop) held sent ended → ended ≡ Err stop
-stays stops_for.Usage held sent ended unwritten q = q
-stays stops_for.Open held sent ended unwritten q = q
-stays (stops_for.Fault (faults.Layout fault)) held sent ended unwritten q = q
-stays (stops_for.Fault (faults.Order fault)) held sent ended unwritten q = q
-stays (stops_for.Fault (faults.TakeRange taken jobs)) held sent ended unwritten q = q
-stays (stops_for.Fault (faults.Write fault)) held sent ended unwritten q = absurd (true≢false unwritten)
-stays (stops_for.Fault faults.Memory) held sent ended unwritten q = q
+stays stop held sent ended unwritten q = grind arith
 
 module _ {W : Type 0} (written : W → Option (List ℕ)) (old mid new : Buffering W)
     (kept : Keeps (bytes_given written mid) (bytes_given written new)) where
@@ -100,18 +92,17 @@ module _ {W : Type 0} (written : W → Option (List ℕ)) (old mid new : Bufferi
       → EndsOutput reached new.held new.sent ended
       → WritesText (IsNew written old) (sent_on failed') returned ended
   writes_text failed failed' (prints outcome text) reached ended t t' (inl p) q =
-      all-stand (subst (λ r. EndsOutput r new.held new.sent ended) p.0 q) where
-        all-stand : EndsOutput (Ok outcome) new.held new.sent ended
-            → WritesText (IsNew written old) (sent_on failed') (prints outcome text) ended
-        all-stand (inl r) = inl (r.0, λ fresh. given_all written new text (given-text text p.1 fresh) r.1)
-        all-stand (inr r) = inr (front_reported text (length text) ended (rw (take-length text) p.1) r)
+      let ends : EndsOutput (Ok outcome) new.held new.sent ended = rw p.0 at q in
+      elim ends [
+        | inl r ↦ inl (r.0, λ fresh. given_all written new text (given-text text p.1 fresh) r.1)
+        | inr r ↦ inr (front_reported text (length text) ended (rw (take-length text) p.1) r)
+      ]
   writes_text failed failed' (prints outcome text) reached ended t t' (inr p) q =
-      inr (front_reported text _ ended p.front.bytes (subst (λ r. EndsOutput r new.held new.sent ended) p.reported q))
+      inr (front_reported text _ ended p.front.bytes (rw p.reported at q))
   writes_text failed failed' (stops stop) reached ended t t' p q =
-      let unwritten : reports_write (Err stop) ≡ false = subst (λ r. reports_write r ≡ false) p.0 (sym t ∙ p.1) in
-      let same = stays stop new.held new.sent ended unwritten
-      (subst (λ r. EndsOutput r new.held new.sent ended) p.0 q) in
-      (same, t' ∙ subst (λ r. reports_write r ≡ false) (sym same) unwritten, given-nothing p.2)
+      let unwritten : reports_write (Err stop) ≡ false = rw p.0 at (sym t ∙ p.1) in
+      let same = stays stop new.held new.sent ended unwritten (rw p.0 at q) in
+      (same, t' ∙ rw same unwritten, given-nothing p.2)
 
 -- the arguments are invalid, or a memory allocation failed
 rejects_words : {A : Type 0} (f : A → List ℕ) (words : List A) (fault : UsageFault) → (words ≡ [] → ⊥)
@@ -135,5 +126,5 @@ gives_rejection f words state log input fresh output fault ended e unread workin
   returned = stops (usage_stop fault);
   is_result = inl (record { rejected = rejects_words f words fault some usage; none_opened = refl; unread = unread });
   is_written = (e, working, nothing);
-  write_failed = working ∙ sym (subst (λ r. reports_write r ≡ false) (sym e) (usage_reports fault));
+  write_failed = rw e (working ∙ sym (usage_reports fault));
 }
