@@ -1,6 +1,6 @@
 -- From what is written into a buffer to what its writer has after the buffer was flushed.
 use Rattle.std.proofs.Common.{◌≡◌, ℕ, ◌≤◌, Bool, false, List, [], ◌∷◌, ◌++◌, Option, None, Some, Result, Ok, Err}
-use Rattle.std.proofs.Common.{length, map, take, sym, ap, subst, ◌∙◌, refl, arith, take-take, inl, inr, true≢false}
+use Rattle.std.proofs.Common.{length, map, take, sym, ap, ◌∙◌, refl, arith, take-take, inl, inr}
 use Rattle.std.proofs.Common.{length-append, length-take}
 use Rattle.std.proofs.Math.Seq.{take-append_seam, take-length}
 use Rattle.std.specs.Io.KnownBytes.{Appends, Keeps}
@@ -12,10 +12,8 @@ use Rattle.pfs_words.specs.declared.job.Job.TheVariants as job
 use Rattle.pfs_words.specs.Jobs.{AsksFor, AsksForNothing}
 use Rattle.pfs_words.specs.declared.usage.UsageFault.{UsageFault}
 use Rattle.pfs_words.specs.declared.usage.UsageFault.TheVariants as usage_faults
-use Rattle.pfs_desk.specs.declared.fault.DeskFault.TheVariants as faults
 use Rattle.pfs_desk.specs.declared.fault.Outcome.{Outcome}
 use Rattle.pfs_desk.specs.declared.stop.Stop.{Stop}
-use Rattle.pfs_desk.specs.declared.stop.Stop.TheVariants as stops_for
 use Rattle.pfs_desk.specs.Private.Ending.{EndsOutput, ReportsSent}
 use Rattle.pfs_desk.specs.Uses.{IsUnread, SinkUse, SourceUse, files_use, sink_use}
 use Rattle.pfs_desk.specs.Program.{JobResult, prints, stops, WritesResult, reports_write}

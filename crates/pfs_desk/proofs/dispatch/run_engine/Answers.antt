@@ -1,5 +1,3 @@
-use Rattle.std.proofs.Common.{◌≡◌, length}
-use Rattle.pfs_desk.specs.Program.{paths_of}
 use Rattle.pfs_desk.proofs.RunLemmas.{gives_on, value_file}
 use Rattle.pfs_desk.proofs.dispatch.run_engine.Goals as goal
 

@@ -1,8 +1,7 @@
-use Rattle.std.proofs.Common.{[], ◌∙◌, ap, refl, subst, sym}
+use Rattle.std.proofs.Common.{[], ◌∙◌, ap, refl, sym}
 use Rattle.pfs_words.specs.declared.job.Job.TheVariants.{Value}
 use Rattle.pfs_desk.specs.Engine.{layout_fault_of}
-use Rattle.pfs_desk.specs.Uses.{files_use, source_use}
-use Rattle.pfs_desk.specs.Program.{ReturnsFor, paths_of}
+use Rattle.pfs_desk.specs.Program.{paths_of}
 use Rattle.pfs_desk.proofs.RunLemmas.{gives_ending, gives_on, gives_run, reads_none, reported_by}
 use Rattle.pfs_desk.proofs.dispatch.run_job.Goals as goal
 

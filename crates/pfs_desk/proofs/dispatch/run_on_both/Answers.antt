@@ -1,5 +1,4 @@
-use Rattle.std.proofs.Common.{[], ◌∷◌, rules}
-use Rattle.pfs_desk.specs.Uses.{source_use}
+use Rattle.std.proofs.Common.{rules}
 use Rattle.pfs_desk.proofs.RunLemmas.{gives_one_closed, gives_run, reads_files}
 use Rattle.pfs_desk.proofs.dispatch.run_on_both.Goals as goal
 

@@ -1,5 +1,4 @@
-use Rattle.std.proofs.Common.{List, ℕ, sym, subst, rules}
-use Rattle.pfs_base.specs.Sends.{Sends, SendsAll}
+use Rattle.std.proofs.Common.{rules}
 use Rattle.pfs_base.proofs.Published.SendsLemmas.{then_sends}
 use Rattle.pfs_desk.proofs.OutputLemmas.{valid_optimal, valid_alone, valid_front}
 use Rattle.pfs_desk.proofs.engines.check.put_valid.Goals as goal

@@ -1,5 +1,4 @@
-use Rattle.std.proofs.Common.{List, ℕ, sym, subst, arith, rules}
-use Rattle.pfs_base.specs.Sends.{Sends, SendsAll}
+use Rattle.std.proofs.Common.{arith, rules}
 use Rattle.pfs_base.proofs.Published.SendsLemmas.{then_sends}
 use Rattle.pfs_desk.proofs.SolveLemmas.{file_short, solution_counted, solution_alone, solution_front}
 use Rattle.pfs_desk.proofs.engines.solve.put_solution.Goals as goal
@@ -19,10 +18,10 @@ put_named-requires-clause-fits g c =
 pub returns-then-with_cells : goal.returns-then-with_cells
 returns-then-with_cells g c =
     rw (solution_counted c.args.solution.now.order c.args.machines c.args.solution.now.makespan c.args.with_cells
-        c.args.solution.now.cells c.if-with_cells.true)
+    c.args.solution.now.cells c.if-with_cells.true)
     (then_sends _ _ _ c.put_named.result c.in_ok-sent.ensures c.put_named.ensures.text)
 
 pub returns-else-with_cells : goal.returns-else-with_cells
 returns-else-with_cells g c =
     rw (solution_alone c.args.solution.now.order c.args.machines c.args.solution.now.makespan c.args.with_cells
-        c.args.solution.now.cells c.if-with_cells.false) c.in_ok-sent.ensures
+    c.args.solution.now.cells c.if-with_cells.false) c.in_ok-sent.ensures

@@ -1,5 +1,4 @@
-use Rattle.std.proofs.Common.{◌≡◌, List, ℕ, sym, subst, arith, rules}
-use Rattle.pfs_base.specs.Sends.{Sends}
+use Rattle.std.proofs.Common.{◌≡◌, arith, rules}
 use Rattle.pfs_base.proofs.Published.SendsLemmas.{then_sends}
 use Rattle.pfs_desk.proofs.TableLemmas.{row_job_front, row_job, row_start_front, row_end_front, row_next, row_end}
 use Rattle.pfs_desk.proofs.engines.table.put_row.Goals as goal

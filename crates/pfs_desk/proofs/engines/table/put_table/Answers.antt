@@ -1,5 +1,4 @@
-use Rattle.std.proofs.Common.{◌≡◌, List, ℕ, sym, ◌∙◌, subst, arith, rules}
-use Rattle.pfs_base.specs.Sends.{Sends, SendsAll}
+use Rattle.std.proofs.Common.{◌≡◌, ◌∙◌, arith, rules}
 use Rattle.pfs_base.proofs.Published.SendsLemmas.{then_all, then_front, then_sends}
 use Rattle.pfs_desk.proofs.TableLemmas.{sizes_front, table_to-zero, table_to-more, table_front, table_end}
 use Rattle.pfs_desk.proofs.engines.table.put_table.Goals as goal
@@ -32,5 +31,5 @@ pub returns : goal.returns
 returns g c =
     let all : c.loop-row.row ≡ c.rows-row-end.result = omega (arith, c.loop-row-test.false, c.loop-row.auto.row-end) in
     rw (table_end c.args.table.now c.loop-row.row c.makespan.result (all ∙ c.rows-row-end.ensures.value)
-        c.makespan.ensures)
+    c.makespan.ensures)
     (then_sends _ _ _ c.put_named.result c.loop-row.invariant.sends c.put_named.ensures.text)
