@@ -111,8 +111,7 @@ rejects_words f (x ∷ xs) usage_faults.Usage some usage = usage (f x) (map f xs
 rejects_words f (x ∷ xs) usage_faults.Memory some usage = tt
 
 usage_reports : (fault : UsageFault) → reports_write (Err (usage_stop fault)) ≡ false
-usage_reports usage_faults.Usage = refl
-usage_reports usage_faults.Memory = refl
+usage_reports fault = grind arith
 
 pub gives_rejection : {A : Type 0} (f : A → List ℕ) (words : List A) (state : List ℕ → FileState)
     (log : Option (List FileEvent)) (input : SourceUse) (fresh : Type 0) (output : SinkUse)

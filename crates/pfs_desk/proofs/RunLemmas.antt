@@ -69,11 +69,11 @@ gives_stop Comes writer stop ended e reports nothing comes = record {
 }
 
 opening_reports : (fault : OpenFault) → reports_write (Err (open_stop fault)) ≡ false
-opening_reports open_faults.Closed = refl
-opening_reports open_faults.Memory = refl
+opening_reports fault = grind arith
 
 module _ (disk : FilesUse) where
-  stops_first : (path : List ℕ) (rest : List (List ℕ)) (fault : OpenFault) → MayFail (disk.state path) fault
+  -- the first path of a job could not be opened
+  pub stops_first : (path : List ℕ) (rest : List (List ℕ)) (fault : OpenFault) → MayFail (disk.state path) fault
       → Did disk (not_opened path fault ∷ [])
       → StopsAtPath disk (path ∷ rest) (stops (open_stop fault))
   stops_first path rest fault may events = record {
@@ -89,7 +89,8 @@ module _ (disk : FilesUse) where
     reported = refl;
   }
 
-  stops_one : (path order_path : List ℕ) (fault : OpenFault) → OneFails disk path order_path fault
+  -- one of two paths could not be opened
+  pub stops_one : (path order_path : List ℕ) (fault : OpenFault) → OneFails disk path order_path fault
       → StopsAtPath disk (path ∷ order_path ∷ []) (stops (open_stop fault))
   stops_one path order_path fault (inl p) = stops_first path (order_path ∷ []) fault p.may_fail p.events
   stops_one path order_path fault (inr p) = record {
@@ -105,23 +106,14 @@ module _ (disk : FilesUse) where
     reported = refl;
   }
 
-  -- the only path of a job, or the first of two, or the second, could not be opened
-  pub gives_closed : (asked : Job) (path : List ℕ) (input : SourceUse) (old : Option (List ℕ)) (failed : Bool)
-      (fault : OpenFault) (ended : Result Outcome Stop) → paths_of asked ≡ path ∷ [] → IsUnread input → failed ≡ false
-      → ended ≡ Err (open_stop fault) → MayFail (disk.state path) fault → Did disk (not_opened path fault ∷ [])
+  -- a path of the job could not be opened
+  pub gives_closed : (asked : Job) (paths : List (List ℕ)) (input : SourceUse) (old : Option (List ℕ)) (failed : Bool)
+      (fault : OpenFault) (ended : Result Outcome Stop) → paths_of asked ≡ paths → IsUnread input → failed ≡ false
+      → ended ≡ Err (open_stop fault) → StopsAtPath disk paths (stops (open_stop fault))
       → Delivers (RunsJob asked disk input) WritesResult (sink_use old old failed) ended
-  gives_closed asked path input old failed fault ended one unread working e may events =
+  gives_closed asked paths input old failed fault ended are unread working e closed =
       gives_stop _ _ (open_stop fault) ended e (opening_reports fault) (record { working = working; kept = refl })
-      (inl (unread, rw one (stops_first path [] fault may events)))
-
-  pub gives_one_closed : (asked : Job) (path order_path : List ℕ) (input : SourceUse) (old : Option (List ℕ))
-      (failed : Bool) (fault : OpenFault) (ended : Result Outcome Stop) → paths_of asked ≡ path ∷ order_path ∷ []
-      → IsUnread input → failed ≡ false → ended ≡ Err (open_stop fault)
-      → OneFails disk path order_path fault
-      → Delivers (RunsJob asked disk input) WritesResult (sink_use old old failed) ended
-  gives_one_closed asked path order_path input old failed fault ended two unread working e rejects =
-      gives_stop _ _ (open_stop fault) ended e (opening_reports fault) (record { working = working; kept = refl })
-      (inl (unread, rw two (stops_one path order_path fault rejects)))
+      (inl (unread, rw are closed))
 
 -- the result of an engine as a `JobResult`
 module _ (Output : Outcome → List ℕ → Type 0) (IsFault : DeskFault → Type 0) (writer : SinkUse)
@@ -145,14 +137,10 @@ module _ (Output : Outcome → List ℕ → Type 0) (IsFault : DeskFault → Typ
     is_written = inr (record { fault = fault; reported = refl; front = w.front });
     write_failed = w.front.stopped;
   }
-  gives_ending (Err (faults.Layout fault)) w f comes =
-      gives_stop Comes writer (Fault (faults.Layout fault)) _ refl refl w (comes _ f refl refl)
-  gives_ending (Err (faults.Order fault)) w f comes =
-      gives_stop Comes writer (Fault (faults.Order fault)) _ refl refl w (comes _ f refl refl)
-  gives_ending (Err (faults.TakeRange take jobs)) w f comes =
-      gives_stop Comes writer (Fault (faults.TakeRange take jobs)) _ refl refl w (comes _ f refl refl)
-  gives_ending (Err faults.Memory) w f comes =
-      gives_stop Comes writer (Fault faults.Memory) _ refl refl w (comes _ f refl refl)
+  gives_ending (Err (faults.Layout fault)) w f comes = gives_stop _ _ _ _ refl refl w (comes _ f refl refl)
+  gives_ending (Err (faults.Order fault)) w f comes = gives_stop _ _ _ _ refl refl w (comes _ f refl refl)
+  gives_ending (Err (faults.TakeRange take jobs)) w f comes = gives_stop _ _ _ _ refl refl w (comes _ f refl refl)
+  gives_ending (Err faults.Memory) w f comes = gives_stop _ _ _ _ refl refl w (comes _ f refl refl)
 
 -- a job delivers what its engine delivers on its files, which were opened, read and closed
 pub gives_run : (asked : Job) (disk : FilesUse) (input : SourceUse) (paths : List (List ℕ)) (files : List SourceUse)

@@ -1,11 +1,11 @@
 use Rattle.std.proofs.Common.{rules}
-use Rattle.pfs_desk.proofs.RunLemmas.{gives_one_closed, gives_run, reads_files}
+use Rattle.pfs_desk.proofs.RunLemmas.{gives_closed, gives_run, reads_files, stops_one}
 use Rattle.pfs_desk.proofs.dispatch.run_on_both.Goals as goal
 
 pub returns-in_err-file : goal.returns-in_err-file
 returns-in_err-file g c = λ input unread.
-    gives_one_closed _ _ c.args.path.now c.args.order_path.now input _ _ c.in_err-file.field-0.0 _ c.requires.paths
-    unread c.requires.writing (search rules) c.in_err-file.ensures.fails
+    gives_closed _ _ _ input _ _ c.in_err-file.field-0.0 _ c.requires.paths unread c.requires.writing (search rules)
+    (stops_one _ c.args.path.now c.args.order_path.now _ c.in_err-file.ensures.fails)
 
 pub returns : goal.returns
 returns g c = λ input unread.

@@ -17,14 +17,7 @@ returns-in_err-put_verdict-clause-written g c =
     record {
       outcome = outcome_of verdict;
       text = verdict_text verdict;
-      is_output = record {
-        problem = c.in_ok-instance.instance;
-        stated = c.in_ok-file.file;
-        holds = c.in_ok-instance.ensures.file;
-        states = c.in_ok-file.ensures.accepted;
-        checked = ap outcome_of c.in_ok-verdict.ensures.verdict;
-        spelled = ap verdict_text c.in_ok-verdict.ensures.verdict;
-      };
+      is_output = search rules;
       front = c.in_err-put_verdict.ensures;
     }
     in

@@ -1,7 +1,8 @@
 use Rattle.std.proofs.Common.{◌≡◌, length, ap, ◌∙◌, sym, rules}
 use Rattle.pfs_audit.specs.Verdicts.{SizesMatch}
 use Rattle.pfs_desk.specs.OutputText.{table_text, IsLeastTable}
-use Rattle.pfs_desk.proofs.OutputLemmas.{wrong_size_prints, wrong_machines_prints, fitting_prints, least_of, table_stops}
+use Rattle.pfs_desk.proofs.OutputLemmas.{fitting_prints, least_of, table_stops, wrong_machines_prints}
+use Rattle.pfs_desk.proofs.OutputLemmas.{wrong_size_prints}
 use Rattle.pfs_desk.proofs.engines.table.run_table.Goals as goal
 
 pub returns-in_err-put_verdict-clause-written : goal.returns-in_err-put_verdict-clause-written
@@ -47,16 +48,6 @@ returns-2-clause-written g c =
     let shop = c.in_ok-instance.instance.shop in
     let fits : SizesMatch shop c.in_ok-file.file = search rules in
     let least : IsLeastTable shop c.order-order.result.now c.in_ok-table.table = search rules in
-    record {
-      text = table_text c.in_ok-table.table;
-      is_output = record {
-        problem = c.in_ok-instance.instance;
-        stated = c.in_ok-file.file;
-        holds = c.in_ok-instance.ensures.file;
-        states = c.in_ok-file.ensures.accepted;
-        prints = fitting_prints shop c.in_ok-file.file c.in_ok-table.table fits
-            (least_of shop c.order-order.result.now _ c.in_ok-table.table c.order-order.ensures.value least);
-      };
-      working = c.in_ok-put_table.ensures.working;
-      bytes = c.in_ok-put_table.ensures.bytes;
-    }
+    let prints = fitting_prints shop c.in_ok-file.file c.in_ok-table.table fits
+    (least_of shop c.order-order.result.now _ c.in_ok-table.table c.order-order.ensures.value least) in
+    search rules
