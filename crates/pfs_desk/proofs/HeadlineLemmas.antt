@@ -67,7 +67,7 @@ module _ (layout : Layout) (file : List ℕ) (block : ℕ) (some : 1 ≤ block) 
       → (Some fault ≡ Some layout_faults.Read → reader_failed ≡ true) → IsResult (rejecting fault)
   rejected_file fault nothing rejects failed =
       let reported : ReadsOn reader_failed (rejecting fault) → RejectsInstance layout file block fault =
-      λ reads. rejects (λ e. true≢false (sym (failed (ap Some e)) ∙ reads.reading)) (λ e. reads.room (ap rejecting e)) in
+      λ reads. rejects (λ e. cc (failed (ap Some e), reads.reading)) (λ e. reads.room (ap rejecting e)) in
       record {
         accepted = λ problem holds few runs. absurd (not_both problem fault holds (reported runs.reads));
         rejected = λ other rejects_other reads. record {
@@ -103,7 +103,7 @@ module _ (layout : Layout) (file : List ℕ) (block : ℕ) (some : 1 ≤ block) 
       let solution = front.is_output.solution in
       let few = solution.few_taken in
       held front.is_output.problem front.is_output.holds (rw solution.taken at few)
-      (λ runs. absurd (true≢false (sym front.front.stopped ∙ runs.writing)))
+      (λ runs. cc (front.front.stopped, runs.writing))
   has_result (Err faults.Memory) writes allowed read =
       held allowed.problem allowed.holds allowed.within (λ runs. absurd (runs.room refl))
 

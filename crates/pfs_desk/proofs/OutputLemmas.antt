@@ -6,14 +6,9 @@ use Rattle.pfs_base.specs.Text.{with_line_end}
 use Rattle.pfs_base.specs.Sends.{SendsFront}
 use Rattle.pfs_base.proofs.Published.SendsLemmas.{front_of}
 use Rattle.pfs_base.specs.FlowShop.{FlowShop}
-use Rattle.pfs_base.specs.Problem.{Problem}
-use Rattle.pfs_layout.specs.declared.layout.Layout.{Layout}
 use Rattle.pfs_order.specs.Sequence.{StatedOrder}
 use Rattle.pfs_audit.specs.Schedule.{Timing}
 use Rattle.pfs_audit.specs.Verdicts.{SizesMatch}
-use Rattle.pfs_desk.specs.Engine.{Holds, States, TableOutput, WritesFront}
-use Rattle.pfs_desk.specs.Uses.{sink_use}
-use Rattle.pfs_desk.specs.declared.fault.Outcome.{Outcome}
 use Rattle.pfs_desk.specs.declared.fault.Outcome.TheVariants.{Done, CheckFailed}
 use Rattle.pfs_desk.specs.OutputText.{finding, valid_text, wrong_size_text, wrong_machines_text, table_text}
 use Rattle.pfs_desk.specs.OutputText.{IsLeastTable, TablePrints}
@@ -67,17 +62,4 @@ fitting_prints shop file timing fits least = record {
   fits = λ same. (refl, (timing, least, refl));
   wrong_size = λ other. absurd (other fits.jobs);
   wrong_machines = λ same stated is other. absurd (other (rw is at fits.machines));
-}
-
--- what `table` writes before a write fails, for a problem and an order file with this output
-pub table_stops : (layout : Layout) (file : Option (List ℕ)) (block : ℕ) (order_file : Option (List ℕ))
-    (problem : Problem) (stated : StatedOrder) {outcome : Outcome} {text : List ℕ} {old new : Option (List ℕ)}
-    {failed : Bool} {written : ℕ} → Holds layout file block problem → States order_file stated
-    → TablePrints problem.shop stated outcome text → SendsFront old new failed 0 text written
-    → WritesFront (TableOutput layout file block order_file) (sink_use old new failed) written
-table_stops layout file block order_file problem stated {outcome} {text} holds states prints front = record {
-  outcome = outcome;
-  text = text;
-  is_output = record { problem = problem; stated = stated; holds = holds; states = states; prints = prints };
-  front = front;
 }

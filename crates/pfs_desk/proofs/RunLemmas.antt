@@ -25,12 +25,10 @@ use Rattle.pfs_desk.specs.FileState.{FileState, FileEvent, Logs, MayOpen, MayFai
 
 pub logs_then : (a b c : Option (List FileEvent)) (xs ys : List FileEvent) → Logs a b xs → Logs b c ys
     → Logs a c (xs ++ ys)
-logs_then None b c xs ys p q = tt
-logs_then (Some x) b c xs ys p q = (rw p at q) ∙ ap Some (append_assoc x xs ys)
+logs_then a b c xs ys p q = grind (arith, append_assoc)
 
 pub logs_none : (a : Option (List FileEvent)) → Logs a a []
-logs_none None = tt
-logs_none (Some x) = ap Some (sym (append-nil x))
+logs_none a = grind (arith, append-nil)
 
 -- no file was opened
 pub reads_none : (state : List ℕ → FileState) (log : Option (List FileEvent))

@@ -1,8 +1,7 @@
 use Rattle.std.proofs.Common.{◌≡◌, length, ap, ◌∙◌, sym, rules}
 use Rattle.pfs_audit.specs.Verdicts.{SizesMatch}
 use Rattle.pfs_desk.specs.OutputText.{table_text, IsLeastTable}
-use Rattle.pfs_desk.proofs.OutputLemmas.{fitting_prints, least_of, table_stops, wrong_machines_prints}
-use Rattle.pfs_desk.proofs.OutputLemmas.{wrong_size_prints}
+use Rattle.pfs_desk.proofs.OutputLemmas.{fitting_prints, least_of, wrong_machines_prints, wrong_size_prints}
 use Rattle.pfs_desk.proofs.engines.table.run_table.Goals as goal
 
 pub returns-in_err-put_verdict-clause-written : goal.returns-in_err-put_verdict-clause-written
@@ -10,10 +9,6 @@ returns-in_err-put_verdict-clause-written g c =
     let prints = wrong_size_prints c.in_ok-instance.instance.shop c.in_ok-file.file c.len-size.result
     c.jobs-jobs.result (c.len-size.ensures.value ∙ ap length c.order-order.ensures.value) c.jobs-jobs.ensures.value
     c.if-size-jobs.true in
-    let front = table_stops c.args.layout (g.R.Source.left c.args.reader.now) c.args.block
-    (g.O.Source.left c.args.order_reader.now) c.in_ok-instance.instance c.in_ok-file.file
-    c.in_ok-instance.ensures.file c.in_ok-file.ensures.accepted prints
-    c.in_err-put_verdict.ensures in
     search rules
 
 pub returns-in_err-put_verdict-2-clause-written : goal.returns-in_err-put_verdict-2-clause-written
@@ -24,10 +19,6 @@ returns-in_err-put_verdict-2-clause-written g c =
     let prints = wrong_machines_prints c.in_ok-instance.instance.shop c.in_ok-file.file c.in-Some.order
     c.machines-machines.result size (sym c.machines.ensures.value ∙ c.in-Some.is) c.machines-machines.ensures.value
     c.if-order-machines.true in
-    let front = table_stops c.args.layout (g.R.Source.left c.args.reader.now) c.args.block
-    (g.O.Source.left c.args.order_reader.now) c.in_ok-instance.instance c.in_ok-file.file
-    c.in_ok-instance.ensures.file c.in_ok-file.ensures.accepted prints
-    c.in_err-put_verdict-2.ensures in
     search rules
 
 pub returns-in_err-put_table-clause-written : goal.returns-in_err-put_table-clause-written
@@ -37,10 +28,6 @@ returns-in_err-put_table-clause-written g c =
     let least : IsLeastTable shop c.order-order.result.now c.in_ok-table.table = search rules in
     let prints = fitting_prints shop c.in_ok-file.file c.in_ok-table.table fits
     (least_of shop c.order-order.result.now _ c.in_ok-table.table c.order-order.ensures.value least) in
-    let front = table_stops c.args.layout (g.R.Source.left c.args.reader.now) c.args.block
-    (g.O.Source.left c.args.order_reader.now) c.in_ok-instance.instance c.in_ok-file.file
-    c.in_ok-instance.ensures.file c.in_ok-file.ensures.accepted prints
-    c.in_err-put_table.ensures in
     search rules
 
 pub returns-2-clause-written : goal.returns-2-clause-written
