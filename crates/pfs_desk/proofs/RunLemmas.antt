@@ -1,6 +1,6 @@
 -- From the result of an engine to the result of its job.
 use Rattle.std.proofs.Common.{◌≡◌, ℕ, Bool, false, List, [], ◌∷◌, ◌++◌, Option, None, Some, Result, Ok, Err, IfErr}
-use Rattle.std.proofs.Common.{arith, length, inl, inr, sym, refl, ◌∙◌, ap, append_assoc, append-nil}
+use Rattle.std.proofs.Common.{arith, length, inl, inr, sym, refl, ◌∙◌, append_assoc, append-nil}
 use Rattle.pfs_layout.specs.declared.layout.Layout.{Layout}
 use Rattle.pfs_layout.specs.declared.fault.LayoutFault.{LayoutFault}
 use Rattle.pfs_words.specs.declared.job.Job.{Job}
@@ -9,9 +9,7 @@ use Rattle.pfs_desk.specs.declared.fault.DeskFault.{DeskFault}
 use Rattle.pfs_desk.specs.declared.fault.DeskFault.TheVariants as faults
 use Rattle.pfs_desk.specs.declared.fault.Outcome.{Outcome}
 use Rattle.pfs_desk.specs.declared.files.OpenFault.{OpenFault}
-use Rattle.pfs_desk.specs.declared.files.OpenFault.TheVariants as open_faults
 use Rattle.pfs_desk.specs.declared.stop.Stop.{Stop}
-use Rattle.pfs_desk.specs.declared.stop.Stop.TheVariants.{Fault}
 use Rattle.pfs_desk.specs.Engine.{WritesOutput, IsAuditFault, ReadsBlock, ReadsOrder, WritesNothing}
 use Rattle.pfs_desk.specs.Uses.{Did, FilesUse, IsUnread, SinkUse, SourceUse, files_use, sink_use}
 use Rattle.pfs_desk.specs.Engine.{layout_fault_of, order_fault_of}

@@ -1,7 +1,6 @@
-use Rattle.std.proofs.Common.{ap, rules}
-use Rattle.pfs_desk.specs.Engine.{WritesFront, CheckOutput}
+use Rattle.std.proofs.Common.{rules}
+use Rattle.pfs_desk.specs.Engine.{CheckOutput}
 use Rattle.pfs_desk.specs.OutputText.{verdict_text, outcome_of}
-use Rattle.pfs_desk.specs.Uses.{sink_use}
 use Rattle.pfs_desk.proofs.engines.check.run_check.Goals as goal
 
 pub returns-in_err-put_verdict-clause-written : goal.returns-in_err-put_verdict-clause-written

@@ -1,6 +1,6 @@
 use Rattle.std.proofs.Common.{◌≡◌, length, ap, ◌∙◌, sym, rules}
 use Rattle.pfs_audit.specs.Verdicts.{SizesMatch}
-use Rattle.pfs_desk.specs.OutputText.{table_text, IsLeastTable}
+use Rattle.pfs_desk.specs.OutputText.{IsLeastTable}
 use Rattle.pfs_desk.proofs.OutputLemmas.{fitting_prints, least_of, wrong_machines_prints, wrong_size_prints}
 use Rattle.pfs_desk.proofs.engines.table.run_table.Goals as goal
 
