@@ -1,6 +1,6 @@
 -- What the results of `solve` say of a file whose bytes are known.
 use Rattle.std.proofs.Common.{◌≡◌, ◌≢◌, ℕ, ◌<◌, ◌≤◌, Bool, true, List, Option, Some, None, Result, Ok, Err}
-use Rattle.std.proofs.Common.{IfSome, IfErr, refl, sym, ap, ◌∙◌, subst, ⊎_elim, arith, true≢false, unwrap_or}
+use Rattle.std.proofs.Common.{IfSome, IfErr, refl, sym, ap, ◌∙◌, ⊎_elim, arith}
 use Rattle.pfs_base.specs.Limits.{limits}
 use Rattle.pfs_base.specs.Problem.{Problem}
 use Rattle.pfs_layout.specs.declared.fault.LayoutFault.{LayoutFault}
@@ -14,8 +14,7 @@ use Rattle.pfs_desk.specs.declared.fault.DeskFault.{DeskFault}
 use Rattle.pfs_desk.specs.declared.fault.DeskFault.TheVariants as faults
 use Rattle.pfs_desk.specs.declared.fault.Outcome.{Outcome}
 use Rattle.pfs_words.specs.declared.solve_options.SolveOptions.{SolveOptions}
-use Rattle.pfs_desk.specs.Engine.{IsSolveFault, WritesOutput, WritesNothing, layout_fault_of}
-use Rattle.pfs_desk.specs.Engine.{SolveOutput}
+use Rattle.pfs_desk.specs.Engine.{IsSolveFault, SolveOutput, WritesOutput, WritesNothing, layout_fault_of}
 use Rattle.pfs_desk.specs.Headline.{PrintsSolution, ReadsOn, RunsOn, Solves}
 use Rattle.pfs_desk.specs.Solve.{take_for}
 use Rattle.pfs_desk.specs.Uses.{SinkUse}
@@ -56,8 +55,7 @@ module _ (layout : Layout) (file : List ℕ) (block : ℕ) (some : 1 ≤ block) 
       → take_for options.take problem.shop.jobs ≤ problem.shop.jobs
       → (RunsOn reader_failed writer.failed result → PrintsSolution problem options writer result) → IsResult result
   held {result} problem holds within prints = record {
-    accepted = λ other holds_other few runs. subst (λ p. PrintsSolution p options writer result)
-        (one_problem problem other holds holds_other) (prints runs);
+    accepted = λ other holds_other few runs. rw (← one_problem problem other holds holds_other) (prints runs);
     rejected = λ fault rejects reads. absurd (not_both problem fault holds rejects);
     too_many = λ other asked holds_other is above reads.
         absurd (too_many_taken other problem asked holds_other holds within is above);
@@ -69,7 +67,7 @@ module _ (layout : Layout) (file : List ℕ) (block : ℕ) (some : 1 ≤ block) 
       → (Some fault ≡ Some layout_faults.Read → reader_failed ≡ true) → IsResult (rejecting fault)
   rejected_file fault nothing rejects failed =
       let reported : ReadsOn reader_failed (rejecting fault) → RejectsInstance layout file block fault =
-      λ reads. rejects (λ e. true≢false (sym (failed (ap Some e)) ∙ reads.reading)) (λ e. reads.room (ap rejecting e)) in
+      λ reads. rejects (λ e. cc (failed (ap Some e), reads.reading)) (λ e. reads.room (ap rejecting e)) in
       record {
         accepted = λ problem holds few runs. absurd (not_both problem fault holds (reported runs.reads));
         rejected = λ other rejects_other reads. record {
@@ -97,10 +95,7 @@ module _ (layout : Layout) (file : List ℕ) (block : ℕ) (some : 1 ≤ block) 
         rejected.above.1);
     rejected = λ reported rejects reads. absurd (not_both rejected.problem reported rejected.holds rejects);
     too_many = λ problem asked holds is above reads. record {
-      reported =
-          let same = ap (λ (p : Problem). p.shop.jobs) (one_problem rejected.problem problem rejected.holds holds) in
-          let takes : taken ≡ asked = ap (λ o. unwrap_or o taken) (sym rejected.above.0 ∙ is) in
-          rw (takes, rejected.above.2, same);
+      reported = cc (one_problem rejected.problem problem rejected.holds holds, rejected.above.0, rejected.above.2);
       kept = nothing.kept;
     };
   }
@@ -108,7 +103,7 @@ module _ (layout : Layout) (file : List ℕ) (block : ℕ) (some : 1 ≤ block) 
       let solution = front.is_output.solution in
       let few = solution.few_taken in
       held front.is_output.problem front.is_output.holds (rw solution.taken at few)
-      (λ runs. absurd (true≢false (sym front.front.stopped ∙ runs.writing)))
+      (λ runs. cc (front.front.stopped, runs.writing))
   has_result (Err faults.Memory) writes allowed read =
       held allowed.problem allowed.holds allowed.within (λ runs. absurd (runs.room refl))
 

@@ -1,6 +1,6 @@
 -- From what is written into a buffer to what its writer has after the buffer was flushed.
 use Rattle.std.proofs.Common.{◌≡◌, ℕ, ◌≤◌, Bool, false, List, [], ◌∷◌, ◌++◌, Option, None, Some, Result, Ok, Err}
-use Rattle.std.proofs.Common.{length, map, take, sym, ap, subst, ◌∙◌, refl, arith, take-take, inl, inr, true≢false}
+use Rattle.std.proofs.Common.{length, map, take, sym, ap, ◌∙◌, refl, arith, take-take, inl, inr}
 use Rattle.std.proofs.Common.{length-append, length-take}
 use Rattle.std.proofs.Math.Seq.{take-append_seam, take-length}
 use Rattle.std.specs.Io.KnownBytes.{Appends, Keeps}
@@ -12,10 +12,8 @@ use Rattle.pfs_words.specs.declared.job.Job.TheVariants as job
 use Rattle.pfs_words.specs.Jobs.{AsksFor, AsksForNothing}
 use Rattle.pfs_words.specs.declared.usage.UsageFault.{UsageFault}
 use Rattle.pfs_words.specs.declared.usage.UsageFault.TheVariants as usage_faults
-use Rattle.pfs_desk.specs.declared.fault.DeskFault.TheVariants as faults
 use Rattle.pfs_desk.specs.declared.fault.Outcome.{Outcome}
 use Rattle.pfs_desk.specs.declared.stop.Stop.{Stop}
-use Rattle.pfs_desk.specs.declared.stop.Stop.TheVariants as stops_for
 use Rattle.pfs_desk.specs.Private.Ending.{EndsOutput, ReportsSent}
 use Rattle.pfs_desk.specs.Uses.{IsUnread, SinkUse, SourceUse, files_use, sink_use}
 use Rattle.pfs_desk.specs.Program.{JobResult, prints, stops, WritesResult, reports_write}
@@ -31,9 +29,7 @@ asks_for f [] asked none some = none refl
 asks_for f (x ∷ xs) asked none some = some (f x) (map f xs) refl
 
 appended : (b c : Option (List ℕ)) (text : List ℕ) → Appends (Some []) b text → Keeps b c → c ≡ Some text
-appended None c text p q = absurd p
-appended (Some y) None text p q = absurd q
-appended (Some y) (Some z) text p q = ap Some (q ∙ p)
+appended b c text p q = grind arith
 
 -- a prefix of a prefix of a text is a prefix of the text
 front_of_parts : (out : Option (List ℕ)) (held : List ℕ) (sent k reported : ℕ) (text : List ℕ)
@@ -59,13 +55,7 @@ none_of_none (x ∷ xs) held p = cc
 -- a stop that reports no failed write is kept
 stays : (stop : Stop) (held : List ℕ) (sent : ℕ) (ended : Result Outcome Stop) → reports_write (Err stop) ≡ false
     → EndsOutput (Err stop) held sent ended → ended ≡ Err stop
-stays stops_for.Usage held sent ended unwritten q = q
-stays stops_for.Open held sent ended unwritten q = q
-stays (stops_for.Fault (faults.Layout fault)) held sent ended unwritten q = q
-stays (stops_for.Fault (faults.Order fault)) held sent ended unwritten q = q
-stays (stops_for.Fault (faults.TakeRange taken jobs)) held sent ended unwritten q = q
-stays (stops_for.Fault (faults.Write fault)) held sent ended unwritten q = absurd (true≢false unwritten)
-stays (stops_for.Fault faults.Memory) held sent ended unwritten q = q
+stays stop held sent ended unwritten q = grind arith
 
 module _ {W : Type 0} (written : W → Option (List ℕ)) (old mid new : Buffering W)
     (kept : Keeps (bytes_given written mid) (bytes_given written new)) where
@@ -100,18 +90,17 @@ module _ {W : Type 0} (written : W → Option (List ℕ)) (old mid new : Bufferi
       → EndsOutput reached new.held new.sent ended
       → WritesText (IsNew written old) (sent_on failed') returned ended
   writes_text failed failed' (prints outcome text) reached ended t t' (inl p) q =
-      all-stand (subst (λ r. EndsOutput r new.held new.sent ended) p.0 q) where
-        all-stand : EndsOutput (Ok outcome) new.held new.sent ended
-            → WritesText (IsNew written old) (sent_on failed') (prints outcome text) ended
-        all-stand (inl r) = inl (r.0, λ fresh. given_all written new text (given-text text p.1 fresh) r.1)
-        all-stand (inr r) = inr (front_reported text (length text) ended (rw (take-length text) p.1) r)
+      let ends : EndsOutput (Ok outcome) new.held new.sent ended = rw p.0 at q in
+      elim ends [
+        | inl r ↦ inl (r.0, λ fresh. given_all written new text (given-text text p.1 fresh) r.1)
+        | inr r ↦ inr (front_reported text (length text) ended (rw (take-length text) p.1) r)
+      ]
   writes_text failed failed' (prints outcome text) reached ended t t' (inr p) q =
-      inr (front_reported text _ ended p.front.bytes (subst (λ r. EndsOutput r new.held new.sent ended) p.reported q))
+      inr (front_reported text _ ended p.front.bytes (rw p.reported at q))
   writes_text failed failed' (stops stop) reached ended t t' p q =
-      let unwritten : reports_write (Err stop) ≡ false = subst (λ r. reports_write r ≡ false) p.0 (sym t ∙ p.1) in
-      let same = stays stop new.held new.sent ended unwritten
-      (subst (λ r. EndsOutput r new.held new.sent ended) p.0 q) in
-      (same, t' ∙ subst (λ r. reports_write r ≡ false) (sym same) unwritten, given-nothing p.2)
+      let unwritten : reports_write (Err stop) ≡ false = rw p.0 at (sym t ∙ p.1) in
+      let same = stays stop new.held new.sent ended unwritten (rw p.0 at q) in
+      (same, t' ∙ rw same unwritten, given-nothing p.2)
 
 -- the arguments are invalid, or a memory allocation failed
 rejects_words : {A : Type 0} (f : A → List ℕ) (words : List A) (fault : UsageFault) → (words ≡ [] → ⊥)
@@ -122,8 +111,7 @@ rejects_words f (x ∷ xs) usage_faults.Usage some usage = usage (f x) (map f xs
 rejects_words f (x ∷ xs) usage_faults.Memory some usage = tt
 
 usage_reports : (fault : UsageFault) → reports_write (Err (usage_stop fault)) ≡ false
-usage_reports usage_faults.Usage = refl
-usage_reports usage_faults.Memory = refl
+usage_reports fault = grind arith
 
 pub gives_rejection : {A : Type 0} (f : A → List ℕ) (words : List A) (state : List ℕ → FileState)
     (log : Option (List FileEvent)) (input : SourceUse) (fresh : Type 0) (output : SinkUse)
@@ -135,5 +123,5 @@ gives_rejection f words state log input fresh output fault ended e unread workin
   returned = stops (usage_stop fault);
   is_result = inl (record { rejected = rejects_words f words fault some usage; none_opened = refl; unread = unread });
   is_written = (e, working, nothing);
-  write_failed = working ∙ sym (subst (λ r. reports_write r ≡ false) (sym e) (usage_reports fault));
+  write_failed = rw e (working ∙ sym (usage_reports fault));
 }

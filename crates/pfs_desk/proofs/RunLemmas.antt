@@ -1,6 +1,6 @@
 -- From the result of an engine to the result of its job.
 use Rattle.std.proofs.Common.{◌≡◌, ℕ, Bool, false, List, [], ◌∷◌, ◌++◌, Option, None, Some, Result, Ok, Err, IfErr}
-use Rattle.std.proofs.Common.{length, inl, inr, sym, subst, refl, ◌∙◌, ap, append_assoc, append-nil}
+use Rattle.std.proofs.Common.{arith, length, inl, inr, sym, refl, ◌∙◌, append_assoc, append-nil}
 use Rattle.pfs_layout.specs.declared.layout.Layout.{Layout}
 use Rattle.pfs_layout.specs.declared.fault.LayoutFault.{LayoutFault}
 use Rattle.pfs_words.specs.declared.job.Job.{Job}
@@ -9,10 +9,8 @@ use Rattle.pfs_desk.specs.declared.fault.DeskFault.{DeskFault}
 use Rattle.pfs_desk.specs.declared.fault.DeskFault.TheVariants as faults
 use Rattle.pfs_desk.specs.declared.fault.Outcome.{Outcome}
 use Rattle.pfs_desk.specs.declared.files.OpenFault.{OpenFault}
-use Rattle.pfs_desk.specs.declared.files.OpenFault.TheVariants as open_faults
 use Rattle.pfs_desk.specs.declared.stop.Stop.{Stop}
-use Rattle.pfs_desk.specs.declared.stop.Stop.TheVariants.{Fault}
-use Rattle.pfs_desk.specs.Engine.{WritesOutput, IsAuditFault, ReadsBlock, ReadsOrder}
+use Rattle.pfs_desk.specs.Engine.{WritesOutput, IsAuditFault, ReadsBlock, ReadsOrder, WritesNothing}
 use Rattle.pfs_desk.specs.Uses.{Did, FilesUse, IsUnread, SinkUse, SourceUse, files_use, sink_use}
 use Rattle.pfs_desk.specs.Engine.{layout_fault_of, order_fault_of}
 use Rattle.pfs_desk.specs.Private.Ending.{ending, OpensBoth, OneFails}
@@ -25,12 +23,10 @@ use Rattle.pfs_desk.specs.FileState.{FileState, FileEvent, Logs, MayOpen, MayFai
 
 pub logs_then : (a b c : Option (List FileEvent)) (xs ys : List FileEvent) → Logs a b xs → Logs b c ys
     → Logs a c (xs ++ ys)
-logs_then None b c xs ys p q = tt
-logs_then (Some x) b c xs ys p q = (rw p at q) ∙ ap Some (append_assoc x xs ys)
+logs_then a b c xs ys p q = grind (arith, append_assoc)
 
 pub logs_none : (a : Option (List FileEvent)) → Logs a a []
-logs_none None = tt
-logs_none (Some x) = ap Some (sym (append-nil x))
+logs_none a = grind (arith, append-nil)
 
 -- no file was opened
 pub reads_none : (state : List ℕ → FileState) (log : Option (List FileEvent))
@@ -58,22 +54,22 @@ reads_files disk opens closes path order_path file orders both fresh fresh_order
 }
 
 -- a stop that reports no failed write
-pub gives_stop : (Comes : JobResult → Type 0) (old : Option (List ℕ)) (failed : Bool) (stop : Stop)
-    (ended : Result Outcome Stop) → ended ≡ Err stop → reports_write (Err stop) ≡ false → failed ≡ false
-    → Comes (stops stop) → Delivers Comes WritesResult (sink_use old old failed) ended
-gives_stop Comes old failed stop ended e reports working comes = record {
+pub gives_stop : (Comes : JobResult → Type 0) (writer : SinkUse) (stop : Stop) (ended : Result Outcome Stop)
+    → ended ≡ Err stop → reports_write (Err stop) ≡ false → WritesNothing writer → Comes (stops stop)
+    → Delivers Comes WritesResult writer ended
+gives_stop Comes writer stop ended e reports nothing comes = record {
   returned = stops stop;
   is_result = comes;
-  is_written = (e, working, refl);
-  write_failed = working ∙ sym (subst (λ r. reports_write r ≡ false) (sym e) reports);
+  is_written = (e, nothing.working, nothing.kept);
+  write_failed = rw e (nothing.working ∙ sym reports);
 }
 
 opening_reports : (fault : OpenFault) → reports_write (Err (open_stop fault)) ≡ false
-opening_reports open_faults.Closed = refl
-opening_reports open_faults.Memory = refl
+opening_reports fault = grind arith
 
 module _ (disk : FilesUse) where
-  stops_first : (path : List ℕ) (rest : List (List ℕ)) (fault : OpenFault) → MayFail (disk.state path) fault
+  -- the first path of a job could not be opened
+  pub stops_first : (path : List ℕ) (rest : List (List ℕ)) (fault : OpenFault) → MayFail (disk.state path) fault
       → Did disk (not_opened path fault ∷ [])
       → StopsAtPath disk (path ∷ rest) (stops (open_stop fault))
   stops_first path rest fault may events = record {
@@ -89,7 +85,8 @@ module _ (disk : FilesUse) where
     reported = refl;
   }
 
-  stops_one : (path order_path : List ℕ) (fault : OpenFault) → OneFails disk path order_path fault
+  -- one of two paths could not be opened
+  pub stops_one : (path order_path : List ℕ) (fault : OpenFault) → OneFails disk path order_path fault
       → StopsAtPath disk (path ∷ order_path ∷ []) (stops (open_stop fault))
   stops_one path order_path fault (inl p) = stops_first path (order_path ∷ []) fault p.may_fail p.events
   stops_one path order_path fault (inr p) = record {
@@ -105,29 +102,14 @@ module _ (disk : FilesUse) where
     reported = refl;
   }
 
-  -- the only path of a job, or the first of two, or the second, could not be opened
-  pub gives_closed : (asked : Job) (path : List ℕ) (input : SourceUse) (old : Option (List ℕ)) (failed : Bool)
-      (fault : OpenFault) (ended : Result Outcome Stop) → paths_of asked ≡ path ∷ [] → IsUnread input → failed ≡ false
-      → ended ≡ Err (open_stop fault) → MayFail (disk.state path) fault → Did disk (not_opened path fault ∷ [])
+  -- a path of the job could not be opened
+  pub gives_closed : (asked : Job) (paths : List (List ℕ)) (input : SourceUse) (old : Option (List ℕ)) (failed : Bool)
+      (fault : OpenFault) (ended : Result Outcome Stop) → paths_of asked ≡ paths → IsUnread input → failed ≡ false
+      → ended ≡ Err (open_stop fault) → StopsAtPath disk paths (stops (open_stop fault))
       → Delivers (RunsJob asked disk input) WritesResult (sink_use old old failed) ended
-  gives_closed asked path input old failed fault ended one unread working e may events =
-      gives_stop _ old failed (open_stop fault) ended e (opening_reports fault) working (inl (
-        unread,
-        subst (λ paths. StopsAtPath disk paths (stops (open_stop fault))) (sym one)
-            (stops_first path [] fault may events),
-      ))
-
-  pub gives_one_closed : (asked : Job) (path order_path : List ℕ) (input : SourceUse) (old : Option (List ℕ))
-      (failed : Bool) (fault : OpenFault) (ended : Result Outcome Stop) → paths_of asked ≡ path ∷ order_path ∷ []
-      → IsUnread input → failed ≡ false → ended ≡ Err (open_stop fault)
-      → OneFails disk path order_path fault
-      → Delivers (RunsJob asked disk input) WritesResult (sink_use old old failed) ended
-  gives_one_closed asked path order_path input old failed fault ended two unread working e rejects =
-      gives_stop _ old failed (open_stop fault) ended e (opening_reports fault) working (inl (
-        unread,
-        subst (λ paths. StopsAtPath disk paths (stops (open_stop fault))) (sym two)
-            (stops_one path order_path fault rejects),
-      ))
+  gives_closed asked paths input old failed fault ended are unread working e closed =
+      gives_stop _ _ (open_stop fault) ended e (opening_reports fault) (record { working = working; kept = refl })
+      (inl (unread, rw are closed))
 
 -- the result of an engine as a `JobResult`
 module _ (Output : Outcome → List ℕ → Type 0) (IsFault : DeskFault → Type 0) (writer : SinkUse)
@@ -151,38 +133,10 @@ module _ (Output : Outcome → List ℕ → Type 0) (IsFault : DeskFault → Typ
     is_written = inr (record { fault = fault; reported = refl; front = w.front });
     write_failed = w.front.stopped;
   }
-  gives_ending (Err (faults.Layout fault)) w f comes =
-      let returned = stops (Fault (faults.Layout fault)) in
-      record {
-        returned = returned;
-        is_result = comes returned f refl refl;
-        is_written = (refl, w.working, w.kept);
-        write_failed = w.working;
-      }
-  gives_ending (Err (faults.Order fault)) w f comes =
-      let returned = stops (Fault (faults.Order fault)) in
-      record {
-        returned = returned;
-        is_result = comes returned f refl refl;
-        is_written = (refl, w.working, w.kept);
-        write_failed = w.working;
-      }
-  gives_ending (Err (faults.TakeRange take jobs)) w f comes =
-      let returned = stops (Fault (faults.TakeRange take jobs)) in
-      record {
-        returned = returned;
-        is_result = comes returned f refl refl;
-        is_written = (refl, w.working, w.kept);
-        write_failed = w.working;
-      }
-  gives_ending (Err faults.Memory) w f comes =
-      let returned = stops (Fault faults.Memory) in
-      record {
-        returned = returned;
-        is_result = comes returned f refl refl;
-        is_written = (refl, w.working, w.kept);
-        write_failed = w.working;
-      }
+  gives_ending (Err (faults.Layout fault)) w f comes = gives_stop _ _ _ _ refl refl w (comes _ f refl refl)
+  gives_ending (Err (faults.Order fault)) w f comes = gives_stop _ _ _ _ refl refl w (comes _ f refl refl)
+  gives_ending (Err (faults.TakeRange take jobs)) w f comes = gives_stop _ _ _ _ refl refl w (comes _ f refl refl)
+  gives_ending (Err faults.Memory) w f comes = gives_stop _ _ _ _ refl refl w (comes _ f refl refl)
 
 -- a job delivers what its engine delivers on its files, which were opened, read and closed
 pub gives_run : (asked : Job) (disk : FilesUse) (input : SourceUse) (paths : List (List ℕ)) (files : List SourceUse)
@@ -191,13 +145,9 @@ pub gives_run : (asked : Job) (disk : FilesUse) (input : SourceUse) (paths : Lis
     → Delivers (ReturnsFor asked input files) IsWritten output reached
     → Delivers (RunsJob asked disk input) IsWritten output ended
 gives_run asked disk input paths files IsWritten output reached ended e are reads gave =
-    subst (Delivers (RunsJob asked disk input) IsWritten output) (sym e) (record {
+    rw e (record {
       returned = gave.returned;
-      is_result = inr (record {
-        files = files;
-        reads = subst (λ some. ReadsFiles disk some files) (sym are) reads;
-        has_result = gave.is_result;
-      });
+      is_result = inr (record { files = files; reads = rw are reads; has_result = gave.is_result });
       is_written = gave.is_written;
       write_failed = gave.write_failed;
     })
@@ -207,15 +157,11 @@ module _ (Comes : JobResult → Type 0) (layout : Layout) (block : ℕ) (Output 
     (writer : SinkUse) (result : Result Outcome DeskFault)
     (w : WritesOutput Output writer result) (file : SourceUse)
     (r : ReadsBlock layout block file (layout_fault_of result)) where
-  first_reads : (returned : JobResult) → layout_fault_in returned ≡ layout_fault_of result
-      → ReadsBlock layout block file (layout_fault_in returned)
-  first_reads returned first = subst (ReadsBlock layout block file) (sym first) r
-
   pub gives_on : (IsFault : DeskFault → Type 0) → IfErr result IsFault
       → ((returned : JobResult) → ReturnsOn layout block Output IsFault file returned → Comes returned)
       → Delivers Comes WritesResult writer (ending result)
   gives_on IsFault f has_result = gives_ending Output IsFault writer Comes result w f
-      (λ returned is first second. has_result returned (record { is = is; reads = first_reads returned first }))
+      (λ returned is first second. has_result returned (record { is = is; reads = rw first r }))
 
   -- what an engine delivers that reads an order file after it
   pub gives_on_both : (orders : SourceUse) → IfErr result (IsAuditFault layout file.given block orders.given)
@@ -225,9 +171,8 @@ module _ (Comes : JobResult → Type 0) (layout : Layout) (block : ℕ) (Output 
   gives_on_both orders f reads has_result =
       gives_ending Output (IsAuditFault layout file.given block orders.given) writer Comes result w f
       (λ returned is first second. has_result returned (record {
-        first = record { is = is; reads = first_reads returned first };
-        reads_order = subst (ReadsOrder orders (layout_fault_in returned)) (sym second)
-            (subst (λ fault. ReadsOrder orders fault (order_fault_of result)) (sym first) reads);
+        first = record { is = is; reads = rw first r };
+        reads_order = rw (first, second) reads;
       }))
 
 -- a job `value` with one path has a file
@@ -240,9 +185,4 @@ value_file layout block (Some path) input file returned one unread has_result = 
 -- only one result reports a given fault of the instance file
 pub reported_by : (fault : LayoutFault) (result : Result Outcome DeskFault) → layout_fault_of result ≡ Some fault
     → result ≡ Err (faults.Layout fault)
-reported_by fault (Ok outcome) e = cc
-reported_by fault (Err (faults.Layout other)) e = cc
-reported_by fault (Err (faults.Order other)) e = cc
-reported_by fault (Err (faults.TakeRange take jobs)) e = cc
-reported_by fault (Err (faults.Write other)) e = cc
-reported_by fault (Err faults.Memory) e = cc
+reported_by fault result e = grind arith

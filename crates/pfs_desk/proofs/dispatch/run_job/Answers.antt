@@ -1,25 +1,17 @@
-use Rattle.std.proofs.Common.{[], ◌∙◌, ap, refl, subst, sym}
+use Rattle.std.proofs.Common.{[], ◌∙◌, ap, refl, sym}
 use Rattle.pfs_words.specs.declared.job.Job.TheVariants.{Value}
 use Rattle.pfs_desk.specs.Engine.{layout_fault_of}
-use Rattle.pfs_desk.specs.Uses.{files_use, source_use}
-use Rattle.pfs_desk.specs.Program.{ReturnsFor, paths_of}
+use Rattle.pfs_desk.specs.Program.{paths_of}
 use Rattle.pfs_desk.proofs.RunLemmas.{gives_ending, gives_on, gives_run, reads_none, reported_by}
 use Rattle.pfs_desk.proofs.dispatch.run_job.Goals as goal
 
 pub returns-in-None : goal.returns-in-None
 returns-in-None g c =
     let run = c.run_value in
-    let log = g.F.Files.log c.args.files.now in
-    let left = g.R.Source.left in
-    let ended = g.R.Source.has_ended in
-    let input = source_use (left c.args.input.now) (left run.new.reader) (g.R.Source.has_failed run.new.reader)
-    (ended c.args.input.now) (ended run.new.reader) in
     let is = c.in-Value.is ∙ ap (Value c.in-Value.layout c.in-Value.block) c.in-None.is in
-    gives_run c.args.job.now (files_use (g.F.Files.state c.args.files.now) log log) input [] [] _ _
-    _ _ c.ending.ensures (ap paths_of is) (reads_none _ _)
-    (gives_on (ReturnsFor c.args.job.now input []) _ _ _ _ run.result run.ensures.written input run.ensures.reads _
-    run.ensures.fault (λ returned has_result.
-    subst (λ job. ReturnsFor job input [] returned) (sym is) has_result))
+    gives_run c.args.job.now _ _ [] [] _ _ _ _ c.ending.ensures (ap paths_of is) (reads_none _ _)
+    (gives_on _ _ _ _ _ run.result run.ensures.written _ run.ensures.reads _ run.ensures.fault
+    (λ returned has_result. rw is has_result))
 
 pub returns-in-Some : goal.returns-in-Some
 returns-in-Some g c =
@@ -44,15 +36,9 @@ returns-in-Table g c =
 pub returns-in-Generate : goal.returns-in-Generate
 returns-in-Generate g c =
     let run = c.run_generate in
-    let log = g.F.Files.log c.args.files.now in
-    let left = g.R.Source.left c.args.input.now in
-    let ended = g.R.Source.has_ended c.args.input.now in
-    let input = source_use left left (g.R.Source.has_failed c.args.input.now) ended ended in
     let is = c.in-Generate.is in
-    gives_run c.args.job.now (files_use (g.F.Files.state c.args.files.now) log log) input [] [] _ _
-    _ _ c.ending-in-Generate.ensures (ap paths_of is) (reads_none _ _)
-    (gives_ending _ _ _ (ReturnsFor c.args.job.now input []) run.result run.ensures.written run.ensures.faults
-    (λ returned is_result first second. subst (λ job. ReturnsFor job input [] returned) (sym is) (
+    gives_run c.args.job.now _ _ [] [] _ _ _ _ c.ending-in-Generate.ensures (ap paths_of is) (reads_none _ _)
+    (gives_ending _ _ _ _ run.result run.ensures.written run.ensures.faults (λ returned is_result first second. rw is (
       (record { kept = refl; working = c.requires.reading; no_end = refl }),
       is_result,
       (

@@ -1,15 +1,14 @@
-use Rattle.std.proofs.Common.{◌≡◌, ◌∙◌, None, Some, ap, codes, false, map, refl, string_bytes, sym}
-use Rattle.std.specs.Option.{option_map_or}
+use Rattle.std.proofs.lemmas.Bool.Decides.{nat_tests}
+use Rattle.std.proofs.Common.{arith, ◌≡◌, ◌∙◌, None, ap, codes, false, map, refl, string_bytes, sym}
 use Rattle.std.specs.Str.{bytes_eq}
-use Rattle.std.proofs.lemmas.Bool.{false_from_ne_true}
 use Rattle.std.proofs.lemmas.Slice.Eq.{bytes_eq-Decides}
-use Rattle.clap.specs.Words.{Text, takes}
+use Rattle.clap.specs.Words.{Text}
 use Rattle.pfs_words.specs.Commands.{Names, form_of}
 use Rattle.pfs_words.proofs.JobLemmas.{rejected, some_names}
 use Rattle.pfs_words.proofs.planning.plan.Goals as goal
 
 is_other : {word name : Text} → (word ≡ name → ⊥) → bytes_eq word name ≡ false
-is_other {word} {name} other = false_from_ne_true _ (λ same. other ((bytes_eq-Decides word name).0 same))
+is_other {word} {name} other = grind (arith, nat_tests, bytes_eq-Decides)
 
 -- a text that is not the name of a command has no form
 none_named : (names : Names) (word : Text) → (word ≡ codes "value" → ⊥) → (word ≡ codes "solve" → ⊥)
@@ -25,5 +24,5 @@ returns-in_default-as_str-clause-usage c word others are failed =
     let other = c.in_default-as_str in
     let none : form_of some_names word ≡ None = rw (← is) (none_named some_names c.as_str.result.now other.not-value
     other.not-solve other.not-check other.not-table other.not-convert other.not-generate) in
-    rejected some_names word others refl (ap (λ o. option_map_or (λ form. takes form others) o false) none)
-    (λ found. let bad : None ≡ Some found.0 = sym none ∙ found.1 in cc)
+    rejected some_names word others refl (rw none refl)
+    (λ (form, named, found). cc)

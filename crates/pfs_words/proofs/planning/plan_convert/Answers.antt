@@ -1,45 +1,30 @@
-use Rattle.std.proofs.Common.{rules, Err, ap, codes, refl}
-use Rattle.pfs_words.specs.Commands.{block_rule, path_rule}
-use Rattle.pfs_words.proofs.JobLemmas.{fails, layout_given, number_in_range, rejected_by, planned}
-use Rattle.pfs_words.proofs.JobLemmas.{some_number_given, text_given}
+use Rattle.std.proofs.Common.{rules, codes, refl}
+use Rattle.pfs_words.proofs.JobLemmas.{fails, layout_given, number_in_range, planned, number_given, text_given}
 use Rattle.pfs_words.proofs.planning.plan_convert.Goals as goal
 
 pub layout_in-requires : goal.layout_in-requires
 layout_in-requires c =
-    layout_given c.in_ok-matches.ensures.ok c.in_ok-convert_command.ensures 0 (codes "from") c.as_slice.result
-    (search rules) refl refl
+    layout_given c.in_ok-matches.ensures.ok c.in_ok-convert_command.ensures 0 refl refl (search rules)
 
 pub layout_in-requires-2 : goal.layout_in-requires-2
 layout_in-requires-2 c =
-    layout_given c.in_ok-matches.ensures.ok c.in_ok-convert_command.ensures 1 (codes "to") c.as_slice.result
-    (search rules) refl refl
+    layout_given c.in_ok-matches.ensures.ok c.in_ok-convert_command.ensures 1 refl refl (search rules)
 
 pub number_in-requires : goal.number_in-requires
-number_in-requires c =
-    some_number_given c.in_ok-matches.ensures.ok c.in_ok-convert_command.ensures 2 block_rule refl refl refl refl
+number_in-requires c = number_given c.in_ok-matches.ensures.ok c.in_ok-convert_command.ensures 2 refl refl refl refl
 
 pub path_in-requires : goal.path_in-requires
-path_in-requires c =
-    text_given c.in_ok-matches.ensures.ok c.in_ok-convert_command.ensures 3 (path_rule (codes "file")) refl refl refl
+path_in-requires c = text_given c.in_ok-matches.ensures.ok c.in_ok-convert_command.ensures 3 refl refl refl
 
 pub returns-in_err-matches : goal.returns-in_err-matches
 returns-in_err-matches c =
     let failed = c.in_err-matches.ensures in
-    fails c.from_residual-in_err-matches.result (search rules) (λ usage. rejected_by c.as_slice.result
-    (codes "convert") _ (search rules) c.in_ok-convert_command.ensures refl refl
-    (failed.usage (ap Err usage)) (failed.fault (ap Err usage)))
+    fails c.as_slice.result (codes "convert") _ (search rules) c.from_residual-in_err-matches.result (search rules) refl
+    c.in_ok-convert_command.ensures refl refl failed.usage failed.fault
 
 pub returns : goal.returns
 returns c =
     let is = c.in_ok-convert_command.ensures in
     let parse = c.in_ok-matches.ensures.ok in
-    planned parse is c.as_slice.result (codes "convert") (search rules) refl refl _ refl (
-      record {
-        layout_said = c.layout_in.ensures;
-        block_said = c.number_in.ensures;
-        file_said = c.in_ok-path_in.ensures;
-      },
-      c.layout_in-2.ensures,
-    )
-    (number_in_range c.in_ok-matches.ensures.ok c.in_ok-convert_command.ensures 2 block_rule refl refl refl
-    c.number_in.ensures)
+    planned parse is c.as_slice.result (codes "convert") (search rules) refl refl _ refl (search rules)
+    (number_in_range parse is 2 refl refl refl c.number_in.ensures)

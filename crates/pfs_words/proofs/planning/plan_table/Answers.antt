@@ -1,43 +1,28 @@
-use Rattle.std.proofs.Common.{rules, Err, ap, codes, refl}
-use Rattle.pfs_words.specs.Commands.{block_rule, path_rule}
-use Rattle.pfs_words.proofs.JobLemmas.{fails, layout_given, number_in_range, planned, rejected_by}
-use Rattle.pfs_words.proofs.JobLemmas.{some_number_given, text_given}
+use Rattle.std.proofs.Common.{rules, codes, refl}
+use Rattle.pfs_words.proofs.JobLemmas.{fails, layout_given, number_in_range, planned, number_given, text_given}
 use Rattle.pfs_words.proofs.planning.plan_table.Goals as goal
 
 pub layout_in-requires : goal.layout_in-requires
-layout_in-requires c =
-    layout_given c.in_ok-matches.ensures.ok c.in_ok-command.ensures 0 (codes "layout") c.as_slice.result (search rules)
-    refl refl
+layout_in-requires c = layout_given c.in_ok-matches.ensures.ok c.in_ok-command.ensures 0 refl refl (search rules)
 
 pub number_in-requires : goal.number_in-requires
-number_in-requires c =
-    some_number_given c.in_ok-matches.ensures.ok c.in_ok-command.ensures 1 block_rule refl refl refl refl
+number_in-requires c = number_given c.in_ok-matches.ensures.ok c.in_ok-command.ensures 1 refl refl refl refl
 
 pub path_in-requires : goal.path_in-requires
-path_in-requires c =
-    text_given c.in_ok-matches.ensures.ok c.in_ok-command.ensures 2 (path_rule (codes "file")) refl refl refl
+path_in-requires c = text_given c.in_ok-matches.ensures.ok c.in_ok-command.ensures 2 refl refl refl
 
 pub path_in-requires-2 : goal.path_in-requires-2
-path_in-requires-2 c =
-    text_given c.in_ok-matches.ensures.ok c.in_ok-command.ensures 3 (path_rule (codes "order")) refl refl refl
+path_in-requires-2 c = text_given c.in_ok-matches.ensures.ok c.in_ok-command.ensures 3 refl refl refl
 
 pub returns-in_err-matches : goal.returns-in_err-matches
 returns-in_err-matches c =
     let failed = c.in_err-matches.ensures in
-    fails c.from_residual-in_err-matches.result (search rules) (λ usage. rejected_by c.as_slice.result (codes "table") _
-    (search rules) c.in_ok-command.ensures refl refl
-    (failed.usage (ap Err usage)) (failed.fault (ap Err usage)))
+    fails c.as_slice.result (codes "table") _ (search rules) c.from_residual-in_err-matches.result (search rules) refl
+    c.in_ok-command.ensures refl refl failed.usage failed.fault
 
 pub returns : goal.returns
 returns c =
     let is = c.in_ok-command.ensures in
     let parse = c.in_ok-matches.ensures.ok in
-    planned parse is c.as_slice.result (codes "table") (search rules) refl refl _ refl (
-      record {
-        layout_said = c.layout_in.ensures;
-        block_said = c.number_in.ensures;
-        file_said = c.in_ok-path_in.ensures;
-      },
-      c.in_ok-path_in-2.ensures,
-    )
-    (number_in_range parse is 1 block_rule refl refl refl c.number_in.ensures)
+    planned parse is c.as_slice.result (codes "table") (search rules) refl refl _ refl (search rules)
+    (number_in_range parse is 1 refl refl refl c.number_in.ensures)

@@ -1,5 +1,4 @@
-use Rattle.std.proofs.Common.{List, ℕ, sym, subst, arith, rules}
-use Rattle.pfs_base.specs.Sends.{Sends, SendsAll}
+use Rattle.std.proofs.Common.{arith, rules}
 use Rattle.pfs_base.proofs.Published.SendsLemmas.{then_sends}
 use Rattle.pfs_desk.proofs.SolveLemmas.{file_short, solution_counted, solution_alone, solution_front}
 use Rattle.pfs_desk.proofs.engines.solve.put_solution.Goals as goal
@@ -18,19 +17,11 @@ put_named-requires-clause-fits g c =
 
 pub returns-then-with_cells : goal.returns-then-with_cells
 returns-then-with_cells g c =
-    let old = g.W.Sink.written c.args.writer.now in
-    let new = g.W.Sink.written c.put_named.new.writer in
-    let failed = g.W.Sink.has_failed c.put_named.new.writer in
-    let Printed : List ℕ → Type 0 = λ text. Sends old new failed 0 text c.put_named.result in
-    subst Printed (sym (solution_counted c.args.solution.now.order c.args.machines c.args.solution.now.makespan
-    c.args.with_cells c.args.solution.now.cells c.if-with_cells.true))
+    rw (solution_counted c.args.solution.now.order c.args.machines c.args.solution.now.makespan c.args.with_cells
+    c.args.solution.now.cells c.if-with_cells.true)
     (then_sends _ _ _ c.put_named.result c.in_ok-sent.ensures c.put_named.ensures.text)
 
 pub returns-else-with_cells : goal.returns-else-with_cells
 returns-else-with_cells g c =
-    let old = g.W.Sink.written c.args.writer.now in
-    let new = g.W.Sink.written c.write_order.new.writer in
-    let failed = g.W.Sink.has_failed c.write_order.new.writer in
-    let Printed : List ℕ → Type 0 = λ text. SendsAll old new failed 0 text c.in_ok-sent.sent in
-    subst Printed (sym (solution_alone c.args.solution.now.order c.args.machines c.args.solution.now.makespan
-    c.args.with_cells c.args.solution.now.cells c.if-with_cells.false)) c.in_ok-sent.ensures
+    rw (solution_alone c.args.solution.now.order c.args.machines c.args.solution.now.makespan c.args.with_cells
+    c.args.solution.now.cells c.if-with_cells.false) c.in_ok-sent.ensures

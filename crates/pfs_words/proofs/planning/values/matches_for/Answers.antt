@@ -1,6 +1,5 @@
-use Rattle.std.proofs.Common.{◌≡◌, Bool, true, false, Result, Ok, Err}
+use Rattle.std.proofs.Common.{arith, ◌≡◌, Bool, true, false, Result, Err}
 use Rattle.std.specs.Prelude.{◌≢◌, IsErrAnd}
-use Rattle.std.proofs.lemmas.Bool.{false_from_ne_true}
 use Rattle.clap.specs.Words.{kind_of}
 use Rattle.clap.specs.declared.error.Error.{Error}
 use Rattle.clap.specs.declared.error.kind.ErrorKind.TheVariants.{OutOfMemory}
@@ -13,9 +12,7 @@ use Rattle.pfs_words.proofs.planning.values.matches_for.Goals as goal
 not_taken : (e : Error) (r : Result ArgMatches UsageFault) (taken : Bool)
     → IsErrAnd r (λ f. (kind_of e ≡ OutOfMemory → f ≡ Memory) × (kind_of e ≢ OutOfMemory → f ≡ Usage))
     → (taken ≡ true → kind_of e ≡ OutOfMemory) → r ≡ Err Usage → taken ≡ false
-not_taken e (Ok x) taken gives passes is = cc
-not_taken e (Err f) taken gives passes is = false_from_ne_true taken (λ yes.
-    let memory : f ≡ Memory = gives.0 (passes yes) in cc)
+not_taken e r taken gives passes is = grind arith
 
 pub returns-in_err-try_get_matches_from-clause-usage : goal.returns-in_err-try_get_matches_from-clause-usage
 returns-in_err-try_get_matches_from-clause-usage c =
