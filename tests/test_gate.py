@@ -73,4 +73,5 @@ def test_a_layer_that_fails_is_the_last(repository: pathlib.Path, failing: str, 
 def test_ci_runs_the_pages_test_command(top: pathlib.Path) -> None:
     assert (top / ".ci" / "run").read_text().splitlines()[-1] == "make test"
     assert re.search(r"^make test +#", (top / "docs" / "TESTS.md").read_text(), re.MULTILINE)
+    assert "`make test`" in (top / "README.md").read_text()
     assert re.search(r"^test:\n\ttools/test\n", (top / "Makefile").read_text(), re.MULTILINE)
