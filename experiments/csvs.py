@@ -4,8 +4,14 @@ from __future__ import annotations
 import argparse
 import csv
 import math
+import pathlib
 import re
+import sys
 from collections.abc import Iterable
+
+# A module of the package for Python. Where the scripts are installed, it is in this folder.
+sys.path.append(str(pathlib.Path(__file__).resolve().parents[1] / "python" / "src" / "pfs"))
+import _atomic  # type: ignore[import]  # noqa: E402
 
 
 class ExperimentError(Exception):
@@ -51,7 +57,7 @@ def parse_int(text: str, most: int = MOST) -> int:
 def finite(text: str, least: float, most: float) -> float:
     """Returns the value of a number in a range."""
     try:
-        number = float(text)
+        number = float(text if re.fullmatch("[ 0-9.eE+-]*", text, re.ASCII) else "nan")
     except ValueError:
         number = math.nan
     if not least <= number <= most:
@@ -83,17 +89,14 @@ def reference_for(reference: dict[str, tuple[int, str]], instance: str) -> tuple
 
 # Cells that a spreadsheet would interpret as formulas
 
-FORMULA = re.compile("[=+@\t\r-]")
-
-
 def path_cell(path: str) -> str:
     """Returns an equivalent path that a spreadsheet shows as text."""
-    return f"./{path}" if FORMULA.match(path) else path
+    return f"./{path}" if _atomic.FORMULA.match(path) else path
 
 
 def text_cell(text: str) -> str:
     """Returns a text with an apostrophe before it if a spreadsheet would interpret it as a formula."""
-    return f"'{text}" if FORMULA.match(text) else text
+    return str(_atomic.text_cell(text))
 
 
 # Arguments of a command line

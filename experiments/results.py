@@ -9,10 +9,10 @@ import pathlib
 import re
 
 from csvs import MOST, MOST_MAKESPAN, ExperimentError, Row, parse_int
-from runs import time_of
+from runs import runs_of, time_of
 
-# The last line that experiments/one prints of a run. Only a run by time has rounds there.
-RESULT = ["number", "makespan", "bound", "cells", "seconds", "status", "rounds"]
+# The last line that experiments/one prints of a run, or its first six. Only a run by time has rounds there.
+RESULT = ["number", "makespan", "bound", "cells", "seconds", "status", "rounds", "left"]
 # The end of a run whose program was killed, or whose allocation failed: the next start repeats it.
 KILLED = re.compile("(?:solve|check): (?:signal [0-9]+|exit 4, pfs: no memory)|lost: .*")
 # A line of GNU parallel's log: number, host, start, seconds, bytes sent and received, exit status, signal, command.
@@ -27,7 +27,7 @@ def result_of(folder: pathlib.Path, number: str) -> Row | None:
         row: list[str] = next(csv.reader(io.StringIO(last)), [])
     except (FileNotFoundError, UnicodeDecodeError, csv.Error):
         return None
-    if not text.endswith("\n") or len(row) not in (len(RESULT) - 1, len(RESULT)) or row[0] != number:
+    if not text.endswith("\n") or not 6 <= len(row) <= len(RESULT) or row[0] != number:
         return None
     result = {**dict(zip(RESULT, row)), "order": f"{order[1:]}\n" if order else ""}
     return result if result["status"] != "ok" or has_numbers(result) else None
@@ -36,7 +36,8 @@ def result_of(folder: pathlib.Path, number: str) -> Row | None:
 def has_numbers(result: Row) -> bool:
     """Whether the result of a successful run has all numbers and an order."""
     try:
-        for column, most in (("makespan", MOST_MAKESPAN), ("bound", MOST_MAKESPAN), ("cells", MOST), ("rounds", MOST)):
+        for column, most in (("makespan", MOST_MAKESPAN), ("bound", MOST_MAKESPAN), ("cells", MOST), ("rounds", MOST),
+                             ("left", MOST)):
             # a command has no cells
             parse_int(result.get(column) or ("x" if most == MOST_MAKESPAN else "0"), most)
     except ValueError:
@@ -48,6 +49,15 @@ def is_done(folder: pathlib.Path, number: str, retry: bool) -> bool:
     """Whether a run is not repeated."""
     result = result_of(folder, number)
     return result is not None and not KILLED.fullmatch(result["status"]) and (result["status"] == "ok" or not retry)
+
+
+def runs_to_make(folder: pathlib.Path, retry: bool) -> list[Row]:
+    """Returns the runs that are not done, and removes what there is of their results, so that processes of an earlier
+    start write into no file of a later one."""
+    left = [run for run in runs_of(folder) if not is_done(folder, run["number"], retry)]
+    for run in left:
+        (folder / "results" / run["number"]).unlink(missing_ok=True)
+    return left
 
 
 def logged(folder: pathlib.Path) -> dict[str, re.Match[str]]:

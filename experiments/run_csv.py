@@ -38,7 +38,7 @@ def gather(experiment: Experiment, csv_path: str) -> tuple[int, int]:
     failed and that are missing."""
     folder = experiment.folder
     ended = endings(folder)
-    rows, left = [], 0
+    rows, left, ended_processes = [], 0, 0
     for run in in_plan_order(folder):
         result = result_of(folder, run["number"])
         if result is None and run["number"] in ended:
@@ -49,6 +49,7 @@ def gather(experiment: Experiment, csv_path: str) -> tuple[int, int]:
         if result.get("order"):
             keep_order(folder, order_name(run), result["order"])
             result["order"] = path_cell(f"{folder.name}/orders/{order_name(run)}")
+        ended_processes += int(result.get("left") or 0)
         row = row_of(run, result)
         reference = reference_for(experiment.reference, run["instance"])
         row["reference"], row["source"] = (str(reference[0]), text_cell(reference[1])) if reference else ("", "")
@@ -61,6 +62,8 @@ def gather(experiment: Experiment, csv_path: str) -> tuple[int, int]:
     write_text(pathlib.Path(csv_path), text.getvalue())
     failed = sum(row["status"] != "ok" for row in rows)
     report_errors(rows)
+    if ended_processes:
+        print(f"processes that commands left when they ended, and that were killed: {ended_processes}", file=sys.stderr)
     print(f"{csv_path}: {len(rows)} runs, {failed} of them failed, {left} still to run", file=sys.stderr)
     return failed, left
 

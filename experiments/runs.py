@@ -14,7 +14,7 @@ import shutil
 import subprocess
 import sys
 from collections.abc import Iterator
-from typing import Any, NamedTuple, TextIO
+from typing import Any, NamedTuple
 
 from commands import HERE, IS_INSTALLED, find_pfs
 from csvs import ExperimentError, Row, reference_of
@@ -35,10 +35,9 @@ KEY = ["file", "block", "rounds", "take", "passes", "seed", "repetition"]
 
 
 class Experiment(NamedTuple):
-    """A plan, the folder of its runs, its lock, which child processes inherit, and the reference."""
+    """A plan, the folder of its runs, and the reference."""
     plan: dict[str, Any]
     folder: pathlib.Path
-    lock: TextIO
     reference: dict[str, tuple[int, str]]
 
 
@@ -69,7 +68,7 @@ def prepare(plan_path: str, csv_path: str, program: str | None) -> Experiment:
         raise ExperimentError(f"{csv_path}: the name of a CSV must be UTF-8 without control characters")
     pfs = "" if (folder / "plan.json").exists() else find_pfs(program)
     folder.mkdir(parents=True, exist_ok=True)
-    lock = lock_of(folder, csv_path)
+    lock(folder, csv_path)
     try:
         if not (folder / "plan.json").exists():
             begin(folder, pfs or find_pfs(program))
@@ -79,18 +78,22 @@ def prepare(plan_path: str, csv_path: str, program: str | None) -> Experiment:
         if not (folder / "plan.json").exists():
             shutil.rmtree(folder, ignore_errors=True)
         raise
-    return Experiment(plan, folder, lock, reference)
+    return Experiment(plan, folder, reference)
 
 
-def lock_of(folder: pathlib.Path, csv_path: str) -> TextIO:
-    """Waits for the lock of the folder, and returns it."""
-    lock = open(os.open(folder / "lock", os.O_WRONLY | os.O_CREAT | os.O_NOFOLLOW | os.O_CLOEXEC, 0o666), "w")
+def lock(folder: pathlib.Path, csv_path: str) -> None:
+    """Waits for the lock of the folder, which names the process that has it. Child processes don't inherit it, so it is
+    free when this process ends."""
+    file = os.open(folder / "lock", os.O_RDWR | os.O_CREAT | os.O_NOFOLLOW | os.O_CLOEXEC, 0o666)
     try:
-        fcntl.flock(lock, fcntl.LOCK_EX | fcntl.LOCK_NB)
+        fcntl.flock(file, fcntl.LOCK_EX | fcntl.LOCK_NB)
     except BlockingIOError:
-        print(f"waiting for the process that is already running {csv_path}", file=sys.stderr, flush=True)
-        fcntl.flock(lock, fcntl.LOCK_EX)
-    return lock
+        print(f"waiting for process {os.read(file, 100).decode()}, which is already running {csv_path}",
+              file=sys.stderr, flush=True)
+        fcntl.flock(file, fcntl.LOCK_EX)
+    with contextlib.suppress(OSError):  # a full disk
+        os.ftruncate(file, 0)
+        os.pwrite(file, f"{os.getpid()} on {os.uname().nodename}".encode(), 0)
 
 
 def begin(folder: pathlib.Path, program: str) -> None:
@@ -118,7 +121,7 @@ def copy_inputs(plan: dict[str, Any], plan_folder: str, folder: pathlib.Path, cs
             shutil.copy(os.path.join(plan_folder, name), stage / "files" / name)
         (stage / "files").mkdir(exist_ok=True)
         shutil.copy(HERE / "others.py", stage)
-        write_text(stage / "command.json", json.dumps({"method": plan["method"], "words": plan["command"]}))
+        write_text(stage / "command.json", json.dumps({"words": plan["command"]}))
     elif "time_factors" in plan and "command" not in plan and not (stage / LIBRARY).exists():
         for name in ("one", "timed.py"):
             shutil.copy(HERE / name, stage)

@@ -6,6 +6,7 @@ import shutil
 import signal
 
 import pytest
+from _pytest.assertion import truncate
 from hypothesis import HealthCheck, settings
 
 TOP = pathlib.Path(__file__).resolve().parents[2]
@@ -30,6 +31,8 @@ def pytest_addoption(parser: pytest.Parser) -> None:
 
 def pytest_configure(config: pytest.Config) -> None:
     """In a checkout the library is the one that was built there, where no variable names another one."""
+    # What a failing assertion says is cut off after 8 lines otherwise. Since pytest 8.4 there is a setting for it.
+    truncate.DEFAULT_MAX_LINES, truncate.DEFAULT_MAX_CHARS = 60, 6_000
     # What runs in the background of a shell ignores it.
     if signal.getsignal(signal.SIGINT) == signal.SIG_IGN:
         signal.signal(signal.SIGINT, signal.default_int_handler)

@@ -1,17 +1,20 @@
-"""Searches of many instances and seeds in processes: the same solutions as one by one, however they are interrupted."""
+"""Searches of many instances and seeds in threads: the same solutions as one by one, however they are interrupted."""
+import contextlib
 import os
 import pathlib
 import pickle
 import signal
 import subprocess
 import sys
+import threading
 import time
-from collections.abc import Callable
+from collections.abc import Callable, Iterator
 from typing import Any
 
 import numpy as np
 import pfs
 import pytest
+from pfs import _search
 
 SHOPS = [pfs.generate(8, 3, 1), pfs.generate(9, 2, 2), pfs.generate(8, 3, 1)]
 
@@ -45,7 +48,7 @@ def test_what_was_found_is_not_searched_again() -> None:
     half = SHOPS[0].solve(15, seed=1)
     whole = SHOPS[1].solve(40, seed=1)
     got: list[tuple[int, ...]] = []
-    found = pfs.solve_all(SHOPS[:2], [1], 40, workers=1, found={(0, 1): half, (1, 1): whole, (7, 7): whole},
+    found = pfs.solve_all(SHOPS[:2], [1], 40, workers=1, found={(0, 1): half, (1, 1): whole},
                           progress=lambda *line: got.append(line))
     assert found == {(0, 1): SHOPS[0].solve(40, seed=1), (1, 1): whole}
     assert got == [(2, 2)], "a finished search is made again"
@@ -73,73 +76,121 @@ def test_what_progress_raises_has_what_was_found() -> None:
     assert len(found) >= 2 and found[0, 1] == SHOPS[0].solve(5, seed=1)
 
 
-def children() -> set[int]:
-    """The processes that this one has started."""
-    return set(map(int, pathlib.Path(f"/proc/self/task/{os.getpid()}/children").read_text().split()))
-
-
-def test_a_process_that_is_killed_loses_no_other_search() -> None:
-    # Other tests may have started servers.
-    before = children()
-
-    def kill(done: int, total: int) -> None:
-        for child in children() - before:
-            os.kill(child, signal.SIGKILL)
-
-    shops = [pfs.generate(6, 2, 1), pfs.generate(300, 20, 1)]
-    with pytest.raises(RuntimeError) as stop:
-        pfs.solve_all(shops, [1], 5000, workers=1, progress=kill)
-    assert getattr(stop.value, "found", None) == {(0, 1): shops[0].solve(5000, seed=1)}
-
-
+# It gets signals once it is in the call.
 SCRIPT = """
-import os, pickle, signal, sys, threading, pfs
+import os, pickle, signal, sys, pfs
 shops = [pfs.generate(60, 10, seed) for seed in (1, 2, 3)]
-found = pickle.load(open("found", "rb")) if os.path.exists("found") else None
+found = pickle.load(open("found", "rb")) if os.path.exists("found") else {}
 words = {"rounds": 150_000} if sys.argv[1] == "rounds" else {"time_limit": 60.0, "target": 0}
-begun = lambda done, total: None
-threading.Timer(float(sys.argv[2]), os.killpg, (0, signal.SIGINT)).start()
+def ready():
+    print("ready", flush=True)
+    yield from shops
 try:
-    found = pfs.solve_all(shops, [1, 2], workers=2, found=found, progress=begun, **words)
+    found = pfs.solve_all(ready(), [1, 2], workers=2, found=found, progress=lambda done, total: None, **words)
     print("done", flush=True)
 except KeyboardInterrupt as stop:
+    signal.pthread_sigmask(signal.SIG_BLOCK, [signal.SIGINT])
     assert isinstance(stop, pfs.InterruptedAll), stop
     found = stop.found
     print("interrupted", len(found), flush=True)
 with open("found", "wb") as file:
     pickle.dump(found, file)
-os._exit(0)
 """
 
 
-def interrupted(folder: pathlib.Path, *words: str) -> str:
-    """What a script prints that gets SIGINT, with its processes, after a time."""
+def interrupted(folder: pathlib.Path, words: str, *seconds: float) -> str:
+    """What a script prints that gets SIGINT, with all that it has started, each time after some seconds."""
     (folder / "script.py").write_text(SCRIPT)
     env = os.environ | {"PYTHONPATH": str(pathlib.Path(pfs.__file__).parents[1]), "PYTHONDONTWRITEBYTECODE": "1"}
-    done = subprocess.run([sys.executable, "script.py", *words], cwd=folder, env=env, capture_output=True, text=True,
-                          start_new_session=True, timeout=120)
-    assert (done.returncode, done.stderr) == (0, "")
-    return done.stdout
+    child = subprocess.Popen([sys.executable, "script.py", words], cwd=folder, env=env, stdout=subprocess.PIPE,
+                             stderr=subprocess.PIPE, text=True, start_new_session=True)
+    assert child.stdout and child.stdout.readline() == "ready\n"
+    for wait in seconds:
+        time.sleep(wait)
+        with contextlib.suppress(ProcessLookupError):
+            os.killpg(child.pid, signal.SIGINT)
+    try:
+        printed, errors = child.communicate(timeout=60)
+    except subprocess.TimeoutExpired:
+        os.killpg(child.pid, signal.SIGKILL)
+        pytest.fail("the script doesn't end after Ctrl-C")
+    assert (child.returncode, errors) == (0, ""), "the script doesn't end as it should after Ctrl-C"
+    with pytest.raises(ProcessLookupError):
+        os.killpg(child.pid, 0)
+    return printed
+
+
+def rounds_in(folder: pathlib.Path) -> dict[tuple[int, int], int]:
+    """The rounds of each search that was interrupted."""
+    with open(folder / "found", "rb") as file:
+        return {key: best.rounds for key, best in pickle.load(file).items()}
 
 
 @pytest.mark.seconds(20)
 def test_after_ctrl_c_the_searches_continue(tmp_path: pathlib.Path) -> None:
-    """All processes get the signal. At the end each solution is the one of a search that was never interrupted."""
-    times = 0
-    while "done" not in interrupted(tmp_path, "rounds", "0.6" if times < 3 else "100") and times < 9:
-        times += 1
-    assert times > 0, "nothing was interrupted"
+    """No round is lost. At the end each solution is the one of a search that was never interrupted."""
+    made: dict[tuple[int, int], int] = {}
+    for seconds in ([0.15], [0.15, 0.01], [0.15]):
+        assert "interrupted" in interrupted(tmp_path, "rounds", *seconds)
+        now = rounds_in(tmp_path)
+        assert sum(now.values()) > sum(made.values()) and all(now.get(key, 0) >= made[key] for key in made), (
+            f"rounds are lost by Ctrl-C: {made} before, {now} after it")
+        made = now
+    assert interrupted(tmp_path, "rounds") == "done\n"
     with open(tmp_path / "found", "rb") as file:
         found = pickle.load(file)
     assert found == {(place, seed): pfs.generate(60, 10, place + 1).solve(150_000, seed=seed)
                      for place in range(3) for seed in (1, 2)}
 
 
+@pytest.mark.parametrize("milliseconds", range(0, 30, 3))
+def test_ctrl_c_while_the_searches_start(tmp_path: pathlib.Path, milliseconds: int) -> None:
+    assert interrupted(tmp_path, "rounds", 0.005 + milliseconds / 1000).startswith("interrupted")
+
+
 def test_a_search_by_time_that_is_interrupted_is_not_kept(tmp_path: pathlib.Path) -> None:
     """Nobody could tell it from one that has had its time."""
     begun = time.monotonic()
-    assert interrupted(tmp_path, "time", "1.5") == "interrupted 0\n"
+    assert interrupted(tmp_path, "time", 1.0) == "interrupted 0\n"
     assert time.monotonic() - begun < 40
+
+
+def test_ctrl_c_before_the_first_search_keeps_what_was_found() -> None:
+    def shops() -> Iterator[pfs.Instance]:
+        yield SHOPS[0]
+        raise KeyboardInterrupt
+
+    found = {(0, 1): SHOPS[0].solve(5, seed=1)}
+    with pytest.raises(pfs.InterruptedAll) as stop:
+        pfs.solve_all(shops(), [1], 9, found=found)
+    assert stop.value.found == found
+
+
+def test_a_thread_that_cant_be_started_loses_nothing(monkeypatch: pytest.MonkeyPatch) -> None:
+    start, started = threading.Thread.start, list[threading.Thread]()
+
+    def refuse(thread: threading.Thread) -> None:
+        if started:
+            raise RuntimeError("can't start new thread")
+        started.append(thread)
+        start(thread)
+
+    monkeypatch.setattr(threading.Thread, "start", refuse)
+    found = {(0, 1): SHOPS[0].solve(5, seed=1)}
+    monkeypatch.setattr(_search.Search, "run_rounds", lambda *_: time.sleep(0.3))
+    with pytest.raises(RuntimeError, match="can't start") as stop:
+        pfs.solve_all(SHOPS, [1], 9, workers=2, found=found)
+    assert getattr(stop.value, "found")[0, 1].rounds >= 5, "what was found before is lost"
+    assert not started[0].is_alive(), "a search goes on after the error"
+
+
+def test_memory_that_runs_out_in_a_search_is_reported(monkeypatch: pytest.MonkeyPatch) -> None:
+    def refuse(*_: object) -> None:
+        raise MemoryError
+
+    monkeypatch.setattr(_search.Search, "run_rounds", refuse)
+    with pytest.raises(MemoryError):
+        pfs.solve_all(SHOPS, [1], 9, workers=2)
 
 
 REFUSED: dict[str, tuple[Callable[[], object], type[Exception], str]] = {
@@ -169,6 +220,12 @@ REFUSED: dict[str, tuple[Callable[[], object], type[Exception], str]] = {
                                ValueError, "found has 7 jobs, but the instance has 8"),
     "another makespan": (lambda: pfs.solve_all(SHOPS, [1], found={(0, 1): pfs.generate(8, 3, 9).neh()}), ValueError,
                          "found: a solution for .* has the wrong makespan"),
+    "another search": (lambda: pfs.solve_all(SHOPS, [1], found={(0, 7): SHOPS[0].solve(3, seed=7)}), ValueError,
+                       r"found: \(0, 7\) isn't the index of an instance and a seed of this call"),
+    "another seed": (lambda: pfs.solve_all(SHOPS, [1], 5, found={(0, 1): SHOPS[0].solve(5, seed=2)}), ValueError,
+                     "has 5 rounds of seed 2, and the search 5 of seed 1"),
+    "more rounds": (lambda: pfs.solve_all(SHOPS, [1], 5, found={(0, 1): SHOPS[0].solve(6, seed=1)}), ValueError,
+                    "has 6 rounds of seed 1, and the search 5 of seed 1"),
 }
 
 

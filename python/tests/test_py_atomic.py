@@ -4,6 +4,7 @@ import os
 import pathlib
 import resource
 import secrets
+import signal
 import stat
 from collections.abc import Callable, Iterator
 
@@ -38,12 +39,16 @@ def path_for(kind: str, folder: pathlib.Path) -> pathlib.Path:
 
 
 @pytest.mark.parametrize("kind", WRITERS)
-def test_a_full_disk_leaves_the_old_file(tmp_path: pathlib.Path, kind: str) -> None:
+def test_a_full_disk_and_ctrl_c_leave_the_old_file(tmp_path: pathlib.Path, kind: str,
+                                                   monkeypatch: pytest.MonkeyPatch) -> None:
     path = path_for(kind, tmp_path)
     path.write_text("the old one")
     with files_of_at_most(16), pytest.raises(OSError, match="File too large") as fault:
         WRITERS[kind](path)
     assert fault.value.filename == str(path)
+    with monkeypatch.context() as patch, pytest.raises(KeyboardInterrupt):
+        patch.setattr(os, "fsync", lambda _: signal.raise_signal(signal.SIGINT))
+        WRITERS[kind](path)
     assert path.read_text() == "the old one", f"{kind} was written in place"
     assert os.listdir(tmp_path) == [path.name], "half a file is left"
     WRITERS[kind](path)

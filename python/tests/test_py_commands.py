@@ -372,6 +372,9 @@ def test_a_state_stays_where_a_link_leads(folder: pathlib.Path) -> None:
     assert (folder / "state").is_symlink() and rounds_in(folder) == 4
     assert (folder / "folder" / "kept").stat().st_mode & 0o777 == 0o640, "the permissions have changed"
     assert [path.name for path in (folder / "folder").iterdir()] == ["kept"]
+    (folder / "state.new").mkdir()
+    run([*LONG, "--rounds", "5", "--state", "state"], folder)
+    assert rounds_in(folder) == 5, "the new state is written beside the link, perhaps on another disk"
 
 
 def test_a_state_is_on_the_disk_before_it_replaces_the_old_one(folder: pathlib.Path) -> None:
@@ -439,6 +442,21 @@ def test_the_time_that_is_left_depends_on_the_rounds_of_this_search(monkeypatch:
     assert not lines[0].endswith("left") and lines[1].endswith(", 0:00:20 left")
 
 
+@pytest.mark.parametrize(("spent", "left"), [(1.0, "0:00:02"), (2.5, "0:00:01"), (4.0, "0:00:00")])
+def test_the_time_that_is_left_ends_with_the_time_limit(monkeypatch: pytest.MonkeyPatch, spent: float,
+                                                        left: str) -> None:
+    now, lines = [0.0], list[str]()
+    for module in (_commands, _search):
+        monkeypatch.setattr(module, "time", types.SimpleNamespace(monotonic=lambda: now[0]))
+    progress = _commands.ProgressLine(pfs.taillard(1), 1_000_000, _search.Pace(3.0))
+    monkeypatch.setattr(progress, "shown", True)
+    monkeypatch.setattr(progress, "show", lines.append)
+    progress.update(0, 1278)
+    now[0] = spent
+    progress.update(1, 1278)
+    assert lines[1].endswith(f", {left} left"), f"{spent} of 3 seconds have passed: {lines[1]}"
+
+
 @pytest.mark.parametrize(("words", "status", "error"), [
     (["search", "none", "--layout", "taillard"], 4, "pfs: [Errno 2] No such file or directory: 'none'\n"),
     (["search", "shop", "--layout", "orlib"], 2, "pfs: size line 2 has a wrong count\n"),
@@ -460,7 +478,8 @@ def test_what_is_rejected(folder: pathlib.Path, words: list[str], status: int, e
 
 
 @pytest.mark.parametrize(("words", "status", "error"), [
-    (["plan", "large.csv", "--chart", "x.jpg"], 3, "the name of a chart ends with .svg, .png, .pdf or .html"),
+    (["plan", "large.csv", "--chart", "ok.html", "--chart", "x.jpg"], 3,
+     "the name of a chart ends with .svg, .png, .pdf or .html"),
     ([*LONG, "--state", "state", "--start", "none"], 4, "No such file or directory: 'none'"),
     ([*LONG, "--state", "other"], 2, "not the state of a search"),
     (["search", "shop", "--layout", "taillard", "--take", "61"], 3, "--take must be from 1 to 60, not 61"),
@@ -558,6 +577,7 @@ def test_memory_that_runs_out_is_reported_on_one_line(folder: pathlib.Path, monk
 @pytest.mark.parametrize("words", [
     [], ["solve"], ["search"], LONG[:2], [*LONG, "--rounds", "-1"], [*LONG, "--rounds", "1000001"],
     [*LONG, "--rounds", "1.5"], [*LONG, "--seconds", "-1"], [*LONG, "--seconds", "nan"], [*LONG, "--seconds", "x"],
+    [*LONG, "--seconds", "1_0"], [*LONG, "--seconds", "\u0661"],
     [*LONG, "--take", "0"], [*LONG, "--passes", "101"], [*LONG, "--seed", "18446744073709551616"],
     [*LONG, "--block", "0"], ["search", "shop", "--layout", "csv"], ["plan"]])
 def test_words_that_no_command_takes(folder: pathlib.Path, words: list[str]) -> None:
@@ -726,6 +746,28 @@ def test_what_cant_be_written_is_reported_before_the_search(folder: pathlib.Path
     assert child.communicate(timeout=60) == (b"", error.encode()) and child.returncode == 4
 
 
+def test_pages_and_searches_need_no_other_package(folder: pathlib.Path) -> None:
+    (folder / "times.csv").write_text(TABLE)
+    for name in ("matplotlib", "pandas", "tqdm"):
+        (folder / "without" / name).mkdir(parents=True)
+        (folder / "without" / name / "__init__.py").write_text(f"raise ImportError('no {name}')\n")
+    words = ["plan", "times.csv", "--rounds", "1", "--schedule", "out.csv", "--chart", "page.html"]
+    child = start(words, folder, environment(folder / "without"))
+    printed, got = child.communicate(timeout=60)
+    assert child.returncode == 0, f"a plan with a page needs an optional package: {got.decode()}"
+    assert printed.startswith(b"makespan ") and (folder / "page.html").stat().st_size > 0
+    assert (folder / "out.csv").stat().st_size > 0
+
+
+@pytest.mark.parametrize("names", [["lamp; red", "lamp; blue", "chair"], ["a\tb", "c\td", "e"], [" =1+1", "=2", "-a"],
+                                   ["a; b\nc", "d", "e; f; g"]])
+def test_a_schedule_is_read_back(folder: pathlib.Path, names: list[str]) -> None:
+    table = "job,saw,drill\n" + "".join(f'"{name}",{3 - at},{at}\n' for at, name in enumerate(names))
+    (folder / "times.csv").write_text(table)
+    printed = run(["plan", "times.csv", "--schedule", "out.csv"], folder)
+    assert run(["plan", "times.csv", "--order", "out.csv"], folder) == printed
+
+
 @pytest.mark.parametrize("kind", [OSError, MemoryError, ImportError, ValueError])
 @pytest.mark.parametrize("failing", ["to_csv", "plot"])
 def test_an_output_that_fails_keeps_no_other_one_back(folder: pathlib.Path, monkeypatch: pytest.MonkeyPatch,
@@ -736,10 +778,12 @@ def test_an_output_that_fails_keeps_no_other_one_back(folder: pathlib.Path, monk
     monkeypatch.chdir(folder)
 
     def fail(*_: object, **__: object) -> None:
+        signal.raise_signal(signal.SIGTERM)
         raise kind("it fails")
 
     monkeypatch.setattr(pfs.Schedule, failing, fail)
-    assert _commands.main(["plan", "times.csv", "--schedule", "out.csv", "--chart", "out.html"]) == 4
+    status = _commands.main(["plan", "times.csv", "--schedule", "out.csv", "--chart", "out.html"])
+    assert status == 4, "the status isn't that of the error, but of the signal"
     line = "pfs: no memory\n" if kind is MemoryError else "pfs: it fails\n"
     out, got = capsys.readouterr()
     assert (out, without_summary(got)) == (printed, line)

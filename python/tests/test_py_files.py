@@ -4,6 +4,8 @@ import os
 import pathlib
 import pickle
 import subprocess
+import sys
+import tempfile
 import time
 from collections.abc import Callable
 from typing import Any
@@ -220,6 +222,63 @@ def test_all_blocks_of_60_megabytes_take_at_most_5_seconds(layout: str) -> None:
     seconds = time.process_time() - begun
     assert len(shops) == count and (shops[-1].times == one.times).all()
     assert seconds < 5, f"{len(text) / 1e6:.0f} MB took {seconds:.1f} s"
+
+
+def read_table(text: bytes) -> None:
+    with tempfile.NamedTemporaryFile() as file:
+        file.write(text)
+        file.flush()
+        pfs.read_csv(file.name)
+
+
+COUNT = 500_000
+# Readers, and what took them the square or the cube of its length.
+SLOW: dict[str, Callable[[], object]] = {
+    "blanks in an order": lambda: pfs.parse_order("1" + " " * COUNT + "x"),
+    "blanks before an order": lambda: pfs.parse_order(" " * COUNT + "("),
+    "a head": lambda: read_table(b"job" + b" " * 100_000 + b"b;a\nx;y\n"),
+}
+
+
+@pytest.mark.parametrize("case", SLOW)
+def test_readers_take_linear_time(case: str) -> None:
+    begun = time.process_time()
+    with pytest.raises(ValueError):
+        SLOW[case]()
+    assert time.process_time() - begun < 2, f"{case}: the time grows faster than the length"
+
+
+MEASURED = """
+import io, resource, sys, pfs
+kind, text = sys.argv[1], open(sys.argv[2], "rb").read()
+before = resource.getrusage(resource.RUSAGE_SELF).ru_maxrss
+size = len(text)
+try:
+    if kind == "matrix":
+        pfs.read(io.BytesIO(text), kind)
+    else:
+        del text
+        pfs.read_csv(sys.argv[2])
+except ValueError as fault:
+    print(str(fault)[:99], file=sys.stderr)
+print((resource.getrusage(resource.RUSAGE_SELF).ru_maxrss - before) * 1024 / size)
+"""
+MILLION = 2**20
+LARGE: dict[str, tuple[str, bytes]] = {
+    "line ends of a matrix": ("matrix", b"\n" * (8 * MILLION)),
+    "titles of a table": ("table", b"t\n" * (4 * MILLION) + b"job,a\nx,1\n"),
+    "cells of a table": ("table", b"job,a\nx" + b",12" * (3 * MILLION)),
+}
+
+
+@pytest.mark.parametrize("case", LARGE)
+def test_readers_take_little_memory(tmp_path: pathlib.Path, case: str) -> None:
+    kind, text = LARGE[case]
+    (tmp_path / "file").write_bytes(text)
+    env = os.environ | {"PYTHONPATH": str(pathlib.Path(pfs.__file__).parents[1]), "PYTHONDONTWRITEBYTECODE": "1"}
+    done = subprocess.run([sys.executable, "-c", MEASURED, kind, str(tmp_path / "file")], env=env, capture_output=True,
+                          text=True, timeout=100, check=True)
+    assert float(done.stdout) < 10, f"{case}: {done.stdout.strip()} bytes of memory for each byte ({done.stderr})"
 
 
 @pytest.mark.seconds(4)

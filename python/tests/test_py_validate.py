@@ -93,6 +93,7 @@ def test_lists_of_each_make() -> None:
     (np.array([[(1,)]], dtype=[("a", int)]), TypeError, "times must be whole numbers"),
     (np.ma.masked_array([[1, 2]], mask=[[False, True]]),  # type: ignore[no-untyped-call]
      TypeError, "masked"),
+    ([[3, 4], np.ma.masked_array([1, 2], mask=[False, True])], TypeError, "masked"),
     (None, ValueError, r"not the shape \(\)"),
     ({"a": 1}, ValueError, r"not the shape \(\)"),
 ])

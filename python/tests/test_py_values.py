@@ -8,6 +8,7 @@ import pathlib
 import pickle
 import random
 import re
+import sys
 from collections.abc import Callable
 from typing import Any
 
@@ -169,15 +170,34 @@ def test_schedule_has_names(tmp_path: pathlib.Path) -> None:
         ["table", "saw", 2.0, 5.0], ["table", "drill", 7.0, 9.5]]
 
 
+@pytest.mark.parametrize("names", [{"job_names": ["a", "b"]}, {"machine_names": ["saw"]}, {}])
+def test_a_frame_of_a_schedule_has_the_names_that_there_are(names: dict[str, Any],
+                                                            monkeypatch: pytest.MonkeyPatch) -> None:
+    pytest.importorskip("pandas")
+    frame = pfs.Instance([[1], [2]], **names).schedule([1, 0]).to_frame()
+    jobs: list[object] = ["b", "a"] if "job_names" in names else [1, 0]
+    machines: list[object] = ["saw"] * 2 if "machine_names" in names else [0, 0]
+    assert frame["job"].tolist() == jobs, "the column of the jobs"
+    assert frame["machine"].tolist() == machines, "the column of the machines"
+    modules: dict[str, Any] = sys.modules
+    monkeypatch.setitem(modules, "pandas", None)
+    with pytest.raises(ImportError, match="to_frame needs pandas"):
+        pfs.Instance([[1]]).schedule([0]).to_frame()
+
+
 @pytest.mark.parametrize("delimiter", [",", ";", "\t"])
-@pytest.mark.parametrize("name", ["car\rriage", "two\nlines", "both\r\n", '"quoted"', "a,b;c\td", " ", "", "=1", "\r"])
+@pytest.mark.parametrize("name", ["car\rriage", "two\nlines", "both\r\n", '"quoted"', "a,b;c\td", " ", "", "=1", " =1",
+                                  "-1", "+a", "@a", "\t", "\r"])
 def test_a_name_is_one_cell(tmp_path: pathlib.Path, name: str, delimiter: str) -> None:
     """A reader of CSV finds the rows, with each name as it is."""
     shop = pfs.Instance([[1, 2]], job_names=[name], machine_names=["saw", f"{name}2"])
     shop.schedule([0]).to_csv(tmp_path / "plan.csv", delimiter)
     with open(tmp_path / "plan.csv", newline="", encoding="utf-8") as file:
         rows = list(csv.reader(file, delimiter=delimiter, strict=True))
-    due = [["job", "machine", "start", "end"], [name, "saw", "0", "1"], [name, f"{name}2", "1", "3"]]
+    # A spreadsheet would take these for formulas.
+    mark = "'" if name.strip()[:1] in tuple("=+-@") or name in ("\r", "\t") else ""
+    due = [["job", "machine", "start", "end"], [mark + name, "saw", "0", "1"],
+           [mark + name, f"{mark}{name}2", "1", "3"]]
     assert rows == due, f"the name {name!r} has broken a row"
     text = (tmp_path / "plan.csv").read_bytes().decode()
     # Spreadsheets end rows at a carriage return that isn't quoted.
@@ -357,17 +377,26 @@ def test_a_frame_keeps_its_names() -> None:
 
 @pytest.mark.parametrize(("times", "decimals", "due"), [
     ([[2.5, 3]], 1, [[25, 30]]), ([[0.1, 0.2, 0.3, 0.7]], 1, [[1, 2, 3, 7]]), ([[1.005, 4.35]], 3, [[1005, 4350]]),
-    ([[999_999.999]], 3, [[999_999_999]]), ([[3, 2]], 2, [[300, 200]]), ([[3.0, 2.0]], 0, [[3, 2]])])
+    ([[999_999.999]], 3, [[999_999_999]]), ([[3, 2]], 2, [[300, 200]]), ([[3.0, 2.0]], 0, [[3, 2]]),
+    (np.array([[99_999.9]], np.float32), 1, [[999_999]]), (np.array([[3, 2.5]], object), 1, [[30, 25]])])
 def test_a_frame_of_decimal_times(times: Any, decimals: int, due: list[list[int]]) -> None:
     pandas = pytest.importorskip("pandas")
     shop = pfs.from_frame(pandas.DataFrame(times), decimals=decimals, unit="h")
     assert (shop.times.tolist(), shop.decimals, shop.unit) == (due, decimals, "h")
 
 
+@pytest.mark.parametrize("dtype", ["object", "category", "Float64"])
+def test_a_frame_of_whole_times_has_decimals_too(dtype: str) -> None:
+    pandas = pytest.importorskip("pandas")
+    frame = pandas.DataFrame({"saw": pandas.Series([2, 3], dtype=dtype), "drill": [4, 5]})
+    assert pfs.from_frame(frame, decimals=1).times.tolist() == [[20, 40], [30, 50]], f"{dtype} isn't scaled"
+
+
 @pytest.mark.parametrize(("times", "decimals", "kind", "why"), [
     ([[2.55]], 1, ValueError, "times: 25.5 at job 0, machine 0 isn't a whole number"),
     ([[2.5]], 0, ValueError, "times: 2.5 at job 0"), ([[1.0, float("nan")]], 1, ValueError, "times: nan at job 0"),
-    ([[float("inf")]], 2, ValueError, "times: inf at job 0"), ([[-0.5]], 1, ValueError, "times: -5.0 at job 0"),
+    ([[float("inf")]], 2, ValueError, "times: inf at job 0"), ([[-0.5]], 1, ValueError, "times: -5 at job 0"),
+    ([[2.50000009]], 1, ValueError, "isn't a whole number"),
     ([[1_000_000_001]], 0, ValueError, "isn't from 0 to 1,000,000,000"), ([[1e9]], 1, ValueError, "isn't from 0 to"),
     ([["x"]], 1, TypeError, "times: x at job 0, machine 0 isn't a whole number"), ([[True]], 1, TypeError, "bool"),
     ([[1]], 10, ValueError, "decimals must be from 0 to 9, not 10"), ([[1]], True, TypeError, "decimals must be")])

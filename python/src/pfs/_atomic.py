@@ -1,10 +1,20 @@
-"""Atomic writes: after an interruption a file has either its old content or all of the new content."""
+"""Atomic writes: after an interruption a file has either its old content or all of the new content. And cells of CSVs
+that no spreadsheet takes for formulas."""
 from __future__ import annotations
 
 import contextlib
 import os
+import re
 import secrets
 import stat
+
+FORMULA = re.compile(r"\s*[=+@-]|[\t\r]")
+
+
+def text_cell(text: str) -> str:
+    """Return a text with an apostrophe before it if a spreadsheet would interpret it as a formula, perhaps after
+    removing blanks."""
+    return f"'{text}" if FORMULA.match(text) else text
 
 
 def atomic_write(path: str | os.PathLike[str], data: bytes, temporary: str | None = None) -> None:

@@ -195,7 +195,7 @@ def check_outputs(schedule: str | None, charts: Sequence[str]) -> None:
     """Raise an error before the search if an output would fail after it: for an unknown ending of a chart's name, a
     missing folder, or no matplotlib."""
     endings = {ending_of(chart) for chart in charts}
-    for path in charts if schedule is None else [schedule, *charts]:
+    for path in filter(None, [schedule, *charts]):
         if not os.path.isdir(os.path.dirname(path) or "."):
             raise FileNotFoundError(errno.ENOENT, os.strerror(errno.ENOENT), path)
     if endings - {"html"}:
@@ -242,7 +242,8 @@ def printed(text: str) -> None:
 def seconds_of(text: str) -> float:
     """Parse a time limit."""
     try:
-        seconds = limit_of(float(text))
+        # Python takes 1_0 and other digits as numbers.
+        seconds = limit_of(float(text if text.isascii() and "_" not in text else "nan"))
     except ValueError:
         raise argparse.ArgumentTypeError(f"{text!r} is not a number of seconds") from None
     assert seconds is not None

@@ -37,17 +37,18 @@ def bytes_of(source: Source, most: int) -> tuple[bytes, str]:
 def read_up_to(read_some: Callable[[int], bytes | None], most: int) -> bytes:
     """Return the content of a file, at most `most` bytes. A read of an unbuffered pipe may return fewer bytes than
     requested, even before the end."""
-    text = bytearray()
-    while len(text) < most:
-        part = read_some(most - len(text))
+    parts: list[bytes] = []
+    while most > 0:
+        part = read_some(most)
         if part is None:
             raise BlockingIOError("the file is non-blocking and has no data yet: use a blocking one")
         if not isinstance(part, bytes):
             raise TypeError("the file must be opened in binary mode")
         if not part:
             break
-        text += part
-    return bytes(text)
+        parts.append(part)
+        most -= len(part)
+    return b"".join(parts)
 
 
 def block_of(text: bytes, path: str, layout: int, block: int, start: int = 0) -> Instance:
@@ -90,7 +91,7 @@ def start_of_fault(text: bytes, layout: int) -> int:
 
 
 # The title of a block in OR-Library's files. Its last word is the name, if it contains a letter.
-TITLE = re.compile(rb"^[ \t]*instance[ \t]+(\S*[a-zA-Z]\S*)[ \t\r]*$", re.MULTILINE | re.IGNORECASE)
+TITLE = re.compile(rb"^[ \t]*instance[ \t]+(?=[^a-z\s]*[a-z])(\S+)[ \t\r]*$", re.MULTILINE | re.IGNORECASE)
 
 
 def title_of(text: bytes, start: int) -> str:
@@ -254,9 +255,17 @@ def read_order(source: Source) -> Solution:
     return Solution(order[:jobs.value], makespan.value, 0, machines.value)
 
 
-# A list of numbers, perhaps in brackets, and the separators between them.
-LIST = re.compile(r"\s*[\[({]?\s*([0-9]+(?:\s*[,;]\s*[0-9]+|\s+[0-9]+)*)\s*[,;]?\s*[\])}]?\s*\Z", re.ASCII)
+# A list, perhaps in brackets.
+LIST = re.compile(r"[\[({]?([^\[\](){}]*)[\])}]?")
 MOST_DIGITS = 20
+
+
+def words_of(text: str) -> list[str]:
+    """Return the words between commas, semicolons and blanks. Where one is missing, it is empty."""
+    match = LIST.fullmatch(text.strip())
+    inside = match[1].strip() if match else ""
+    parts = re.split("[,;]", inside[:-1] if inside.endswith((",", ";")) else inside)
+    return [word for part in parts for word in part.split() or [""]]
 
 
 def parse_order(text: str, first: int = 0) -> Order:
@@ -293,10 +302,9 @@ def parse_order(text: str, first: int = 0) -> Order:
     if not isinstance(text, str):
         raise TypeError(f"text must be a str, not {text!r}")
     first = checked_int(first, "first", 0, 1)
-    match = LIST.match(text)
-    if not match:
+    words = words_of(text)
+    if not all(word.isascii() and word.isdigit() for word in words):
         raise ValueError(f"{text[:60]!r} isn't a list of whole numbers")
-    words = re.findall("[0-9]+", match[1])
     if len(words) > c.MOST_JOBS:
         raise ValueError(f"the list has {len(words):,} jobs, but at most {c.MOST_JOBS:,} are allowed")
     order: list[int] = []
@@ -335,7 +343,8 @@ def from_frame(frame: Any, *, unit: str = "", decimals: int = 0) -> Instance:
     TypeError
         If it isn't a DataFrame, or has values that aren't numbers.
     ValueError
-        If a time is missing, has more decimals or is out of range, or a name occurs twice.
+        If a time is missing, has more decimals, other than by the rounding of its type, or is out of range, or a name
+        occurs twice.
 
     Examples
     --------
@@ -348,13 +357,28 @@ def from_frame(frame: Any, *, unit: str = "", decimals: int = 0) -> Instance:
     if not is_frame(frame):
         raise TypeError(f"frame must be a pandas DataFrame, not {type(frame).__name__}")
     decimals = checked_int(decimals, "decimals", 0, 9)
-    if decimals and all(kind.kind in "iuf" for kind in frame.dtypes):
-        scaled = frame.to_numpy(dtype=np.float64) * 10**decimals
-        # A float may differ slightly from the decimal that it represents.
-        with np.errstate(invalid="ignore"):
-            scaled = np.where(np.abs(scaled - np.rint(scaled)) <= 1e-6, np.rint(scaled), scaled)
-        frame = type(frame)(scaled, index=frame.index, columns=frame.columns)
+    if decimals:
+        columns = [scaled(frame.iloc[:, at], decimals) for at in range(frame.shape[1])]
+        names = frame.columns
+        frame = type(frame)(dict(enumerate(columns)), index=frame.index)
+        frame.columns = names
     return Instance(frame, unit=unit, decimals=decimals)
+
+
+def scaled(column: Any, decimals: int) -> list[Any]:
+    """Return a column in the unit of its last decimal. What isn't a number stays, and `Instance` rejects it."""
+    # A float may differ slightly from the decimal that it represents, by the last bits of its type.
+    kind = getattr(column.dtype, "numpy_dtype", column.dtype)
+    error = max(1e-12, float(np.finfo(kind).eps)) if kind.kind == "f" else 1e-12
+    found: list[Any] = []
+    for value in column.tolist():
+        value = value.item() if isinstance(value, np.generic) else value
+        if isinstance(value, (int, float)) and not isinstance(value, bool):
+            value *= 10**decimals
+            if abs(value) < 2**53 and abs(value - round(value)) <= error * abs(value):
+                value = round(value)
+        found.append(value)
+    return found
 
 
 def generate(jobs: int, machines: int, seed: int) -> Instance:

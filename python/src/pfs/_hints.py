@@ -1,7 +1,9 @@
 """The position of a fault in an instance file, and a hint at its cause."""
 from __future__ import annotations
 
+import io
 import re
+from itertools import islice
 
 from pfs import _library as c
 
@@ -25,7 +27,7 @@ def where(text: bytes, number: int, place: int) -> tuple[int, int]:
         return text.count(b"\n", 0, place) + 1, place - text.rfind(b"\n", 0, place)
     if number in (SIZE_COUNT, SIZE_RANGE):
         return place, 0
-    return (0 if number == TOO_LONG else max(1, len(text.splitlines()))), 0
+    return 0 if number == TOO_LONG else text.count(b"\n") + (not text.endswith(b"\n")), 0
 
 
 def hint_of(text: bytes, number: int, layout: int, start: int, line: int) -> str:
@@ -46,9 +48,9 @@ def hint_of(text: bytes, number: int, layout: int, start: int, line: int) -> str
 
 def hint_of_size(text: bytes, layout: int, line: int) -> str:
     """Return a hint for a size line with a wrong count. The line before it may be the intended one."""
-    lines = text.split(b"\n")
-    count, due = len(lines[line - 1].split()), NUMBERS_OF_SIZE[layout]
-    if line > 1 and re.match(rb"[ \t]*[0-9]+[ \t]+[0-9]+\b.*[^0-9 \t\r]", lines[line - 2]):
+    before, own = islice(io.BytesIO(b"\n" + text), line - 1, line + 1)
+    count, due = len(own.split()), NUMBERS_OF_SIZE[layout]
+    if re.match(rb"[ \t]*[0-9]+[ \t]+[0-9]+\b.*[^0-9 \t\r\n]", before):
         return f"line {line - 1} has words next to its numbers, so it isn't read as a size line"
     other = next((name for name, own in c.LAYOUTS.items() if own != layout and NUMBERS_OF_SIZE[own] == count), None)
     hint = f"the line has {count} numbers, but a size line has {due}"
@@ -63,7 +65,7 @@ def hint_of_rows(text: bytes, layout: int, start: int, line: int) -> str:
     jobs, machines = (int(word) for word in size_line[0].split()[:2])
     due = jobs if layout == c.LAYOUTS["taillard"] else 2 * machines
     at = text.count(b"\n", 0, size_line.end()) + 1
-    for number, row in enumerate(text.split(b"\n")[at:line], at + 1):
+    for number, row in enumerate(islice(io.BytesIO(text), at, line), at + 1):
         count = len(row.split()) if NUMBER_LINE.match(row) else 0
         if count == machines != due and layout == c.LAYOUTS["orlib"]:
             return f"line {number} has {count} numbers: perhaps only times, instead of pairs of machine and time"

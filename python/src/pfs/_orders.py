@@ -4,13 +4,15 @@ from __future__ import annotations
 import os
 import re
 from collections.abc import Iterator
+from itertools import chain, islice
 
 from pfs import _library as c
+from pfs._atomic import text_cell
 from pfs._faults import TableFault
 from pfs._files import read_up_to
 from pfs._instance import Instance
 from pfs._names import shown
-from pfs._tables import counted, rows_of, text_of
+from pfs._tables import counted, lines_of, records, text_of
 
 SCHEDULE = re.compile(r"job([;,\t])machine\1start\1end")
 # The lines of a plan before its jobs, and a job after its place.
@@ -30,7 +32,9 @@ def order_in(path: str | os.PathLike[str], shop: Instance) -> list[int]:
     if len(content) > c.LONGEST_INPUT:
         raise TableFault(path, 1, 0, f"the file has more than {c.LONGEST_INPUT:,} bytes")
     names = [shop.job_name(job) for job in range(shop.jobs)]
-    numbers = {shown(name): job for job, name in enumerate(names)} | {name: job for job, name in enumerate(names)}
+    # As a plan and its schedule have them.
+    numbers = {text: job for texts in ([*map(shown, names)], [*map(text_cell, names)], names)
+               for job, text in enumerate(texts)}
     seen: dict[int, int] = {}
     for line, name in named_jobs(text_of(content, path), path, numbers):
         if name not in numbers:
@@ -48,18 +52,21 @@ def order_in(path: str | os.PathLike[str], shop: Instance) -> list[int]:
 
 def named_jobs(text: str, path: str, numbers: dict[str, int]) -> Iterator[tuple[int, str]]:
     """Return the names of the jobs with their lines. A schedule has each job several times; the first is used."""
-    lines = [(line, cell) for line, row in enumerate(text.splitlines(), 1) if (cell := row.strip())]
-    if lines and SCHEDULE.fullmatch(lines[0][1]):
-        first: dict[str, int] = {}
-        for line, row in rows_of(text, path).rows[1:]:
-            first.setdefault(row[0], line)
-        yield from ((line, name) for name, line in first.items())
+    filled = ((line, cell) for line, row in enumerate(lines_of(text), 1) if (cell := row.strip()))
+    lines = list(islice(filled, 4))
+    schedule = SCHEDULE.fullmatch(lines[0][1]) if lines else None
+    if schedule:
+        seen: set[str] = set()
+        for line, row in islice(records(text, path, schedule[1]), 1, None):
+            if row[0] not in seen:
+                seen.add(row[0])
+                yield line, row[0]
         return
     is_plan = len(lines) > 2 and all(HEAD.fullmatch(lines[at][1]) for at in (0, 1))
     if is_plan:
         lines = lines[2:]
         for after in AFTER:
             lines = lines[1:] if lines and after.fullmatch(lines[0][1]) else lines
-    for line, name in lines:
+    for line, name in chain(lines, filled):
         placed = PLACED.fullmatch(name)
         yield line, placed[1] if placed and (is_plan or name not in numbers) else name

@@ -8,7 +8,7 @@ from typing import TYPE_CHECKING, Any
 
 import numpy as np
 
-from pfs._atomic import atomic_write
+from pfs._atomic import atomic_write, text_cell
 from pfs._calendar import Calendar, Clock, text_of
 from pfs._names import amount
 from pfs._validate import Order
@@ -177,7 +177,7 @@ class Schedule:
 
     def to_csv(self, path: str | os.PathLike[str] | None = None, delimiter: str = ",", *,
                mark: bool = False, calendar: Calendar | None = None) -> str | None:
-        """Write the operations as CSV.
+        """Write the operations as CSV. A name that a spreadsheet would interpret as a formula gets an apostrophe.
 
         Parameters
         ----------
@@ -209,7 +209,7 @@ class Schedule:
         rows.writerow(["job", "machine", "start", "end"])
         for job, machine, start, end in self._operations():
             shown = (time.replace(".", ",") if delimiter == ";" else time for time in times_of(start, end))
-            rows.writerow([shop.job_name(job), shop.machine_name(machine), *shown])
+            rows.writerow([text_cell(shop.job_name(job)), text_cell(shop.machine_name(machine)), *shown])
         text = "".join(lines.written)
         if path is None:
             return text

@@ -2,20 +2,26 @@
 from __future__ import annotations
 
 import csv
-import io
 import os
 import re
-from collections.abc import Iterable, Sequence
+from collections.abc import Iterable, Iterator, Sequence
+from itertools import islice
 from typing import NamedTuple
+
+import numpy as np
 
 from pfs import _library as c
 from pfs._faults import TableFault
 from pfs._files import read_up_to
 from pfs._instance import Instance
 from pfs._names import UNITS_OF_TIME
+from pfs._validate import Order
 
+# The most cells of a row, as in spreadsheets, and the most rows, with titles.
+MOST_CELLS, MOST_ROWS = 16_384, 10_000
+LINE = re.compile(r"[^\r\n]*(?:\r\n?|\n)|[^\r\n]+")
 # A unit in brackets at the end of a name.
-UNIT = re.compile(r"\s*[\[(]([^\[\]()]+)[\])]\s*\Z")
+UNIT = re.compile(r"[\[(]([^\[\]()]+)[\])]\Z")
 NUMBER = re.compile(r"([0-9]{1,20})(?:([.,])([0-9]{1,20}))?\Z", re.ASCII)
 CLOCK = re.compile(r"([0-9]{1,6}):([0-5][0-9])\Z", re.ASCII)
 CLOCK_UNITS = ("", "h:mm", "hh:mm")
@@ -57,24 +63,25 @@ class Cell(NamedTuple):
 
 
 class Rows(NamedTuple):
-    """The rows of a table that aren't empty."""
+    """A table: its rows that aren't empty, without titles and without empty columns at the right."""
 
     path: str
-    rows: list[tuple[int, list[str]]]
+    text: str
     delimiter: str
+    # The names of the machines, after the cell above the jobs, and those of the jobs.
+    head: list[Cell]
+    jobs: list[Cell]
+    # The number of columns that aren't empty.
+    width: int
 
     def fault(self, cell: Cell, text: str) -> TableFault:
         return TableFault(self.path, cell.line, cell.column, text)
 
-    def machines(self) -> list[Cell]:
-        line, head = self.rows[0]
-        return [Cell(line, column, text) for column, text in enumerate(head[1:], 2)]
-
-    def jobs(self) -> list[Cell]:
-        return [Cell(line, 1, row[0]) for line, row in self.rows[1:]]
-
-    def times(self) -> list[list[Cell]]:
-        return [[Cell(line, column, text) for column, text in enumerate(row[1:], 2)] for line, row in self.rows[1:]]
+    def times(self) -> Iterator[list[Cell]]:
+        """Read the times again, row by row: all of their cells would take a hundred times the memory of the text."""
+        for line, row in records(self.text, self.path, self.delimiter):
+            if line > self.head[0].line:
+                yield [Cell(line, column, text) for column, text in enumerate(row[1:self.width], 2)]
 
 
 def read_csv(source: str | os.PathLike[str], unit: str = "", *, decimal: str | None = None,
@@ -143,14 +150,14 @@ def table_of(source: str | os.PathLike[str], unit: str, decimal: str | None = No
     if len(content) > c.LONGEST_INPUT:
         raise TableFault(path, 1, 0, f"the table has more than {c.LONGEST_INPUT:,} bytes")
     table = rows_of(text_of(content, path), path)
-    heads = table.machines()
-    names, found = without_units(table, heads, unit)
+    names, found = without_units(table, table.head[1:], unit)
     machines = names_in(path, names, "machine")
-    jobs = names_in(path, table.jobs(), "job")
+    jobs = names_in(path, table.jobs, "job")
     if not 1 <= len(machines) <= c.MOST_MACHINES:
-        raise TableFault(path, table.rows[0][0], 0, f"{len(machines)} machines: there may be 1 to {c.MOST_MACHINES}")
+        raise TableFault(path, table.head[0].line, 0, f"{len(machines)} machines: there may be 1 to {c.MOST_MACHINES}")
     if not 1 <= len(jobs) <= c.MOST_JOBS:
-        raise TableFault(path, table.rows[-1][0], 0, f"{len(jobs)} jobs: there may be 1 to {c.MOST_JOBS:,}")
+        last = (table.head + table.jobs)[-1].line
+        raise TableFault(path, last, 0, f"{len(jobs)} jobs: there may be 1 to {c.MOST_JOBS:,}")
     reject_times_as_names(table, machines, jobs)
     times, decimals, found = times_of(table, decimal, found)
     if not allow_totals:
@@ -172,47 +179,77 @@ def text_of(content: bytes, path: str) -> str:
         raise TableFault(path, line, 0, f"isn't text in UTF-8: {SAVE_AS}") from None
 
 
-def delimiter_of(lines: Iterable[str]) -> str:
-    """Return the separator of the columns: `;` or tab if it is in more than half of the lines, else a comma."""
-    filled = [line for line in lines if line.strip()]
-    return next((sign for sign in ";\t" if 2 * sum(sign in line for line in filled) > len(filled)), ",")
+def lines_of(text: str) -> Iterator[str]:
+    """Return the lines with their ends, one after the other."""
+    return map(re.Match.group, LINE.finditer(text))
+
+
+def delimiter_of(text: str) -> str:
+    """Return the separator of the columns: the one that the first line names, or `;` or tab if it is in more than half
+    of the lines, else a comma."""
+    count, counts = 0, {";": 0, "\t": 0}
+    for line in islice(filter(str.strip, lines_of(text)), 10 * MOST_ROWS):
+        named = re.fullmatch(r"sep=(.)\s*", line)
+        if named and not count:
+            return named[1]
+        count += 1
+        for sign in counts:
+            counts[sign] += sign in line
+    return next((sign for sign in counts if 2 * counts[sign] > count), ",")
+
+
+def records(text: str, path: str, delimiter: str) -> Iterator[tuple[int, list[str]]]:
+    """Return the rows that aren't empty, with their lines, without one that names the separator."""
+    signs, line, is_first = 0, 1, True
+
+    def lines() -> Iterator[str]:
+        nonlocal signs
+        for each in lines_of(text):
+            signs += each.count(delimiter)
+            if signs >= MOST_CELLS:
+                raise TableFault(path, line, 0, f"the row has more than {MOST_CELLS:,} cells")
+            yield each
+
+    reader = csv.reader(lines(), delimiter=delimiter, strict=True, skipinitialspace=delimiter != "\t")
+    try:
+        for row in reader:
+            if any(row) and any(cells := [cell.strip() for cell in row]):
+                if not (is_first and cells[0] == "sep="):
+                    yield line, cells
+                is_first = False
+            signs, line = 0, reader.line_num + 1
+    except csv.Error as error:
+        raise TableFault(path, reader.line_num, 0, f"isn't a row of a table: {error}") from None
 
 
 def rows_of(text: str, path: str) -> Rows:
-    """Return the rows that aren't empty, with their lines, without titles and empty columns at the right."""
-    lines = list(io.StringIO(text, newline=""))
-    first = next((line for line in lines if line.strip()), "")
-    named = re.match(r"sep=(.)\s*\Z", first)
-    delimiter = named[1] if named else delimiter_of(lines)
-    reader = csv.reader(lines, delimiter=delimiter, strict=True, skipinitialspace=delimiter != "\t")
-    rows: list[tuple[int, list[str]]] = []
-    try:
-        line = 1
-        for row in reader:
-            cells = [cell.strip() for cell in row]
-            if any(cells) and not (named and not rows and cells[0].startswith("sep=")):
-                rows.append((line, cells))
-            line = reader.line_num + 1
-    except csv.Error as error:
-        raise TableFault(path, reader.line_num, 0, f"isn't a row of a table: {error}") from None
-    if not rows:
+    """Return the table: the rows from the first one on that has more than a first cell. Those above it are titles."""
+    delimiter = delimiter_of(text)
+    head: list[str] = []
+    firsts: list[Cell] = []
+    at = width = 0
+    for line, row in records(text, path, delimiter):
+        if len(firsts) == MOST_ROWS:
+            raise TableFault(path, line, 0, f"the table has more than {MOST_ROWS:,} rows")
+        if not firsts or (not any(head[1:]) and any(row[1:])):
+            head, at = row, len(firsts)
+        firsts.append(Cell(line, 1, row[0]))
+        width = max(width, *(column for column, cell in enumerate(row, 1) if cell))
+    if not firsts:
         raise TableFault(path, 1, 0, "the table is empty")
-    rows = without_titles(rows, path)
-    width = max(column for _, row in rows for column, cell in enumerate(row, 1) if cell)
-    return Rows(path, [(line, row[:width]) for line, row in rows], delimiter)
+    check_titles(path, firsts[:at], head, firsts[at].line)
+    cells = [Cell(firsts[at].line, column, text) for column, text in enumerate(head[:width], 1)]
+    return Rows(path, text, delimiter, cells, firsts[at + 1:], width)
 
 
-def without_titles(rows: list[tuple[int, list[str]]], path: str) -> list[tuple[int, list[str]]]:
-    """The rows from the one with the names of the machines on. If these names are missing, that row looks like a title
-    and the first job like the names, which would lose the job: a `TableFault`."""
-    first = next((at for at, (_, row) in enumerate(rows) if any(row[1:])), 0)
-    for line, row in rows[:first]:
-        if row[0] and is_above_names(row[0]):
-            raise TableFault(path, line, 2, "the machine has no name")
-    line, head = rows[first]
-    if first and all(is_time(name) for name in head[1:] if name) and not is_above_names(head[0]):
+def check_titles(path: str, titles: Sequence[Cell], head: Sequence[str], line: int) -> None:
+    """If the names of the machines are missing, that row looks like a title and the first job like the names, which
+    would lose the job: a `TableFault`."""
+    for title in titles:
+        if title.text and is_above_names(title.text):
+            raise TableFault(path, title.line, 2, "the machine has no name")
+    if titles and all(is_time(name) for name in head[1:] if name) and not is_above_names(head[0]):
         raise TableFault(path, line, 2, TIMES_AS_NAMES.format(what="machine", part="row"))
-    return rows[first:]
 
 
 def names_in(path: str, cells: Iterable[Cell], what: str) -> list[str]:
@@ -243,7 +280,7 @@ def is_same_unit(one: str, other: str) -> bool:
 
 def without_units(table: Rows, heads: Sequence[Cell], unit: str) -> tuple[list[Cell], str]:
     """The names of the machines without a unit that they all have, and the unit of the table."""
-    line, first = table.rows[0][0], unit_in(table.rows[0][1][0])
+    line, first = table.head[0].line, unit_in(table.head[0].text)
     if unit and first.casefold() in UNITS_OF_TIME and not is_same_unit(unit, first):
         raise TableFault(table.path, line, 1, f"the times are in {first}, and `unit` is {unit}: use one unit")
     named = unit or first
@@ -256,14 +293,14 @@ def without_units(table: Rows, heads: Sequence[Cell], unit: str) -> tuple[list[C
             others = "`unit` is" if unit else "others are in"
             raise table.fault(head, f"the times of the machine are in {own or 'no unit'}, and {others} {expected}: "
                                     "use one unit")
-    return [Cell(head.line, head.column, UNIT.sub("", head.text) if own else head.text)
+    return [head._replace(text=UNIT.sub("", head.text).rstrip() if own else head.text)
             for head, own in zip(heads, units)], expected
 
 
 def is_above_names(first: str) -> bool:
     """Whether the first cell of a row says that names follow to the right and below: it is `job`, empty, or has a unit
     of time."""
-    return bool(SAYS_JOB.match(UNIT.sub("", first))) or unit_in(first).casefold() in UNITS_OF_TIME
+    return bool(SAYS_JOB.match(UNIT.sub("", first).rstrip())) or unit_in(first).casefold() in UNITS_OF_TIME
 
 
 def is_time(text: str) -> bool:
@@ -273,70 +310,74 @@ def is_time(text: str) -> bool:
 def reject_times_as_names(table: Rows, machines: Sequence[str], jobs: Sequence[str]) -> None:
     """Names that are all numbers are probably times: the row or the column of names is missing. The first cell of the
     table may say that they are names."""
-    if is_above_names(table.rows[0][1][0]):
+    if is_above_names(table.head[0].text):
         return
-    for names, what, part, line, column in ((machines, "machine", "row", table.rows[0][0], 2),
-                                            (jobs, "job", "column", table.rows[1][0], 1)):
+    for names, what, part, line, column in ((machines, "machine", "row", table.head[0].line, 2),
+                                            (jobs, "job", "column", table.jobs[0].line, 1)):
         if all(is_time(name) for name in names):
             raise TableFault(table.path, line, column, TIMES_AS_NAMES.format(what=what, part=part))
 
 
-def times_of(table: Rows, decimal: str | None, unit: str) -> tuple[list[list[int]], int, str]:
+def times_of(table: Rows, decimal: str | None, unit: str) -> tuple[Order, int, str]:
     """Return the times, the number of their decimals, and their unit."""
-    rows, machines = table.times(), len(table.rows[0][1]) - 1
-    for (line, _), row in zip(table.rows[1:], rows):
+    machines, is_clock = len(table.head) - 1, False
+    for job, row in zip(table.jobs, table.times()):
         if len(row) != machines:
-            raise TableFault(table.path, line, 0, f"{counted(len(row), 'time')} for {counted(machines, 'machine')}")
+            raise TableFault(table.path, job.line, 0, f"{counted(len(row), 'time')} for {counted(machines, 'machine')}")
         for cell in row:
+            is_clock = is_clock or CLOCK.match(cell.text) is not None
             if not cell.text:
                 raise table.fault(cell, "the time is missing: write 0 where a job skips a machine "
                                         "(it still waits there for its turn)")
-    if any(CLOCK.match(cell.text) for row in rows for cell in row):
-        return minutes_of(table, rows, unit), 0, "min"
-    sign = DecimalSign(table, rows, decimal)
-    parts = [[sign.parts_of(cell) for cell in row] for row in rows]
-    decimals = max(len(part) for row in parts for _, part in row)
-    times = [[int(number + part.ljust(decimals, "0")) for number, part in row] for row in parts]
-    reject_long_times(table, rows, times, f", counted in {counted(decimals, 'decimal')}" if decimals else "")
+    if is_clock:
+        return minutes_of(table, unit), 0, "min"
+    sign, decimals = DecimalSign(table, decimal), 0
+    # In billionths. What is too long for them is too long for a time.
+    billionths = np.zeros((len(table.jobs), machines), dtype=np.int64)
+    for at, row in enumerate(table.times()):
+        parts = [sign.parts_of(cell) for cell in row]
+        decimals = max(decimals, *(len(part) for _, part in parts))
+        billionths[at] = [min(int(number + part.ljust(9, "0")), 2**62) for number, part in parts]
+    times = billionths // 10**(9 - decimals)
+    reject_long_times(table, times, f", counted in {counted(decimals, 'decimal')}" if decimals else "")
     return times, decimals, unit
 
 
-def minutes_of(table: Rows, rows: Sequence[Sequence[Cell]], unit: str) -> list[list[int]]:
+def minutes_of(table: Rows, unit: str) -> Order:
     """Return times in minutes that are all written as hours and minutes."""
     if is_same_unit(unit, "min"):
-        raise TableFault(table.path, table.rows[0][0], 1, "times such as 1:30 may be hours and minutes, or minutes and "
-                                                          f"seconds: write [h:mm] instead of {unit}, or numbers")
+        raise TableFault(table.path, table.head[0].line, 1, "times such as 1:30 may be hours and minutes, or minutes "
+                                                            f"and seconds: write [h:mm] instead of {unit}, or numbers")
     if unit.casefold() not in CLOCK_UNITS and not is_same_unit(unit, "h"):
-        raise TableFault(table.path, table.rows[0][0], 1, f"times such as 1:30 are hours and minutes, not {unit}")
-    times = []
-    for row in rows:
+        raise TableFault(table.path, table.head[0].line, 1, f"times such as 1:30 are hours and minutes, not {unit}")
+    times = np.zeros((len(table.jobs), len(table.head) - 1), dtype=np.int64)
+    for at, row in enumerate(table.times()):
         found = [CLOCK.match(cell.text) for cell in row]
         for cell, match in zip(row, found):
             if match is None:
                 hint = ": leave out the seconds" if HINTS[0][0].fullmatch(cell.text) else ""
                 raise table.fault(cell, f"{cell.text!r} isn't hours and minutes, as other times of the table are{hint}")
-        times.append([60 * int(match[1]) + int(match[2]) for match in found if match])
-    reject_long_times(table, rows, times, " minutes")
+        times[at] = [60 * int(match[1]) + int(match[2]) for match in found if match]
+    reject_long_times(table, times, " minutes")
     return times
 
 
-def reject_long_times(table: Rows, rows: Sequence[Sequence[Cell]], times: Sequence[Sequence[int]], note: str) -> None:
-    for cells, row in zip(rows, times):
-        for cell, time in zip(cells, row):
-            if time > c.LONGEST_TIME:
-                raise table.fault(cell, f"the time is above {c.LONGEST_TIME:,}{note}")
+def reject_long_times(table: Rows, times: Order, note: str) -> None:
+    for job, machine in np.argwhere(times > c.LONGEST_TIME)[:1].tolist():
+        raise TableFault(table.path, table.jobs[job].line, machine + 2, f"the time is above {c.LONGEST_TIME:,}{note}")
 
 
 class DecimalSign:
     """The decimal sign of a table. By default it is the sign of the first time in which it can't group thousands."""
 
-    def __init__(self, table: Rows, rows: Iterable[Iterable[Cell]], decimal: str | None) -> None:
+    def __init__(self, table: Rows, decimal: str | None) -> None:
         self.table = table
         self.given = decimal
         self.sign = decimal or ("." if table.delimiter == "," else None)
         self.first: Cell | None = None
         if self.sign is None:
-            found = ((cell, NUMBER.match(cell.text)) for row in rows for cell in row if not GROUPED.match(cell.text))
+            found = ((cell, NUMBER.match(cell.text)) for row in table.times() for cell in row
+                     if not GROUPED.match(cell.text))
             clear = ((cell, match[2]) for cell, match in found if match and match[2])
             self.first, self.sign = next(clear, (None, None))
 
@@ -366,21 +407,16 @@ class DecimalSign:
         return text.replace(other, "") if re.match(grouped, text, re.ASCII) else text
 
 
-def reject_totals(table: Rows, times: Sequence[Sequence[int]]) -> None:
+def reject_totals(table: Rows, times: Order) -> None:
     """Reject a table whose last row or column is the sum of the others. A single equal number may be a coincidence, so
     at least two rows and two columns must be summed, unless the name says that it is a total."""
-    line, last = table.rows[-1]
-    total = [sum(column) for column in zip(*times[:-1])]
-    enough = 2 if TOTAL.match(last[0]) else 3
-    if len(times) >= enough and (len(total) > 1 or enough == 2) and any(total) and total == list(times[-1]):
-        raise TableFault(table.path, line, 0, f"the row {last[0]!r} has the sums of the rows above: leave it out, or "
-                                              "allow totals (`allow_totals`)")
-    line, head = table.rows[0]
-    sums, ends = [sum(row[:-1]) for row in times], [row[-1] for row in times]
-    enough = 2 if TOTAL.match(head[-1]) else 3
-    if len(head) > enough and (len(sums) > 1 or enough == 2) and any(sums) and sums == ends:
-        raise TableFault(table.path, line, len(head), f"the column {head[-1]!r} has the sums of the columns before: "
-                                                      "leave it out, or allow totals (`allow_totals`)")
+    for last, own, column, others in ((table.jobs[-1], times, 0, "row {!r} has the sums of the rows above"),
+                                      (table.head[-1], times.T, len(table.head),
+                                       "column {!r} has the sums of the columns before")):
+        total, enough = own[:-1].sum(axis=0), 2 if TOTAL.match(last.text) else 3
+        if len(own) >= enough and (len(total) > 1 or enough == 2) and total.any() and (total == own[-1]).all():
+            raise TableFault(table.path, last.line, column, f"the {others.format(last.text)}: leave it out, or allow "
+                                                            "totals (`allow_totals`)")
 
 
 def counted(number: int, what: str) -> str:

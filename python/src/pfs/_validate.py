@@ -53,7 +53,8 @@ def layout_number(layout: Any, others: str = "") -> int:
 
 def array_copy(given: Any, what: str) -> npt.NDArray[Any]:
     """Return a copy as an array."""
-    if isinstance(given, np.ma.MaskedArray):
+    rows = given if isinstance(given, (list, tuple)) else ()
+    if any(isinstance(part, np.ma.MaskedArray) for part in (given, *rows)):
         raise TypeError(f"{what} must not be a masked array: fill its missing values")
     if has_bools(given):
         raise TypeError(f"{what} must be whole numbers, not of dtype bool")
