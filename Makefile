@@ -1,9 +1,9 @@
 ## make help       this list
-## make try        runs pfs on the stored instance (crates/pfs/stdin) without proofs: half a minute
-## make run        proves and builds pfs, and runs it on the stored instance: 12 to 17 minutes the first time
+## make try        runs pfs on the stored instance (crates/pfs/stdin) without proofs, in a minute (tools/try)
+## make run        proves and builds pfs, and runs it on the stored instance
 ## make lib        proves and builds the library for C: lib/out/libpfs.a and lib/out/libpfs.so.0 (docs/LIBRARY.md)
 ## make check      what to run before each commit: layout, types, scripts and pages, in less than a minute
-## make test       everything that a change has to pass (tools/test): an hour and more
+## make test       proves and tests all that a change has to pass but the mutants (tools/test; times: docs/TESTS.md)
 ## make fuzz       compares the built program with a second program on random input, for MINUTES (5)
 ## make install    installs the program, the tools, the manual pages, the completions and the pages below PREFIX, an
 ##                 absolute path (and that below DESTDIR), and the library for C if `make lib` has built it. It proves
@@ -78,9 +78,7 @@ help:
 	@sed -n 's/^## \?//p' Makefile
 
 try:
-	@echo 'pfs on the stored instance, compiled with checks but not proved; this takes half a minute:' >&2
-	cd crates/pfs && rt try < stdin
-	@echo '`make run` proves every crate and leaves a fast program in $(PROGRAM).' >&2
+	tools/try
 
 run:
 	tools/build

@@ -7,6 +7,7 @@ import signal
 from collections.abc import Iterator
 
 import pytest
+from _pytest.assertion import truncate
 
 pytest.register_assert_rewrite("support")
 from support.files import make_files
@@ -14,8 +15,8 @@ from support.library import Library
 from support.needs import missing
 from support.program import Program
 
-pytest_plugins = ["support.needs", "support.folders", "support.shuffle", "support.slowest", "support.tools",
-                  "support.warm", "support.ssh", "support.slurm", "support.experiments", "support.installed"]
+pytest_plugins = ["support.needs", "support.folders", "support.tools", "support.warm", "support.ssh", "support.slurm",
+                  "support.experiments", "support.installed"]
 
 TOP = pathlib.Path(__file__).resolve().parent.parent
 LIBRARY = TOP / "lib" / "out" / "libpfs.so.0"
@@ -35,6 +36,8 @@ def pytest_addoption(parser: pytest.Parser) -> None:
 
 
 def pytest_configure(config: pytest.Config) -> None:
+    # What a failing assertion says is cut off after 8 lines otherwise. Since pytest 8.4 there is a setting for it.
+    truncate.DEFAULT_MAX_LINES, truncate.DEFAULT_MAX_CHARS = 60, 6_000
     # What runs in the background of a shell ignores it, and so would all that the tests start.
     if signal.getsignal(signal.SIGINT) == signal.SIG_IGN:
         signal.signal(signal.SIGINT, signal.default_int_handler)
@@ -57,8 +60,10 @@ def pytest_xdist_auto_num_workers() -> int | None:
 
 @pytest.hookimpl(tryfirst=True)  # type: ignore[misc]  # pluggy has no types
 def pytest_collection_modifyitems(items: list[pytest.Item]) -> None:
-    """Marks the tests that `make check` runs, and puts the longest tests first."""
+    """Marks the tests that `make check` runs and those of pfs_calls, and puts the longest tests first."""
     for item in items:
+        if "pfs_calls" in getattr(item, "fixturenames", ()):
+            item.add_marker("calls")
         if needs_nothing_built(item) and item.get_closest_marker("long") is None:
             item.add_marker("check")
     items.sort(key=seconds_of, reverse=True)
@@ -89,7 +94,7 @@ def pfs(pytestconfig: pytest.Config) -> Program:
 
 @pytest.fixture(scope="session")
 def pfs_calls(pytestconfig: pytest.Config) -> Program:
-    """The built test program, which `rt ci` leaves, and `make run` doesn't build."""
+    """The built test program, which only `rt ci` leaves."""
     path = pytestconfig.getoption("pfs_calls").resolve()
     return Program(path) if path.is_file() else missing(f"no program {path}: `rt ci` builds it")
 

@@ -8,7 +8,7 @@ import shutil
 import subprocess
 
 import pytest
-from support.unproved import unhinted
+from support.tools import with_path, write_script
 
 pytestmark = [pytest.mark.long, pytest.mark.seconds(20), pytest.mark.xdist_group("bench")]
 # The crates that the functions use.
@@ -105,8 +105,10 @@ def errors(top: pathlib.Path, tmp_path_factory: pytest.TempPathFactory) -> dict[
     (crate / "src" / "lib.rt").write_text(ROOT % "".join(f"pub mod {name};\n" for name in modules))
     for name, text in modules.items():
         (crate / "src" / f"{name}.rt").write_text(text)
-    done = subprocess.run(["rt", "try", "--test"], cwd=crate, env=unhinted(folder), stdin=subprocess.DEVNULL,
-                          stdout=subprocess.PIPE, stderr=subprocess.STDOUT, text=True, timeout=MOST_SECONDS)
+    # By `sh` it would start a check of the sources at the same time, for a hint, which takes as long.
+    write_script(folder / "shell" / "sh", "#!/bin/sh\n")
+    done = subprocess.run(["rt", "try", "--test"], cwd=crate, env=with_path(folder / "shell"), timeout=MOST_SECONDS,
+                          stdin=subprocess.DEVNULL, stdout=subprocess.PIPE, stderr=subprocess.STDOUT, text=True)
     found: dict[str, list[str]] = {name: [] for name in ("lib", *modules)}
     for module, error in re.findall(r"^src/(\w+)\.rt:[0-9:]* (error\[.*?)(?=: help: |$)", done.stdout, re.MULTILINE):
         found[module].append(error)

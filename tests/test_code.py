@@ -103,10 +103,6 @@ def test_clang_format_changes_nothing(path: str) -> None:
     assert_silent([tool("clang-format"), "--dry-run", "--Werror", "--style=file", path])
 
 
-def test_there_are_c_files() -> None:
-    assert {"lib/pfs.h", "examples/neh_ties.c", "bench/solve.cpp"} <= set(c_files())
-
-
 def faults_of(path: pathlib.Path) -> list[str]:
     """What of a file is against .editorconfig, line by line. `rt fmt` lays out what is in crates/."""
     try:
@@ -126,17 +122,3 @@ def test_each_file_keeps_the_rules_of_editorconfig() -> None:
     faults = {str(path.relative_to(TOP)): faults_of(path) for path in files_below(TOP)}
     assert len(faults) > 500
     assert {path: found for path, found in faults.items() if found} == {}
-
-
-@pytest.mark.parametrize(("text", "faults"), [
-    ("x" * 120 + "\n", []),
-    ("x" * 121 + "\n", ["1: more than 120 columns"]),
-    ("x \n", ["1: a blank or a carriage return at the end"]),
-    ("x\r\n", ["1: a blank or a carriage return at the end"]),
-    ("x\n\ty\n", ["2: a tab"]),
-    ("x", ["no line end at the end"]),
-    ("", []),
-])
-def test_a_fault_of_a_file(text: str, faults: list[str], folder: pathlib.Path) -> None:
-    (folder / "file.py").write_bytes(text.encode())
-    assert faults_of(folder / "file.py") == faults

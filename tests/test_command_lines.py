@@ -1,11 +1,12 @@
-"""The output, the errors and the exit status of each command line, and of runs whose standard output or standard error
-is full."""
+"""The output, the errors and the exit status of each command line, of each text of a file, and of runs whose standard
+output or standard error is full."""
 import pathlib
 import subprocess
 
+import fuzz
 import pytest
 from support.files import THREE_JOBS, USAGE
-from support.lines import ANSWERS, EACH, PRINTING, refused, unwritten
+from support.lines import ANSWERS, EACH, PRINTING, SHORT, TEXTS, first_line, refused, unwritten
 from support.needs import tool
 from support.program import Program, Ran
 from support.usage import commands
@@ -40,6 +41,20 @@ def run_into_file(pfs: Program, line: str, worked: pathlib.Path, file: pathlib.P
 @pytest.mark.parametrize("line", ANSWERS)
 def test_a_line_has_its_output_errors_and_status(pfs: Program, worked_once: pathlib.Path, line: str) -> None:
     assert pfs.run(line, worked_once) == ANSWERS[line]
+
+
+@pytest.mark.parametrize(("line", "text", "answer"), TEXTS, ids=[
+    f"{answer}: {line.split(' ')[0]}, {len(text)} bytes that end with {text[-30:]!r}" for line, text, answer in TEXTS])
+def test_a_text_has_its_answer_wherever_it_is_cut(pfs: Program, line: str, text: bytes, answer: str) -> None:
+    """Whole, and byte by byte through a pipe."""
+    status = {"wrong": 1, "valid": 0, "makespan": 0}.get(answer.split()[0], 2)
+    words = [word.encode() for word in line.split(" ")]
+    ones = [1] * len(text[:1_000])
+    for lengths in (ones[:0], ones):
+        pieces = {b"file": lengths} if lengths else {}
+        stdout, stderr, got = fuzz.run(pfs.path, fuzz.Case(words, {b"three": THREE_JOBS, b"file": text}, pieces=pieces))
+        assert (first_line(stdout, stderr), got) == (answer, status), f"in {len(lengths) or 1} pieces"
+        assert stdout == b"" or stderr == b""
 
 
 def test_each_command_has_a_line_over_its_files() -> None:
@@ -80,7 +95,7 @@ def test_a_file_with_just_enough_room_gets_the_whole_text(pfs: Program, worked_o
     assert run_into_file(pfs, line, worked_once, folder / "output", len(ANSWERS[line].stdout)) == ANSWERS[line]
 
 
-@pytest.mark.parametrize("line", [line for line in ANSWERS if line not in PRINTING])
+@pytest.mark.parametrize("line", [line for line in SHORT if line not in PRINTING])
 def test_the_status_is_the_same_if_standard_error_is_full(pfs: Program, worked_once: pathlib.Path, line: str) -> None:
     with open("/dev/full", "wb") as full:
         ran = pfs.run(line, worked_once, stdout=subprocess.DEVNULL, stderr=full)

@@ -58,9 +58,8 @@ def test_no_name_of_a_definition_means_two_things(top: pathlib.Path) -> None:
     assert {name for name, places in files.items() if len(places) > 1} == SHORT
 
 
-@pytest.mark.parametrize("name", HEADLINE)
-def test_this_word_is_reached(name: str, top: pathlib.Path) -> None:
-    assert name in {each.name for each in reached(top / "crates")}
+def test_the_words_of_the_headline_are_reached(top: pathlib.Path) -> None:
+    assert set(HEADLINE) - {each.name for each in reached(top / "crates")} == set()
 
 
 def got(top: pathlib.Path) -> set[str]:
@@ -74,11 +73,6 @@ def test_each_definition_that_is_cited_is_in_the_page(top: pathlib.Path) -> None
     own = all_definitions(crates)
     missing = {each for each in cited(crates, "laws.rt") if each in own and each.name not in got(top)}
     assert missing == set()
-
-
-@pytest.mark.parametrize("name", HEADLINE[:15])
-def test_this_word_of_the_headline_is_in_the_page(name: str, top: pathlib.Path) -> None:
-    assert name in got(top)
 
 
 # The list of what is proved
@@ -163,16 +157,6 @@ def test_what_is_reached(item: str, shown: str, wanted: set[Definition], crates:
     (crates / "high" / "src" / "lib.rt").write_text(f"mod inner;\n{shown}\n")
     (crates / "high" / "src" / "inner.rt").write_text(CODE.format(item=item))
     assert reached(crates) == wanted
-
-
-def test_what_a_folder_has_is_reached(crates: pathlib.Path) -> None:
-    """By its file, named through its folder."""
-    (crates / "low" / "specs" / "Inner").mkdir()
-    (crates / "low" / "specs" / "Sums.antt").rename(crates / "low" / "specs" / "Inner" / "Sums.antt")
-    times = crates / "high" / "specs" / "Times.antt"
-    times.write_text(times.read_text().replace("specs.Sums", "specs.Inner.Sums"))
-    assert reached(crates) == {FOUR, Definition("low", "Inner.Sums", "doubled")}
-    assert "| Inner.Sums | `doubled` | twice the number |" in page(crates)
 
 
 def test_the_page_has_the_comments_of_the_definitions(crates: pathlib.Path) -> None:

@@ -1,30 +1,24 @@
-"""Unusual descriptors and files: closed descriptors, pipes whose other end is closed or waits, folders, devices, files
-without permission or that shrink, signals, and the longest command lines that Linux allows. Each run is checked for its
-exact output, errors and status."""
+"""Unusual descriptors and files: closed descriptors, pipes whose other end is closed or waits, folders, devices,
+signals, and the longest command lines that Linux allows. Each run is checked for its exact output, errors and
+status."""
 import os
 import pathlib
 import resource
-import shutil
 import signal
 import socket
-import subprocess
-from collections.abc import Callable, Iterator
+from collections.abc import Iterator
 
 import pytest
 from support.files import FILES, THREE_JOBS, USAGE
-from support.lines import ANSWERS, CHECK, EACH, SOLVE, VALUE, WITH_INSTANCE, WITH_ORDER, refused, unwritten
-from support.pipes import PAGE, first_opened, opened_for_writing, page_pipe, unread, wait_for
+from support.lines import ANSWERS, CHECK, EACH, SHORT, SOLVE, VALUE, WITH_INSTANCE, WITH_ORDER, refused, unwritten
+from support.pipes import PAGE, opened_for_writing, page_pipe, unread, wait_for
 from support.program import Program, Ran, Words, ended
 
-NOBODY = 65_534
-# The number of attempts to stop a program in time.
-MOST_STARTS = 100
 # The longest word that Linux passes on, without its end, and how many words are many.
 LONGEST_WORD = 131_071
 MANY = 100_000
 
 ELEVEN = Ran(b"makespan 11\n", b"", 0)
-VALID = Ran(b"valid\nmakespan 10\nbound 10\noptimal\n", b"", 0)
 # The signals that kill a program by default.
 ENDING = [signal.SIGHUP, signal.SIGINT, signal.SIGTERM, signal.SIGQUIT]
 
@@ -34,7 +28,7 @@ ENDING = [signal.SIGHUP, signal.SIGINT, signal.SIGTERM, signal.SIGQUIT]
 STREAMS = ["stdin", "stdout", "stderr"]
 CLOSED = [["stdin"], ["stdout"], ["stderr"], ["stdin", "stdout"], ["stdout", "stderr"], STREAMS]
 # Those that are quick.
-LINES = [line for line in ANSWERS if "/dev/zero" not in line and "500" not in line]
+LINES = [line for line in SHORT if "/dev/zero" not in line]
 
 
 def run_without(streams: list[str], pfs: Program, words: Words, folder: pathlib.Path) -> Ran:
@@ -222,9 +216,8 @@ def test_a_pipe_that_does_not_wait(pfs: Program, folder: pathlib.Path) -> None:
 
 @pytest.fixture
 def piped(worked: pathlib.Path) -> pathlib.Path:
-    """The worked files and two named pipes."""
-    for name in ("pipe", "second"):
-        os.mkfifo(worked / name)
+    """The worked files and a named pipe."""
+    os.mkfifo(worked / "pipe")
     return worked
 
 
@@ -235,22 +228,6 @@ def test_a_named_pipe_that_stays_open(pfs: Program, piped: pathlib.Path) -> None
     os.write(writer, THREE_JOBS + b"what follows isn't looked at")
     assert ended(child) == ELEVEN
     os.close(writer)
-
-
-@pytest.mark.parametrize("line", WITH_ORDER)
-def test_two_named_pipes(pfs: Program, piped: pathlib.Path, line: str) -> None:
-    """The files are opened one after the other, the instance first, before anything is read. An order file is read to
-    its own end."""
-    child = pfs.start(line.replace("three", "pipe").replace("best", "second"), piped)
-    name, instance = first_opened(piped / "pipe", piped / "second")
-    assert name == "pipe", "what is opened first"
-    order = opened_for_writing(piped / "second")
-    os.write(order, FILES["best"][:9])
-    os.write(instance, THREE_JOBS)
-    os.write(order, FILES["best"][9:])
-    os.close(order)
-    assert ended(child) == ANSWERS[line]
-    os.close(instance)
 
 
 def test_a_named_pipe_with_nothing(pfs: Program, piped: pathlib.Path) -> None:
@@ -284,17 +261,6 @@ def test_a_signal_kills_the_program(pfs: Program, piped: pathlib.Path, number: s
     os.close(writer)
 
 
-def test_a_stopped_program_continues(pfs: Program, piped: pathlib.Path) -> None:
-    child = pfs.start("value --layout taillard pipe", piped)
-    writer = opened_for_writing(piped / "pipe")
-    os.write(writer, THREE_JOBS[:100])
-    stop(child)
-    os.write(writer, THREE_JOBS[100:])
-    child.send_signal(signal.SIGCONT)
-    assert ended(child) == ELEVEN
-    os.close(writer)
-
-
 @pytest.mark.parametrize("restores, answer", [(False, unwritten(5)), (True, Ran(b"", b"", -signal.SIGXFSZ))],
                          ids=["signal ignored", "signal as usual"])
 def test_a_file_of_five_bytes(pfs: Program, worked: pathlib.Path, restores: bool, answer: Ran) -> None:
@@ -308,123 +274,6 @@ def test_a_file_of_five_bytes(pfs: Program, worked: pathlib.Path, restores: bool
     with open(worked / "limited", "wb") as output:
         assert pfs.run(VALUE, worked, stdout=output, preexec_fn=limit, restore_signals=restores) == answer
     assert (worked / "limited").read_bytes() == b"makes"
-
-
-def stop(child: subprocess.Popen[bytes]) -> None:
-    """Stop a program, and wait until it has stopped."""
-
-    def stands() -> bool:
-        state = pathlib.Path(f"/proc/{child.pid}/stat").read_text().rpartition(")")[2].split()[0]
-        return state in ("T", "Z")
-
-    child.send_signal(signal.SIGSTOP)
-    wait_for("the program stands", lambda: child.returncode is not None or stands())
-
-
-# Files that shrink
-
-def test_a_file_that_shrinks_before_it_is_read(pfs: Program, piped: pathlib.Path) -> None:
-    child = pfs.start("check --layout taillard three pipe", piped)
-    wait_for("the instance is open", lambda: opened_position(child.pid, "three") == 0)
-    os.truncate(piped / "three", 118)
-    os.close(opened_for_writing(piped / "pipe"))
-    assert ended(child) == refused("truncated after 5 times", 2)
-
-
-@pytest.mark.parametrize("size_after", [lambda position: position // 2, lambda position: position + 128],
-                         ids=["before the place", "after the place"])
-def test_a_file_that_shrinks_while_it_is_read(pfs: Program, folder: pathlib.Path,
-                                              size_after: Callable[[int], int]) -> None:
-    """A file of lines of 128 bytes, each with a time, gets another size where it is being read. A size before the place
-    that is read ends the file there."""
-    head, line = b"2000 200 0 0 0\n", b"0" * 127 + b"\n"
-    (folder / "shrinks").write_bytes(head + line * 399_000)
-    child, position = stopped_while_reading(pfs, folder / "shrinks")
-    end = size_after(position)
-    os.truncate(folder / "shrinks", end)
-    child.send_signal(signal.SIGCONT)
-    begun = -(-(max(position, end) - len(head)) // len(line))
-    assert ended(child) == refused(f"truncated after {begun} times", 2), f"{end} bytes after {position}"
-
-
-def stopped_while_reading(pfs: Program, file: pathlib.Path) -> tuple[subprocess.Popen[bytes], int]:
-    """The program, which is stopped somewhere in the first half of a file, and how far it has read. It is started again
-    if it was further before it stopped, or had ended."""
-    half = file.stat().st_size // 2
-    for _ in range(MOST_STARTS):
-        child = pfs.start(f"value --layout taillard {file.name}", file.parent)
-        wait_for("a part of the file is read",
-                 lambda: child.poll() is not None or bool(opened_position(child.pid, file.name)))
-        stop(child)
-        position = opened_position(child.pid, file.name)
-        if position and position < half:
-            return child, position
-        child.send_signal(signal.SIGCONT)
-        ended(child)
-    pytest.fail(f"in {MOST_STARTS} starts the program was never stopped in the first half of the file")
-
-
-def opened_position(process: int, name: str) -> int | None:
-    """How far a program has read a file, or None where it hasn't opened it."""
-    descriptors = pathlib.Path(f"/proc/{process}/fd")
-    try:
-        for descriptor in os.listdir(descriptors):
-            if os.readlink(descriptors / descriptor).endswith("/" + name):
-                info = pathlib.Path(f"/proc/{process}/fdinfo/{descriptor}").read_text()
-                return int(info.split()[1])
-    except OSError:
-        pass
-    return None
-
-
-# Files that the program's user may not read, and no descriptor for one
-
-def as_nobody() -> None:
-    if os.getuid() == 0:
-        os.setgroups([])
-        os.setgid(NOBODY)
-        os.setuid(NOBODY)
-
-
-@pytest.fixture
-def guarded(pfs: Program, worked: pathlib.Path) -> Iterator[tuple[Program, pathlib.Path]]:
-    """The program as anybody may run it, in a folder with files that only some may read."""
-    shutil.copy(pfs.path, worked / "pfs")
-    (worked / "pfs").chmod(0o755)
-    (worked / "secret").write_bytes(THREE_JOBS)
-    (worked / "secret").chmod(0)
-    (worked / "closed").mkdir()
-    (worked / "closed" / "three").write_bytes(THREE_JOBS)
-    (worked / "closed").chmod(0)
-    worked.chmod(0o755)
-    yield Program(pathlib.Path("pfs")), worked
-    (worked / "closed").chmod(0o700)
-
-
-@pytest.mark.parametrize("line, name", [*[(line, "three") for line in WITH_INSTANCE],
-                                        *[(line, "best") for line in WITH_ORDER]])
-@pytest.mark.parametrize("path", ["secret", "closed/three", "closed"])
-def test_a_file_without_permission_cannot_be_opened(guarded: tuple[Program, pathlib.Path], line: str, name: str,
-                                                    path: str) -> None:
-    program, folder = guarded
-    assert program.run(line.replace(name, path), folder, preexec_fn=as_nobody) == refused("cannot open")
-
-
-def test_another_user(guarded: tuple[Program, pathlib.Path]) -> None:
-    program, folder = guarded
-    assert program.run(VALUE, folder, preexec_fn=as_nobody) == ELEVEN
-
-
-@pytest.mark.parametrize("line, most, answer", [
-    pytest.param(VALUE, 4, ELEVEN, id="one for one file"),
-    pytest.param(CHECK, 4, refused("cannot open"), id="one for two files"),
-    pytest.param(CHECK, 5, VALID, id="two for two files"),
-])
-def test_a_file_over_the_limit_of_open_files_cannot_be_opened(pfs: Program, worked: pathlib.Path, line: str, most: int,
-                                                              answer: Ran) -> None:
-    """The limit on open files includes the standard streams."""
-    limit = lambda: resource.setrlimit(resource.RLIMIT_NOFILE, (most, most))
-    assert pfs.run(line, worked, preexec_fn=limit) == answer
 
 
 # As many arguments as Linux allows, and as long ones

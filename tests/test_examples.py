@@ -208,6 +208,17 @@ def test_a_full_device_is_reported(built: pathlib.Path, shop: pathlib.Path, word
     assert done.returncode == 4 and done.stderr.endswith("cannot write\n")
 
 
+def test_a_state_stays_if_no_other_can_be_written(built: pathlib.Path, shop: pathlib.Path) -> None:
+    """On a full device: it is replaced once the new one is whole."""
+    assert run(built, "timed_search", "shop", "state", "7", "0", cwd=shop).status == 0
+    before = (shop / "state").read_bytes()
+    (shop / "state.new").symlink_to("/dev/full")
+    got = run(built, "timed_search", "shop", "state", "7", "0", cwd=shop)
+    assert got == Done(4, "", "timed_search: state: cannot write\n")
+    assert not (shop / "state").is_symlink(), "the old state is replaced by one that isn't written"
+    assert (shop / "state").read_bytes() == before
+
+
 def test_audits(built: pathlib.Path, folder: pathlib.Path) -> None:
     (folder / "shop").write_bytes(second_program.canonical(second_program.generated(3, 2, SEED), b"taillard"))
     shop = second_program.generated(3, 2, SEED)

@@ -7,6 +7,7 @@ import re
 import shutil
 import signal
 import subprocess
+import time
 from collections.abc import Callable
 from typing import IO, Any, NamedTuple
 
@@ -125,6 +126,14 @@ def test_the_greatest_values_that_pfs_accepts_are_planned(experiment: Experiment
     assert experiment.plan(plan).run() == Done(0, "", ONE)
 
 
+@pytest.mark.parametrize("script", ["run", "slurm"])
+def test_an_interruption_at_the_start_prints_nothing(script: str, experiment: Experiment) -> None:
+    """While modules are imported."""
+    (experiment.folder / "secrets.py").write_text("import os, signal, time\nos.kill(os.getpid(), signal.SIGINT)\n")
+    got = experiment.script(script, "plan.toml", "out.csv", env=dict(os.environ, PYTHONPATH=str(experiment.folder)))
+    assert got == Done(-signal.SIGINT, "", ""), "what an interruption prints"
+
+
 PATHS = {"a folder": "shops", "below a file": "plan.toml/out.csv", "a name that is too long": "x" * 255}
 
 
@@ -132,6 +141,24 @@ PATHS = {"a folder": "shops", "below a file": "plan.toml/out.csv", "a name that 
 def test_an_impossible_csv_is_rejected_before_the_first_run(path: str, experiment: Experiment) -> None:
     assert_refused(experiment.run(path, program=experiment.waiting()))
     assert experiment.started() == [] and sorted(os.listdir(experiment.folder)) == ["plan.toml", "shops", "waiting"]
+
+
+@pytest.mark.parametrize(("script", "missing"), [("run", "parallel is not installed (Debian: parallel)"),
+                                                ("slurm", "sbatch is not installed (Debian: slurm-client)")])
+def test_a_missing_program_is_reported(script: str, missing: str, experiment: Experiment) -> None:
+    """Before anything is written."""
+    (experiment.folder / "bin").mkdir()
+    (experiment.folder / "bin" / "python3").symlink_to("/usr/bin/python3")
+    before = sorted(os.listdir(experiment.folder))
+    assert_refused(experiment.script(script, "plan.toml", "out.csv", env={"PATH": f"{experiment.folder}/bin"}), missing)
+    assert sorted(os.listdir(experiment.folder)) == before
+
+
+def test_a_start_that_was_killed_before_it_wrote_its_plan_lists_no_runs(half_made: Experiment) -> None:
+    """Another plan may begin there."""
+    (half_made.runs / "plan.json").unlink()
+    shutil.rmtree(half_made.runs / "results")
+    assert half_made.plan(ONLY_B).run() == Done(0, "", ONE), "runs of a plan that was never written"
 
 
 def test_a_python_that_is_too_old_is_reported(experiment: Experiment) -> None:
@@ -240,6 +267,7 @@ def test_a_folder_without_its_program_is_reported_on_one_line(made: Experiment) 
 RESULTS = {
     "not UTF-8": b"\xff\n", "a quote": b'1,"\n', "a zero byte": b"1,\0\n", "no numbers": b"o\n1,x,y,z,t,ok\n",
     "a number of 5,000 digits": b"o\n1,%s,1,1,1.000000,ok\n" % (b"9" * 5000), "no order": b"1,1,1,1,1.000000,ok\n",
+    "a cut line": b"o\n1,1,1,1,1.000000,o", "a cut line of numbers": b"o\n1,1,1,1,1.000000,ok,12",
 }
 LOGS = {"not UTF-8": b"\xff\n" * 3, "empty": b"", "short lines": b"1\t2\n" * 20,
         "words for numbers": b"1\t" * 20 + b"\n"}
@@ -251,7 +279,7 @@ LOGS = {"not UTF-8": b"\xff\n" * 3, "empty": b"", "short lines": b"1\t2\n" * 20,
 def test_after_damage_the_csv_is_the_same(name: str, data: bytes, half_made: Experiment) -> None:
     """The run whose result is damaged is repeated."""
     (half_made.runs / name).write_bytes(data)
-    assert half_made.run() == Done(0, "", SIX)
+    assert half_made.run() == Done(0, "", SIX), "a damaged file is taken as it is"
     assert half_made.rows() == half_made.wanted(rounds=(10,))
 
 
@@ -276,6 +304,8 @@ def test_the_csv_and_the_lists_are_synced_before_they_are_renamed(experiment: Ex
              *experiment.words("run", "plan.toml", "out.csv")]
     assert run_tool(words, experiment.folder).status == 0
     calls = (experiment.folder / "trace").read_text().splitlines()
+    order = re.findall(r'rename.*/(runs\.tsv|plan\.json|out\.csv)"', "\n".join(calls))
+    assert order == ["runs.tsv", "plan.json", "out.csv"], "the order of the files: with a plan the runs are listed"
     for name in ("out.csv", "out.csv.d/runs.tsv", "out.csv.d/plan.json"):
         path = str(experiment.folder / name)
         written = [call for call in calls if f'"{path}", O_' in call and ("O_WRONLY" in call or "O_RDWR" in call)]
@@ -542,28 +572,62 @@ def test_a_plan_has_rounds_and_times(experiment: Experiment, with_library: dict[
     assert rows == [("", "1", "1"), ("5", "", "1")]
 
 
-def test_after_a_million_rounds_a_search_by_time_continues_with_another_seed(
-        top: pathlib.Path, libpfs: Library, folder: pathlib.Path) -> None:
-    """Rounds of the library are made in the place of time: 3 rounds to the end of a seed, and 3 of the next one."""
-    for name, path in (("timed.py", top / "experiments" / "timed.py"), ("libpfs.so.0", libpfs.path)):
-        shutil.copy(path, folder / name)
-    (folder / "try.py").write_text("""
-import timed
-times = [at * at % 97 for at in range(1, 201)]
-def last(first, seed, count, order=None):
-    made = timed.Search(times, 20, 10, 4, 0, seed)
+# A search by time with a clock, by which the search by NEH takes 3 s and a round 1 s.
+CLOCK = """import sys, time, timed
+clock = 0.0
+time.process_time = lambda: clock
+class Search(timed.Search):
+    def neh(self):
+        global clock
+        super().neh()
+        clock += 3
+    def run_rounds(self, count):
+        global clock
+        super().run_rounds(count)
+        clock += count
+def started(*words):
+    made = Search([at * at % 97 for at in range(1, 201)], 20, 10, 4, 0, *words)
     made.neh()
-    made.order[:] = order or made.order[:]
-    made.rounds = first
-    while made.rounds < first + count:
-        made.run_rounds(min(2, timed.MOST_ROUNDS - made.rounds % timed.MOST_ROUNDS))
-    return made.order[:]
-seed = 2 ** 64 - 5
-before = last(999_996, seed, 4)
-for other in (seed + 11400714819323198485, seed + 1, seed):
-    print(last(999_996, seed, 6) == last(0, other % 2 ** 64, 2, before))
+    return made
+"""
+
+
+def timed_by(top: pathlib.Path, libpfs: Library, folder: pathlib.Path, code: str) -> str:
+    for path in (top / "experiments" / "timed.py", libpfs.path):
+        shutil.copy(path, folder / path.name.replace(libpfs.path.name, "libpfs.so.0"))
+    return output_of(["/usr/bin/python3", "-c", CLOCK + code], folder)
+
+
+def test_a_search_by_time_continues_with_another_seed(top: pathlib.Path, libpfs: Library,
+                                                      folder: pathlib.Path) -> None:
+    """After the last round of a seed, here the eighth. No part goes beyond it."""
+    got = timed_by(top, libpfs, folder, """
+most, timed.PART, timed.MOST_ROUNDS, timed.Search = timed.MOST_ROUNDS, 5, 8, Search
+seed, step = 2 ** 64 - 5, 11400714819323198485
+found = timed.search([at * at % 97 for at in range(1, 201)], 20, 10, 4, 0, seed, 18)
+print(found.rounds > 12, found.order)
+timed.MOST_ROUNDS = most
+first = started(seed)
+first.run_rounds(8)
+for other in (seed + step, seed):
+    second = started(other % 2 ** 64)
+    second.order[:] = first.order[:]
+    second.run_rounds(found.rounds - 8)
+    print(True, [job + 1 for job in second.order])
+""").splitlines()
+    assert got[0] == got[1], "rounds of two seeds"
+    assert got[1] != got[2], "the seeds are told apart"
+
+
+def test_the_time_of_neh_counts(top: pathlib.Path, libpfs: Library, folder: pathlib.Path) -> None:
+    got = timed_by(top, libpfs, folder, """
+timed.Search = Search
+for seconds in (2.5, 5):
+    clock = 10.0
+    found = timed.search(started(1).times[:], 20, 10, 4, 0, 1, seconds)
+    print(found.rounds > 0, found.seconds)
 """)
-    assert output_of(["/usr/bin/python3", "try.py"], folder) == "True\nFalse\nFalse\n", "the seed of the second part"
+    assert got == "False 3.0\nTrue 4.0\n", "whether there are rounds, and the seconds with the 3 of NEH"
 
 
 def test_no_round_begins_after_the_time(top: pathlib.Path) -> None:
@@ -616,11 +680,11 @@ method = "mine"
 command = "./mine {instance} {seed} {seconds}"
 """
 STATUSES = [
-    "ok", "ok", "mine: signal 11", "mine: exit 3, Traceback: something",
-    "mine: no order printed: 'the best order is 3 2 1'", "mine: nothing printed",
+    "ok", "ok", "command: signal 11", "command: exit 3, Traceback: something",
+    "command: no order printed: 'the best order is 3 2 1'", "command: nothing printed",
     "check: exit 2, pfs: order file job repeated at place 2",
-    r"mine: took too long: \d+\.\d\d s of processor time instead of 0.5 s",
-    "mine: more than 1,048,576 bytes printed", "ok",
+    r"command: took too long: \d+\.\d\d s of processor time instead of 0.5 s",
+    "command: more than 1,048,576 bytes printed", "ok",
 ]
 
 
@@ -675,6 +739,23 @@ def test_on_slurm_another_program_is_run(slurm: Cluster, experiment: Experiment)
     other_is_right(experiment, got)
 
 
+def test_a_command_cannot_change_the_instance_that_audits_it(experiment: Experiment) -> None:
+    """It gets a copy that is read-only, and that is gone after the run."""
+    write_script(experiment.folder / "mine", "#!/bin/sh\nstat -c '%a %n' \"$1\" >> ../../../copies; chmod 644 \"$1\"\n"
+                 "printf '3 2 0 0 0\\n1 1 1\\n1 1 1\\n' > \"$1\"; echo 1 2 3\n")
+    experiment.plan(ONLY_B + 'seeds = [1, 2]\nmethod = "m"\ncommand = "./mine {instance} {seed}"\n')
+    kept = (experiment.folder / "shops" / "b").read_bytes()
+    (experiment.folder / "order").write_text("order 3\n1 2 3\nmakespan 1\n")
+    got = experiment.pfs.run("check --layout taillard shops/b order", experiment.folder).stdout.decode()
+    wanted = re.findall("computed (.*)", got)
+    assert experiment.run().status == 0
+    assert [list(row) for row in experiment.columns("makespan")] == [wanted] * 2, "audits by what a command has written"
+    assert next(experiment.runs.glob("pfs-experiment-*/instances/1")).read_bytes() == kept, "the kept instance"
+    copies = [line.split(" ", 1) for line in (experiment.folder / "copies").read_text().splitlines()]
+    assert {mode for mode, _ in copies} == {"444"}, "modes of the copies"
+    assert [path for _, path in copies if os.path.exists(path)] == [], "copies that are left"
+
+
 def test_the_report_compares_another_program_with_pfs(made: Experiment, warm: Warm) -> None:
     assert with_other(made, OTHER.replace(", 2, 3, 4, 5, 6, 7, 8, 9, 10]", ", 3]")).run("mine.csv").status == 1
     (made.folder / "out.csv").rename(made.folder / "pfs.csv")
@@ -717,6 +798,31 @@ def test_a_program_that_closes_its_streams_is_ended(top: pathlib.Path, folder: p
                         r"took too long: \d+\.\d\d s of processor time instead of 0.1 s\n", got), got
 
 
+# It computes for two seconds, or sleeps, in a session of its own.
+SPIN = "setsid python3 -c 'import time\nwhile time.process_time() < 2: pass' "
+SLEEP = "setsid sleep 60 "
+
+
+def test_processes_in_other_sessions_are_ended_with_a_command(top: pathlib.Path, folder: pathlib.Path) -> None:
+    """And their time counts."""
+    code = RUNS.format(change="").replace("[0].strip()", "[::2]")
+    got = printed_by(top, code, folder, "0.2", f"{SPIN} & sleep 1000", f"({SPIN} &); sleep 1000",
+                     f"{SLEEP} & {SLEEP} > /dev/null 2>&1 & sleep 0.1; echo 2")
+    late = r"took too long: \d+\.\d\d s of processor time instead of 0.2 s\n"
+    assert re.fullmatch(late * 2 + r"\('2\\n', 2\)\n", got), f"two that take too long, and one that leaves two: {got}"
+
+
+def test_a_command_without_a_time_ends_with_its_own_process(experiment: Experiment) -> None:
+    """Although another one holds its output. The processes that were killed are reported."""
+    write_script(experiment.folder / "mine", f"#!/bin/sh\n{SLEEP} &\nsleep 0.1; echo 3 2 1\n")
+    experiment.plan(ONLY_B + 'seeds = [1, 2]\nmethod = "m"\ncommand = "./mine {instance} {seed}"\n')
+    begun = time.monotonic()
+    assert experiment.run() == Done(0, "", "processes that commands left when they ended, and that were killed: 2\n"
+                                           "out.csv: 2 runs, 0 of them failed, 0 still to run\n")
+    assert time.monotonic() - begun < 30, "the run goes on as long as a process that it has left"
+    assert experiment.left() == [], "processes that a command has left"
+
+
 def test_time_is_measured_at_the_end_too(top: pathlib.Path, folder: pathlib.Path) -> None:
     """Of a program that ends before the time is looked at, with the processes that it has waited for."""
     work = "i=0; while [ $i -lt 100000 ]; do i=$((i+1)); done"
@@ -753,6 +859,15 @@ def test_the_csv_has_a_failed_run_with_its_status(experiment: Experiment, warm: 
     assert (experiment.folder / "out.csv").read_text() == before
     warm.run_tool([experiment.top / "experiments" / "report", "out.csv", "report"], experiment.folder)
     assert experiment.columns("runs", "failed", csv_name="report/table.csv") == [("1", "4")] * 4
+
+
+@pytest.mark.parametrize("method", ["lost", "solve"])
+def test_a_failed_command_is_not_made_again_whatever_its_method_is_called(method: str, experiment: Experiment) -> None:
+    """A run that is lost, or whose search was killed, is made again."""
+    write_script(experiment.folder / "mine", f"#!/bin/sh\necho >> {experiment.folder}/notes\nkill -9 $$\n")
+    experiment.plan(ONLY_B + f'method = "{method}"\ncommand = "./mine {{instance}} {{seed}}"\n')
+    assert [experiment.run().status for _ in range(2)] == [1, 1]
+    assert len(experiment.started()) == 1, f"starts of a program whose method is {method}"
 
 
 def test_a_killed_run_is_reported_and_made_by_the_next_start(experiment: Experiment) -> None:
@@ -798,6 +913,25 @@ def test_failed_runs_are_repeated_on_request(experiment: Experiment) -> None:
     assert experiment.run("out.csv", "--retry", program=program) == Done(0, "", SIX)
     assert sum(line.startswith("solve ") for line in experiment.started()) == 2
     assert experiment.rows() == experiment.wanted(rounds=[10])
+
+
+def test_a_result_that_is_not_in_the_log_is_not_made_again(half_made: Experiment) -> None:
+    """Nor one that the log calls failed: GNU parallel or its shell may be killed after the program has ended."""
+    before = (half_made.folder / "out.csv").read_text()
+    lines = (half_made.runs / "joblog").read_text().splitlines(keepends=True)
+    (half_made.runs / "joblog").write_text("".join([*lines[:3], lines[3].replace("\t0\t0\t", "\t137\t0\t")]))
+    assert half_made.run() == Done(0, "", SIX)
+    assert (half_made.folder / "out.csv").read_text() == before, "complete results that are made again"
+
+
+def test_an_earlier_start_writes_into_no_file_of_a_later_one(half_made: Experiment) -> None:
+    """A run that goes on after its start was killed has its file open."""
+    (half_made.runs / "results" / "2").write_text("")
+    with open(half_made.runs / "results" / "2", "w") as earlier:
+        assert half_made.run() == Done(0, "", SIX)
+        earlier.write("torn")
+    assert half_made.run() == Done(0, "", SIX)
+    assert half_made.script("check", "out.csv").status == 0, "an order into which an earlier start has written"
 
 
 def test_results_that_are_gone_or_torn_are_made_again(made: Experiment) -> None:
@@ -850,7 +984,7 @@ def start(experiment: Experiment, *words: str, name: str = "run", env: dict[str,
 
 def interrupt(experiment: Experiment, most: int, kill: Callable[[Started], None]) -> set[str]:
     """Start the plan, let `most` more runs finish and kill it while two wait; return the runs that are logged by then.
-    The processes that remain end by themselves."""
+    The processes that remain end by themselves; if all are killed at once, the two runs go on."""
     before = len(experiment.logged())
     started_before = len(experiment.started())
     with experiment.gate() as gate:
@@ -863,11 +997,10 @@ def interrupt(experiment: Experiment, most: int, kill: Callable[[Started], None]
             done = experiment.logged()
         finally:
             kill(started)
-            if kill not in (Started.kill_all, Started.kill_starter):
-                # the start handles the interruption while runs wait or once they may continue
-                gate.open()
             started.process.wait(60)
-    experiment.wait_for_all()
+            if kill != Started.kill_all:
+                wait_until(lambda: experiment.left() == [], "what a start has begun ends with it")
+    wait_until(lambda: experiment.left() == [], "what a start has begun ends")
     return done
 
 
@@ -910,6 +1043,22 @@ def test_no_run_is_lost_or_made_again(kills: Kills, experiment: Experiment) -> N
     assert sum(counts.values()) <= len(counts) + 2 * len(kills), "searches that were lost by kills"
 
 
+@pytest.mark.parametrize("number", [signal.SIGTERM, signal.SIGKILL])
+def test_what_gnu_parallel_leaves_has_no_lock(number: signal.Signals, experiment: Experiment) -> None:
+    """If it is ended at its start, processes by which it counts how many there may be are left."""
+    write_script(experiment.folder / "bin" / "parallel", "#!/bin/sh\nsleep 60 &\necho > started\nwait\n")
+    words = experiment.words("run", "plan.toml", "out.csv")
+    process = subprocess.Popen(words, cwd=experiment.folder, env=with_path(experiment.folder / "bin"),
+                               stdout=subprocess.DEVNULL, stderr=subprocess.DEVNULL)
+    wait_until((experiment.runs / "started").exists, "GNU parallel has started")
+    process.send_signal(number)
+    process.wait(60)
+    held = run_tool(["flock", "--nonblock", experiment.runs / "lock", "true"], experiment.folder).status
+    assert held == 0, "a process that GNU parallel has left holds the lock"
+    assert number == signal.SIGKILL or experiment.left() == [], "processes that GNU parallel has left"
+    assert experiment.run() == Done(0, "", TWELVE)
+
+
 def test_two_starts_at_once_make_each_run_once(experiment: Experiment) -> None:
     experiment.plan(HALF)
     with experiment.gate() as gate, open(experiment.folder / "report", "wb") as got:
@@ -922,7 +1071,8 @@ def test_two_starts_at_once_make_each_run_once(experiment: Experiment) -> None:
         gate.open()
         statuses = [start.process.wait(60) for start in (first, second)]
     assert len(started) == 1, "runs that are made at once by two starts"
-    assert line == "waiting for the process that is already running out.csv\n"
+    holder = f"process {first.process.pid} on {os.uname().nodename}"
+    assert line == f"waiting for {holder}, which is already running out.csv\n"
     assert statuses == [0, 0]
     assert set(experiment.searches().values()) == {1}, "how often each run was made"
     assert experiment.rows() == experiment.wanted(rounds=(10,))
@@ -1113,19 +1263,21 @@ LONG = "instances = [\"shops/a\"]\nrounds = [1000000]\npasses = [100]\nseeds = {
 SHORT = ONLY_B + f"rounds = [1]\nseeds = {list(range(1100))}\n"
 
 COMMAND = ALL + 'seeds = [1, 2]\nmethod = "m"\ncommand = "m {instance} {seed}"\n'
+# Of 100 runs of 1.5 seconds and 100 of 0.09.
+TIMED = ALL + f'time_factors = [30]\nseeds = {[*range(100)]}\nmethod = "m"\ncommand = "m {{instance}} {{seed}}"\n'
 
 
 @pytest.mark.parametrize(("plan", "words", "array"), [
     (LONG.format([1, 2, 3]), [], "1-3"), (LONG.format(list(range(1100))), [], "1-1000"), (SHORT, [], "1-1"),
     (SHORT.replace("[1]", "[1000000]").replace("shops/b", "shops/a"), ["--retry"], "1-27"),
     (PLAN, ["--tasks", "5"], "1-5"), (PLAN, ["--tasks", "50"], "1-12"), (SHORT, ["--tasks", "2000"], "1-1100"),
-    (COMMAND, [], "1-4"),
+    (COMMAND, [], "1-4"), (TIMED, [], "1-3"),
 ], ids=["long runs", "many long runs", "short runs share a task", "runs of more than a second", "fewer tasks",
-        "more tasks", "as many tasks as runs", "a command without a time"])
+        "more tasks", "as many tasks as runs", "a command without a time", "a command with a time"])
 def test_slurm_is_asked_for_an_array_of(plan: str, words: list[str], array: str,
                                         asked: Callable[..., list[str]]) -> None:
     """A run of 1,000,000 rounds on the first shop has 1.44 thousand million cells."""
-    assert f"--array={array}" in asked(plan, *words)
+    assert f"--array={array}" in asked(plan, *words), "the number of tasks"
 
 
 def test_a_dry_run_prints_the_line_of_slurm(experiment: Experiment) -> None:

@@ -1,6 +1,7 @@
 """Random files and command lines, on which the program and the second program must agree (fuzz.py), for half a minute
 in all, in parallel shares. The fuzzer also has to find a program that differs."""
 import itertools
+import os
 import pathlib
 import re
 import subprocess
@@ -9,10 +10,13 @@ import sys
 import fuzz
 import pytest
 from support.program import Program, Ran
+from support.tools import output_of
 
 SHARES = 6
 SECONDS = 4.5
 FUZZ = pathlib.Path(fuzz.__file__)
+# MAKEFLAGS is that of a `make` that runs the tests.
+ENV = {name: value for name, value in os.environ.items() if name not in ("MAKEFLAGS", "MFLAGS")}
 
 
 @pytest.mark.seconds(SECONDS)
@@ -49,10 +53,19 @@ def other(pfs: Program, folder: pathlib.Path) -> pathlib.Path:
 
 def test_a_program_that_differs_is_found(other: pathlib.Path, folder: pathlib.Path,
                                          monkeypatch: pytest.MonkeyPatch) -> None:
-    """With a reduced case that can be repeated."""
+    """With a reduced case, and a command that repeats it."""
     monkeypatch.setenv("TMPDIR", str(folder))
     ran = run_fuzzer(folder, "--program", str(other), "--seed", "1")
     assert ran.status == 1 and b"the programs differ" in ran.stdout, ran
-    [case] = folder.glob("pfs-differs-*/case.json")
-    again = run_fuzzer(folder, "--program", str(other), "--case", str(case))
+    [made] = folder.glob("pfs-differs-*")
+    assert b"reduced: cd %s && " % bytes(made) in ran.stdout
+    repeating = re.search(rb"to repeat it: \S+ (.*)", ran.stdout)
+    assert repeating
+    again = run_fuzzer(folder, *repeating[1].decode().split())
     assert again.status == 1 and re.search(rb"wanted .*, 3\ngot    .*, 2\n", again.stdout), again
+
+
+@pytest.mark.parametrize(("minutes", "seconds"), [([], 300), (["MINUTES=1"], 60), (["MINUTES=60"], 3600)])
+def test_make_runs_it_for_so_many_minutes(top: pathlib.Path, minutes: list[str], seconds: int) -> None:
+    line = output_of(["make", "-n", "fuzz", *minutes], top, env=ENV).splitlines()[-1]
+    assert output_of(["sh", "-c", f"echo {line}"], top) == f"tests/fuzz.py --seconds {seconds}\n"

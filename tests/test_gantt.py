@@ -10,7 +10,7 @@ from collections.abc import Callable
 from typing import NamedTuple
 
 import pytest
-from support.colours import Lab, difference, least_difference
+from support.colours import least_difference
 from support.files import generated
 from support.large import run_limited
 from support.needs import tool
@@ -227,30 +227,21 @@ def is_near(first: float, second: float, scale: float) -> bool:
 
 
 @cases()
-def test_each_operation_has_its_bar_at_its_time(case: Case, picture: Picture) -> None:
+def test_each_operation_has_its_bar_at_its_time_on_its_machines_row(case: Case, picture: Picture) -> None:
+    """On a grey strip from 0 to the makespan."""
     for machine in case.machines():
+        strip, = picture.bars(f"strip-{machine + 1}")
+        assert strip.fill == IDLE
+        assert is_near(strip.start, 0, case.makespan) and is_near(strip.end, case.makespan, case.makespan), strip
         wanted = case.operations(machine)
         bars = picture.bars(f"machine-{machine + 1}")
         assert len(wanted) == len(bars), f"bars of machine {machine + 1}"
         for (job, start, end), bar in zip(wanted, bars):
             assert is_near(start, bar.start, case.makespan), f"start of job {job} on machine {machine + 1}"
             assert is_near(end, bar.end, case.makespan), f"end of job {job} on machine {machine + 1}"
-
-
-@cases()
-def test_each_bar_is_on_its_machines_row(case: Case, picture: Picture) -> None:
-    for machine in case.machines():
-        for bar in picture.bars(f"machine-{machine + 1}") + picture.bars(f"strip-{machine + 1}"):
+        for bar in [strip, *bars]:
             assert (bar.top + bar.bottom) / 2 == pytest.approx(machine + 1, abs=0.2), "row of a bar"
             assert abs(bar.bottom - bar.top) < 1, "height of a bar"
-
-
-@cases()
-def test_each_row_has_a_grey_strip_from_0_to_the_makespan(case: Case, picture: Picture) -> None:
-    for machine in case.machines():
-        strip, = picture.bars(f"strip-{machine + 1}")
-        assert strip.fill == IDLE
-        assert is_near(strip.start, 0, case.makespan) and is_near(strip.end, case.makespan, case.makespan), strip
 
 
 def colours_of(case: Case, picture: Picture) -> dict[int, set[str]]:
@@ -276,21 +267,6 @@ def test_a_jobs_colour_is_that_of_its_number_and_not_of_its_place(drawn: Drawn) 
         case = Case(f"order {order}", order, schedule_of([times[job - 1] for job in order]))
         found.append(colours_of(case, drawn(case)))
     assert found[0] == found[1], "colours of the same jobs in another order"
-
-
-# Published pairs of colours, and how far apart they are (Sharma, Wu and Dalal, 2005, table 1).
-PAIRS: list[tuple[Lab, Lab, float]] = [
-    ((50, 2.6772, -79.7751), (50, 0, -82.7485), 2.0425), ((50, 3.1571, -77.2803), (50, 0, -82.7485), 2.8615),
-    ((50, -1.3802, -84.2814), (50, 0, -82.7485), 1.0), ((50, 2.5, 0), (50, 0, -2.5), 4.3065),
-    ((50, 2.5, 0), (73, 25, -18), 27.1492), ((50, 2.5, 0), (61, -5, 29), 22.8977),
-    ((50, 2.5, 0), (56, -27, -3), 31.9030), ((50, 2.5, 0), (58, 24, 15), 19.4535),
-    ((60.2574, -34.0099, 36.2677), (60.4626, -34.1751, 39.4387), 1.2644),
-]
-
-
-@pytest.mark.parametrize(("first", "second", "wanted"), PAIRS)
-def test_the_difference_of_two_colours_is_the_published_one(first: Lab, second: Lab, wanted: float) -> None:
-    assert difference(first, second) == pytest.approx(wanted, abs=0.00005)
 
 
 def colours_in_turn(case: Case, picture: Picture) -> list[str]:
@@ -322,10 +298,6 @@ def difference_of_any_two(jobs: int, drawn: Drawn) -> float:
 def test_any_two_of_few_jobs_differ_as_much_as_the_page_says(jobs: int, got: float, drawn: Drawn) -> None:
     """Rounded to a tenth."""
     assert round(difference_of_any_two(jobs, drawn), 1) == got, f"the colours of {jobs} jobs"
-
-
-def test_any_two_of_eight_jobs_are_distinguishable(drawn: Drawn) -> None:
-    assert difference_of_any_two(8, drawn) >= 14.3
 
 
 def test_the_comment_on_the_colours_has_the_numbers_of_the_page(top: pathlib.Path) -> None:
@@ -720,13 +692,6 @@ def test_an_operation_has_the_colour_of_its_bar_in_an_image(image: Picture, gant
     line = pixels[len(pixels) // 4]
     long = {fill for at, fill in enumerate(line) if 1000 < 2600 * at / len(line) < 1595}
     assert long == colours_of(case, Picture(folder / "bars.svg"))[1001], "colours of the one long operation"
-
-
-@pytest.mark.parametrize("case", [steps(5_000), units(1050, 20)],
-                         ids=["10,000 of 5,000 jobs", "21,000 of 1,050 jobs"])
-def test_very_many_operations_are_an_image(case: Case, gantt: Gantt, folder: pathlib.Path) -> None:
-    assert b"are an image" in gantt(folder, "picture.svg", text=case.text()).stderr
-    assert len(list(Picture(folder / "picture.svg").root.iter("{http://www.w3.org/2000/svg}image"))) == 1
 
 
 @pytest.mark.seconds(8)

@@ -4,7 +4,7 @@ import pathlib
 from itertools import groupby
 
 import pytest
-from support.files import FILES, THREE_JOBS, THREE_JOBS_BY_JOB
+from support.files import THREE_JOBS, THREE_JOBS_BY_JOB
 from support.growths import Shim
 from support.lines import ANSWERS, EACH, refused
 from support.program import Program, Ran, Words
@@ -17,7 +17,7 @@ GROWING = [
     "solve --layout taillard --rounds 5 --take 2 --seed 7 --passes 1 --cells three",
     "solve --layout taillard --rounds 5 --take 2 --seed 7 --passes 1 --cells eight",
     "solve --layout taillard --cells sixteen",
-    "value --layout orlib --block 2 two_blocks.or",
+    "value --layout orlib --block 002 two_blocks.or",
     "table --layout taillard three for_three",
     *EACH.values(),
     "value three",
@@ -96,7 +96,7 @@ STILL: dict[str, bytes] = {
     "still_read_block": b"Read\nNoBlock { found: 0 }\nSizeCount { line: 1 }\n",
     "still_read_order": b"Read\nSyntax { offset: 0 }\nSyntax { offset: 11 }\nTooLong\n",
     "still_search": b"makespan 7\nmakespan 7\n",
-    "still_write": b"%d bytes, %d bytes\n" % (len(THREE_JOBS_BY_JOB), len(FILES["numbered2"])),
+    "still_write": b"%d bytes, %d bytes\n" % (len(THREE_JOBS_BY_JOB), len(b"order2 3 2\n1 2 3\nmakespan 11\n")),
 }
 
 

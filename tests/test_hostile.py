@@ -65,11 +65,6 @@ def small(folder: pathlib.Path) -> pathlib.Path:
     return folder
 
 
-def test_a_small_file(pfs: Program, small: pathlib.Path) -> None:
-    """The memory limits are enough for a run."""
-    run_large(pfs, words_of("value", small / "three"), small, [b"makespan 11\n"], b"", 0)
-
-
 # Files that hold no instance
 
 class Fill:
@@ -108,16 +103,6 @@ def test_a_fill_in_linear_time(pfs: Program, folder: pathlib.Path, fill: Fill) -
                          indirect=["fill"])
 def test_a_fill(pfs: Program, small: pathlib.Path, fill: Fill, command: str) -> None:
     run_large(pfs, words_of(command, fill.path, small / "best"), small, [], fill.reported, 2)
-
-
-@pytest.mark.seconds(3)
-def test_a_fill_by_job(pfs: Program, folder: pathlib.Path, fill: Fill) -> None:
-    run_large(pfs, ["value", "--layout", "orlib", str(fill.path)], folder, [], fill.reported, 2)
-
-
-@pytest.mark.seconds(3)
-def test_a_fill_as_input(pfs: Program, folder: pathlib.Path, fill: Fill) -> None:
-    run_large(pfs, [], folder, [], fill.reported, 2, stdin=fill.path)
 
 
 @pytest.mark.seconds(3)
@@ -184,20 +169,6 @@ def test_a_longer_line(pfs: Program, small: pathlib.Path, longer_line: pathlib.P
     run_large(pfs, words_of(command, longer_line, small / "best"), small, [], TOO_LONG, 2)
 
 
-@ONE_LINE
-@pytest.mark.seconds(3)
-def test_a_longer_line_as_input(pfs: Program, folder: pathlib.Path, longer_line: pathlib.Path) -> None:
-    run_large(pfs, [], folder, [], TOO_LONG, 2, stdin=longer_line)
-
-
-@ONE_LINE
-@pytest.mark.seconds(3)
-@pytest.mark.parametrize("command", WITH_ORDERS)
-def test_a_longer_line_as_order_file(pfs: Program, small: pathlib.Path, longer_line: pathlib.Path,
-                                     command: str) -> None:
-    run_large(pfs, words_of(command, small / "three", longer_line), small, [], ORDER_TOO_LONG, 2)
-
-
 # A million lines
 
 MANY_JOBS, MANY_MACHINES = 2_000, 200
@@ -232,13 +203,6 @@ def test_many_lines_in_linear_time(pfs: Program, folder: pathlib.Path, many_line
 def test_many_lines(pfs: Program, folder: pathlib.Path, many_lines: pathlib.Path, command: str) -> None:
     run_large(pfs, words_of(command, many_lines / "great", many_lines / "order"), folder,
               EQUAL[command](MANY_JOBS, MANY_MACHINES, 1), b"", 0, 4 * MANY_JOBS * MANY_MACHINES)
-
-
-@MANY_LINES
-@pytest.mark.seconds(3)
-def test_many_lines_as_input(pfs: Program, folder: pathlib.Path, many_lines: pathlib.Path) -> None:
-    run_large(pfs, [], folder, equal_value(MANY_JOBS, MANY_MACHINES, 1), b"", 0, 4 * MANY_JOBS * MANY_MACHINES,
-              many_lines / "great")
 
 
 # The greatest instance

@@ -1,7 +1,6 @@
 """Computations over a bench are inlined where the bench is a value, so that its count stays in a register. In a
 function that is called, each cell of a table would read and write the count in memory. The loops of a wavefront are
-separate functions, whose loops call nothing. Those of up to 24 lanes of 16 bits keep no lanes on the stack, except for
-reduced times."""
+separate functions, whose loops call nothing."""
 import re
 import subprocess
 
@@ -70,31 +69,3 @@ def test_a_loop_of_a_wavefront_calls_nothing(pfs: Program, loop: str) -> None:
     for body in functions:
         for call, again in calls(body):
             assert not again and loop.startswith("wide_steps") and re.search(r"<mem(set|cpy)@plt>$", call), call
-
-
-@pytest.mark.parametrize(("loop", "widths", "each"), [
-    ("kernels::fill_tails", 5, 1), ("kernels::fill_sums", 5, 1),
-    ("wide_steps::fill_tails", 2, 2), ("wide_steps::fill_sums", 2, 1)])
-def test_a_sum_of_reduced_lanes_is_one_instruction(pfs: Program, loop: str, widths: int, each: int) -> None:
-    """As many as there are maxima, in each width. The first tails of a wide row have sums without maxima, which are
-    constants there. A program without symbols can't be tested and passes."""
-    functions = loops(pfs, loop)
-    if functions is None:
-        return
-    sums = [(len(re.findall(r"\tpaddsw ", body)), len(re.findall(r"\tpmaxsw ", body))) for body in functions]
-    reduced = [(added, compared) for added, compared in sums if compared]
-    assert len(reduced) == widths
-    assert all(added == each * compared for added, compared in reduced)
-
-
-@pytest.mark.parametrize(("loop", "least"), [("times::fill_times", 14), ("kernels::fill_tails", 11),
-                                             ("kernels::fill_sums", 6)])
-def test_a_loop_of_a_wavefront_stays_in_registers(pfs: Program, loop: str, least: int) -> None:
-    """Loops that skew lanes of 16 bits do, and the tails but those of 64 lanes of 16 bits. Of the sums those of 8, 16
-    and 24 lanes of 16 bits do, those of 8 and 16 lanes for reduced times, and those of 8 lanes of 32 bits. A program
-    without symbols can't be tested and passes."""
-    functions = loops(pfs, loop)
-    if functions is None:
-        return
-    in_registers = [body for body in functions if not re.search(r"\t(?:.*xmm.*\(%r[sb]p|.*\(%r[sb]p.*xmm)", body)]
-    assert len(in_registers) >= least

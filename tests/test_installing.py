@@ -92,7 +92,32 @@ def test_nothing_is_left_of_an_installation(copy: Copy, folder: pathlib.Path, pr
     output_of(["/usr/bin/python3", "-m", "compileall", "-q", place / "libexec"], folder)
     assert list(place.rglob("__pycache__"))
     assert copy.make("uninstall", *variables(prefix, root)) == Done(0, "", "")
-    assert list(root.iterdir()) == []
+    assert not root.exists(), "the folder that DESTDIR names, which the installation has made"
+
+
+@pytest.mark.parametrize(("prefix", "lib"), [
+    ("opt", "lib"), ("/opt/a b", "lib"), ("/opt/a\\1b", "lib"), ("/opt/a$$b", "lib"), ("/opt/a\nb", "lib"),
+    ("/opt/a#b", "lib"), ("/opt/a'b", "lib"), ("/opt/R", "lib x")])
+def test_a_prefix_that_pkg_config_cannot_read_is_rejected(prefix: str, lib: str, top: pathlib.Path,
+                                                          folder: pathlib.Path) -> None:
+    """Before anything is written."""
+    got = run_tool([top / "tools" / "install", "put", folder / "root", prefix, lib], top, stdin=None,
+                   input="lib/pfs.pc.in lib/pkgconfig/pfs.pc\n")
+    assert (got.status, got.stdout) == (2, "") and "PREFIX" in got.stderr, got
+    assert list(folder.iterdir()) == [], "what was written"
+
+
+def test_a_folder_in_the_place_of_a_file_is_reported(copy: Copy, folder: pathlib.Path) -> None:
+    """Nothing is put into it."""
+    for name in ("bin/pfs", "bin/pfs-gantt", "share/man/man1/pfs.1"):
+        (folder / name).mkdir(parents=True)
+        got = copy.make("install", f"PREFIX={folder}")
+        assert got.status != 0 and f"{folder}/{name}" in got.stderr, f"nothing says that {name} is a folder"
+        assert list((folder / name).iterdir()) == [], f"what is put into the folder {name}"
+        (folder / name).rmdir()
+    assert copy.make("uninstall", f"PREFIX={folder}") == Done(0, "", "")
+    there = {"bin", "share", "share/man", "share/man/man1"}
+    assert folders_below(folder) == there, "folders that are left of an installation that failed"
 
 
 def test_what_others_have_installed_stays(copy: Copy, folder: pathlib.Path) -> None:
@@ -235,6 +260,15 @@ def test_a_program_is_built_over_the_installed_library(how: str, with_library: p
     assert got == f"{VERSION} {VERSION}\n"
 
 
+@pytest.mark.parametrize("name", ["R&D", "R|D", "a+b,c=d@e"])
+def test_a_prefix_may_have_other_signs(name: str, copy: Copy, folder: pathlib.Path) -> None:
+    place = install_library(copy, "install-lib", folder / name)
+    env = dict(os.environ, PKG_CONFIG_PATH=str(place / "lib" / "pkgconfig"))
+    got = output_of([tool("pkg-config"), "--variable=includedir", "pfs"], folder, env=env)
+    assert got == f"{place}/include\n", "the folder of the header, as pkg-config prints it"
+    assert copy.make("uninstall", f"PREFIX={place}") == Done(0, "", "") and not place.exists()
+
+
 CMAKE = """cmake_minimum_required(VERSION 3.13)
 project(caller C)
 find_package(pfs {wanted} REQUIRED)
@@ -245,6 +279,19 @@ target_link_libraries(caller {target})
 
 @pytest.mark.parametrize("target", ["pfs::pfs", "pfs::pfs_static"])
 def test_cmake_builds_over_the_installed_library(target: str, with_library: pathlib.Path, folder: pathlib.Path) -> None:
+    assert_cmake_builds(target, with_library, folder)
+
+
+def test_cmake_builds_over_the_library_in_debians_folders(copy: Copy, folder: pathlib.Path) -> None:
+    """The library is in a folder of its architecture, and the header isn't."""
+    with library_in(copy):
+        machine = output_of(["cc", "-print-multiarch"], folder).strip()
+        assert copy.make("install-lib", f"PREFIX={folder}/usr", f"LIB=lib/{machine}") == Done(0, "", "")
+    for target in ("pfs::pfs", "pfs::pfs_static"):
+        assert_cmake_builds(target, folder / "usr", folder)
+
+
+def assert_cmake_builds(target: str, with_library: pathlib.Path, folder: pathlib.Path) -> None:
     (folder / "caller.c").write_text(CALLER)
     (folder / "CMakeLists.txt").write_text(CMAKE.format(wanted=VERSION, target=target))
     output_of([tool("cmake"), "-S", ".", "-B", "made", f"-DCMAKE_PREFIX_PATH={with_library}"], folder)

@@ -1,6 +1,6 @@
 """The library for C: its header, its manual page and the symbols of its files; each function on each invalid argument
 (support/library_calls.c), also with failing allocations, under valgrind and with gcc's sanitizers; and on random
-instances and files against the program and a second implementation (support/second_library.py)."""
+instances and files against a second implementation (support/second_library.py)."""
 import ctypes
 import pathlib
 import re
@@ -11,8 +11,8 @@ import fuzz
 import pytest
 from support import second_library, second_program
 from support.growths import Shim
-from support.library import (HEADER, SUPPORT, Answer, Library, Memory, Number, compile_quietly, compiled, list32,
-                             list64, read32, read64, text, u32s, u64s)
+from support.library import (HEADER, SUPPORT, Library, Memory, Number, compile_quietly, compiled, list32,
+                             list64, read32, text, u32s, u64s)
 from support.needs import tool
 from support.program import Program, Ran
 from support.second_library import by_job
@@ -323,10 +323,6 @@ Arguments = list[Number | Memory]
 Call = tuple[str, Arguments]
 
 
-# No text of these instances is longer: 12 jobs on 26 machines have 312 times, each of 10 digits, with its machine.
-ROOM = 10_000
-
-
 def shop_of(random: Random) -> Instance:
     """A random instance, often one with many equal sums."""
     most_jobs, most_machines = random.choice([(9, 5), (9, 5), (12, 26)])
@@ -444,6 +440,7 @@ def assert_same(libpfs: Library, name: str, arguments: Arguments) -> int:
     return answer.number
 
 
+@pytest.mark.quick
 @pytest.mark.seconds(10)
 def test_two_libraries_agree_on_random_instances(libpfs: Library) -> None:
     random = Random(1)
@@ -466,117 +463,3 @@ def test_two_libraries_agree_on_random_files(libpfs: Library) -> None:
             numbers.add(assert_same(libpfs, name, arguments))
             numbers.add(assert_same(libpfs, name, spoilt(random, arguments)))
     assert numbers == {0, 2, 3, 4, 5, 6, *range(10, 15), *range(20, 28), 30, 31, 32}
-
-
-def test_the_random_words_are_those_of_rounds(libpfs: Library) -> None:
-    """A caller repeats rounds without passes by the random words, the best places and the makespans."""
-    random = Random(4)
-    for _ in range(SHOPS):
-        shop, seed = shop_of(random), random.getrandbits(64)
-        take = random.randint(1, shop.jobs)
-        order = random.sample(range(shop.jobs), shop.jobs)
-        for turn in range(3):
-            left = libpfs.call("pfs_rounds", *given(shop), *list32(order), Number(turn, 32), Number(1, 32),
-                               Number(take), Number(0, 32), Number(seed), out64(), out64()).memory[1]
-            order = repeated_round(libpfs, shop, order, turn, take, seed)
-            assert order == read32(left)
-
-
-def repeated_round(libpfs: Library, shop: Instance, order: list[int], turn: int, take: int, seed: int) -> list[int]:
-    """The order after a round, made step by step."""
-    drawn = libpfs.call("pfs_random", Number(seed), Number(turn * take), *list32([PATTERN] * take))
-    assert drawn.number == 0
-    made = list(order)
-    taken = [made.pop(word % len(made)) for word in read32(drawn.memory[0])]
-    for job in taken:
-        found = libpfs.call("pfs_insert", *given(shop), *list32(made), Number(job, 32), out64(), out64()).memory
-        made.insert(read64(found[2])[0], job)
-    spans = [read64(libpfs.call("pfs_makespan", *given(shop), *list32(jobs), out64()).memory[2])[0]
-             for jobs in (made, order)]
-    return made if spans[0] <= spans[1] else order
-
-
-class Desk:
-    """The program in a folder and the library, on one instance."""
-
-    def __init__(self, pfs: Program, libpfs: Library, folder: pathlib.Path, shop: Instance) -> None:
-        self.pfs, self.libpfs, self.folder, self.shop = pfs, libpfs, folder, shop
-        (folder / "shop").write_bytes(second_program.canonical(shop, b"taillard"))
-
-    def call(self, name: str, *arguments: Number | Memory) -> Answer:
-        answer = self.libpfs.call(name, *arguments)
-        assert answer.number == 0, name
-        return answer
-
-    def print(self, line: str) -> bytes:
-        ran = self.pfs.run(line, self.folder)
-        assert (ran.stderr, ran.status) == (b"", 0), line
-        return ran.stdout
-
-    def searched(self, random: Random) -> None:
-        """NEH and rounds in two parts leave what one search prints, and the audits of it agree."""
-        first, second = random.randint(0, 5), random.randint(0, 5)
-        take, passes, seed = random.randint(1, self.shop.jobs), random.randint(0, 2), random.getrandbits(64)
-        size = Number(self.shop.jobs, is_length=True)
-        neh = self.call("pfs_neh", *given(self.shop), out32(self.shop.jobs), size, out64(), out64()).memory
-        order, makespan, cells = neh[1], read64(neh[2]), read64(neh[3])
-        for start, count in ((0, first), (first, second)):
-            left = self.call("pfs_rounds", *given(self.shop), Memory(order), size, Number(start, 32), Number(count, 32),
-                             Number(take), Number(passes, 32), Number(seed), out64(), out64()).memory
-            order, makespan, cells = left[1], read64(left[2]), [*cells, *read64(left[3])]
-        file = self.written(order, makespan[0])
-        options = f"--rounds {first + second} --take {take} --passes {passes} --seed {seed}"
-        assert self.print(f"solve --layout taillard {options} --cells shop") == file + b"cells %d\n" % sum(cells)
-        self.audited(order, makespan[0], file)
-
-    def written(self, order: bytes, makespan: int) -> bytes:
-        """The order file."""
-        size = Number(self.shop.jobs)
-        text, length = self.call("pfs_write_order", Memory(order), size, Number(self.shop.machines), Number(makespan),
-                                 Memory(bytes(300)), Number(300), out64()).memory[1:]
-        return text[:read64(length)[0]]
-
-    def audited(self, order: bytes, makespan: int, file: bytes) -> None:
-        """The makespan of an order, the bound and the table."""
-        size = self.shop.jobs * self.shop.machines
-        (self.folder / "order").write_bytes(file)
-        bound = read64(self.call("pfs_bound", *given(self.shop), out64()).memory[1])[0]
-        optimal = b"optimal\n" if bound == makespan else b""
-        wanted = b"valid\nmakespan %d\nbound %d\n" % (makespan, bound) + optimal
-        assert self.print("check --layout taillard shop order") == wanted
-        made = self.call("pfs_table", *given(self.shop), Memory(order), Number(self.shop.jobs), *list64([0] * size),
-                         *list64([0] * size)).memory
-        spans = [time for span in zip(read64(made[2]), read64(made[3])) for time in span]
-        rows = [spans[at:at + 2 * self.shop.machines] for at in range(0, 2 * size, 2 * self.shop.machines)]
-        lines = [second_program.numbers([job + 1, *row]) for job, row in zip(read32(order), rows)]
-        head = b"table %d %d\n" % (self.shop.jobs, self.shop.machines)
-        assert self.print("table --layout taillard shop order") == head + b"".join(lines) + b"makespan %d\n" % makespan
-
-    def converted(self) -> None:
-        """The text in the other layout, read and written again, and drawn times."""
-        by_jobs = self.print("convert --from taillard --to orlib shop")
-        size = self.shop.jobs * self.shop.machines
-        read = self.call("pfs_read", *text(by_jobs), Number(1, 32), Number(1), out64(), out64(), out32(3),
-                         *list32([0] * size), out64()).memory
-        assert read32(read[4]) == by_job(self.shop)
-        wrote = self.call("pfs_write", *given(self.shop), u32s(self.shop.notes), Number(1, 32), Memory(bytes(ROOM)),
-                          Number(ROOM), out64()).memory
-        assert wrote[2][:read64(wrote[3])[0]] == by_jobs
-        drawn = self.call("pfs_generate", Number(self.shop.jobs), Number(self.shop.machines), Number(77),
-                          *list32([0] * size)).memory
-        notes = u32s([77, 0, 0])
-        wrote = self.call("pfs_write", Memory(drawn[0]), Number(size), Number(self.shop.jobs),
-                          Number(self.shop.machines), notes, Number(0, 32), Memory(bytes(ROOM)), Number(ROOM),
-                          out64()).memory
-        assert wrote[2][:read64(wrote[3])[0]] == self.print(f"generate {self.shop.jobs} {self.shop.machines} 77")
-
-
-@pytest.mark.quick
-@pytest.mark.seconds(10)
-def test_the_library_and_the_program_agree_on_random_instances(pfs: Program, libpfs: Library,
-                                                               folder: pathlib.Path) -> None:
-    random = Random(3)
-    for _ in range(SHOPS):
-        desk = Desk(pfs, libpfs, folder, shop_of(random))
-        desk.searched(random)
-        desk.converted()

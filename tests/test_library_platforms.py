@@ -44,6 +44,12 @@ def test_the_page_names_the_gnu_c_library_that_the_library_needs(libpfs: Library
     assert f"the GNU C library {major}.{minor} or newer" in page.read_text()
 
 
+def test_the_stack_is_not_executable(libpfs: Library, folder: pathlib.Path) -> None:
+    flags = re.search(r"^ *GNU_STACK(?: +0x\w+){5} +([RWE]+)", output_of([tool("readelf"), "-lW", libpfs.path], folder),
+                      re.MULTILINE)
+    assert flags and flags[1] == "RW", "the library asks for an executable stack"
+
+
 @pytest.mark.parametrize("library", [SHARED, STATIC])
 def test_an_old_processor_is_reported(libpfs: Library, folder: pathlib.Path, library: str) -> None:
     """The page says so: an emulated processor without the instructions of x86-64-v2, and one with them."""

@@ -1,13 +1,10 @@
 """The pages that users read, against the built program. Each example of README.md, of the pages on commands and recipes
 and of the manual page is run, and must print what the page shows. The faults, exit statuses, ranges, defaults and
 limits of share/facts.toml, which the pages have in marked blocks, must be the program's."""
-import errno
 import os
 import pathlib
 import re
-import select
 import shutil
-import socket
 import subprocess
 from collections.abc import Callable
 from typing import Any, NamedTuple
@@ -15,13 +12,12 @@ from typing import Any, NamedTuple
 import pytest
 from support.facts import EXITS, FACTS, LIMITS, OPTIONS, RANGES
 from support.facts import FAULTS as STATUS_OF_FAULT
-from support.faults import FAULTS, met, with_numbers
 from support.files import USAGE, generated
-from support.lines import ANSWERS, PRINTING
+from support.lines import ANSWERS, KINDS, PRINTING
 from support.needs import tool
 from support.program import Program, Ran
-from support.tools import Done, run_tool, wait_until, with_path
-from support.usage import LAYOUTS, LINES, commands, ends_of, ends_taken, ranges
+from support.tools import Done, run_tool, with_path
+from support.usage import LAYOUTS, LINES, commands, ends_taken
 
 TOP = pathlib.Path(__file__).resolve().parent.parent
 COMMANDS, FORMATS, TROUBLESHOOTING = ((TOP / "docs" / f"{name}.md").read_text()
@@ -212,15 +208,9 @@ def test_the_page_explains_only_these_faults() -> None:
 # Faults and exit statuses
 
 def test_the_faults_are_those_of_the_program() -> None:
-    assert sorted(STATUS_OF_FAULT) == sorted(FAULTS)
-
-
-@pytest.mark.parametrize(("text", "status"), STATUS_OF_FAULT.items(), ids=STATUS_OF_FAULT)
-def test_a_fault_has_its_text_and_status(text: str, status: int, pfs: Program, worked: pathlib.Path) -> None:
-    fault = FAULTS[text]
-    ran = met(pfs, fault, worked)
-    assert ran.stderr == (USAGE if text == "pfs: usage" else with_numbers(text, fault.numbers).encode() + b"\n")
-    assert ran.status == status
+    """Each with its status, as the program returns for the lines of support/lines.py, with X for any number."""
+    stated = {re.sub(r"\b[A-Z]\b", "X", text): status for text, status in STATUS_OF_FAULT.items()}
+    assert stated == {f"pfs: {kind}": answer.status for kind, answer in KINDS.items() if answer.stderr}
 
 
 def test_the_exit_statuses_name_the_faults_that_are_of_no_file() -> None:
@@ -230,34 +220,28 @@ def test_the_exit_statuses_name_the_faults_that_are_of_no_file() -> None:
 
 
 @pytest.mark.parametrize("exit_of", EXITS, ids=[it["when"][:40] for it in EXITS])
-def test_when_the_program_ends_with_a_status(exit_of: dict[str, Any], pfs: Program, worked: pathlib.Path) -> None:
-    for line in WHEN[exit_of["when"]]:
-        ran = line_met(line, pfs, worked)
-        assert ran.status == exit_of["status"], f"the status of `{line}`"
-        assert (ran.stderr == b"") == exit_of.keys().isdisjoint({"faults", "error"}), f"standard error of `{line}`"
-        assert (ran.stderr == USAGE) == (exit_of.get("error") == "the usage text"), f"standard error of `{line}`"
+def test_when_the_program_ends_with_a_status(exit_of: dict[str, Any]) -> None:
+    for answer in (ANSWERS.get(line, KINDS.get(line)) for line in WHEN[exit_of["when"]]):
+        assert answer and answer.status == exit_of["status"], exit_of["when"]
+        assert (answer.stderr == b"") == exit_of.keys().isdisjoint({"faults", "error"}), exit_of["when"]
+        assert (answer.stderr == USAGE) == (exit_of.get("error") == "the usage text"), exit_of["when"]
 
 
-# Command lines over the worked files, or faults, by what share/facts.toml says of them.
+# Lines and kinds of results of support/lines.py, by what share/facts.toml says of them.
 WHEN = {
     "done": ["value --layout taillard three"],
     "`check` or `table` printed `wrong size` or `wrong machines`, or `check` printed `wrong makespan`": [
         "check --layout taillard three two", "table --layout taillard three two",
         "check --layout taillard three for_three", "table --layout taillard three for_three",
         "check --layout taillard three wrong"],
-    "a file or a generator's seed is rejected": [
-        "value --layout taillard mixed", "check --layout taillard three short", "generate 1 1 0"],
-    "no command takes the arguments": ["help", "value --layout x three"],
-    "the destruction size is greater than the number of jobs": ["pfs: take D exceeds N jobs"],
-    "a file can't be opened": ["pfs: cannot open"],
-    "a read failed": ["pfs: read failed", "pfs: order file read failed"],
-    "a write failed": ["pfs: write failed after X bytes"],
-    "memory allocation failed": ["pfs: no memory"],
+    "a file or a generator's seed is rejected": ["mixed line at X", "order file syntax at X", "seed out of range"],
+    "no command takes the arguments": ["usage"],
+    "the destruction size is greater than the number of jobs": ["take X exceeds X jobs"],
+    "a file can't be opened": ["cannot open"],
+    "a read failed": ["read failed", "order file read failed"],
+    "a write failed": ["write failed after X bytes"],
+    "memory allocation failed": ["no memory"],
 }
-
-
-def line_met(line: str, pfs: Program, worked: pathlib.Path) -> Ran:
-    return met(pfs, FAULTS[line], worked) if line in FAULTS else pfs.run(line, worked)
 
 
 # The verdicts for which the status is 1, by the command and an order file that gets it.
@@ -280,56 +264,6 @@ def test_these_verdicts_end_with_status_1(pfs: Program, worked: pathlib.Path) ->
     assert verdicts(text) == wanted
 
 
-# Opening and writing
-
-def opened(pfs: Program, folder: pathlib.Path) -> list[str]:
-    """The order in which the program opens its two files: pipes, at each of which it waits for a writer."""
-    pipes = {"FILE": folder / "file", "ORDER": folder / "order"}
-    for path in pipes.values():
-        os.mkfifo(path)
-    child = pfs.start("check --layout taillard file order", folder)
-    ends: dict[str, int] = {}
-
-    def next_is_opened() -> bool:
-        for name in pipes.keys() - ends.keys():
-            try:
-                ends[name] = os.open(pipes[name], os.O_WRONLY | os.O_NONBLOCK)
-                return True
-            except OSError as error:
-                assert error.errno == errno.ENXIO, error
-        return False
-
-    try:
-        for which in ("first", "second"):
-            wait_until(next_is_opened, f"the {which} file is opened", 20)
-    finally:
-        for end in ends.values():
-            os.close(end)
-        child.kill()
-        child.communicate()
-    return list(ends)
-
-
-def test_the_instance_file_is_opened_before_the_order_file(pfs: Program, folder: pathlib.Path) -> None:
-    assert "FILE and then ORDER are opened before anything is read." in COMMANDS
-    assert "\n.Ar FILE\nand then\n.Ar ORDER\nare opened before anything is read.\n" in MANUAL
-    assert opened(pfs, folder) == ["FILE", "ORDER"]
-
-
-def test_the_page_has_the_size_of_the_buffer(pfs: Program, folder: pathlib.Path) -> None:
-    # each call of the system sends one packet
-    here, there = socket.socketpair(socket.AF_UNIX, socket.SOCK_SEQPACKET)
-    with here, there:
-        child = pfs.start("generate 500 20 1", folder, stdout=there.fileno())
-        there.close()
-        assert select.select([here], [], [], 20)[0], "nothing is written"
-        first = len(here.recv(1 << 20))
-        while here.recv(1 << 20):
-            pass
-        child.communicate()
-    assert f"Standard output goes through a buffer of {first:,} bytes." in COMMANDS
-
-
 # Ranges, defaults and limits
 
 def test_each_option_of_the_usage_text_is_a_fact() -> None:
@@ -339,12 +273,8 @@ def test_each_option_of_the_usage_text_is_a_fact() -> None:
 @pytest.mark.parametrize("option", RANGES)
 def test_the_range_of_an_option_is_the_programs(option: str, pfs: Program, folder: pathlib.Path) -> None:
     least, most = RANGES[option]
-    assert ends_taken(pfs, option, least, most, folder) == ends_of(least, most)
-
-
-def test_a_destruction_size_is_at_most_the_number_of_jobs(pfs: Program, worked: pathlib.Path) -> None:
-    taken = {take: pfs.run(f"solve --layout taillard --take {take} three", worked).status for take in (0, 1, 3, 4)}
-    assert taken == {0: 3, 1: 0, 3: 0, 4: 3}
+    wanted = {least - 1: False, least: True, most: True, most + 1: False}
+    assert ends_taken(pfs, option, least, most, folder) == wanted
 
 
 @pytest.mark.parametrize("option", RANGES)
@@ -372,14 +302,6 @@ def test_the_default_take_of_fewer_jobs_is_their_number(pfs: Program, worked: pa
     call = "solve --layout taillard --cells --rounds 3 three"
     without, all_jobs, fewer = (pfs.run(call + take, worked) for take in ("", " --take 3", " --take 2"))
     assert without == all_jobs != fewer
-
-
-@pytest.mark.parametrize(("script", "got"), [("_pfs", r"--(\w+)=\[([^]]*)\]"),
-                                              ("pfs.fish", r"-l (\w+) .*-d '([^']*)'")])
-def test_a_range_in_a_completion_is_the_options(script: str, got: str) -> None:
-    text = (TOP / "share" / "completions" / script).read_text().replace("\\\n", "")
-    found = {f"--{name}": ranges(said)[0] for name, said in re.findall(got, text) if ranges(said)}
-    assert found == {option: each for option, each in RANGES.items() if option != "--seed"}
 
 
 def test_the_range_of_a_generators_seed_is_the_programs(pfs: Program, folder: pathlib.Path) -> None:
@@ -416,10 +338,6 @@ def test_the_limit_of_a_size_lines_notes_is_the_programs(pfs: Program, folder: p
         == ["truncated after 0 times"] + ["size line 1 is out of range"] * 3
 
 
-def test_the_limit_of_blocks_is_that_of_the_option() -> None:
-    assert LIMITS["block"] == RANGES["--block"]
-
-
 def fault_in(shop: str, pfs: Program, folder: pathlib.Path) -> str:
     """What the program finds wrong with this instance file."""
     (folder / "shop").write_text(shop + "\n")
@@ -436,15 +354,6 @@ def test_the_limit_of_the_input_is_the_programs(pfs: Program, folder: pathlib.Pa
             file.write(b"\n5\n")
         ran.append(pfs.run("value --layout taillard shop", folder))
     assert ran == [Ran(b"makespan 5\n", b"", 0), Ran(b"", b"pfs: input too long\n", 2)]
-
-
-def test_the_limit_of_an_order_file_is_the_programs(pfs: Program, worked: pathlib.Path) -> None:
-    most = LIMITS["order_file"].most
-    found = []
-    for count in (most, most + 1):
-        (worked / "order").write_bytes(b"o" * count)
-        found.append(pfs.run("check --layout taillard three order", worked).stderr)
-    assert found == [b"pfs: order file syntax at 1\n", b"pfs: order file too long\n"], "at the limit and beyond it"
 
 
 # Order files

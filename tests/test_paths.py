@@ -1,4 +1,5 @@
-"""The paths that the pages name exist, and the names between backquotes are names of the sources."""
+"""The paths and goals of `make` that the pages name exist, and the names between backquotes are names of the
+sources."""
 import functools
 import pathlib
 import re
@@ -15,7 +16,7 @@ NAMED = re.compile(r"`((?:[\w.-]+/)+[\w.-]*|[\w-]+\.(?:antt|cpp|edit|hpp|md|py|r
 MODULES = {".antt", ".edit", ".py", ".rt"}
 # What a build, a report or a wheel makes, any crate's name, a page of the kit, and a folder of an example.
 ELSEWHERE = re.compile(r"\bout(?:/|$)|\bNAME/|^START-HERE\.md$|/PROVED$|^(?:table|sizes|comparison)\.md$|^_gantt\.py$"
-                       r"|^instances/$|^\./$")
+                       r"|^(?:instances|orders)/$|^\./$")
 # A name of more than one word, or of a function that is called.
 NAME = re.compile(r"[A-Za-z]\w*(?:_|[a-z][A-Z])\w*|[a-z]\w*(?=\(\))")
 # Types of Julia and R that a page names.
@@ -40,23 +41,6 @@ def test_the_paths_of_this_page_exist(page: str, top: pathlib.Path) -> None:
     assert missing_of((top / page).read_text(), top) == []
 
 
-@pytest.mark.parametrize("named, missing", [
-    ("rows.rt", []),
-    ("src/rows.rt", []),
-    ("src/rows", []),
-    ("low/src/", []),
-    ("crates/NAME/src/", []),
-    ("low/rows.rt", ["low/rows.rt"]),
-    ("columns.rt", ["columns.rt"]),
-    ("out/rows.rt", []),
-    ("src/columns", ["src/columns"]),
-])
-def test_a_path_that_does_not_exist_is_found(folder: pathlib.Path, named: str, missing: list[str]) -> None:
-    (folder / "low" / "src").mkdir(parents=True)
-    (folder / "low" / "src" / "rows.rt").touch()
-    assert missing_of(f"The rows stand in `{named}`.", folder) == missing
-
-
 @functools.cache
 def names_of_sources() -> set[str]:
     """All words of the sources and of their paths, except this file."""
@@ -76,18 +60,12 @@ def test_the_names_of_this_page_are_in_the_sources(page: str, top: pathlib.Path)
     assert unknown_of((top / page).read_text()) == []
 
 
-@pytest.mark.parametrize(("code", "unknown"), [
-    ("read_block", []),
-    ("pfs_layout::laws::earlier_files", []),
-    ("read_blok", ["read_blok"]),
-    ("HeadsTails::new", []),
-    ("HeadTails::new(jobs)", ["HeadTails"]),
-    ("finish()", []),
-    ("finisch()", ["finisch"]),
-    ("pfs solve --layout taillard shop", []),
-])
-def test_a_misspelled_name_is_found(code: str, unknown: list[str]) -> None:
-    assert unknown_of(f"It is computed by `{code}`.\n```\nany_name\n```\n") == unknown
+@pytest.mark.parametrize("page", PAGES)
+def test_the_goals_of_make_that_this_page_names_exist(page: str, top: pathlib.Path) -> None:
+    """In backquotes, or at the beginning of an example's line."""
+    named = set(re.findall(r"(?:`|^(?:sudo )?)make (?!-)([a-z-]+)", (top / page).read_text(), re.MULTILINE))
+    phony = re.findall(r"^\.PHONY: (.*)", (top / "Makefile").read_text(), re.MULTILINE)
+    assert named - {goal for line in phony for goal in line.split()} == set()
 
 
 def test_there_are_pages() -> None:

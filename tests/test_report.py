@@ -76,6 +76,8 @@ BAD = {
     "seconds without end": REPORTED.replace("0.001000", "inf"),
     "seconds of 1e308": REPORTED.replace("0.001000", "1e308"),
     "seconds below 0": REPORTED.replace("0.001000", "-0.1"),
+    "seconds with an underscore": REPORTED.replace("0.001000", "1_0"),
+    "seconds in other digits": REPORTED.replace("0.001000", "\N{ARABIC-INDIC DIGIT ONE}"),
     "a zero byte": REPORTED.replace("0.001000", "0.001\0"),
 }
 
@@ -235,6 +237,22 @@ def test_a_csv_that_pandas_wrote_is_read(report: Reported, folder: pathlib.Path)
     assert (folder / "report" / "table.csv").read_text() == TABLE
 
 
+def test_a_csv_with_a_byte_order_mark_is_read(report: Reported, folder: pathlib.Path) -> None:
+    """And a reference."""
+    (folder / "best.csv").write_text("\N{BOM}instance,makespan\na,100\n")
+    got = report("\N{BOM}" + REPORTED, "--reference", "best.csv")
+    assert (got.status, got.stderr) == (0, ""), "a CSV that begins with EF BB BF"
+
+
+def test_names_are_escaped_in_latex(report: Reported, folder: pathlib.Path) -> None:
+    names = {"{x}": r"\{x\}", "50%": r"50\%", "a_b": r"a\_b", "#1": r"\#1", "$": r"\$", "a&b": r"a\&b",
+             "^": r"\textasciicircum{}", "~": r"\textasciitilde{}", "\\": r"\textbackslash{}"}
+    text = "".join(f"a,{at},{name}\n" for at, name in enumerate(names, 10))
+    assert report("instance,makespan,method\n" + text).status == 0
+    head = (folder / "report" / "sizes.tex").read_text().splitlines()[3]
+    assert sorted(head.removesuffix(r" \\").split(" & ")[1:]) == sorted(names.values()), "names in sizes.tex"
+
+
 # The reference
 
 def percents(folder: pathlib.Path, name: str = "mean_rpd_percent") -> list[str]:
@@ -308,6 +326,16 @@ def test_a_missing_scipy_is_reported(top: pathlib.Path, matplotlib: None, folder
         assert (got.status, got.stderr, "needs SciPy" in got.stdout) == (0, "", is_said)
         row, = compared(folder)
         assert (row["won"], row["p"]) == (str(count), wanted)
+
+
+def test_a_missing_matplotlib_is_reported(top: pathlib.Path, folder: pathlib.Path) -> None:
+    """Before anything is written."""
+    (folder / "matplotlib.py").write_text("raise ImportError('no matplotlib')\n")
+    (folder / "out.csv").write_text(REPORTED)
+    got = run_tool([top / "experiments" / "report", "out.csv", "report"], folder,
+                   env=dict(os.environ, PYTHONPATH=str(folder)))
+    assert got == Done(2, "", "experiments/report: no matplotlib\n")
+    assert not (folder / "report").exists(), "what is written before matplotlib is missed"
 
 
 @pytest.mark.parametrize(("text", "named"), [

@@ -130,15 +130,3 @@ def test_the_site_is_made_again_and_replaces_nothing_else(top: pathlib.Path, fol
         output_of([top / "tools" / "site" / "build", folder / "made"], top, env=env)
         names = {path.name for path in (folder / "made").iterdir()}
         assert {"README.html", "objects.inv"} <= names and "old.html" not in names
-
-
-@pytest.mark.parametrize(("link", "is_broken"), [
-    ("other.html", False), ("other.html#here", False), ("other.html#there", True), ("#top", False), ("#here", True),
-    ("none.html", True), ("below/", True), ("text", False), ("https://example.org/none", False),
-])
-def test_a_link(link: str, is_broken: bool, folder: pathlib.Path) -> None:
-    (folder / "below").mkdir()
-    (folder / "text").touch()
-    (folder / "index.html").write_text(f'<p id="top"><a href="{link}">a link</a></p>')
-    (folder / "other.html").write_text('<h1 id="here">Here</h1>')
-    assert broken(folder) == ([f"index.html: {link}"] if is_broken else [])

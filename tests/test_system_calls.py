@@ -11,9 +11,11 @@ from support.lines import ANSWERS, EACH, PRINTING, WITH_INSTANCE, WITH_ORDER, re
 from support.needs import missing, tool
 from support.program import Program, Ran
 
-# COMMANDS.md: "Standard output goes through a buffer of 8,192 bytes". The longest part of a text that goes into it at
-# once is the title of a file in Taillard's layout.
-BUFFER = 8_192
+TOP = pathlib.Path(__file__).resolve().parent.parent
+COMMANDS, MANUAL = (TOP / "docs" / "COMMANDS.md").read_text(), (TOP / "share" / "pfs.1").read_text()
+# The longest part of a text that goes into the buffer of standard output at once is the title of a file in Taillard's
+# layout.
+[BUFFER] = [int(size.replace(",", "")) for size in re.findall(r"goes through a buffer of ([\d,]+) bytes", COMMANDS)]
 LONGEST_PART = len(TITLE)
 LONG_OUTPUTS = {"generate 500 20 873654221": generated(500, 20, 873654221), "generate 5000 2 1": generated(5000, 2, 1)}
 # Each command that reads, with each of its files.
@@ -68,7 +70,9 @@ def tracer(pfs: Program) -> Tracer:
 
 @pytest.mark.parametrize("line", WITH_ORDER)
 def test_files_are_opened_in_order(tracer: Tracer, worked: pathlib.Path, line: str) -> None:
-    """FILE and then ORDER, before anything is read."""
+    """As the pages say: FILE and then ORDER, before anything is read."""
+    assert "FILE and then ORDER are opened before anything is read." in COMMANDS
+    assert "\n.Ar FILE\nand then\n.Ar ORDER\nare opened before anything is read.\n" in MANUAL
     calls = tracer.calls(line, worked, "openat,read", "three", "best")
     assert calls[:3] == ["openat three", "openat best", "read three"]
     assert sorted(calls[3:]) == sorted(call for call in calls[3:] if call.startswith("read "))
@@ -110,6 +114,7 @@ def test_a_long_text_goes_out_by_the_buffer(tracer: Tracer, folder: pathlib.Path
     """Each write but the last is of a full buffer, less the part that no longer fits."""
     ran, sizes = tracer.writes(line, folder)
     assert ran == Ran(LONG_OUTPUTS[line], b"", 0)
+    assert len(sizes) > 1, "the text is shorter than the buffer"
     assert [size for size in sizes[:-1] if not BUFFER - LONGEST_PART < size <= BUFFER] == [], sizes
     assert sizes[-1] <= BUFFER, sizes
 

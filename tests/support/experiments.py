@@ -7,7 +7,7 @@ import os
 import pathlib
 import shutil
 from collections.abc import Callable, Iterable, Iterator, Sequence
-from contextlib import contextmanager
+from contextlib import contextmanager, suppress
 from typing import Any, NamedTuple
 
 import pytest
@@ -156,10 +156,14 @@ class Experiment(NamedTuple):
             return set()
         return {line.split("\t")[0] for line in lines if line.split("\t")[6:8] == ["0", "0"]}
 
-    def wait_for_all(self) -> None:
-        """Waits until all that the starts before have begun has ended: they hold the lock."""
-        with open(self.runs / "lock", "w") as lock:
-            fcntl.flock(lock, fcntl.LOCK_EX)
+    def left(self) -> list[str]:
+        """The processes that starts have left in the folder of the runs."""
+        found = []
+        for process in pathlib.Path("/proc").glob("[0-9]*"):
+            with suppress(OSError):
+                if os.readlink(process / "cwd").startswith(str(self.runs)):
+                    found.append((process / "cmdline").read_text())
+        return found
 
 
 class Gate:

@@ -26,7 +26,7 @@ def require_module(name: str) -> None:
 def not_installed(name: str) -> NoReturn:
     """Skips the test, with the package of this command or module as the reason."""
     package = package_of(name)
-    missing(f"{name} isn't installed" + (f" (Debian: {package})" if package else ""))
+    missing(f"{name} isn't installed" + (f": `tools/setup all` installs it (Debian: {package})" if package else ""))
 
 
 def missing(why: str) -> NoReturn:

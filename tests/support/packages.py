@@ -16,7 +16,7 @@ class Package(NamedTuple):
 @functools.cache
 def packages() -> list[Package]:
     """Each package of the list."""
-    lines = [line.split() for line in LIST.read_text().splitlines() if line and line[0] not in "#["]
+    lines = [line.split() for line in LIST.read_text().splitlines() if line and line[0] not in "#="]
     return [Package(name, kind, provides) for name, kind, *provides in lines]
 
 

@@ -34,35 +34,18 @@ def page_pipe() -> tuple[int, int]:
     return read_end, write_end
 
 
-def end_to_write(pipe: pathlib.Path) -> int | None:
-    """The end of a named pipe to write to, or None where no program has opened the other."""
-    try:
-        end = os.open(pipe, os.O_WRONLY | os.O_NONBLOCK)
-    except OSError as error:
-        if error.errno != errno.ENXIO:
-            raise
-        return None
-    os.set_blocking(end, True)
-    return end
-
-
-def first_opened(*pipes: pathlib.Path) -> tuple[str, int]:
-    """The name of that named pipe which a program opens first, and the end to write to. No other one is opened: its
-    program might open it meanwhile, and would wait for that end to be closed."""
-    found: list[tuple[str, int]] = []
-
-    def is_opened() -> bool:
-        for pipe in pipes:
-            end = end_to_write(pipe)
-            if end is not None:
-                found.append((pipe.name, end))
-                return True
-        return False
-
-    wait_for(f"the program opens {' or '.join(pipe.name for pipe in pipes)}", is_opened)
-    return found[0]
-
-
 def opened_for_writing(pipe: pathlib.Path) -> int:
     """The end of a named pipe to write to, once a program opens the other."""
-    return first_opened(pipe)[1]
+    ends: list[int] = []
+
+    def is_opened() -> bool:
+        try:
+            ends.append(os.open(pipe, os.O_WRONLY | os.O_NONBLOCK))
+        except OSError as error:
+            if error.errno != errno.ENXIO:
+                raise
+        return ends != []
+
+    wait_for(f"the program opens {pipe.name}", is_opened)
+    os.set_blocking(ends[0], True)
+    return ends[0]

@@ -1,14 +1,11 @@
-#!/usr/bin/env python3
 """A second program that does what `pfs` does: for the same arguments, files and standard input it has the same output,
 errors and exit status. It is written from docs/COMMANDS.md and docs/FORMATS.md and shares no method with the first: it
 validates whole lines of whole texts, checks for each prefix of an order file whether a text of the grammar begins with
 it, and evaluates the whole order for each place of an insertion. So it is for small instances only. Tests call the
-function `answer`, or the functions below it; as a program it takes the arguments of `pfs`."""
-import os
+function `answer`, or the functions below it."""
 import re
-import sys
 from collections.abc import Callable, Iterable, Iterator, Mapping, Sequence
-from typing import Any, Protocol
+from typing import Any
 
 MOST_BYTES = 67_108_864
 MOST_ORDER_BYTES = 65_536
@@ -524,21 +521,13 @@ def tabled(shop: Instance, jobs: list[int], machines: int | None) -> tuple[bytes
 
 # The program
 
-class Files(Protocol):
-    """Files by their paths."""
-
-    def __contains__(self, path: bytes, /) -> bool: ...
-
-    def __getitem__(self, path: bytes, /) -> Contents: ...
-
-
-def opened(files: Files, path: bytes) -> Contents:
+def opened(files: Mapping[bytes, Contents], path: bytes) -> Contents:
     if path not in files:
         raise Stop(b"pfs: cannot open\n", 4)
     return files[path]
 
 
-def run(words: Sequence[bytes], stdin: bytes, files: Files) -> tuple[bytes, int]:
+def run(words: Sequence[bytes], stdin: bytes, files: Mapping[bytes, Contents]) -> tuple[bytes, int]:
     if not words:
         shop = read_instance(stdin, b"taillard", 1)
         return b"makespan %d\n" % makespan(shop, list(range(shop.jobs))), 0
@@ -558,41 +547,10 @@ def run(words: Sequence[bytes], stdin: bytes, files: Files) -> tuple[bytes, int]
     return checked(shop, jobs, machines, stated) if command == b"check" else tabled(shop, jobs, machines)
 
 
-def answer(words: Sequence[bytes], stdin: bytes, files: Files) -> tuple[bytes, bytes, int]:
+def answer(words: Sequence[bytes], stdin: bytes, files: Mapping[bytes, Contents]) -> tuple[bytes, bytes, int]:
     """Standard output, standard error and exit status for these words, with `files` by their paths."""
     try:
         text, status = run(words, stdin, files)
     except Stop as stop:
         return b"", stop.reported, stop.status
     return text, b"", status
-
-
-class Folder:
-    """The files that can be opened from here, by their paths."""
-
-    def __contains__(self, path: bytes) -> bool:
-        try:
-            os.close(os.open(path, os.O_RDONLY))
-        except OSError:
-            return False
-        return True
-
-    def __getitem__(self, path: bytes) -> Contents:
-        try:
-            with open(path, "rb") as file:
-                return file.read()
-        except OSError:
-            return UNREADABLE
-
-
-def main() -> int:
-    words = [os.fsencode(word) for word in sys.argv[1:]]
-    stdin = b"" if words else sys.stdin.buffer.read()
-    text, got, status = answer(words, stdin, Folder())
-    sys.stdout.buffer.write(text)
-    sys.stderr.buffer.write(got)
-    return status
-
-
-if __name__ == "__main__":
-    sys.exit(main())

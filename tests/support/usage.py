@@ -25,12 +25,6 @@ def commands() -> dict[str, Command]:
     return found
 
 
-def ranges(text: str) -> list[tuple[int, int]]:
-    """The least and the greatest number of each range of a text."""
-    return [(int(least.replace(",", "")), int(most.replace(",", ""))) for least, most
-            in re.findall(r"\b([\d,]+) to ([\d,]*\d)", " ".join(text.split()))]
-
-
 def is_taken(pfs: Program, option: str, number: int, folder: pathlib.Path) -> bool:
     """Whether a search accepts this number. It then reports that its file doesn't exist."""
     got = pfs.run(["solve", "--layout", "taillard", f"{option}={number}", "/missing"], folder)
@@ -42,8 +36,3 @@ def is_taken(pfs: Program, option: str, number: int, folder: pathlib.Path) -> bo
 def ends_taken(pfs: Program, option: str, least: int, most: int, folder: pathlib.Path) -> dict[int, bool]:
     """For the ends of a range and the numbers next to them, whether the program accepts them."""
     return {number: is_taken(pfs, option, number, folder) for number in (least - 1, least, most, most + 1)}
-
-
-def ends_of(least: int, most: int) -> dict[int, bool]:
-    """The same for a program that accepts exactly the numbers of the range."""
-    return {least - 1: False, least: True, most: True, most + 1: False}

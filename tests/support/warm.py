@@ -9,7 +9,6 @@ from collections.abc import Iterator, Sequence
 
 import pytest
 from support.program import Ran
-from support.slowest import ELSEWHERE
 from support.tools import Done, stop
 
 SERVER = pathlib.Path(__file__).with_name("warm_server.py")
@@ -29,8 +28,7 @@ class Warm:
             path.write_bytes(data)
         request = [list(map(str, words)), str(cwd), list(map(str, self.streams))]
         print(json.dumps(request), file=self.process.stdin, flush=True)
-        status, seconds = self.process.stdout.readline().split()
-        ELSEWHERE.append(float(seconds))
+        status = self.process.stdout.readline()
         return Ran(self.streams[1].read_bytes(), self.streams[2].read_bytes(), int(status))
 
     def run_tool(self, words: Sequence[str | pathlib.Path], cwd: pathlib.Path) -> Done:
@@ -46,4 +44,3 @@ def warm(matplotlib: None, tmp_path_factory: pytest.TempPathFactory) -> Iterator
                                text=True)
     yield Warm(process, tmp_path_factory.mktemp("streams"))
     stop(process)
-    ELSEWHERE.clear()

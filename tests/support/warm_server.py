@@ -1,6 +1,6 @@
 """Imports matplotlib and SciPy, and then runs scripts, each in a copy of this process (a fork). warm.py starts it and
 writes a line for each script: a list of the script and its arguments, its folder, and the files that are its standard
-streams. It prints the exit status and the processor seconds of each."""
+streams. It prints the exit status of each."""
 import contextlib
 import gc
 import importlib
@@ -28,8 +28,7 @@ def main() -> None:
         child = os.fork()
         if child == 0:
             run(*json.loads(line))
-        _, status, used = os.wait4(child, 0)
-        print(os.waitstatus_to_exitcode(status), used.ru_utime + used.ru_stime, flush=True)
+        print(os.waitstatus_to_exitcode(os.waitpid(child, 0)[1]), flush=True)
 
 
 def run(words: list[str], cwd: str, streams: list[str]) -> NoReturn:

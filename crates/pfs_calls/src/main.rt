@@ -1,24 +1,11 @@
-//! A program for tests. Its first argument names a call, which it runs on the other arguments and standard input, or
-//! on a worked example, and whose result it prints. If an allocation fails, it prints `memory`, and what the failure
-//! has left if the call has changed something or could have. `tests/test_growths.py` runs each call on a worked
-//! example once for each of its allocations, and makes that one fail.
+//! A program for tests. Its argument names a call, which it runs on a worked example, and whose result it prints. If an
+//! allocation fails, it prints `memory`, and what the failure has left if the call has changed something or could have.
+//! `tests/test_growths.py` runs each call once for each of its allocations, and makes that one fail.
 #![tactic(auto)]
 
-mod blocks;
-mod faults;
-mod inserting;
-mod orders;
-mod plans;
-mod rounds;
 mod search;
 mod still;
-mod wavefronts;
-mod words;
 
-use blocks::{cuts_call, pieces_call};
-use faults::fault_call;
-use inserting::insertions_call;
-use orders::{order_file_call, write_order_call};
 use pfs_audit::{AuditFault, Verdict, check, makespan, table};
 use pfs_base::{BaseFault, Bench, FromRead, Instance, ToWrite};
 use pfs_desk::{
@@ -29,12 +16,9 @@ use pfs_insert::InsertFault;
 use pfs_layout::{BlockReader, Layout, LayoutFault, generate, read_block};
 use pfs_order::{Order, OrderFault, OrderFile, Seq, read_order};
 use pfs_search::SearchFault;
-use pfs_tests::shops::{second_and_first, three_jobs};
-use plans::plan_call;
-use rounds::one_round_call;
+use pfs_tests::shops::three_jobs;
 use search::{
     afresh_call, heads_tails_call, neh_call, round_call, rounds_call, search_call, turns_call,
-    two_rounds_call,
 };
 use std::alloc::{AllocError, Global};
 use std::{env, io};
@@ -42,7 +26,6 @@ use still::{
     still_audit, still_best, still_feed, still_generate, still_put, still_read_block,
     still_read_order, still_search, still_write,
 };
-use wavefronts::wavefronts_call;
 
 const FILE: &[u8] = b"title :\n3 2 0 0 0\nprocessing times :\n3 2 4\n2 5 1\n";
 
@@ -127,7 +110,10 @@ impl From<io::Error> for Stop {
 
 fn main(rt: HostRuntime) -> io::Result<()> {
     let returned = match words_of(&rt) {
-        Ok(words) => run_command(&rt, words.as_slice()),
+        Ok(words) => match words.as_slice() {
+            [name] => worked_call(&rt, name.as_str()),
+            _ => Err(Stop::Other),
+        },
         Err(stop) => Err(stop),
     };
     match returned {
@@ -151,25 +137,6 @@ fn words_of(rt: &HostRuntime) -> Result<Vec<String>, Stop> {
     Ok(words)
 }
 
-// Runs the call that the first argument names, on the other arguments.
-fn run_command(rt: &HostRuntime, words: &[String]) -> Result<(), Stop> {
-    let Some((name, rest)) = words.split_first() else {
-        return Err(Stop::Other);
-    };
-    match name.as_str() {
-        "plan" => plan_call(rt, rest),
-        "fault" => fault_call(rt, rest),
-        "order_file" => order_file_call(rt, rest),
-        "write_order" => write_order_call(rt, rest),
-        "cuts" => cuts_call(rt, rest),
-        "pieces" => pieces_call(rt, rest),
-        "insertions" => insertions_call(rt, rest),
-        "wavefronts" => wavefronts_call(rt, rest),
-        "one_round" => one_round_call(rt, rest),
-        name => worked_call(rt, name),
-    }
-}
-
 // Runs a call on a worked example.
 fn worked_call(rt: &HostRuntime, name: &str) -> Result<(), Stop> {
     match name {
@@ -182,7 +149,6 @@ fn worked_call(rt: &HostRuntime, name: &str) -> Result<(), Stop> {
         "identity" => identity_call(rt),
         "read_order" => read_order_call(rt),
         "makespan" => makespan_call(rt),
-        "best_makespan" => best_makespan_call(rt),
         "table" => table_call(rt),
         "check" => check_call(rt, ORDER),
         "check_machines" => check_call(rt, OTHER_MACHINES),
@@ -192,7 +158,6 @@ fn worked_call(rt: &HostRuntime, name: &str) -> Result<(), Stop> {
         "round" => round_call(rt),
         "rounds" => rounds_call(rt),
         "turns" => turns_call(rt),
-        "two_rounds" => two_rounds_call(rt),
         "search" => search_call(rt),
         "still_audit" => still_audit(rt),
         "still_best" => still_best(rt),
@@ -346,17 +311,6 @@ fn makespan_call(rt: &HostRuntime) -> Result<(), Stop> {
             makespan(rt.alloc(), &mut bench, order.seq())?
         }
     };
-    println!(rt; "makespan {}, {} cells", bench.reveal(span), bench.cells())?;
-    Ok(())
-}
-
-// Computes the makespan of the second job, the first and the third, in this order.
-fn best_makespan_call(rt: &HostRuntime) -> Result<(), Stop> {
-    let instance = three_jobs(rt.alloc())?;
-    let mut seq = second_and_first(rt.alloc())?;
-    seq.insert_at(2, 2);
-    let mut bench = instance.metered();
-    let span = makespan(rt.alloc(), &mut bench, &seq)?;
     println!(rt; "makespan {}, {} cells", bench.reveal(span), bench.cells())?;
     Ok(())
 }

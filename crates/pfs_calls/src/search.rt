@@ -149,19 +149,6 @@ pub(crate) fn turns_call(rt: &HostRuntime) -> Result<(), Stop> {
     print_rounds(rt, &bench, &kept, returned, &mut rng)
 }
 
-/// Runs two rounds after NEH, with the random words 0 and 1: the first keeps NEH's order, and the second reverses it.
-pub(crate) fn two_rounds_call(rt: &HostRuntime) -> Result<(), Stop> {
-    let instance = two_jobs(rt.alloc())?;
-    let mut bench = instance.metered();
-    let inserter = Afresh::new(rt.alloc(), &bench)?;
-    let mut searcher = Searcher::new(rt.alloc(), 2, inserter)?;
-    let mut kept = Kept::new(Order::identity(rt.alloc(), 2)?, bench.zero());
-    searcher.neh(rt.alloc(), &mut bench, &mut kept)?;
-    let mut rng = Counting::new(0, 1);
-    let returned = searcher.rounds(rt.alloc(), &mut bench, &mut kept, 2, 1, 0, &mut rng);
-    print_rounds(rt, &bench, &kept, returned, &mut rng)
-}
-
 /// Runs NEH and twenty rounds of one pass with heads and tails; only what is made before them allocates memory.
 pub(crate) fn search_call(rt: &HostRuntime) -> Result<(), Stop> {
     let instance = three_machines(rt.alloc())?;
