@@ -7,7 +7,6 @@ if TYPE_CHECKING:
     from pfs._solution import Solution
 
 # The name and the text of each fault by its number. `{}` is the place.
-# facts: python instance
 INSTANCE_FAULTS = {
     20: ("no block", "no block, found {}"),
     21: ("size count", "size line {} has a wrong count"),
@@ -19,15 +18,12 @@ INSTANCE_FAULTS = {
     27: ("truncated", "truncated after {} times"),
     28: ("input too long", "input too long"),
 }
-# end of facts
-# facts: python order
 ORDER_FAULTS = {
     30: ("syntax", "order file syntax at {}"),
     31: ("job range", "order file job out of range at place {}"),
     32: ("job repeated", "order file job repeated at place {}"),
     33: ("order file too long", "order file too long"),
 }
-# end of facts
 
 
 class Fault(ValueError):
