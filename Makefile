@@ -99,6 +99,8 @@ $(LIBRARY): crates.txt $(wildcard lib/*.*) $(shell find crates \( -name out -o -
 install: $(PROGRAM) $(BUILT_LIBRARY)
 	printf '%s\n' "$$PROGRAM_FILES" $(if $(BUILT_LIBRARY),"$$LIBRARY_FILES") | \
 	    tools/install put "$(DESTDIR)" "$(PREFIX)" "$(LIB)"
+	@$(if $(DESTDIR),,echo "pfs-plan, pfs-gantt and pfs-experiments are in the package for Python:" \
+	    "\`make wheel\`, and then python/README.md says how pip installs it")
 
 .PHONY: install-lib
 install-lib: $(LIBRARY)
