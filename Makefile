@@ -36,14 +36,8 @@ endef
 define PROGRAM_FILES
 $(PROGRAM) bin/pfs
 share/pfs.1 share/man/man1/pfs.1
-share/completions/pfs.bash share/bash-completion/completions/pfs
-share/completions/pfs-tools.bash share/bash-completion/completions/pfs-gantt
-share/completions/pfs-tools.bash share/bash-completion/completions/pfs-experiments
-share/completions/_pfs $(ZSH)/_pfs
-share/completions/_pfs-tools $(ZSH)/_pfs-tools
-share/completions/pfs.fish share/fish/vendor_completions.d/pfs.fish
-share/completions/pfs-tools.fish share/fish/vendor_completions.d/pfs-gantt.fish
-share/completions/pfs-tools.fish share/fish/vendor_completions.d/pfs-experiments.fish
+share/pfs.bash $(ZSH)/_pfs
+$(foreach name,pfs pfs-plan pfs-gantt pfs-experiments,share/pfs.bash share/bash-completion/completions/$(name)$(newline))
 $(foreach name,$(PAGES),$(name) share/doc/pfs/$(name)$(newline))
 $(foreach name,$(PLANS),experiments/$(name) share/doc/pfs/examples/$(name)$(newline))
 endef
