@@ -205,6 +205,13 @@ def test_the_page_explains_only_these_faults() -> None:
         == {f"pfs: {fault}" for fault in FILE_SLIPS}
 
 
+def test_the_first_change_quotes_the_sources() -> None:
+    crate = TOP / "crates" / "pfs_audit"
+    sources = "\n".join(path.read_text() for path in crate.rglob("*") if path.suffix in {".rt", ".antt"})
+    blocks = re.findall(r"^```\n((?:pub|--) .*?)^```$", (TOP / "CONTRIBUTING.md").read_text(), re.MULTILINE | re.DOTALL)
+    assert len(blocks) == 3 and [block for block in blocks if block not in sources] == []
+
+
 # Faults and exit statuses
 
 def test_the_faults_are_those_of_the_program() -> None:
