@@ -120,7 +120,7 @@ def test_an_example_prints_what_the_page_shows(example: Example, shown: Callable
 
 @pytest.mark.parametrize("page", EXAMPLES)
 def test_a_page_has_examples(page: str) -> None:
-    assert len(EXAMPLES[page]) > 5
+    assert len(EXAMPLES[page]) > 3
 
 
 # Commands and links
@@ -156,9 +156,8 @@ def test_readme_is_short() -> None:
 
 
 def test_the_page_on_pictures_shows_the_usage_of_gantt() -> None:
-    usage = (TOP / "docs" / "PICTURES.md").read_text().partition("\n`")[2].partition("`")[0]
-    assert usage.startswith("pfs-gantt ")
-    assert f"usage: {usage}\n" in (TOP / "python" / "src" / "pfs" / "_gantt.py").read_text().replace('"""', "\n")
+    usage = (TOP / "docs" / "COOKBOOK.md").read_text().partition("\n`pfs-gantt ")[2].partition("`")[0]
+    assert usage and f"usage: pfs-gantt {usage}\n" in (TOP / "python" / "src" / "pfs" / "_gantt.py").read_text().replace('"""', "\n")
 
 
 SLIPS = [re.findall("`([^`]+)`", typed)[0] for typed, _ in table(TROUBLESHOOTING, "Typed", "Reason")]
