@@ -141,7 +141,7 @@ def test_an_example_prints_what_the_page_shows(example: Example, shown: Callable
 
 @pytest.mark.parametrize("page", EXAMPLES)
 def test_a_page_has_examples(page: str) -> None:
-    assert len(EXAMPLES[page]) > 5
+    assert len(EXAMPLES[page]) > 3
 
 
 # Commands and links
@@ -177,9 +177,8 @@ def test_readme_is_short() -> None:
 
 
 def test_the_page_on_pictures_shows_the_usage_of_gantt() -> None:
-    usage = (TOP / "docs" / "PICTURES.md").read_text().partition("\n`")[2].partition("`")[0]
-    assert usage.startswith("pfs-gantt ")
-    assert f"usage: {usage}\n" in (TOP / "python" / "src" / "pfs" / "_gantt.py").read_text().replace('"""', "\n")
+    usage = (TOP / "docs" / "COOKBOOK.md").read_text().partition("\n`pfs-gantt ")[2].partition("`")[0]
+    assert usage and f"usage: pfs-gantt {usage}\n" in (TOP / "python" / "src" / "pfs" / "_gantt.py").read_text().replace('"""', "\n")
 
 
 SLIPS = [re.findall("`([^`]+)`", typed)[0] for typed, _ in table(TROUBLESHOOTING, "Typed", "Reason")]
@@ -223,6 +222,13 @@ def test_a_fault_that_is_explained_has_this_reason(fault: str, pfs: Program, wor
 def test_the_page_explains_only_these_faults() -> None:
     assert {message.strip("`") for message, _ in table(TROUBLESHOOTING, "Message", "Reason")} \
         == {f"pfs: {fault}" for fault in FILE_SLIPS}
+
+
+def test_the_first_change_quotes_the_sources() -> None:
+    crate = TOP / "crates" / "pfs_audit"
+    sources = "\n".join(path.read_text() for path in crate.rglob("*") if path.suffix in {".rt", ".antt"})
+    blocks = re.findall(r"^```\n((?:pub|--) .*?)^```$", (TOP / "CONTRIBUTING.md").read_text(), re.MULTILINE | re.DOTALL)
+    assert len(blocks) == 3 and [block for block in blocks if block not in sources] == []
 
 
 # Faults and exit statuses
@@ -493,8 +499,7 @@ def test_the_synopsis_is_the_usage_text(manual: str) -> None:
     assert shown_section(manual, "SYNOPSIS").split("\n")[:-2] == LINES
 
 
-TOOL_PATHS = {name: TOP / folder / f"{name}.1" for name, folder in (
-    ("pfs-gantt", "share"), ("pfs-experiments", "share"), ("pfs-plan", "python"))}
+TOOL_PATHS = {path.stem: path for path in (TOP / "python").glob("*.1")}
 TOOL_PAGES = {name: path.read_text() for name, path in TOOL_PATHS.items()}
 
 
@@ -531,9 +536,8 @@ def test_the_page_of_gantt_has_its_options() -> None:
 
 
 def test_the_page_of_experiments_has_its_scripts() -> None:
-    commands = re.findall(r'^COMMANDS = \((.*)\)$', (TOP / "python" / "src" / "pfs" / "experiments" / "__main__.py").read_text(),
-                          re.MULTILINE)
-    scripts = set(re.findall(r'"(\w+)"', commands[0]))
+    main = (TOP / "python" / "src" / "pfs" / "experiments" / "__main__.py").read_text()
+    scripts = set(re.findall(r'"(\w+)"', main.partition("COMMANDS = (")[2].partition(")")[0]))
     synopsis, listed = (re.findall(rf"^\.{macro} (\w+)$", TOOL_PAGES["pfs-experiments"], re.MULTILINE)
                         for macro in ("Cm", "It Cm"))
     assert set(synopsis) >= set(listed) == scripts
