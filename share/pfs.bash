@@ -11,7 +11,7 @@ _pfs() {
     esac
     [ "$prev" != = ] || prev=${COMP_WORDS[COMP_CWORD - 2]}
     ((COMP_CWORD == 1)) || command=${COMP_WORDS[1]}
-    usage=$("$1" ${command:+"$command"} --help 2>&1)
+    usage=$("$1" ${command:+"$command"} --help 2>&1 | sed -n '/^usage: \|^pfs: usage$/,$p')
     case $1 in
         pfs | */pfs) usage=$(grep "^pfs $command" <<< "$usage") ;;
     esac
@@ -25,8 +25,7 @@ _pfs() {
     elif [[ $cur == -* ]]; then
         offered=$(grep -o -e '--[a-z][a-z-]*' <<< "$usage" | sort -u)
     elif ((COMP_CWORD == 1)); then
-        offered=$(sed -n -e 's/^pfs \([a-z]*\).*/\1/p' -e 's/^usage: pfs-experiments \([a-z|]*\).*/\1/p' <<< "$usage" |
-            tr '|' ' ')
+        offered=$(sed -n -e 's/^pfs \([a-z]*\).*/\1/p' -e 's/^    \([a-z]\{1,\}\).*/\1/p' <<< "$usage")
     fi
     # shellcheck disable=SC2207 # zsh has no mapfile
     COMPREPLY=($(compgen -P "$start" -W "$offered" -- "$cur"))

@@ -13,7 +13,8 @@ from support.terminals import Terminal
 from support.tools import output_of, with_path
 from support.usage import LAYOUTS, commands
 
-SCRIPT = pathlib.Path(__file__).resolve().parent.parent / "share" / "pfs.bash"
+TOP = pathlib.Path(__file__).resolve().parent.parent
+SCRIPT, MANUAL = TOP / "share" / "pfs.bash", TOP / "python" / "pfs-experiments.1"
 FILES = {"best", "three", "two words"}
 # What is offered where each line ends, for the program and for the package's programs.
 OFFERED = {
@@ -22,7 +23,8 @@ OFFERED = {
     **{f"pfs {command} --": set(options) for command, (options, _) in commands().items()},
     **{f"pfs {command} {option}{sign}": LAYOUTS for command, (options, _) in commands().items()
        for option, value in options.items() if value == "L" for sign in " ="},
-    "pfs-experiments ": {"run", "slurm", "check", "report", "taillard"}, "pfs-experiments re": {"report"},
+    "pfs-experiments ": set(re.findall(r"^\.It Cm (\w+)", MANUAL.read_text(), re.MULTILINE)),
+    "pfs-experiments re": {"report"},
     "pfs-experiments check --": {"--help", "--pfs"}, "pfs-experiments report --format ": {"png", "svg", "pdf"},
     "pfs-experiments run th": {"three"},
     "pfs-gantt --": {"--help", "--critical", "--bound", "--unit", "--width", "--dpi", "--no-title"},
