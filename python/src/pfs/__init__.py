@@ -14,17 +14,18 @@ Jobs, machines and places count from 0, as arrays do; in files jobs count from 1
 The library ``libpfs`` does the computing. Its results are proved correct for every input.
 """
 from pfs._all import solve_all
+from pfs._audit import Audited, audit
 from pfs._calendar import Calendar
 from pfs._faults import Fault, FileFault, Interrupted, InterruptedAll, OrderFault, TableFault
 from pfs._files import from_frame, generate, parse_order, read, read_all, read_order, taillard
-from pfs._instance import Instance, Place, Sequence
+from pfs._instance import Check, Instance, Place, Sequence
 from pfs._schedule import Schedule
 from pfs._solution import Improvement, Solution
 from pfs._tables import read_csv
 from pfs._version import VERSION as __version__
 
 __all__ = [
-    "Calendar", "Fault", "FileFault", "Improvement", "Instance", "Interrupted", "InterruptedAll", "OrderFault", "Place",
-    "Schedule", "Sequence", "Solution", "TableFault", "__version__", "from_frame", "generate", "parse_order", "read",
-    "read_all", "read_csv", "read_order", "solve_all", "taillard",
+    "Audited", "Calendar", "Check", "Fault", "FileFault", "Improvement", "Instance", "Interrupted", "InterruptedAll",
+    "OrderFault", "Place", "Schedule", "Sequence", "Solution", "TableFault", "__version__", "audit", "from_frame",
+    "generate", "parse_order", "read", "read_all", "read_csv", "read_order", "solve_all", "taillard",
 ]
