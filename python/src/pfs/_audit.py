@@ -211,7 +211,7 @@ class Shelf:
             blocks = sum(other.startswith(f"{key}:") for other in self.found)
             why = f": its file has {blocks} blocks, so write {name}:1 or a column `block`" if blocks else ""
             why = f": {self.unread[key.partition(':')[0]]}" if key.partition(":")[0] in self.unread else why
-            raise LookupError(f"no instance {key if block else name!r}{why}")
+            raise LookupError(f"no instance {key!r}{why}")
         return known[0]
 
 
@@ -340,7 +340,8 @@ def numbers_in(cell: Any) -> list[int] | str:
     found = [JOB.fullmatch(word) for word in words]
     for place, (word, match) in enumerate(zip(words, found), 1):
         if match is None or (found[0] is not None and match[1] != found[0][1]):
-            return f"{word[:20]!r} at place {place} isn't the number of a job"
+            return f"{word[:20]!r} at place {place} isn't the number of a job" if len(words) > 1 else \
+                f"{text_in(cell)[:40]!r} isn't a list of jobs"
     return [int(match[2]) for match in found if match] or "there is no order"
 
 
