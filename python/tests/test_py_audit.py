@@ -12,6 +12,8 @@ import pandas
 import pfs
 import plainly
 import pytest
+from pfs.experiments import audit as command
+from pfs.experiments.csvs import ExperimentError
 
 # The sizes of the orlib files, each with four instances; and the first instance and the blocks of Taillard's files.
 SIZES = [(jobs, machines) for jobs in (10, 20, 30, 40, 50, 60) for machines in (5, 10, 15, 20)]
@@ -86,7 +88,8 @@ def with_errors(lines: list[Line]) -> dict[int, Planted]:
         return [job + METHODS[lines[row].method][0] for job in lines[row].order]
 
     planted: dict[int, Planted] = {}
-    change(0, "wrong makespan", f"states {lines[0].stated - 100}, takes {lines[0].stated}", stated=lines[0].stated - 100)
+    less = lines[0].stated - 100
+    change(0, "wrong makespan", f"states {less}, takes {lines[0].stated}", stated=less)
     change(191, "wrong makespan", f"states {lines[191].stated + 1}, takes {lines[191].stated}",
            stated=lines[191].stated + 1)
     twice = numbers_of(84)
@@ -107,12 +110,15 @@ def with_errors(lines: list[Line]) -> dict[int, Planted]:
     change(218, "job out of range", f"job 100 at place 1: the jobs are 0 to 99; job {lines[218].order[0]} is missing",
            [100, *lines[218].order[1:]])
     change(36, "counted from 0", f"others count from 1; counted from 0, it takes {lines[36].stated}", lines[36].order)
-    change(48, "wrong size", f"30 jobs, but the instance has 40; the order takes {lines[33].stated} on {lines[33].name}",
-           [job + 1 for job in lines[33].order], lines[33].stated)
+    other = lines[33]
+    change(48, "wrong size", f"30 jobs, but the instance has 40; the order takes {other.stated} on {other.name}",
+           [job + 1 for job in other.order], other.stated)
     return planted
 
 
-def test_a_table_with_twelve_errors(tmp_path: pathlib.Path) -> None:
+@pytest.mark.seconds(5)
+def test_a_table_with_twelve_errors(tmp_path: pathlib.Path, monkeypatch: pytest.MonkeyPatch,
+                                    capsys: pytest.CaptureFixture[str]) -> None:
     (tmp_path / "instances").mkdir()
     shops = write_instances(tmp_path / "instances")
     lines = lines_for(shops)
@@ -136,6 +142,16 @@ def test_a_table_with_twelve_errors(tmp_path: pathlib.Path) -> None:
         if each.valid:
             assert (each.instance, each.method, each.stated) == line[:3] and each.makespan == line.stated
             assert each.bound == line.shop.bound() and each.why == ""
+    # The command prints and writes the same.
+    monkeypatch.chdir(tmp_path)
+    assert command.main(["supplement.csv", "--instances", "instances", "--csv", "audited.csv"]) == 1
+    *printed, last = capsys.readouterr().out.splitlines()
+    assert printed == [f"line {each.row}, {each.instance} {each.method}: {each.verdict}: {each.why}"
+                       for each in found if not each.valid]
+    assert last.startswith("supplement.csv: 240 orders audited, 228 valid (") and last.endswith(" optimal), 12 wrong")
+    rows = list(csv.reader(open("audited.csv")))
+    assert rows == [["line", *pfs.Audited._fields[1:]], *([str(cell) if cell is not None else "" for cell in each]
+                                                          for each in found)]
 
 
 # Other tables
@@ -159,7 +175,8 @@ def test_spellings(order: Any) -> None:
     (float("nan"), "not an order", "there is no order"), ("2 x 3", "not an order", "'x' at place 2"),
     ("2 1.0 3", "not an order", "'1.0' at place 2"), ("2 -1 3", "not an order", "'-1' at place 2"),
     ("J2 M1 J3", "not an order", "'M1' at place 2"), ("2,,3", "not an order", "'' at place 2"),
-    ("2 1 3 (optimal)", "not an order", "'2 1 3 (optimal)' isn't a list of jobs"), ("2 1 99999999999", "not an order", "at place 3"),
+    ("2 1 3 (optimal)", "not an order", "'2 1 3 (optimal)' isn't a list of jobs"),
+    ("2 1 99999999999", "not an order", "'99999999999' at place 3"),
     ("2 1 999999999", "job out of range", "job 999999999 at place 3: the jobs are 1 to 3; job 3 is missing"),
     ("2 1 2", "job twice", "job 2 at places 1 and 3; job 3 is missing"), ("2 1", "job missing", "job 3 is missing"),
     ("3 1 2 3", "job twice", "job 3 at places 1 and 4"), ("1", "wrong size", "1 jobs, but the instance has 3"),
@@ -241,6 +258,24 @@ def test_names(tmp_path: pathlib.Path) -> None:
     (tmp_path / "best.txt").write_text("3 2\n3 2\n2 5\n4 2\n")
     with pytest.raises(ValueError, match="'best' is the name of 2 different instances"):
         pfs.audit(rows[2:3], tmp_path)
+
+
+def test_the_command(tmp_path: pathlib.Path, monkeypatch: pytest.MonkeyPatch,
+                     capsys: pytest.CaptureFixture[str]) -> None:
+    monkeypatch.chdir(tmp_path)
+    pathlib.Path("one.csv").write_text(f'instance,Cmax,order,method\nta001,1448,"{[*range(20)]}",=IG\n')
+    assert command.main(["one.csv", "--csv", "out.csv"]) == 0
+    assert capsys.readouterr().out == "one.csv: 1 orders audited, 1 valid (0 optimal), 0 wrong\n"
+    assert pathlib.Path("out.csv").read_text().splitlines()[1] == "2,ta001,'=IG,1448,1448,1232,True,valid,"
+    assert command.main(["one.csv", "--first", "1"]) == 1
+    assert capsys.readouterr().out.startswith("line 2, ta001 =IG: counted from 0: others count from 1; counted from ")
+    for words, said in (("one.csv --instances none", "none is not a folder"), ("", "required: table"),
+                        ("one.csv --layout x", "argument --layout"), ("one.csv --first 2", "argument --first")):
+        with pytest.raises(ExperimentError, match=said):
+            command.main(words.split())
+    pathlib.Path("one.csv").write_text("instance,Cmax,order\nta1,1,1\n")
+    with pytest.raises(ExperimentError, match="one.csv: line 2, column 1: no instance 'ta1'"):
+        command.main(["one.csv"])
 
 
 def test_below_the_reference() -> None:

@@ -211,7 +211,7 @@ class Shelf:
             blocks = sum(other.startswith(f"{key}:") for other in self.found)
             why = f": its file has {blocks} blocks, so write {name}:1 or a column `block`" if blocks else ""
             why = f": {self.unread[key.partition(':')[0]]}" if key.partition(":")[0] in self.unread else why
-            raise LookupError(f"no instance {key!r}{why}")
+            raise LookupError(f"no instance {f'{name}:{block}' if block else name!r}{why}")
         return known[0]
 
 

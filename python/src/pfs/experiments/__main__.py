@@ -5,7 +5,7 @@ import importlib
 import signal
 import sys
 
-COMMANDS = ("run", "slurm", "check", "report", "taillard")
+COMMANDS = ("run", "slurm", "check", "audit", "report", "taillard")
 
 
 def main() -> int:
