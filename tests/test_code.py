@@ -41,7 +41,7 @@ def assert_silent(words: list[str], cwd: pathlib.Path = TOP) -> None:
 
 def test_scripts_are_found_by_their_first_lines() -> None:
     assert {"python/src/pfs/_gantt.py", "tests/fuzz.py", "tools/build"} <= set(scripts("python"))
-    assert {".ci/run", "python/src/pfs/experiments/task", "share/completions/pfs.bash", "tools/dist"} <= set(scripts("shell"))
+    assert {".ci/run", "share/completions/pfs.bash", "tools/dist"} <= set(scripts("shell"))
     assert scripts("zsh") == ["share/completions/_pfs", "share/completions/_pfs-tools"]
     assert scripts("fish") == ["share/completions/pfs-tools.fish", "share/completions/pfs.fish"]
 

@@ -1344,13 +1344,14 @@ def shortened(plan: str) -> str:
 
 @pytest.mark.seconds(20)
 def test_the_examples_of_the_manual_page_lead_to_a_report(page: str, top: pathlib.Path, pfs: Program,
-                                                          folder: pathlib.Path, matplotlib: None) -> None:
+                                                          folder: pathlib.Path, scripts: pathlib.Path,
+                                                          matplotlib: None) -> None:
     """With the plan of the repository in the place of the installed one, and fewer runs."""
     lines = re.findall(r"^\$ (.*)$", page.partition(".Sh EXAMPLES")[2].partition(".Sh ")[0], re.MULTILINE)
     assert len(lines) == 4 and lines[0].split()[0] == "cp", lines
     name = pathlib.Path(lines[0].split()[1]).name
     (folder / name).write_text(shortened((top / "experiments" / name).read_text()))
-    write_script(folder / "bin" / "pfs-experiments", f"#!/bin/sh\nexec {top}/tools/pfs-experiments \"$@\"\n")
+    shutil.copytree(scripts, folder / "bin")
     shutil.copy(pfs.path, folder / "bin" / "pfs")
     for line in lines[1:]:
         got = run_tool(["sh", "-c", line], folder, env=with_path(folder / "bin"))
@@ -1358,30 +1359,30 @@ def test_the_examples_of_the_manual_page_lead_to_a_report(page: str, top: pathli
     assert (folder / "report" / "table.md").exists(), "the report of the manual page"
 
 
-@pytest.mark.parametrize("script", ["run", "slurm", "check", "report", "taillard"])
-def test_a_script_without_words_prints_its_usage(script: str, top: pathlib.Path, folder: pathlib.Path) -> None:
-    """By the name by which it was called: in the repository, and where it is installed."""
-    shutil.copytree(top / "experiments", folder / "libexec" / "pfs" / "experiments",
-                    ignore=shutil.ignore_patterns("out", "__pycache__"))
-    shutil.copy(top / "python" / "src" / "pfs" / "_atomic.py", folder / "libexec" / "pfs" / "experiments")
-    (folder / "bin").mkdir()
-    shutil.copy(top / "tools" / "pfs-experiments", folder / "bin")
-    assert_refused(run_tool([top / "experiments" / script], folder), f"usage: experiments/{script} ")
-    assert_refused(run_tool([folder / "bin" / "pfs-experiments", script], folder), f"usage: pfs-experiments {script} ")
+@pytest.mark.parametrize("command", ["run", "slurm", "check", "report", "taillard"])
+def test_a_command_without_words_prints_its_usage(command: str, scripts: pathlib.Path, folder: pathlib.Path) -> None:
+    got = run_tool([scripts / "pfs-experiments", command], folder)
+    assert_refused(got, f"usage: pfs-experiments {command} ")
+
+
+def test_no_command_and_an_unknown_one_get_the_usage(scripts: pathlib.Path, folder: pathlib.Path) -> None:
+    for words in ("", "one", "../gantt"):
+        got = run_tool([scripts / "pfs-experiments", *words.split()], folder)
+        assert_refused(got, "usage: pfs-experiments run|slurm|")
 
 
 # The whole way
 
 @pytest.mark.seconds(20)
 def test_the_lines_of_the_way_lead_to_the_reports_plots(top: pathlib.Path, pfs: Program, folder: pathlib.Path,
-                                                        matplotlib: None) -> None:
+                                                        scripts: pathlib.Path, matplotlib: None) -> None:
     """In a copy that has the built program, which is taken as it is, and a plan of fewer runs. The lines are those of
     the block that begins with what has to be installed."""
     shutil.copytree(top / "experiments", folder / "experiments", ignore=shutil.ignore_patterns("out", "__pycache__"))
     plan = folder / "experiments" / "example.toml"
     plan.write_text(shortened(plan.read_text()))
-    (folder / "python" / "src" / "pfs").mkdir(parents=True)
-    for name in ("Makefile", "crates.txt", "python/src/pfs/_atomic.py"):
+    shutil.copytree(top / "python" / "src", folder / "python" / "src")
+    for name in ("Makefile", "crates.txt"):
         shutil.copy(top / name, folder / name)
     (folder / "crates" / "pfs" / "out").mkdir(parents=True)
     shutil.copy(pfs.path, folder / "crates" / "pfs" / "out" / "pfs")
@@ -1389,7 +1390,8 @@ def test_the_lines_of_the_way_lead_to_the_reports_plots(top: pathlib.Path, pfs: 
     block, = re.findall(r"```\n(sudo apt-get install parallel .*?)```", page, re.DOTALL)
     lines = [line.partition("#")[0].strip() for line in block.splitlines()]
     assert len(lines) == 6
+    path = f"{scripts}:{folder}/crates/pfs/out:{os.environ['PATH']}"
     for line in lines[1:]:
-        assert run_tool(line.split(" "), folder).status == 0, line
+        assert run_tool(line.split(" "), folder, env=dict(os.environ, PATH=path)).status == 0, line
     assert sorted(os.listdir(folder / "report")) == REPORT_FILES
     assert sum(int(row["runs"]) for row in csv_rows(folder / "report" / "table.csv")) == 3 * (1 + 2 * 3)

@@ -591,7 +591,8 @@ def test_an_exit_status_of_the_manual_page_is_that_of_gantt(gantt: Gantt, folder
     assert rejected == [str(got["The time table or the command line is rejected."])], "the status on the page"
 
 
-def test_the_example_of_the_manual_page(gantt: Gantt, folder: pathlib.Path, pfs: Program, scripts: pathlib.Path) -> None:
+def test_the_example_of_the_manual_page(gantt: Gantt, folder: pathlib.Path, pfs: Program,
+                                        scripts: pathlib.Path) -> None:
     line = re.search(r"^\.Dl \$ (.*)$", MANUAL, re.MULTILINE)
     assert line
     (folder / "instance").write_bytes(generated(20, 5, 873654221))

@@ -447,7 +447,8 @@ def test_what_examples_leave_is_no_change(copy: Copy, pfs: Program, folder: path
 
 STATED = {"CHANGELOG.md": r"^## \[(\d.*?)\]", "CITATION.cff": r"^version: (.*)$",
           "lib/pfs.h": r'^#define PFS_VERSION "(.*)"$', "python/src/pfs/_version.py": r'^VERSION\b.* = "(.*)"$'}
-STATED |= dict.fromkeys(("share/pfs.1", "share/pfs.3", *(f"python/pfs-{name}.1" for name in ("experiments", "gantt", "plan"))), r"^\.Os pfs (.*)$")
+STATED |= dict.fromkeys(("share/pfs.1", "share/pfs.3", "python/pfs-experiments.1", "python/pfs-gantt.1",
+                         "python/pfs-plan.1"), r"^\.Os pfs (.*)$")
 
 
 @pytest.mark.parametrize("name", STATED)

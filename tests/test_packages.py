@@ -336,8 +336,8 @@ LIBRARIES = "usr/lib/x86_64-linux-gnu"
 DIST_INFO = f"usr/lib/python3/dist-packages/pfs-{VERSION}.dist-info/"
 # What only the packages have.
 MADE = ["usr/share/doc/pfs/PROVED", *(f"usr/bin/pfs-{name}" for name in ("experiments", "gantt", "plan")),
-        *(DIST_INFO + name for name in ("METADATA", "RECORD", "WHEEL", "entry_points.txt", "top_level.txt", "INSTALLER"))
-        , f"{LIBRARIES}/pkgconfig/pfs.pc", f"{LIBRARIES}/cmake/pfs/pfsConfigVersion.cmake"]
+        *(DIST_INFO + name for name in ("METADATA", "RECORD", "WHEEL", "entry_points.txt", "top_level.txt")),
+        f"{LIBRARIES}/pkgconfig/pfs.pc", f"{LIBRARIES}/cmake/pfs/pfsConfigVersion.cmake"]
 
 
 def places_in_debian(copy: Copy) -> dict[str, bytes]:
@@ -349,7 +349,7 @@ def places_in_debian(copy: Copy) -> dict[str, bytes]:
     places |= {f"usr/share/man/man1/{page.name}": f"python/{page.name}" for page in (copy.top / "python").glob("*.1")}
     pages = "usr/share/doc/python3-pfs"
     places |= {f"{pages}/README.md": "python/README.md"}
-    for folder, to in (("python/src/pfs", "usr/lib/python3/dist-packages/pfs"), ("python/examples", f"{pages}/examples")):
+    for folder, to in (("python/src", "usr/lib/python3/dist-packages"), ("python/examples", f"{pages}/examples")):
         places |= {f"{to}/{path.relative_to(copy.top / folder)}": str(path.relative_to(copy.top))
                    for path in (copy.top / folder).rglob("*") if path.is_file()}
     return {place: (copy.top / file).read_bytes() for place, file in places.items()

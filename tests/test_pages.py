@@ -457,8 +457,7 @@ def test_the_synopsis_is_the_usage_text(manual: str) -> None:
     assert shown_section(manual, "SYNOPSIS").split("\n")[:-2] == LINES
 
 
-TOOL_PATHS = {name: TOP / folder / f"{name}.1" for name, folder in (
-    ("pfs-gantt", "share"), ("pfs-experiments", "share"), ("pfs-plan", "python"))}
+TOOL_PATHS = {path.stem: path for path in (TOP / "python").glob("*.1")}
 TOOL_PAGES = {name: path.read_text() for name, path in TOOL_PATHS.items()}
 
 
@@ -495,9 +494,8 @@ def test_the_page_of_gantt_has_its_options() -> None:
 
 
 def test_the_page_of_experiments_has_its_scripts() -> None:
-    commands = re.findall(r'^COMMANDS = \((.*)\)$', (TOP / "python" / "src" / "pfs" / "experiments" / "__main__.py").read_text(),
-                          re.MULTILINE)
-    scripts = set(re.findall(r'"(\w+)"', commands[0]))
+    main = (TOP / "python" / "src" / "pfs" / "experiments" / "__main__.py").read_text()
+    scripts = set(re.findall(r'"(\w+)"', main.partition("COMMANDS = (")[2].partition(")")[0]))
     synopsis, listed = (re.findall(rf"^\.{macro} (\w+)$", TOOL_PAGES["pfs-experiments"], re.MULTILINE)
                         for macro in ("Cm", "It Cm"))
     assert set(synopsis) >= set(listed) == scripts

@@ -115,7 +115,8 @@ def plotted(scripts: pathlib.Path, warm: Warm, tmp_path_factory: pytest.TempPath
         if (text, *options) not in folders:
             folder = folders[text, *options] = tmp_path_factory.mktemp("plotted")
             (folder / "out.csv").write_text(text)
-            got = warm.run_tool([scripts / "pfs-experiments", "report", "--format", "svg", *options, "out.csv", "report"], folder)
+            words = ["report", "--format", "svg", *options, "out.csv", "report"]
+            got = warm.run_tool([scripts / "pfs-experiments", *words], folder)
             assert got.status == 0, got
         return Picture(folders[text, *options] / "report" / f"{name}.svg", axes)
     return picture

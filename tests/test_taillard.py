@@ -77,7 +77,8 @@ TABLE_PASSES = [0, 1]
 
 @pytest.fixture(scope="module")
 def best_known(top: pathlib.Path) -> dict[str, int]:
-    return {row["instance"]: int(row["makespan"]) for row in csv_rows(top / "python" / "src" / "pfs" / "best_known.csv")}
+    rows = csv_rows(top / "python" / "src" / "pfs" / "best_known.csv")
+    return {row["instance"]: int(row["makespan"]) for row in rows}
 
 
 def test_a_killed_program_leaves_no_part_of_an_instance(scripts: pathlib.Path, pfs: Program,

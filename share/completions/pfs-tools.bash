@@ -6,7 +6,7 @@ _pfs_tools_options() {
         pfs-gantt) echo --critical --bound --unit --width --dpi --no-title ;;
         run) echo --pfs --retry --sshloginfile ;;
         slurm) echo --pfs --retry --tasks --dry-run ;;
-        check) echo --pfs ;;
+        check | taillard) echo --pfs ;;
         report) echo --format --reference --width --dpi --no-title ;;
     esac
 }

@@ -20,7 +20,7 @@ complete -c pfs-experiments -n __fish_is_first_token -a slurm -d 'Make the runs 
 complete -c pfs-experiments -n __fish_is_first_token -a check -d 'Audit the orders of a CSV again'
 complete -c pfs-experiments -n __fish_is_first_token -a report -d 'Write tables and plots of CSVs'
 
-complete -c pfs-experiments -n '__pfs_experiments_is run slurm check' -l pfs -r -d 'The program'
+complete -c pfs-experiments -n '__pfs_experiments_is run slurm check taillard' -l pfs -r -d 'The program'
 complete -c pfs-experiments -n '__pfs_experiments_is run slurm' -l retry -d 'Repeat the runs that failed'
 complete -c pfs-experiments -n '__pfs_experiments_is run' -l sshloginfile -r -d 'Machines for GNU parallel'
 complete -c pfs-experiments -n '__pfs_experiments_is slurm' -l tasks -x -d 'Most tasks of the array'

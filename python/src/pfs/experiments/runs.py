@@ -130,7 +130,7 @@ def copy_inputs(plan: dict[str, Any], plan_folder: str, folder: pathlib.Path, cs
 def library() -> str:
     """Returns the path of the library for C that the package loads, which may be known by its name only."""
     from pfs import _library
-    loaded = re.search(rf"/.*{re.escape(os.path.basename(_library.PATH))}$", pathlib.Path("/proc/self/maps").read_text(),
+    loaded = re.search(rf"/.*{re.escape(_library.FILE)}$", pathlib.Path("/proc/self/maps").read_text(),
                        re.MULTILINE)
     return _library.PATH if "/" in _library.PATH or loaded is None else loaded[0]
 
