@@ -16,6 +16,7 @@ import sys
 from collections.abc import Iterator
 from typing import Any, NamedTuple
 
+from pfs.experiments import provenance
 from pfs.experiments.commands import HERE, find_pfs
 from pfs.experiments.csvs import ExperimentError, Row, reference_of
 from pfs.experiments.plan import read_plan
@@ -72,11 +73,27 @@ def prepare(plan_path: str, csv_path: str, program: str | None) -> Experiment:
             begin(folder, pfs or find_pfs(program))
         copy_inputs(plan, plan_folder, folder, csv_path)
         add_runs(plan, plan_folder, folder, csv_path)
+        inputs = inputs_of(plan, plan_folder, folder)
+        provenance.note_start(folder, plan, inputs)
     except BaseException:
         if not (folder / "plan.json").exists():
             shutil.rmtree(folder, ignore_errors=True)
         raise
+    if changed := provenance.changed(inputs):
+        print(f"{csv_path}: changed since they were copied for its runs: {', '.join(changed)}. The copies are used: to "
+              f"begin anew, name another CSV or delete {csv_path}.d", file=sys.stderr, flush=True)
     return Experiment(plan, folder, reference)
+
+
+def inputs_of(plan: dict[str, Any], plan_folder: str, folder: pathlib.Path) -> provenance.Inputs:
+    """Returns the program, the library, the files of a command and the instances, with the copies of them. Where the
+    first two are is left out: every version of them finds the same orders."""
+    stage, places = folder / stage_of(folder), stored_plan(folder).get("places", {})
+    inputs = [("pfs", "", stage / "pfs"), (LIBRARY, "", stage / LIBRARY)]
+    inputs += [(name, os.path.join(plan_folder, name), stage / "files" / name) for name in plan.get("files", [])]
+    inputs += [(name, os.path.join(plan_folder, name), stage / "instances" / str(places.get(name)))
+               for name in plan["instances"]]
+    return [each for each in inputs if each[2].exists()]
 
 
 def lock(folder: pathlib.Path, csv_path: str) -> None:
