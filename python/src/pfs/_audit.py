@@ -10,8 +10,9 @@ from collections.abc import Iterable, Iterator, Mapping
 from typing import Any, NamedTuple, TypeAlias
 
 from pfs import _library as c
+from pfs._benchmarks import key_of, taillard_number, taillard_rows
 from pfs._faults import Fault, TableFault
-from pfs._files import bytes_of, read, read_all, taillard, taillard_rows, words_of
+from pfs._files import bytes_of, read, read_all, taillard, words_of
 from pfs._instance import Instance
 from pfs._names import is_frame
 from pfs._tables import records, text_of
@@ -22,9 +23,6 @@ COLUMNS = {"instance": ("instance", "problem"), "makespan": ("makespan", "cmax")
            "order": ("order", "sequence", "permutation"), "method": ("method", "algorithm"), "block": ("block",)}
 NEEDED = ("instance", "makespan", "order")
 LAYOUTS = (*c.LAYOUTS, "matrix")
-# A file's name, its ending, and the number of a block.
-NAME = re.compile(r"(.*?)(?:\.[a-z][a-z0-9]*)?(?:[: ]([0-9]+))?", re.DOTALL)
-TAILLARD = re.compile(r"ta([0-9]{3})")
 # A job's number, perhaps with letters before it.
 JOB = re.compile(r"([A-Za-z]*_?)([0-9]{1,9})")
 WHOLE = re.compile(r"([0-9]{1,18})(?:\.0*)?")
@@ -94,8 +92,8 @@ def audit(table: Table, shops: Shops = (), *, layout: str | None = None, first: 
         ``J3 J1 J2``.
     shops : str, os.PathLike, dict or list of Instance
         The folder of the instance files, of any layout, or the instances. They are found by their names, without the
-        ending and in upper or lower case; a block by ``NAME:BLOCK`` or the column ``block``. Taillard's instances are
-        ``ta001`` to ``ta120``: in files they are found by their seeds, and they may be missing there.
+        ending and in upper or lower case; a block by ``NAME:BLOCK`` or the column ``block``. Taillard's instances
+        ``ta001`` to ``ta120`` are found by their seeds in files, and need none.
     layout : str, optional
         The layout of all files: ``"taillard"``, ``"orlib"`` or ``"matrix"``.
     first : int, optional
@@ -143,20 +141,6 @@ def by_method(rows: list[Row]) -> dict[str, list[Row]]:
 
 # The instances
 
-def key_of(name: str, block: str = "") -> str:
-    """Return a name without folder, ending and case.
-
-    Examples
-    --------
-    >>> key_of("a/VFR10_5_1_Gap.txt"), key_of("tai20_5.txt 3"), key_of("tai20_5", "3")
-    ('vfr10_5_1_gap', 'tai20_5:3', 'tai20_5:3')
-    """
-    match = NAME.fullmatch(name.strip().replace("\\", "/").rpartition("/")[2].casefold())
-    assert match is not None
-    number = block.strip() or match[2]
-    return f"{match[1]}:{int(number)}" if number and number.isdecimal() else match[1]
-
-
 class Shelf:
     """Instances by their names. A name of different instances is unclear."""
 
@@ -201,9 +185,9 @@ class Shelf:
         """Return the instance of this name. A `LookupError` says why there is none."""
         key = key_of(name, block)
         known = self.found.get(key, [])
-        number = TAILLARD.fullmatch(key)
-        if not known and number and 1 <= int(number[1]) <= 120:
-            self.add(taillard(int(number[1])), key)
+        number = taillard_number(key)
+        if not known and number:
+            self.add(taillard(number), key)
             known = self.found[key]
         if len(known) > 1:
             raise LookupError(f"{name!r} is the name of {len(known)} different instances")
