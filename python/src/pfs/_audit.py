@@ -172,7 +172,7 @@ class Shelf:
                 continue
             try:
                 shops = shops_in(path, [layout] if layout else LAYOUTS)
-            except (Fault, TableFault, OSError) as error:
+            except (Fault, OSError) as error:
                 self.unread[key_of(path.name)] = str(error)
                 continue
             for block, shop in enumerate(shops, 1):
@@ -205,7 +205,7 @@ def shops_in(path: pathlib.Path, layouts: Iterable[str]) -> list[Instance]:
     for layout in layouts:
         try:
             return [read(path, layout)] if layout == "matrix" else read_all(path, layout)
-        except (Fault, TableFault) as fault:
+        except Fault as fault:
             faults.append(fault)
     raise faults[0]
 

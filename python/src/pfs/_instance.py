@@ -222,7 +222,8 @@ class Instance:
         order : array_like or Solution
             Jobs, by number from 0 or by name.
         stated : int, optional
-            The makespan to check. By default it is that of a `Solution`, and otherwise only the order is checked.
+            The makespan to check. By default it is that of a `Solution` or `Sequence`, and otherwise only the order is
+            checked.
 
         Returns
         -------
@@ -242,7 +243,7 @@ class Instance:
         >>> shop.check([1, 0, 2], 9).fault, shop.check([1, 0], 10).fault
         ('states 9, takes 10', 'order has 2 jobs, but the instance has 3')
         """
-        if stated is None and isinstance(order, Solution):
+        if stated is None and isinstance(order, (Solution, Sequence)):
             stated = order.makespan
         own = None if stated is None else checked_int(stated, "stated", 0, 2**64 - 1)
         bound = self.bound()
@@ -293,12 +294,12 @@ class Instance:
         c.done(library.pfs_bound(*self._arguments, byref(bound)))
         return max(bound.value, bound_by_pairs(self._times)) if method == "pairs" else bound.value
 
-    def rpd(self, makespan: int | Solution, reference: int | None = None) -> float:
+    def rpd(self, makespan: int | Solution | Sequence, reference: int | None = None) -> float:
         """Return the relative percentage deviation of a makespan from a reference.
 
         Parameters
         ----------
-        makespan : int or Solution
+        makespan : int, Solution or Sequence
             0 or more.
         reference : int, optional
             A makespan of 1 or more. The default is ``upper``, which is the best known makespan of an instance of
@@ -323,7 +324,7 @@ class Instance:
         >>> round(shop.rpd(shop.neh()), 2)
         0.63
         """
-        own = checked_int(makespan.makespan if isinstance(makespan, Solution) else makespan, "makespan", 0, 2**64 - 1)
+        own = checked_int(getattr(makespan, "makespan", makespan), "makespan", 0, 2**64 - 1)
         if reference is None and self.upper == 0:
             raise ValueError("rpd needs a reference, since `upper` of the instance is 0")
         base = self.upper if reference is None else checked_int(reference, "reference", 1, 2**64 - 1)
