@@ -12,8 +12,9 @@ import pandas
 import pfs
 import plainly
 import pytest
-from pfs.experiments import audit as command
-from pfs.experiments.csvs import ExperimentError
+from pfs.experiments import ExperimentError
+from pfs.experiments.__main__ import command_line
+from pfs.experiments.audit import audit
 
 # The sizes of the orlib files, each with four instances; and the first instance and the blocks of Taillard's files.
 SIZES = [(jobs, machines) for jobs in (10, 20, 30, 40, 50, 60) for machines in (5, 10, 15, 20)]
@@ -40,6 +41,11 @@ class Line(NamedTuple):
 
 def makespan(shop: pfs.Instance, order: Sequence[int]) -> int:
     return plainly.makespan(shop.times.tolist(), order)
+
+
+def run(words: str) -> int:
+    """Run the command, and return its status."""
+    return audit(command_line().parse_args(["audit", *words.split()]))
 
 
 def write_instances(folder: pathlib.Path) -> dict[str, pfs.Instance]:
@@ -144,7 +150,7 @@ def test_a_table_with_twelve_errors(tmp_path: pathlib.Path, monkeypatch: pytest.
             assert each.bound == line.shop.bound() and each.why == ""
     # The command prints and writes the same.
     monkeypatch.chdir(tmp_path)
-    assert command.main(["supplement.csv", "--instances", "instances", "--csv", "audited.csv"]) == 1
+    assert run("supplement.csv --instances instances --csv audited.csv") == 1
     *printed, last = capsys.readouterr().out.splitlines()
     assert printed == [f"line {each.row}, {each.instance} {each.method}: {each.verdict}: {each.why}"
                        for each in found if not each.valid]
@@ -264,18 +270,21 @@ def test_the_command(tmp_path: pathlib.Path, monkeypatch: pytest.MonkeyPatch,
                      capsys: pytest.CaptureFixture[str]) -> None:
     monkeypatch.chdir(tmp_path)
     pathlib.Path("one.csv").write_text(f'instance,Cmax,order,method\nta001,1448,"{[*range(20)]}",=IG\n')
-    assert command.main(["one.csv", "--csv", "out.csv"]) == 0
+    assert run("one.csv --csv out.csv") == 0
     assert capsys.readouterr().out == "one.csv: 1 orders audited, 1 valid (0 optimal), 0 wrong\n"
     assert pathlib.Path("out.csv").read_text().splitlines()[1] == "2,ta001,'=IG,1448,1448,1232,True,valid,"
-    assert command.main(["one.csv", "--first", "1"]) == 1
+    assert run("one.csv --first 1") == 1
     assert capsys.readouterr().out.startswith("line 2, ta001 =IG: counted from 0: others count from 1; counted from ")
-    for words, said in (("one.csv --instances none", "none is not a folder"), ("", "required: table"),
-                        ("one.csv --layout x", "argument --layout"), ("one.csv --first 2", "argument --first")):
-        with pytest.raises(ExperimentError, match=said):
-            command.main(words.split())
+    for words, said in (("", "required: TABLE"), ("one.csv --layout x", "argument --layout"),
+                        ("one.csv --first 2", "argument --first")):
+        with pytest.raises(SystemExit):
+            run(words)
+        assert said in capsys.readouterr().err
+    with pytest.raises(ExperimentError, match="none is not a folder"):
+        run("one.csv --instances none")
     pathlib.Path("one.csv").write_text("instance,Cmax,order\nta1,1,1\n")
     with pytest.raises(ExperimentError, match="one.csv: line 2, column 1: no instance 'ta1'"):
-        command.main(["one.csv"])
+        run("one.csv")
 
 
 def test_below_the_reference() -> None:
