@@ -84,8 +84,9 @@ class OrderFault(Fault):
     """A file isn't an order file, or its order isn't an order of all jobs."""
 
 
-class TableFault(ValueError):
-    """A table of times (:func:`pfs.read_csv`) is invalid.
+class TableFault(Fault):
+    """A table (:func:`pfs.read_csv`, :func:`pfs.audit`) or a file of the layout ``matrix`` is invalid. Its ``name`` is
+    ``"table"``, its ``number`` 0 and its ``place`` the line.
 
     Attributes
     ----------
@@ -98,11 +99,11 @@ class TableFault(ValueError):
     """
 
     def __init__(self, path: str, line: int, column: int, text: str) -> None:
-        self.path = path
+        ValueError.__init__(self, f"{path}: line {line}, " + (f"column {column}: " if column else "") + text)
+        self.path, self.name, self.number, self.place = path, "table", 0, line
         self.line = line
         self.column = column
         self.text = text
-        super().__init__(f"{path}: line {line}, " + (f"column {column}: " if column else "") + text)
 
     def __reduce__(self) -> tuple[type[TableFault], tuple[str, int, int, str]]:
         return type(self), (self.path, self.line, self.column, self.text)
