@@ -18,7 +18,7 @@ from collections.abc import Iterator
 from typing import Any, NamedTuple
 
 from pfs._atomic import atomic_write
-from pfs.experiments import ExperimentError, one
+from pfs.experiments import ExperimentError, one, provenance
 from pfs.experiments.plan import Row, read_plan, reference_of, rows_of
 
 PACKAGE = pathlib.Path(__file__).resolve().parent.parent
@@ -100,12 +100,18 @@ def prepare(plan_path: str, csv_path: str, program: str | None) -> Experiment:
     try:
         if not (folder / "plan.json").exists():
             begin(folder, pfs or find_pfs(program))
-        stored = stored_plan(folder)
+        stored: dict[str, Any] = {"places": {}, "runs": [], **stored_plan(folder)}
         for key in ("command", "layout"):
-            if stored and stored.get(key) != plan.get(key):
+            if "layout" in stored and stored.get(key) != plan.get(key):
                 raise ExperimentError(f"{csv_path} was started with another {key}: use another CSV")
         copy_inputs(plan, top, folder / stage_of(folder))
-        return Experiment(plan, folder, add_runs(plan, stored, top, folder, csv_path), reference)
+        experiment = Experiment(plan, folder, add_runs(plan, stored, top, folder, csv_path), reference)
+        inputs = inputs_of(plan, stored["places"], top, folder / experiment.stage)
+        provenance.note_start(folder, plan, inputs)
+        if changed := provenance.changed(inputs):
+            print(f"{csv_path}: changed since they were copied for its runs: {', '.join(changed)}. The copies are used: "
+                  f"to begin anew, name another CSV or delete {csv_path}.d", file=sys.stderr, flush=True)
+        return experiment
     except BaseException:
         if not (folder / "plan.json").exists():
             shutil.rmtree(folder, ignore_errors=True)
@@ -162,6 +168,15 @@ def copy_inputs(plan: dict[str, Any], top: str, stage: pathlib.Path) -> None:
         copy(library(), stage / one.LIBRARY)
 
 
+def inputs_of(plan: dict[str, Any], places: dict[str, int], top: str, stage: pathlib.Path) -> provenance.Inputs:
+    """Returns the program, the library, the files of a command and the instances, with the copies of them. Where the
+    first two are is left out: every version of them finds the same orders."""
+    inputs = [("pfs", "", stage / "pfs"), (one.LIBRARY, "", stage / one.LIBRARY)]
+    inputs += [(name, os.path.join(top, name), stage / "files" / name) for name in plan.get("files", [])]
+    inputs += [(name, os.path.join(top, name), stage / "instances" / str(places[name])) for name in plan["instances"]]
+    return [each for each in inputs if each[2].exists()]
+
+
 def library() -> str:
     """Returns the path of the library for C that the package loads, which may be known by its name only."""
     from pfs import _library
@@ -174,7 +189,7 @@ def library() -> str:
 def add_runs(plan: dict[str, Any], stored: dict[str, Any], top: str, folder: pathlib.Path, csv_path: str) -> list[Row]:
     """Adds the plan's new instances and runs to the folder, and returns all runs in the order of the plan. A run keeps
     its number."""
-    places, listed = stored.get("places", {}), stored.get("runs", [])
+    places, listed = stored["places"], stored["runs"]
     known, runs = {key_of(run): run for run in listed}, dict[tuple[str, ...], Row]()
     for name in plan["instances"]:
         place = places.setdefault(name, len(places) + 1)
