@@ -766,7 +766,7 @@ def test_the_last_array_says_how_a_run_ended(folder: pathlib.Path) -> None:
     """By the times of the logs, which may have any bytes; numbers of arrays have more and more digits."""
     (folder / "slurm").mkdir()
     for age, name in enumerate(("9-1.log", "10-1.log")):
-        (folder / "slurm" / name).write_bytes(b"\xff\nrun 1\nrun 7\nslurmstepd: error: %s\n" % name.encode())
+        (folder / "slurm" / name).write_bytes(b"\xff\nrun 1\nrun 7\nslurmstepd-host: error: %s\n" % name.encode())
         os.utime(folder / "slurm" / name, (age, age))
     assert run.endings(folder) == {"7": "lost: 10-1.log"}
 
