@@ -198,6 +198,12 @@ class Shelf:
             raise LookupError(f"no instance {f'{name}:{block}' if block else name!r}{why}")
         return known[0]
 
+    def find(self, name: str) -> Instance | None:
+        """Return the instance of this name, if it is clear."""
+        with contextlib.suppress(LookupError):
+            return self.get(name, "")
+        return None
+
 
 def shops_in(path: pathlib.Path, layouts: Iterable[str]) -> list[Instance]:
     """Return the instances of a file in the first layout that it follows; no file follows two."""
