@@ -50,9 +50,8 @@ def csv_of(found: list[Audited]) -> str:
 def shops_of(path: str) -> dict[str, Instance]:
     """Returns the instances in the folder next to the CSV of an experiment, by their names there."""
     folder = pathlib.Path(os.path.abspath(path) + ".d")
-    if not (folder / "runs.tsv").exists():
-        return {}
-    runs = {path_cell(run["instance"]): run for run in stage.runs_of(folder) if run["jobs"] != "-"}
+    listed = stage.stored_plan(folder).get("runs", [])
+    runs = {path_cell(run["instance"]): run for run in listed if run["jobs"] != "-"}
     return {name: read(folder / stage.stage_of(folder) / run["file"], run["layout"], int(run["block"]))
             for name, run in runs.items()}
 
