@@ -14,8 +14,9 @@ from support.facts import FAULTS as STATUS_OF_FAULT
 from support.files import USAGE, generated
 from support.lines import ANSWERS, KINDS, PRINTING
 from support.needs import tool
+from support.library import Library
 from support.program import Program, Ran
-from support.tools import Done, run_tool, with_path
+from support.tools import Done, run_tool, with_path, write_script
 from support.usage import LAYOUTS, LINES, commands, ends_taken
 
 TOP = pathlib.Path(__file__).resolve().parent.parent
@@ -85,7 +86,7 @@ EXAMPLES = {page: page_examples(page) for page in ("README.md", "docs/COMMANDS.m
 
 
 @pytest.fixture(scope="module")
-def shown(pfs: Program, scripts: pathlib.Path, tmp_path_factory: pytest.TempPathFactory) -> Callable[[Example], str]:
+def shown(pfs: Program, libpfs: Library, scripts: pathlib.Path, tmp_path_factory: pytest.TempPathFactory) -> Callable[[Example], str]:
     """What the commands of a page print, run one after the other in a folder that is empty at first, with the programs
     that an installation has."""
     printed: dict[str, dict[Example, str]] = {}
@@ -96,6 +97,8 @@ def shown(pfs: Program, scripts: pathlib.Path, tmp_path_factory: pytest.TempPath
             (folder / ".bin").mkdir()
             shutil.copy(pfs.path, folder / ".bin" / "pfs")
             (folder / ".bin" / "pfs-gantt").symlink_to(scripts / "pfs-gantt")
+            line = f'PFS_LIBRARY={libpfs.path} exec {scripts / "pfs-experiments"} "$@"'
+            write_script(folder / ".bin" / "pfs-experiments", f"#!/bin/sh\n{line}\n")
             printed[example.page] = {each: run_line(each.command, folder) for each in EXAMPLES[example.page]}
         return printed[example.page][example]
     return run
@@ -495,7 +498,7 @@ def test_the_page_of_gantt_has_its_options() -> None:
 
 def test_the_page_of_experiments_has_its_scripts() -> None:
     main = (TOP / "python" / "src" / "pfs" / "experiments" / "__main__.py").read_text()
-    scripts = set(re.findall(r'"(\w+)"', main.partition("COMMANDS = (")[2].partition(")")[0]))
+    scripts = set(re.findall(r'\badd\("(\w+)"', main))
     synopsis, listed = (re.findall(rf"^\.{macro} (\w+)$", TOOL_PAGES["pfs-experiments"], re.MULTILINE)
                         for macro in ("Cm", "It Cm"))
     assert set(synopsis) >= set(listed) == scripts
