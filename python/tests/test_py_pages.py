@@ -17,6 +17,7 @@ from pfs import _library, _search
 
 HERE = pathlib.Path(__file__).resolve().parents[1]
 PAGE = HERE / "README.md"
+PLAN = HERE.parent / "docs" / "PLAN.md"
 MODULES = sorted(module.name for module in pkgutil.iter_modules(pfs.__path__) if module.name != "__main__")
 
 
@@ -110,28 +111,37 @@ def test_a_status_that_readme_states_is_the_commands(tmp_path: pathlib.Path, wha
     assert "the order is never lost, and the status is 4" in text
 
 
-def test_the_readme(tmp_path: pathlib.Path, monkeypatch: pytest.MonkeyPatch) -> None:
-    pytest.importorskip("pandas")
+@pytest.fixture
+def files(tmp_path: pathlib.Path, monkeypatch: pytest.MonkeyPatch) -> pathlib.Path:
+    """The folder in which the pages' examples run, with the files that they read."""
     monkeypatch.chdir(tmp_path)
-    assert doctest.testfile(str(PAGE), module_relative=False, encoding="utf-8").failed == 0
-    assert (tmp_path / "chart.svg").exists() and (tmp_path / "chart.html").exists()
+    pfs.taillard(1).write("ta001")
+    table, = re.findall(r"^\$ cat times.csv\n(.*?)^\$ ", PLAN.read_text(), re.MULTILINE | re.DOTALL)
+    (tmp_path / "times.csv").write_text(table)
+    return tmp_path
 
 
-def test_the_readmes_command_lines(tmp_path: pathlib.Path, program: str) -> None:
+@pytest.mark.parametrize("page", [PAGE, PLAN], ids=lambda page: page.name)
+def test_a_page_in_python(page: pathlib.Path, files: pathlib.Path) -> None:
+    pytest.importorskip("pandas")
+    tests = doctest.testfile(str(page), module_relative=False, encoding="utf-8")
+    assert tests.failed == 0 and tests.attempted > 5
+
+
+@pytest.mark.parametrize("page", [PAGE, PLAN], ids=lambda page: page.name)
+def test_the_command_lines_of_a_page(page: pathlib.Path, files: pathlib.Path, program: str) -> None:
     """Each console block prints what the page shows."""
-    pfs.taillard(1).write(tmp_path / "ta001")
-    table = re.search(r'write_text\("""(.*?)"""', PAGE.read_text(), re.DOTALL)
-    assert table
-    (tmp_path / "times.csv").write_text(re.sub(r"^\.\.\. ", "", table[1], flags=re.MULTILINE))
+    for name, words in (("python3", ""), ("pfs-plan", "-m pfs plan")):
+        (files / name).write_text(f'#!/bin/sh\nexec {shlex.quote(sys.executable)} {words} "$@"\n')
+        (files / name).chmod(0o755)
     env = os.environ | {"PYTHONPATH": str(pathlib.Path(pfs.__file__).parents[1]), "PYTHONDONTWRITEBYTECODE": "1",
-                        "PATH": f"{pathlib.Path(program).parent}:{os.environ['PATH']}"}
-    blocks = re.findall(r"```console\n(.*?)```", PAGE.read_text(), re.DOTALL)
-    assert len(blocks) == 3
+                        "PATH": f"{files}:{pathlib.Path(program).parent}:{os.environ['PATH']}"}
+    blocks = re.findall(r"```console\n(.*?)```", page.read_text(), re.DOTALL)
+    assert blocks
     for block in blocks:
-        lines = [line[2:].replace("python3 ", shlex.quote(sys.executable) + " ", 1) for line in block.splitlines()
-                 if line.startswith("$ ")]
+        lines = [line[2:] for line in block.splitlines() if line.startswith("$ ")]
         due = "".join(line + "\n" for line in block.splitlines() if not line.startswith("$ "))
-        done = subprocess.run(["sh", "-e", "-c", "\n".join(lines)], cwd=tmp_path, env=env, text=True,
+        done = subprocess.run(["sh", "-e", "-c", "\n".join(lines)], cwd=files, env=env, text=True,
                               stdout=subprocess.PIPE, stderr=subprocess.STDOUT)
         assert (done.returncode, done.stdout) == (0, due)
 

@@ -14,6 +14,7 @@ from pfs import _search
 from pfs._atomic import atomic_write
 from pfs._bounds import bound_by_pairs
 from pfs._faults import Interrupted
+from pfs._held import HeldSearch
 from pfs._library import LENGTHS, SHORT, library
 from pfs._names import frame_names, is_frame, names_of
 from pfs._schedule import Schedule
@@ -641,7 +642,7 @@ class Instance:
     def solve(self, rounds: int | None = None, *, take: int | None = None, passes: int = 0, seed: int = 0,
               start: Jobs | None = None, first: int = 0, progress: Progress | None = None,
               time_limit: float | None = None, target: int | None = None, stop: Stop | None = None,
-              history: bool = False) -> Solution:
+              history: bool = False, hold: Jobs = (), move: Jobs | None = None) -> Solution:
         """Improve an order by iterated greedy (Ruiz and Stützle 2007).
 
         A round removes ``take`` jobs, inserts each at its best place, and makes ``passes`` passes. In a pass each job
@@ -680,6 +681,12 @@ class Instance:
             Record the round, the seconds and the makespan of each improvement in ``history`` of the solution, the start
             order first. To find the exact round of an improvement some rounds are repeated, so the search may take up
             to twice as long while it improves often. The seconds are interpolated.
+        hold : array_like
+            Jobs, by numbers or names, that have the first places in this order. The search moves none of them. The
+            other jobs begin in the order of ``start``, or where they are best.
+        move : array_like, optional
+            The only jobs, by numbers or names, that rounds and passes move. The others keep their order. With ``hold``
+            or ``move`` the rounds are run in Python, and take ten times as long or more; ``cells`` is then 0.
 
         Returns
         -------
@@ -710,8 +717,12 @@ class Instance:
         >>> found = shop.solve(1000, target=1278, history=True)
         >>> found.rounds < 1000, found.history[-1].makespan
         (True, 1278)
+        >>> shop.solve(100, hold=[7, 3]).order[:2]
+        array([7, 3])
         """
-        search = Search(self, start, first, take, passes, seed)
+        options = self, start, first, take, passes, seed
+        is_held = move is not None or not isinstance(hold, tuple) or hold
+        search = HeldSearch(*options, hold, move) if is_held else Search(*options)
         if type(history) not in BOOLS:
             raise TypeError(f"history must be True or False, not {history!r}")
         try:
