@@ -3,7 +3,7 @@ from __future__ import annotations
 
 import csv
 import os
-from collections.abc import Callable, Iterator
+from collections.abc import Callable, Iterable, Iterator
 from datetime import timedelta
 from typing import TYPE_CHECKING, Any
 
@@ -231,11 +231,14 @@ class Schedule:
         shop = self.instance
         clock = None if calendar is None else Clock(calendar, shop)
 
-        def value(time: int) -> int | float | timedelta:
-            return timedelta(minutes=time) if shop.unit == CLOCK else time / 10**shop.decimals if shop.decimals else time
+        def values(*times: int) -> list[Any]:
+            if shop.unit == CLOCK:
+                return [timedelta(minutes=time) for time in times]
+            return [time / 10**shop.decimals if shop.decimals else time for time in times]
 
+        times_of: Callable[[int, int], Iterable[Any]] = values if clock is None else clock.span
         write_workbook(path, [("job", "machine", "start", "end"), *(
-            (shop.job_name(job), shop.machine_name(machine), *(clock.span(start, end) if clock else map(value, (start, end))))
+            (shop.job_name(job), shop.machine_name(machine), *times_of(start, end))
             for job, machine, start, end in self._operations())])
 
     def _numbers(self, start: int, end: int) -> tuple[str, str]:
