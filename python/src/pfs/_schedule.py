@@ -3,7 +3,7 @@ from __future__ import annotations
 
 import csv
 import os
-from collections.abc import Callable, Iterable, Iterator
+from collections.abc import Callable, Iterator
 from datetime import timedelta
 from typing import TYPE_CHECKING, Any
 
@@ -231,14 +231,15 @@ class Schedule:
         shop = self.instance
         clock = None if calendar is None else Clock(calendar, shop)
 
-        def values(*times: int) -> list[Any]:
+        def values(start: int, end: int) -> tuple[Any, Any]:
+            if clock is not None:
+                return clock.span(start, end)
             if shop.unit == CLOCK:
-                return [timedelta(minutes=time) for time in times]
-            return [time / 10**shop.decimals if shop.decimals else time for time in times]
+                return timedelta(minutes=start), timedelta(minutes=end)
+            return (start / 10**shop.decimals, end / 10**shop.decimals) if shop.decimals else (start, end)
 
-        times_of: Callable[[int, int], Iterable[Any]] = values if clock is None else clock.span
         write_workbook(path, [("job", "machine", "start", "end"), *(
-            (shop.job_name(job), shop.machine_name(machine), *times_of(start, end))
+            (shop.job_name(job), shop.machine_name(machine), *values(start, end))
             for job, machine, start, end in self._operations())])
 
     def _numbers(self, start: int, end: int) -> tuple[str, str]:

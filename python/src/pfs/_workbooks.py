@@ -14,8 +14,8 @@ from pfs._atomic import atomic_write
 from pfs._faults import TableFault
 from pfs._names import shown
 
-# Days count from here in workbooks.
-FIRST_DAY = datetime.datetime(1899, 12, 30)
+# Days count from the first date in workbooks, and from the other one up to February 1900, which had 29 days there.
+FIRST_DAY, FIRST_OF_1900 = datetime.datetime(1899, 12, 30), datetime.datetime(1899, 12, 31)
 # The most rows of a sheet in Excel.
 MOST_ROWS = 1_048_576
 
@@ -60,7 +60,7 @@ def text_in(value: Any) -> str:
     if isinstance(value, float):
         return f"{value:.9f}".rstrip("0").rstrip(".")
     if isinstance(value, datetime.datetime) and value.year <= 1900:
-        value -= FIRST_DAY
+        value -= FIRST_OF_1900 if value < datetime.datetime(1900, 3, 1) else FIRST_DAY
     if isinstance(value, datetime.time):
         value = datetime.datetime.combine(FIRST_DAY, value) - FIRST_DAY
     if isinstance(value, datetime.timedelta):
