@@ -7,8 +7,9 @@ import pathlib
 import re
 
 import pytest
-from support.installed import (LIBRARY, NEW, OLD, PLACES, PROGRAM, VERSION, VERSIONED, Copy, assert_completions_are_found,
-                               assert_runs, assert_same_files, assert_usual_modes, files_below)
+from support.installed import (LIBRARY, NEW, OLD, PLACES, PROGRAM, VERSION, VERSIONED, Copy,
+                               assert_completions_are_found, assert_runs, assert_same_files, assert_usual_modes,
+                               files_below)
 from support.needs import tool
 from support.program import Program
 from support.tools import output_of, run_tool, write_script
