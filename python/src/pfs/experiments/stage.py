@@ -18,7 +18,7 @@ from collections.abc import Iterator
 from typing import Any, NamedTuple
 
 from pfs._atomic import atomic_write
-from pfs.experiments import ExperimentError, one
+from pfs.experiments import ExperimentError, one, provenance
 from pfs.experiments.plan import Row, read_plan, reference_of, rows_of
 
 PACKAGE = pathlib.Path(__file__).resolve().parent.parent
@@ -109,7 +109,14 @@ def prepare(plan_path: str, csv_path: str, program: str | None) -> Experiment:
             if stored and stored.get(key) != plan.get(key):
                 raise ExperimentError(f"{csv_path} was started with another {key}: use another CSV")
         copy_inputs(plan, top, folder / stage_of(folder))
-        return Experiment(plan, folder, add_runs(plan, stored.get("places", {}), top, folder, csv_path), reference)
+        places = stored.get("places", {})
+        experiment = Experiment(plan, folder, add_runs(plan, places, top, folder, csv_path), reference)
+        inputs = inputs_of(plan, places, top, folder / experiment.stage)
+        provenance.note_start(folder, plan, inputs)
+        if changed := provenance.changed(inputs):
+            print(f"{csv_path}: changed since they were copied for its runs: {', '.join(changed)}. The copies are used: "
+                  f"to begin anew, name another CSV or delete {csv_path}.d", file=sys.stderr, flush=True)
+        return experiment
     except BaseException:
         if not (folder / "plan.json").exists():
             shutil.rmtree(folder, ignore_errors=True)
@@ -165,6 +172,15 @@ def copy_inputs(plan: dict[str, Any], top: str, stage: pathlib.Path) -> None:
             write_text(stage / "command.json", json.dumps(plan["command"]))
     elif "time_factors" in plan:
         copy(library(), stage / one.LIBRARY)
+
+
+def inputs_of(plan: dict[str, Any], places: dict[str, int], top: str, stage: pathlib.Path) -> provenance.Inputs:
+    """Returns the program, the library, the files of a command and the instances, with the copies of them. Where the
+    first two are is left out: every version of them finds the same orders."""
+    inputs = [("pfs", "", stage / "pfs"), (one.LIBRARY, "", stage / one.LIBRARY)]
+    inputs += [(name, os.path.join(top, name), stage / "files" / name) for name in plan.get("files", [])]
+    inputs += [(name, os.path.join(top, name), stage / "instances" / str(places[name])) for name in plan["instances"]]
+    return [each for each in inputs if each[2].exists()]
 
 
 def library() -> str:
