@@ -16,15 +16,17 @@ import zipfile
 from typing import Any, NamedTuple
 
 import pytest
-from support.installed import (LIBRARY, PLACES, PROGRAM, TOP, VERSION, VERSIONED, Copy, assert_completions_are_found,
-                               assert_runs, assert_same_files, assert_usual_modes, files_below)
+from support.installed import (LIBRARY, PLACES, PROGRAM, SHARED, TOP, VERSION, VERSIONED, Copy,
+                               assert_completions_are_found, assert_runs, assert_same_files, assert_usual_modes,
+                               files_below)
 from support.library import Library
 from support.needs import require_module, tool
 from support.tools import imported, output_of, run_tool
 
 # so that the copy and the packages are made once
 pytestmark = [pytest.mark.xdist_group("packages"), pytest.mark.seconds(60)]
-PACKAGES = ["pfs", "libpfs0", "libpfs-dev", "python3-pfs"]
+LIBPFS = SHARED.replace(".so.", "")
+PACKAGES = ["pfs", LIBPFS, "libpfs-dev", "python3-pfs"]
 DEBIAN_PAGES = {"copyright", "changelog.gz", "changelog.Debian.gz"}
 LIBRARIES = "usr/lib/x86_64-linux-gnu"
 MODULES = "usr/lib/python3/dist-packages"
@@ -188,7 +190,7 @@ def test_a_source_tree_without_git_or_a_library(copy: Copy, folder: pathlib.Path
     assert got.status == 1 and "clone the repository" in got.stderr and not (folder / "made").exists()
     shutil.rmtree(folder / "tree" / "lib" / "out")
     got = run_tool(["tools/dist", "wheel", folder / "made"], folder / "tree", env=copy.env)
-    assert got.status == 1 and "lib/out/libpfs.so.0 is missing: run `make run lib`" in got.stderr
+    assert got.status == 1 and f"lib/out/{SHARED} is missing: run `make run lib`" in got.stderr
 
 
 # What is made
@@ -205,7 +207,7 @@ def test_the_spdx_file_lists_what_is_installed_and_what_is_built_in(made: Made) 
         **dict.fromkeys({"clap"} | crates, f"port in {kit}")}
     assert made.copy.git("rev-parse", "HEAD") in bill["packages"][0]["sourceInfo"]
     wheel = made.path(".whl")
-    files = [made.copy.top / name for name in (PROGRAM, "lib/out/libpfs.so.0", "lib/out/libpfs.a")] + [wheel]
+    files = [made.copy.top / name for name in (PROGRAM, f"lib/out/{SHARED}", "lib/out/libpfs.a")] + [wheel]
     assert [(each["fileName"], [it["checksumValue"] for it in each["checksums"]]) for each in bill["files"]] \
         == [(f"./{path.name}", [hashlib.new(name, path.read_bytes()).hexdigest() for name in ("sha1", "sha256")])
             for path in files]
@@ -214,11 +216,11 @@ def test_the_spdx_file_lists_what_is_installed_and_what_is_built_in(made: Made) 
     assert len(names) == 13 and all(re.fullmatch("SPDXRef-[A-Za-z0-9.-]+", each) for each in names)
     links = {(names[each["spdxElementId"]], each["relationshipType"], names[each["relatedSpdxElement"]])
              for each in bill["relationships"]}
-    libraries = ("libpfs.so.0", "libpfs.a")
+    libraries = (SHARED, "libpfs.a")
     assert links == {("document", "DESCRIBES", "pfs"), ("rattle-kit", "BUILD_TOOL_OF", "pfs"),
-                     (wheel.name, "CONTAINS", "libpfs.so.0"), ("pfs", "STATIC_LINK", "clap"),
+                     (wheel.name, "CONTAINS", SHARED), ("pfs", "STATIC_LINK", "clap"),
                      *((each, "GENERATED_FROM", "pfs") for each in ("pfs", *libraries, wheel.name)),
-                     *((each, "DYNAMIC_LINK", "libc6") for each in ("pfs", "libpfs.so.0")),
+                     *((each, "DYNAMIC_LINK", "libc6") for each in ("pfs", SHARED)),
                      *((each, "STATIC_LINK", crate) for each in ("pfs", *libraries) for crate in crates)}
 
 
@@ -294,16 +296,16 @@ def test_debians_tools_accept_the_packages(made: Made, folder: pathlib.Path) -> 
                     "unstripped-static-library", *(made.path(f"/{package}_") for package in PACKAGES)], made.folder)
     assert (got.status, got.stdout) == (0, "")
     number = f"{made.version()}-1"
-    needs = {"pfs": {"libc6 (>= 2.34)"}, "libpfs0": set[str](), "libpfs-dev": {f"libpfs0 (= {number})"},
-             "python3-pfs": {f"libpfs0 (>= {VERSION}~)", "python3-numpy", "python3:any (>= 3.10~)"}}
+    needs = {"pfs": {"libc6 (>= 2.34)"}, LIBPFS: set[str](), "libpfs-dev": {f"{LIBPFS} (= {number})"},
+             "python3-pfs": {f"{LIBPFS} (>= {VERSION}~)", "python3-numpy", "python3:any (>= 3.10~)"}}
     for package, needed in needs.items():
         version, maintainer, depends = (
             output_of(["dpkg-deb", "--field", made.path(f"/{package}_"), field], folder).strip()
             for field in ("Version", "Maintainer", "Depends"))
         assert (version, maintainer) == (number, "A Tester <tester@example.org>")
         assert needed <= set(depends.split(", "))
-    output_of(["dpkg-deb", "--control", made.path("/libpfs0_"), "library"], folder)
-    assert (folder / "library" / "shlibs").read_text() == f"libpfs 0 libpfs0 (>= {VERSION}~)\n"
+    output_of(["dpkg-deb", "--control", made.path(f"/{LIBPFS}_"), "library"], folder)
+    assert (folder / "library" / "shlibs").read_text() == f"libpfs {LIBPFS[6:]} {LIBPFS} (>= {VERSION}~)\n"
     assert "activate-noawait ldconfig\n" in (folder / "library" / "triggers").read_text()
     output_of(["dpkg-deb", "--control", made.path("/python3-pfs_"), "python"], folder)
     assert "py3clean -p python3-pfs" in (folder / "python" / "prerm").read_text()
@@ -345,7 +347,7 @@ def wheel(made: Made) -> dict[str, bytes]:
 def test_a_wheel_holds_the_package_and_the_library(wheel: dict[str, bytes], made: Made) -> None:
     found = {name: text for name, text in wheel.items() if not name.startswith("dist-info/")}
     wanted = {f"pfs/{name}": text for name, text in files_below(made.copy.top / "python" / "src" / "pfs").items()}
-    wanted |= {"pfs/libpfs.so.0": (made.copy.top / "lib/out/libpfs.so.0").read_bytes(),
+    wanted |= {f"pfs/{SHARED}": (made.copy.top / f"lib/out/{SHARED}").read_bytes(),
                "pfs/_version.py": wanted["pfs/_version.py"].replace(VERSION.encode(), made.version().encode())}
     wanted |= {f"data/data/share/man/man1/{name}.1": (TOP / "python" / f"{name}.1").read_bytes() for name in PROGRAMS}
     assert_same_files(found, wanted)
