@@ -37,7 +37,8 @@ define PROGRAM_FILES
 $(PROGRAM) bin/pfs
 share/pfs.1 share/man/man1/pfs.1
 share/pfs.bash $(ZSH)/_pfs
-$(foreach name,pfs pfs-plan pfs-gantt pfs-experiments,share/pfs.bash share/bash-completion/completions/$(name)$(newline))
+$(foreach name,pfs pfs-plan pfs-gantt pfs-experiments,\
+    share/pfs.bash share/bash-completion/completions/$(name)$(newline))
 $(foreach name,$(PAGES),$(name) share/doc/pfs/$(name)$(newline))
 $(foreach name,$(PLANS),experiments/$(name) share/doc/pfs/examples/$(name)$(newline))
 endef

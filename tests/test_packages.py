@@ -236,7 +236,7 @@ def test_the_tarball_has_the_installed_files_and_runs(unpacked: pathlib.Path, ma
     assert found.pop("share/doc/pfs/PROVED").decode() == (
         f"pfs {made.version()}\nproved at the commit {made.copy.git('rev-parse', 'HEAD')}\n"
         f"with the kit {made.copy.env['RT_VERSION']}\n")
-    assert found.pop("share/doc/pfs/NOTICES") == (TOP / "debian" / "copyright").read_bytes()
+    assert found.pop("share/doc/pfs/NOTICES") == (made.copy.top / "debian" / "copyright").read_bytes()
     assert found.pop(VERSIONED[0]).decode().startswith("prefix=${pcfiledir}/../..\n") and found.pop(VERSIONED[1])
     assert_same_files(found, {place: (made.copy.top / file).read_bytes() for place, file in (PLACES | LIBRARY).items()})
 
@@ -272,9 +272,9 @@ def test_the_packages_have_their_files_where_debian_looks(extracted: pathlib.Pat
     found = files_below(extracted)
     for package in PACKAGES:
         held = {name: found.pop(f"usr/share/doc/{package}/{name}") for name in DEBIAN_PAGES}
-        assert gzip.decompress(held["changelog.gz"]) == (TOP / "CHANGELOG.md").read_bytes()
+        assert gzip.decompress(held["changelog.gz"]) == (made.copy.top / "CHANGELOG.md").read_bytes()
         assert gzip.decompress(held["changelog.Debian.gz"]).decode().startswith(f"pfs ({made.version()}-1) unstable;")
-        assert held["copyright"] == (TOP / "debian" / "copyright").read_bytes()
+        assert held["copyright"] == (made.copy.top / "debian" / "copyright").read_bytes()
     for path in [path for path in found if "/man/" in path]:
         found[path.removesuffix(".gz")] = gzip.decompress(found.pop(path))
     for path in ("usr/share/doc/pfs/PROVED", *(f"{LIBRARIES}/{name.removeprefix('lib/')}" for name in VERSIONED),
@@ -349,27 +349,28 @@ def test_a_wheel_holds_the_package_and_the_library(wheel: dict[str, bytes], made
     wanted = {f"pfs/{name}": text for name, text in files_below(made.copy.top / "python" / "src" / "pfs").items()}
     wanted |= {f"pfs/{SHARED}": (made.copy.top / f"lib/out/{SHARED}").read_bytes(),
                "pfs/_version.py": wanted["pfs/_version.py"].replace(VERSION.encode(), made.version().encode())}
-    wanted |= {f"data/data/share/man/man1/{name}.1": (TOP / "python" / f"{name}.1").read_bytes() for name in PROGRAMS}
+    wanted |= {f"data/data/share/man/man1/{name}.1": (made.copy.top / "python" / f"{name}.1").read_bytes()
+               for name in PROGRAMS}
     assert_same_files(found, wanted)
 
 
 def test_what_a_wheel_says_of_itself(wheel: dict[str, bytes], made: Made) -> None:
     """It needs what the settings and README say, and has the licences of what is built into its library."""
     fields = email.message_from_string(wheel["dist-info/METADATA"].decode())
-    project = tomllib.loads((TOP / "python" / "pyproject.toml").read_text())["project"]
+    project = tomllib.loads((made.copy.top / "python" / "pyproject.toml").read_text())["project"]
     numbers = [list(map(int, re.findall(r"\d+", version))) for version in (fields["Version"], made.version())]
     assert (fields["Name"], numbers[0]) == ("pfs", numbers[1])
     needed, due = ([re.sub("[ ()'\"]", "", str(each)) for each in lines] for lines in
                    (fields.get_all("Requires-Dist") or [], project["dependencies"]))
     assert [each for each in needed if "extra" not in each] == due and "numpy>=1.24" in due
-    readme = (TOP / "python" / "README.md").read_text()
+    readme = (made.copy.top / "python" / "README.md").read_text()
     assert str(fields.get_payload()).strip() == readme.strip()
     pythons = re.findall(r"needs Python ([\d.]+) or newer and NumPy", readme)
     assert [f">={python}" for python in pythons] == [fields["Requires-Python"]] == [project["requires-python"]]
     licences = {"LICENSE-APACHE": "LICENSE-APACHE", "LICENSE-MIT": "LICENSE-MIT", "NOTICES": "debian/copyright"}
     assert fields.get_all("License-File") == list(licences)
     assert {name: wheel[f"dist-info/{name}"] for name in licences} \
-        == {name: (TOP / file).read_bytes() for name, file in licences.items()}
+        == {name: (made.copy.top / file).read_bytes() for name, file in licences.items()}
 
 
 def test_pip_replaces_a_wheel_by_one_of_a_later_commit(made: Made, folder: pathlib.Path, libpfs: Library) -> None:
