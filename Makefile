@@ -25,7 +25,7 @@ LIB = lib
 ZSH = share/zsh/site-functions
 PROGRAM = crates/pfs/out/pfs
 LIBRARY = lib/out/libpfs.so.0
-PLANS = example.toml quality.toml
+PLANS = $(notdir $(wildcard experiments/*.toml))
 PACKAGE = PYTHONPATH=python/src /usr/bin/python3 -B -m
 
 define newline
