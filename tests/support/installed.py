@@ -117,11 +117,12 @@ def assert_same_files(found: dict[str, bytes], wanted: dict[str, bytes]) -> None
 
 
 def assert_usual_modes(folder: pathlib.Path) -> None:
-    """Programs and scripts are run by all, and all else is read by all."""
+    """Programs are run by all, as may be scripts among the examples, and all else is read by all."""
     wrong = {}
     for path in (path for path in folder.rglob("*") if not path.is_symlink()):
         mode = path.stat().st_mode & 0o7777
-        if mode != (0o755 if path.is_dir() or path.parent.name == "bin" else 0o644):
+        is_example = path.parent.name == "examples" and mode & 0o100 and path.read_bytes().startswith(b"#!")
+        if mode != (0o755 if path.is_dir() or path.parent.name == "bin" or is_example else 0o644):
             wrong[str(path)] = oct(mode)
     assert wrong == {}, "modes that aren't the usual ones"
 
