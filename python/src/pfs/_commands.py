@@ -446,9 +446,7 @@ def main(line: list[str], parser: argparse.ArgumentParser | None = None) -> int:
         status: Any = given.run(given)
         return int(status)
     except (TableFault, StateFault) as fault:
-        return report("
-".join(map(line_of, str(fault).split("
-"))), REFUSED)
+        return report("\n".join(map(line_of, str(fault).split("\n"))), REFUSED)
     except Fault as fault:
         return report(fault.text, REFUSED)
     except ValueError as fault:
