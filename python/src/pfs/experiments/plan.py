@@ -151,6 +151,8 @@ def rows_of(path: str | os.PathLike[str], needed: Iterable[str]) -> list[Row]:
     missing = [column for column in needed if column not in columns]
     if missing:
         raise ExperimentError(f"{path}: no column {', '.join(missing)}")
+    if not rows or any(None in row for row in rows):
+        raise ExperimentError(f"{path}: {'a row has more cells than the first line' if rows else 'no rows'}")
     return rows
 
 

@@ -108,8 +108,6 @@ def read_one(path: str, name: str) -> pd.DataFrame:
     """Reads the runs of a CSV. The results of a run that failed are unknown."""
     import pandas as pd
     rows = rows_of(path, ["instance", "makespan"])
-    if not rows:
-        raise ExperimentError(f"{path}: no rows")
     read = pd.DataFrame(rows)
     failed = read.get("status", pd.Series("ok", read.index)).ne("ok") | read["makespan"].eq("")
     runs = pd.DataFrame({"method": read.get("method", pd.Series("", read.index)).replace("", name),
@@ -119,7 +117,7 @@ def read_one(path: str, name: str) -> pd.DataFrame:
         if column in ("makespan", "cells", "gap_percent", "seconds"):
             texts = texts.mask(failed, "")
         given = texts[texts != ""]
-        values = pd.to_numeric(given.where(given.str.fullmatch(NUMBER), "nan")).astype(float)
+        values = given.where(given.str.fullmatch(NUMBER)).astype(float)
         wrong = given[~values.between(least, most) | ((column in WHOLE) & (values % 1 != 0))]
         if len(wrong):
             text = wrong.iloc[0]

@@ -22,8 +22,8 @@ from pfs.experiments import ExperimentError, one
 from pfs.experiments.plan import Row, read_plan, reference_of, rows_of
 
 PACKAGE = pathlib.Path(__file__).resolve().parent.parent
-# A line of the list of runs, with tabs between the columns. An unknown value is a hyphen. The number is that of the
-# line. Rounds of a run by time are `time-FACTOR-SECONDS`.
+# What plan.json has of a run, and a line of runs.tsv, which is made of it. An unknown value is a hyphen. The number is
+# that of the line. Rounds of a run by time are `time-FACTOR-SECONDS`.
 RUN = ["number", "file", "layout", "block", "rounds", "take", "passes", "seed", "repetition", "jobs", "machines",
        "instance"]
 # The columns that identify a run.
@@ -51,10 +51,6 @@ class Experiment(NamedTuple):
 def write_text(path: str | os.PathLike[str], text: str) -> None:
     """Replaces the content of a file atomically."""
     atomic_write(path, text.encode(errors="backslashreplace"))
-
-
-def damaged(path: pathlib.Path, why: object) -> ExperimentError:
-    return ExperimentError(f"{path} is damaged ({why}): delete the folder {path.parent.name} to start again")
 
 
 def require_program(program: str, package: str) -> None:
@@ -109,7 +105,7 @@ def prepare(plan_path: str, csv_path: str, program: str | None) -> Experiment:
             if stored and stored.get(key) != plan.get(key):
                 raise ExperimentError(f"{csv_path} was started with another {key}: use another CSV")
         copy_inputs(plan, top, folder / stage_of(folder))
-        return Experiment(plan, folder, add_runs(plan, stored.get("places", {}), top, folder, csv_path), reference)
+        return Experiment(plan, folder, add_runs(plan, stored, top, folder, csv_path), reference)
     except BaseException:
         if not (folder / "plan.json").exists():
             shutil.rmtree(folder, ignore_errors=True)
@@ -135,7 +131,6 @@ def begin(folder: pathlib.Path, pfs: str) -> None:
     """Makes the stage, after removing what a start has left that was killed."""
     for half_done in folder.glob("pfs-experiment-*"):
         shutil.rmtree(half_done)
-    (folder / "runs.tsv").unlink(missing_ok=True)
     stage = folder / f"pfs-experiment-{secrets.token_hex(6)}"
     (stage / "instances").mkdir(parents=True)
     (folder / "results").mkdir(exist_ok=True)
@@ -176,10 +171,10 @@ def library() -> str:
 
 # The runs
 
-def add_runs(plan: dict[str, Any], places: dict[str, int], top: str, folder: pathlib.Path, csv_path: str) -> list[Row]:
+def add_runs(plan: dict[str, Any], stored: dict[str, Any], top: str, folder: pathlib.Path, csv_path: str) -> list[Row]:
     """Adds the plan's new instances and runs to the folder, and returns all runs in the order of the plan. A run keeps
     its number."""
-    listed = runs_of(folder)
+    places, listed = stored.get("places", {}), stored.get("runs", [])
     known, runs = {key_of(run): run for run in listed}, dict[tuple[str, ...], Row]()
     for name in plan["instances"]:
         place = places.setdefault(name, len(places) + 1)
@@ -196,7 +191,7 @@ def add_runs(plan: dict[str, Any], places: dict[str, int], top: str, folder: pat
         raise ExperimentError(f"{csv_path} was started with another plan, which has {what}: use another CSV, or delete "
                               f"{folder}")
     write_text(folder / "runs.tsv", table_of(listed))
-    write_text(folder / "plan.json", json.dumps({**plan, "places": places}))
+    write_text(folder / "plan.json", json.dumps({**plan, "places": places, "runs": listed}))
     return list(runs.values())
 
 
@@ -249,20 +244,20 @@ def size_of(stage: pathlib.Path, *words: str) -> tuple[str, str]:
     return (size[1], size[2]) if size and done.returncode == 0 else ("-", "-")
 
 
-# The content of a folder
-
 def stored_plan(folder: pathlib.Path) -> dict[str, Any]:
-    """Returns the stored plan, with the places of the instances. It is empty in a new folder."""
+    """Returns the stored plan, with the places of the instances and the runs. It is empty in a new folder."""
     path = folder / "plan.json"
     try:
         stored = json.loads(path.read_bytes().decode())
+        for number, run in enumerate(stored["runs"], 1):
+            if (run["number"], [*run]) != (str(number), RUN):
+                raise ValueError(f"run {number}")
+        return dict(stored)
     except FileNotFoundError:
         return {}
-    except (ValueError, RecursionError) as error:
-        raise damaged(path, error) from None
-    if not isinstance(stored, dict) or not isinstance(stored.get("places"), dict):
-        raise damaged(path, "it is not a plan")
-    return stored
+    except (ValueError, RecursionError, LookupError, TypeError) as error:
+        raise ExperimentError(f"{path} is damaged, or of another version ({error}): delete the folder {folder.name} to "
+                              "start again") from None
 
 
 def stage_of(folder: pathlib.Path) -> str:
@@ -270,21 +265,3 @@ def stage_of(folder: pathlib.Path) -> str:
     for stage in folder.glob("pfs-experiment-*"):
         return stage.name
     raise ExperimentError(f"{folder} has no copy of the program: delete it to start again")
-
-
-def runs_of(folder: pathlib.Path) -> list[Row]:
-    """Returns the listed runs, in the order of their numbers."""
-    path = folder / "runs.tsv"
-    try:
-        lines = path.read_bytes().decode().split("\n")
-    except FileNotFoundError:
-        return []
-    except UnicodeDecodeError as error:
-        raise damaged(path, error) from None
-    runs = [dict(zip(RUN, line.split("\t"))) for line in lines[:-1]]
-    for number, (run, line) in enumerate(zip(runs, lines), 1):
-        if line.count("\t") != len(RUN) - 1 or run["number"] != str(number):
-            raise damaged(path, f"line {number}")
-    if lines[-1]:
-        raise damaged(path, "its last line has no line end")
-    return runs
