@@ -447,8 +447,10 @@ def main(line: list[str], parser: argparse.ArgumentParser | None = None) -> int:
         return int(status)
     except Fault as fault:
         return report(fault.text, REFUSED)
-    except (TableFault, StateFault) as fault:
-        return report("\n".join(map(line_of, str(fault).split("\n"))), REFUSED)
+    except TableFault as fault:
+        return report("\n".join(map(line_of, fault.messages())), REFUSED)
+    except StateFault as fault:
+        return report(line_of(fault), REFUSED)
     except ValueError as fault:
         return report(line_of(fault), USAGE)
     except (OSError, MemoryError, ImportError) as fault:
