@@ -245,16 +245,12 @@ def draw_machine(axis: Axis, table: Table, look: Look, machine: int, fills: list
 
 
 def draw_numbers(axis: Axis, table: Table, look: Look, machine: int, fills: list[Colour]) -> None:
-    """Write each job's name or number on its bar, or else its place in the key, if that fits. Without a key, a row has
-    no numbers if fewer than half of them fit."""
+    """Write each job's name or number on its bar, or else its place in the key, if that fits."""
     if row_height(table) <= SMALLEST_ROW:
         return
     starts, ends = table.starts[:, machine].tolist(), table.ends[:, machine].tolist()
-    bars = [(place, start, end) for place, (start, end) in enumerate(zip(starts, ends)) if end > start]
-    labels = [label_of(table, look, place, end - start) for place, start, end in bars]
-    if not look.key and 2 * sum(bool(label.text) for label in labels) < len(bars):
-        return
-    for label, (place, start, end) in zip(labels, bars):
+    for place, (start, end) in enumerate(zip(starts, ends)):
+        label = label_of(table, look, place, end - start)
         if label.text:
             axis.text((start + end) / 2, machine + 1, label.text, ha="center", va="center", fontsize=label.letters,
                       zorder=4, color=ink(fills[place]), clip_on=True, parse_math=False)
@@ -268,13 +264,13 @@ class Label(NamedTuple):
 
 
 def label_of(table: Table, look: Look, place: int, length: int) -> Label:
-    """Return the label of a bar of this length: the job's name, its place in the key, or an empty one."""
+    """Return the label of a bar of this length: the job's name, its place in the key or else its name in smaller
+    letters, or an empty one."""
     room, name = inches(table, look) * length, table.label(table.order[place])
     if room > DIGIT * len(name) + 0.03:
         return Label(name)
-    number = sign_of(table) + str(place + 1)
-    fits = look.key and room > KEY_DIGIT * len(number) + 0.02
-    return Label(number, KEY_LETTERS, True) if fits else Label("")
+    text = sign_of(table) + str(place + 1) if look.key else name
+    return Label(text, KEY_LETTERS, look.key) if room > KEY_DIGIT * len(text) + 0.02 else Label("")
 
 
 def sign_of(table: Table) -> str:

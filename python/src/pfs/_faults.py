@@ -7,7 +7,6 @@ if TYPE_CHECKING:
     from pfs._solution import Solution
 
 # The name and the text of each fault by its number. `{}` is the place.
-# facts: python instance
 INSTANCE_FAULTS = {
     20: ("no block", "no block, found {}"),
     21: ("size count", "size line {} has a wrong count"),
@@ -19,15 +18,12 @@ INSTANCE_FAULTS = {
     27: ("truncated", "truncated after {} times"),
     28: ("input too long", "input too long"),
 }
-# end of facts
-# facts: python order
 ORDER_FAULTS = {
     30: ("syntax", "order file syntax at {}"),
     31: ("job range", "order file job out of range at place {}"),
     32: ("job repeated", "order file job repeated at place {}"),
     33: ("order file too long", "order file too long"),
 }
-# end of facts
 
 
 class Fault(ValueError):
@@ -92,8 +88,9 @@ class OrderFault(Fault):
 MOST_FAULTS = 20
 
 
-class TableFault(ValueError):
-    """A table of times (:func:`pfs.read_csv`) is invalid. The message has all faults of the table, each on a line.
+class TableFault(Fault):
+    """A table (:func:`pfs.read_csv`, :func:`pfs.audit`) or a file of the layout ``matrix`` is invalid. The message has
+    all faults of the table, each on a line. Its ``name`` is ``"table"``, its ``number`` 0 and its ``place`` the line.
 
     Attributes
     ----------
@@ -111,13 +108,13 @@ class TableFault(ValueError):
 
     def __init__(self, path: str, line: int, column: int, text: str, head: str = "",
                  others: tuple[TableFault, ...] = ()) -> None:
-        self.path = path
+        self.path, self.name, self.number, self.place = path, "table", 0, line
         self.line = line
         self.column = column
         self.text = text
         self.head = head
         self.others = others
-        super().__init__("\n".join(self.messages()))
+        ValueError.__init__(self, "\n".join(self.messages()))
 
     def messages(self) -> list[str]:
         """Return a line for each fault, up to a number of them."""

@@ -55,6 +55,27 @@ class Sequence(NamedTuple):
     makespan: int
 
 
+class Check(NamedTuple):
+    """The verdict on an order.
+
+    Attributes
+    ----------
+    valid : bool
+        Whether it is an order of all jobs, with the stated makespan.
+    makespan : int or None
+        Its makespan, or None if it isn't an order of all jobs.
+    bound : int
+        The lower bound of the instance. An order with this makespan is optimal.
+    fault : str
+        What is wrong, or an empty text.
+    """
+
+    valid: bool
+    makespan: int | None
+    bound: int
+    fault: str
+
+
 class Instance:
     """A permutation flow shop: each job runs on machine 0, then on machine 1 and so on, and all machines run the jobs
     in the same order.
@@ -194,6 +215,47 @@ class Instance:
         _free.append(found)
         return makespan
 
+    def check(self, order: Jobs, stated: int | None = None) -> Check:
+        """Return the verdict on an order and its stated makespan, as ``pfs check`` does.
+
+        Parameters
+        ----------
+        order : array_like or Solution
+            Jobs, by number from 0 or by name.
+        stated : int, optional
+            The makespan to check. By default it is that of a `Solution` or `Sequence`, and otherwise only the order is
+            checked.
+
+        Returns
+        -------
+        Check
+
+        Raises
+        ------
+        TypeError, ValueError
+            If the order isn't a list of numbers or names, or the makespan isn't an integer or is out of range.
+
+        Examples
+        --------
+        >>> import pfs
+        >>> shop = pfs.Instance([[3, 2], [2, 5], [4, 1]])
+        >>> shop.check([1, 0, 2], 10)
+        Check(valid=True, makespan=10, bound=10, fault='')
+        >>> shop.check([1, 0, 2], 9).fault, shop.check([1, 0], 10).fault
+        ('states 9, takes 10', 'order has 2 jobs, but the instance has 3')
+        """
+        if stated is None and isinstance(order, (Solution, Sequence)):
+            stated = order.makespan
+        own = None if stated is None else checked_int(stated, "stated", 0, 2**64 - 1)
+        bound = self.bound()
+        try:
+            jobs = checked_order(as_order(order, self), self.jobs, "order", self.job_names)
+            makespan = self.makespan(np.frombuffer(jobs, dtype=np.uint32))
+        except ValueError as error:
+            return Check(False, None, bound, str(error))
+        valid = own in (None, makespan)
+        return Check(valid, makespan, bound, "" if valid else f"states {own}, takes {makespan}")
+
     def bound(self, method: str = "machines") -> int:
         """Return a lower bound on the makespan of all orders.
 
@@ -233,12 +295,12 @@ class Instance:
         c.done(library.pfs_bound(*self._arguments, byref(bound)))
         return max(bound.value, bound_by_pairs(self._times)) if method == "pairs" else bound.value
 
-    def rpd(self, makespan: int | Solution, reference: int | None = None) -> float:
+    def rpd(self, makespan: int | Solution | Sequence, reference: int | None = None) -> float:
         """Return the relative percentage deviation of a makespan from a reference.
 
         Parameters
         ----------
-        makespan : int or Solution
+        makespan : int, Solution or Sequence
             0 or more.
         reference : int, optional
             A makespan of 1 or more. The default is ``upper``, which is the best known makespan of an instance of
@@ -263,7 +325,7 @@ class Instance:
         >>> round(shop.rpd(shop.neh()), 2)
         0.63
         """
-        own = checked_int(makespan.makespan if isinstance(makespan, Solution) else makespan, "makespan", 0, 2**64 - 1)
+        own = checked_int(getattr(makespan, "makespan", makespan), "makespan", 0, 2**64 - 1)
         if reference is None and self.upper == 0:
             raise ValueError("rpd needs a reference, since `upper` of the instance is 0")
         base = self.upper if reference is None else checked_int(reference, "reference", 1, 2**64 - 1)
@@ -592,7 +654,8 @@ class Instance:
         rounds : int, optional
             The number of rounds. ``first + rounds`` is at most 1,000,000. The default is 1,000; with a time limit the
             search runs until its end. Without ``rounds``, the search continues after round 1,000,000 of a seed with
-            round 0 of the next seed, which is then the ``seed`` of the solution.
+            round 0 of a seed that is greater by 11400714819323198485 (modulo 2^64), which is then the ``seed`` of the
+            solution.
         take : int, optional
             The destruction size, 1 to the number of jobs. The default is 4, or the number of jobs if that is less.
         passes : int
