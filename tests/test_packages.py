@@ -164,17 +164,9 @@ def test_a_release_is_its_tagged_commit_without_changes(copy: Copy, folder: path
             (copy.top / made).unlink(missing_ok=True)
 
 
-def test_the_maintainer_is_named(copy: Copy, monkeypatch: pytest.MonkeyPatch,
-                                 capsys: pytest.CaptureFixture[str]) -> None:
-    """A message says where an address takes no mail."""
-    assert source(copy, copy.top, monkeypatch).maintainer == "A Tester <tester@example.org>"
-    assert "MAINTAINER=" not in capsys.readouterr().err
-    assert source(copy, copy.top, monkeypatch, MAINTAINER="B <1+b@noreply.host>").maintainer == "B <1+b@noreply.host>"
-    assert "MAINTAINER='A Name <name@host>'" in capsys.readouterr().err
-
-
 @pytest.mark.parametrize(("env", "said"), [
     ({"RT_VERSION": "kit logic 0123456789abcdef"}, "crates/pfs/out/pfs was built with another version of the kit"),
+    ({"RT_VERSION": "kit logic 0", "MAINTAINER": "B <b@noreply.host>"}, "MAINTAINER='A Name <name@host>'"),
     ({"GIT_CONFIG_COUNT": "0", "GIT_TEST_ASSUME_DIFFERENT_OWNER": "1"}, "git config --global --add safe.directory"),
     ({"GIT_DIR": "/nowhere"}, "not a git repository"),
 ])
