@@ -19,7 +19,6 @@ import pytest
 from support.installed import (LIBRARY, PLACES, PROGRAM, SHARED, TOP, VERSION, VERSIONED, Copy,
                                assert_completions_are_found, assert_runs, assert_same_files, assert_usual_modes,
                                files_below)
-from support.library import Library
 from support.needs import require_module, tool
 from support.tools import imported, output_of, run_tool
 
@@ -363,7 +362,7 @@ def test_what_a_wheel_says_of_itself(wheel: dict[str, bytes], made: Made) -> Non
         == {name: (made.copy.top / file).read_bytes() for name, file in licences.items()}
 
 
-def test_pip_replaces_a_wheel_by_one_of_a_later_commit(made: Made, folder: pathlib.Path, libpfs: Library) -> None:
+def test_pip_replaces_a_wheel_by_one_of_a_later_commit(made: Made, folder: pathlib.Path) -> None:
     """In a clean environment, where NumPy is the system's."""
     if sys.prefix != sys.base_prefix:
         pytest.skip("an environment inside another one has no packages of the system")
