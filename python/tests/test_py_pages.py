@@ -2,6 +2,7 @@
 import doctest
 import importlib
 import inspect
+import io
 import os
 import pathlib
 import pkgutil
@@ -165,20 +166,16 @@ def test_compare(tmp_path: pathlib.Path) -> None:
     assert (tmp_path / "out" / "compare.png").read_bytes().startswith(b"\x89PNG")
 
 
-@pytest.mark.seconds(10)
-def test_ruiz_stuetzle(tmp_path: pathlib.Path) -> None:
-    pytest.importorskip("matplotlib")
-    script = HERE / "examples" / "ruiz_stuetzle.py"
-    assert len(script.read_text().splitlines()) <= 80
+@pytest.mark.seconds(5)
+def test_ig_temperature(tmp_path: pathlib.Path) -> None:
+    """Its processor time has that of the start. It finds a best known makespan."""
+    script, shop = HERE / "examples" / "ig_temperature.py", pfs.taillard(1)
+    shop.write(tmp_path / "ta001")
     env = os.environ | {"PYTHONPATH": str(pathlib.Path(pfs.__file__).parents[1]), "PYTHONDONTWRITEBYTECODE": "1"}
-    words = [sys.executable, str(script), "8", "search.png", "1", "31"]
-    done = subprocess.run(words, cwd=tmp_path, env=env, capture_output=True, text=True, timeout=300)
-    assert (done.returncode, done.stderr) == (0, "")
-    lines = re.findall(r"^(ta\d{3}) (with temperature|solve): (\d+), RPD (-?\d+\.\d\d) %$", done.stdout, re.MULTILINE)
-    assert len(lines) == 4 == len(done.stdout.splitlines())
-    for name, method, makespan, rpd in lines:
-        shop = pfs.taillard(int(name[2:]))
-        assert shop.bound() <= int(makespan) <= shop.neh().makespan
-        assert float(rpd) == pytest.approx(100 * (int(makespan) / shop.upper - 1), abs=0.006)
-    assert {name for name, *_ in lines} == {"ta001", "ta031"}
-    assert (tmp_path / "search.png").read_bytes().startswith(b"\x89PNG")
+    for words, most in (("ta001", "1", "0"), shop.neh().makespan), (("ta001", "1", "2"), shop.upper):
+        done = subprocess.run([sys.executable, script, *words], cwd=tmp_path, env=env, capture_output=True, timeout=300)
+        assert (done.returncode, done.stderr) == (0, b"")
+        check = shop.check(pfs.read_order(io.BytesIO(done.stdout)))
+        assert check.valid and check.makespan is not None and check.makespan <= most
+    done = subprocess.run([sys.executable, script, "ta001"], env=env, capture_output=True, timeout=300)
+    assert (done.returncode, done.stderr) == (1, b"usage: ig_temperature.py INSTANCE SEED SECONDS\n")

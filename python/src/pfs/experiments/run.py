@@ -4,6 +4,7 @@ from __future__ import annotations
 import argparse
 import contextlib
 import csv
+import fcntl
 import functools
 import io
 import os
@@ -137,7 +138,22 @@ def identity(run: Row) -> Row:
     return known | times | {"instance": path_cell(run["instance"])}
 
 
+def status(args: argparse.Namespace) -> int:
+    """Writes the CSV of the runs that have ended so far, while the others go on."""
+    return 1 if any(gather(stage.started(args.csv), args.csv)) else 0
+
+
 def gather(experiment: Experiment, csv_path: str) -> tuple[int, int]:
+    """Writes the CSV, one process at a time, so that no later one has fewer runs."""
+    held = os.open(experiment.folder / "csv.lock", os.O_RDWR | os.O_CREAT | os.O_NOFOLLOW | os.O_CLOEXEC, 0o666)
+    try:
+        fcntl.flock(held, fcntl.LOCK_EX)
+        return write_csv(experiment, csv_path)
+    finally:
+        os.close(held)
+
+
+def write_csv(experiment: Experiment, csv_path: str) -> tuple[int, int]:
     """Writes the order files and the CSV of the runs that have ended. Reports and returns the numbers of runs that
     failed and that are missing."""
     folder, ended, rows, killed = experiment.folder, endings(experiment.folder), [], 0

@@ -18,8 +18,8 @@ from collections.abc import Iterator
 from typing import Any, NamedTuple
 
 from pfs._atomic import atomic_write
-from pfs.experiments import ExperimentError, one
-from pfs.experiments.plan import Row, read_plan, reference_of, rows_of
+from pfs.experiments import ExperimentError, one, plain, provenance
+from pfs.experiments.plan import Row, read_plan, reference_for, reference_of, rows_of
 
 PACKAGE = pathlib.Path(__file__).resolve().parent.parent
 # What plan.json has of a run, and a line of runs.tsv, which is made of it. An unknown value is a hyphen. The number is
@@ -88,7 +88,7 @@ def prepare(plan_path: str, csv_path: str, program: str | None) -> Experiment:
     """Prepares the folder of a plan's runs. If it exists, the experiment continues with its program, its instances and
     its runs, and new runs of the plan are added. The folder is complete if it has the file plan.json."""
     plan, top = read_plan(plan_path), os.path.dirname(os.path.abspath(plan_path))
-    reference = reference_of(os.path.join(top, plan["reference"])) if plan["reference"] else {}
+    reference = checked_reference(plan, top, plan_path) if plan["reference"] else {}
     if os.path.isdir(csv_path):
         raise ExperimentError(f"{csv_path}: Is a directory")
     folder = pathlib.Path(os.path.abspath(csv_path) + ".d")
@@ -105,11 +105,36 @@ def prepare(plan_path: str, csv_path: str, program: str | None) -> Experiment:
             if stored and stored.get(key) != plan.get(key):
                 raise ExperimentError(f"{csv_path} was started with another {key}: use another CSV")
         copy_inputs(plan, top, folder / stage_of(folder))
-        return Experiment(plan, folder, add_runs(plan, stored, top, folder, csv_path), reference)
+        experiment = Experiment(plan, folder, add_runs(plan, stored, top, folder, csv_path), reference)
+        inputs = inputs_of(plan, stored_plan(folder)["places"], top, folder / experiment.stage)
+        provenance.note_start(folder, plan, inputs)
+        if changed := provenance.changed(inputs):
+            print(plain(f"{csv_path}: changed since they were copied for its runs: {', '.join(changed)}. The copies are "
+                        f"used: to begin anew, name another CSV or delete {csv_path}.d"), file=sys.stderr, flush=True)
+        return experiment
     except BaseException:
         if not (folder / "plan.json").exists():
             shutil.rmtree(folder, ignore_errors=True)
         raise
+
+
+def checked_reference(plan: dict[str, Any], top: str, plan_path: str) -> dict[str, tuple[int, str]]:
+    """Returns the reference of a plan, which must name an instance. Reports the instances that it lacks."""
+    reference = reference_of(os.path.join(top, plan["reference"]))
+    names = [label_of(plan, name, block) for name in plan["instances"] for block in plan["blocks"]]
+    lacking = [name for name in names if reference_for(reference, name) is None]
+    if lacking == names:
+        raise ExperimentError(f"{plan_path}: the reference {plan['reference']} names none of the instances: it has "
+                              f"{next(iter(reference), 'none')}, and the plan {names[0]}")
+    if lacking:
+        print(plain(f"{plan['reference']} lacks {len(lacking)} of {len(names)} instances: {', '.join(lacking[:5])}"
+                    + (", .." if len(lacking) > 5 else "")), file=sys.stderr)
+    return reference
+
+
+def label_of(plan: dict[str, Any], name: str, block: int) -> str:
+    """Returns the name of an instance in the CSV."""
+    return name if plan["blocks"] == [1] else f"{name}:{block}"
 
 
 def lock(folder: pathlib.Path, csv_path: str) -> None:
@@ -162,6 +187,15 @@ def copy_inputs(plan: dict[str, Any], top: str, stage: pathlib.Path) -> None:
         copy(library(), stage / one.LIBRARY)
 
 
+def inputs_of(plan: dict[str, Any], places: dict[str, int], top: str, stage: pathlib.Path) -> provenance.Inputs:
+    """Returns the program, the library, the files of a command and the instances, with the copies of them. Where the
+    first two are is left out: every version of them finds the same orders."""
+    inputs = [("pfs", "", stage / "pfs"), (one.LIBRARY, "", stage / one.LIBRARY)]
+    inputs += [(name, os.path.join(top, name), stage / "files" / name) for name in plan.get("files", [])]
+    inputs += [(name, os.path.join(top, name), stage / "instances" / str(places[name])) for name in plan["instances"]]
+    return [each for each in inputs if each[2].exists()]
+
+
 def library() -> str:
     """Returns the path of the library for C that the package loads, which may be known by its name only."""
     from pfs import _library
@@ -191,8 +225,21 @@ def add_runs(plan: dict[str, Any], stored: dict[str, Any], top: str, folder: pat
         raise ExperimentError(f"{csv_path} was started with another plan, which has {what}: use another CSV, or delete "
                               f"{folder}")
     write_text(folder / "runs.tsv", table_of(listed))
-    write_text(folder / "plan.json", json.dumps({**plan, "places": places, "runs": listed}))
+    write_text(folder / "plan.json", json.dumps({**plan, "top": top, "places": places, "runs": listed}))
     return list(runs.values())
+
+
+def started(csv_path: str) -> Experiment:
+    """Returns an experiment as it was last started."""
+    folder = pathlib.Path(os.path.abspath(csv_path) + ".d")
+    plan = stored_plan(folder)
+    if not plan:
+        raise ExperimentError(f"{csv_path} was not started: {folder.name} is missing")
+    known = {key_of(run): run for run in plan["runs"]}
+    keys = map(key_of, planned_runs(plan, folder, plan["places"], {(run["file"], run["block"]): run
+                                                                 for run in plan["runs"]}))
+    reference = reference_of(os.path.join(plan["top"], plan["reference"])) if plan["reference"] else {}
+    return Experiment(plan, folder, [known[key] for key in dict.fromkeys(keys)], reference)
 
 
 def table_of(runs: list[Row]) -> str:
@@ -212,7 +259,7 @@ def planned_runs(plan: dict[str, Any], folder: pathlib.Path, places: dict[str, i
         known = listed.get((file, str(block)))
         jobs, machines = (known["jobs"], known["machines"]) if known else size_of(
             folder / stage_of(folder), "--from", plan["layout"], "--block", str(block), file)
-        label = name if plan["blocks"] == [1] else f"{name}:{block}"
+        label = label_of(plan, name, block)
         usual = "-" if jobs == "-" or not is_pfs else str(min(4, int(jobs)))
         budgets = [*map(str, plan["rounds"]), *(by_time(each, jobs, machines) for each in plan.get("time_factors", []))]
         for rounds, take, passes, seed, repetition in itertools.product(
