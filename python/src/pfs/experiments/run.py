@@ -139,7 +139,7 @@ def identity(run: Row) -> Row:
 
 
 def status(args: argparse.Namespace) -> int:
-    """Writes the CSV of the runs that have ended so far, while the others go on."""
+    """Writes the CSV of the runs that have ended so far, while the others continue."""
     return 1 if any(gather(stage.started(args.csv), args.csv)) else 0
 
 
