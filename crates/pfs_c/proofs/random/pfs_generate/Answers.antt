@@ -1,7 +1,7 @@
 use Rattle.std.proofs.Common.{◌≡◌, ap, length, sym, ◌∙◌}
 use Rattle.pfs_base.specs.Problem.{Problem}
 use Rattle.pfs_layout.specs.Generator.{generated}
-use Rattle.pfs_c.proofs.shop.pfs_generate.Goals as goal
+use Rattle.pfs_c.proofs.random.pfs_generate.Goals as goal
 
 pub copy_from_slice-requires : goal.copy_from_slice-requires
 unfolding generated

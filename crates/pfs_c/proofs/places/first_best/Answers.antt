@@ -5,7 +5,7 @@ use Rattle.pfs_insert.proofs.Published.BestPlaces.{best_place_found}
 use Rattle.pfs_c.specs.Validation.{shop_of}
 use Rattle.pfs_c.proofs.BestPlaces.{best_first}
 use Rattle.pfs_c.proofs.RowSteps.{heads_none}
-use Rattle.pfs_c.proofs.inserting.first_best.Goals as goal
+use Rattle.pfs_c.proofs.places.first_best.Goals as goal
 
 pub span_with-least-requires-clause-heads : goal.span_with-least-requires-clause-heads
 span_with-least-requires-clause-heads c =

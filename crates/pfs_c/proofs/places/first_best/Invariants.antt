@@ -2,7 +2,7 @@ use Rattle.std.proofs.Common.{◌≡◌, ◌+◌}
 use Rattle.pfs_insert.specs.Insertion.{makespan_with, IsFirstLeast}
 use Rattle.pfs_c.specs.Validation.{shop_of}
 use Rattle.pfs_c.specs.Private.Rows.{HeadsAt}
-use Rattle.pfs_c.proofs.inserting.first_best.Given as goal
+use Rattle.pfs_c.proofs.places.first_best.Given as goal
 
 abbrev pub invariant-loop-place : goal.invariant-loop-place
 invariant-loop-place l =

@@ -2,7 +2,7 @@ use Rattle.std.proofs.Common.{◌≡◌, refl, arith, rules, Err}
 use Rattle.pfs_c.specs.Many.{sequence_at}
 use Rattle.pfs_c.proofs.Jobs.{sequence_of_right}
 use Rattle.pfs_c.proofs.ManyLemmas.{each_right, one_wrong}
-use Rattle.pfs_c.proofs.many.validate_sequences.Goals as goal
+use Rattle.pfs_c.proofs.spans.validate_sequences.Goals as goal
 
 pub returns-in_err-validate_jobs-clause-validated : goal.returns-in_err-validate_jobs-clause-validated
 returns-in_err-validate_jobs-clause-validated c =

@@ -2,7 +2,7 @@ use Rattle.std.proofs.Common.{◌≡◌, ℕ, ◌<◌, get_or}
 use Rattle.pfs_base.specs.Paths.{makespan}
 use Rattle.pfs_c.specs.Validation.{shop_of}
 use Rattle.pfs_c.specs.Many.{sequence_at}
-use Rattle.pfs_c.proofs.many.fill_makespans.Given as goal
+use Rattle.pfs_c.proofs.spans.fill_makespans.Given as goal
 
 abbrev pub invariant-loop-index : goal.invariant-loop-index
 invariant-loop-index l = (k : ℕ) → k < l.index

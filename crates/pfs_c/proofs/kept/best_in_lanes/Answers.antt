@@ -1,4 +1,4 @@
-use Rattle.pfs_c.proofs.kept.best_in_tables.Goals as goal
+use Rattle.pfs_c.proofs.kept.best_in_lanes.Goals as goal
 
 pub returns-in-Short8-clause-best : goal.returns-in-Short8-clause-best
 returns-in-Short8-clause-best c =
