@@ -13,8 +13,8 @@ TOP = pathlib.Path(__file__).resolve().parent.parent
 # By what their first lines name, or by the endings of their names.
 KINDS = {"python3": "python", "sh": "shell", "bash": "shell"}
 ENDINGS = {".py": "python", ".bash": "shell", ".fish": "fish"}
-# Folders whose scripts are typed together. `bench` and `experiments` both have a script `run`.
-TYPED = [("tests/", "tools/", "experiments/"), ("bench/",)]
+# Folders whose scripts are typed together.
+TYPED = [("tests/", "tools/"), ("bench/",)]
 
 
 @functools.cache
@@ -40,8 +40,8 @@ def assert_silent(words: list[str], cwd: pathlib.Path = TOP) -> None:
 
 
 def test_scripts_are_found_by_their_first_lines() -> None:
-    assert {"experiments/one", "experiments/plan.py", "experiments/run", "tools/gantt"} <= set(scripts("python"))
-    assert {".ci/run", "experiments/taillard", "share/completions/pfs.bash", "tools/dist"} <= set(scripts("shell"))
+    assert {"python/src/pfs/_gantt.py", "tests/fuzz.py", "tools/build"} <= set(scripts("python"))
+    assert {".ci/run", "python/src/pfs/experiments/task", "share/completions/pfs.bash", "tools/dist"} <= set(scripts("shell"))
     assert scripts("zsh") == ["share/completions/_pfs", "share/completions/_pfs-tools"]
     assert scripts("fish") == ["share/completions/pfs-tools.fish", "share/completions/pfs.fish"]
 
@@ -62,18 +62,14 @@ def test_the_package_for_python_is_typed() -> None:
 
 
 @pytest.mark.seconds(20)
-@pytest.mark.parametrize("which", ["package", "scripts"])
-def test_nothing_is_used_that_the_oldest_python_lacks(which: str) -> None:
+def test_nothing_is_used_that_the_oldest_python_lacks() -> None:
     """Of what is installed, by mypy: Debian 12 has no interpreter of that version."""
     settings = (TOP / "python" / "pyproject.toml").read_text()
     [version] = re.findall(r'^requires-python = ">=(.*)"$', settings, re.MULTILINE)
     needed = re.findall(r"^X-Python3-Version: >= ([\d.]+)$", (TOP / "debian" / "control").read_text(), re.MULTILINE)
     assert needed == [version], "Debian's packages need the same version as the wheel"
-    words = [tool("mypy"), "--strict", "--scripts-are-modules", "--no-error-summary", f"--python-version={version}",
-             f"--cache-dir={TOP}/out/mypy-oldest-{which}"]
-    installed = [path for path in scripts("python") if re.match(r"experiments/|tools/gantt$|tools/[^/]*\.py$", path)]
-    words += ["src"] if which == "package" else installed
-    assert_silent(words, TOP / ("python" if which == "package" else ""))
+    assert_silent([tool("mypy"), "--strict", "--no-error-summary", f"--python-version={version}",
+                   f"--cache-dir={TOP}/out/mypy-oldest", "src"], TOP / "python")
 
 
 def test_pyflakes_finds_nothing() -> None:

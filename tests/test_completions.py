@@ -145,9 +145,9 @@ def options_of(path: str, usage: str) -> dict[str, str]:
     return dict(re.findall(r"\[?(--[\w-]+)(?: ([A-Za-z|]+))?\]?", found[1]))
 
 
-GANTT = options_of("tools/gantt", 'usage: (.*?)"""')
-EXPERIMENTS = {name: options_of(f"experiments/{name}", '^USAGE = "(.*?)"$')
-               for name in ("run", "slurm", "check", "report")}
+GANTT = options_of("python/src/pfs/_gantt.py", 'usage: (.*?)"""')
+EXPERIMENTS = {name: options_of(f"python/src/pfs/experiments/{name}.py", '^USAGE = "(.*?)"$')
+               for name in ("run", "slurm", "check", "report", "taillard")}
 # What a value of an option may be; no file where it is a number or a text.
 VALUES: dict[str, set[str]] = {
     "B": set(), "UNIT": set(), "INCHES": set(), "DPI": set(), "N": set(), "png|svg|pdf": {"png", "svg", "pdf"},

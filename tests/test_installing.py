@@ -10,13 +10,13 @@ from collections.abc import Callable
 from typing import NamedTuple
 
 import pytest
-from support.installed import (EXAMPLES, NEW, NOTES, LIBRARY, OLD, PLACES, PROGRAM, TOOLS, VERSION, Copy,
+from support.installed import (EXAMPLES, NEW, NOTES, LIBRARY, OLD, PLACES, PROGRAM, VERSION, Copy,
                                assert_runs, assert_same_files, assert_usual_modes, files_below, folders_below,
                                found_by_bash, found_by_fish, found_by_zsh, head, left_below, library_in, newest_libc,
-                               private_files, tools_of, version)
+                               private_files, version)
 from support.needs import tool
 from support.program import Program
-from support.tools import Done, csv_rows, output_of, run_tool
+from support.tools import Done, output_of, run_tool
 
 # so that the copy is made once
 pytestmark = [pytest.mark.xdist_group("installing"), pytest.mark.seconds(60)]
@@ -87,10 +87,7 @@ def test_zsh_finds_its_installed_completion(copy: Copy, folder: pathlib.Path) ->
 
 @pytest.mark.parametrize("prefix", PREFIXES)
 def test_nothing_is_left_of_an_installation(copy: Copy, folder: pathlib.Path, prefix: str) -> None:
-    """Nor of the modules that Python has compiled where root has run the tools."""
-    root, place = install(copy, prefix, folder / "a place")
-    output_of(["/usr/bin/python3", "-m", "compileall", "-q", place / "libexec"], folder)
-    assert list(place.rglob("__pycache__"))
+    root, _ = install(copy, prefix, folder / "a place")
     assert copy.make("uninstall", *variables(prefix, root)) == Done(0, "", "")
     assert not root.exists(), "the folder that DESTDIR names, which the installation has made"
 
@@ -109,7 +106,7 @@ def test_a_prefix_that_pkg_config_cannot_read_is_rejected(prefix: str, lib: str,
 
 def test_a_folder_in_the_place_of_a_file_is_reported(copy: Copy, folder: pathlib.Path) -> None:
     """Nothing is put into it."""
-    for name in ("bin/pfs", "bin/pfs-gantt", "share/man/man1/pfs.1"):
+    for name in ("bin/pfs", "share/man/man1/pfs.1"):
         (folder / name).mkdir(parents=True)
         got = copy.make("install", f"PREFIX={folder}")
         assert got.status != 0 and f"{folder}/{name}" in got.stderr, f"nothing says that {name} is a folder"
@@ -165,50 +162,6 @@ def test_taking_away_what_is_not_there_is_no_failure(copy: Copy, folder: pathlib
     assert folders_below(folder) == {"usr", "usr/local", "usr/local/bin"}
 
 
-# The tools
-
-@pytest.mark.usefixtures("matplotlib")
-def test_the_installed_gantt_draws(installed: Installed, folder: pathlib.Path) -> None:
-    (folder / "table").write_text("table 1 1\n1 0 5\nmakespan 5\n")
-    output_of(["pfs-gantt", "table", "chart.svg"], folder, env=tools_of(installed.prefix))
-    assert "<svg" in (folder / "chart.svg").read_text()
-
-
-def test_the_installed_experiments_name_their_scripts(installed: Installed, folder: pathlib.Path) -> None:
-    got = run_tool(["pfs-experiments"], folder, env=tools_of(installed.prefix))
-    wanted = sorted(path.name for path in TOOLS if path.parent.name == "experiments" and os.access(path, os.X_OK)
-                    and path.name != "one")
-    assert (got.status, got.stdout) == (2, "")
-    assert sorted(got.stderr.removeprefix("usage: pfs-experiments ").split(" ")[0].split("|")) == wanted
-
-
-def test_the_installed_experiments_find_pfs_beside_them(installed: Installed, folder: pathlib.Path) -> None:
-    """If it isn't on the path."""
-    output_of([installed.prefix / "bin" / "pfs-experiments", "taillard", "all"], folder, env={"PATH": "/usr/bin:/bin"})
-    assert len(list((folder / "all").iterdir())) == 120
-
-
-@pytest.mark.parametrize("words", ["one", "plan.py", "../tools/gantt", "taillard.csv", "no"])
-def test_what_is_no_script_of_experiments_is_refused(words: str, installed: Installed, folder: pathlib.Path) -> None:
-    got = run_tool(["pfs-experiments", words], folder, env=tools_of(installed.prefix))
-    assert (got.status, got.stdout, got.stderr.count("\n")) == (2, "", 1)
-
-
-# In one place only: it takes seconds, and the tests above find the scripts and the program in each.
-@pytest.mark.usefixtures("matplotlib")
-@pytest.mark.parametrize("installed", PREFIXES[-1:], indirect=True)
-def test_the_installed_experiments_run_and_report(installed: Installed, folder: pathlib.Path) -> None:
-    """The way of the manual page, with a smaller plan."""
-    tool("parallel")
-    (folder / "plan.toml").write_text('instances = ["all/ta00[12]"]\nrounds = [0, 5]\n')
-    # elsewhere than the program that is tested there is none
-    env = tools_of(installed.prefix) | {"HOME": str(folder)}
-    for words in ("taillard all", "run plan.toml runs.csv", "report runs.csv report"):
-        assert run_tool(["pfs-experiments", *words.split()], folder, env=env).status == 0, words
-    assert [row["status"] for row in csv_rows(folder / "runs.csv")] == ["ok"] * 4
-    assert (folder / "report" / "table.md").exists()
-
-
 # The library for C
 
 CALLER = """#include <pfs.h>
@@ -223,7 +176,8 @@ GOALS = ["install", "install-lib"]
 
 def install_library(copy: Copy, goal: str, place: pathlib.Path) -> pathlib.Path:
     with library_in(copy), private_files():
-        assert copy.make(goal, f"PREFIX={place}") == Done(0, "", "")
+        got = copy.make(goal, f"PREFIX={place}")
+    assert (got.status, got.stderr) == (0, "") and ("`make wheel`" in got.stdout) == (goal == "install")
     return place
 
 
@@ -493,8 +447,7 @@ def test_what_examples_leave_is_no_change(copy: Copy, pfs: Program, folder: path
 
 STATED = {"CHANGELOG.md": r"^## \[(\d.*?)\]", "CITATION.cff": r"^version: (.*)$",
           "lib/pfs.h": r'^#define PFS_VERSION "(.*)"$', "python/src/pfs/_version.py": r'^VERSION\b.* = "(.*)"$'}
-STATED |= dict.fromkeys(("share/pfs.1", "share/pfs.3", "share/pfs-gantt.1", "share/pfs-experiments.1",
-                         "python/pfs-plan.1"), r"^\.Os pfs (.*)$")
+STATED |= dict.fromkeys(("share/pfs.1", "share/pfs.3", *(f"python/pfs-{name}.1" for name in ("experiments", "gantt", "plan"))), r"^\.Os pfs (.*)$")
 
 
 @pytest.mark.parametrize("name", STATED)
@@ -510,7 +463,7 @@ def test_the_release_has_one_date(top: pathlib.Path) -> None:
                        re.MULTILINE)
     assert len(dates) == 1
     assert re.findall(r'^date-released: "(.*)"$', (top / "CITATION.cff").read_text(), re.MULTILINE) == dates
-    for page in (top / "share").glob("*.1"):
+    for page in (*(top / "share").glob("*.1"), *(top / "python").glob("*.1")):
         got = re.search(r"^\.Dd (\w+ \d+, \d{4})$", page.read_text(), re.MULTILINE)
         assert got and datetime.datetime.strptime(got[1], "%B %d, %Y").date().isoformat() >= dates[0], page.name
 

@@ -90,16 +90,14 @@ def extracted(made: Made, tmp_path_factory: pytest.TempPathFactory) -> pathlib.P
 
 # The fields of each package that no other one has, or not the same.
 FIELDS = {
-    "pfs": {"Depends": "libc6 (>= {libc})", "Suggests": "pfs-tools", "Section": "science", "Architecture": "amd64"},
-    "pfs-tools": {"Depends": "pfs (= {version}-1), python3:any (>= 3.10~), python3 (>= 3.11) | python3-tomli",
-                  "Recommends": "parallel, python3-matplotlib",
-                  "Suggests": "libpfs0, openssh-client, python3-scipy, rsync, slurm-client", "Section": "science",
-                  "Architecture": "all"},
+    "pfs": {"Depends": "libc6 (>= {libc})", "Suggests": "python3-pfs", "Section": "science", "Architecture": "amd64"},
     "libpfs0": {"Depends": "libc6 (>= 2.2.5)", "Section": "libs", "Architecture": "amd64", "Multi-Arch": "same"},
     "libpfs-dev": {"Depends": "libpfs0 (= {version}-1)", "Section": "libdevel", "Architecture": "amd64",
                    "Multi-Arch": "same"},
     "python3-pfs": {"Depends": f"libpfs0 (>= {VERSION}~), python3-numpy, python3:any (>= 3.10~)",
-                    "Recommends": "python3-matplotlib, python3-pandas", "Suggests": "python3-tqdm",
+                    "Recommends": "parallel, pfs, python3-matplotlib, python3-pandas, python3-scipy",
+                    "Suggests": "openssh-client, python3-tqdm, rsync, slurm-client",
+                    **dict.fromkeys(("Breaks", "Provides", "Replaces"), "pfs-tools"),
                     "Section": "python", "Architecture": "all"}}
 
 
@@ -126,7 +124,7 @@ def test_a_source_archive_makes_the_same_program_and_has_its_commit(copy: Copy, 
     shutil.copy(pfs.path, tree / PROGRAM)
     os.utime(tree / PROGRAM, (NEW, NEW))
     again = made_in(Copy(tree, copy.env), folder / "dist", GIT_CEILING_DIRECTORIES=str(folder))
-    assert sorted(again.files) == names(version(copy), ["pfs", "pfs-tools"])
+    assert sorted(again.files) == names(version(copy), ["pfs"])
     output_of(["dpkg-deb", "--extract", again.path("/pfs_"), "root"], folder)
     found = files_below(folder / "root")
     got = found.pop("usr/share/doc/pfs/PROVED").decode()
@@ -335,10 +333,11 @@ def test_the_pages_lines_unpack_the_tarball_and_remove_it(made: Made, unpacked: 
 
 DEBIAN_PAGES = {"copyright", "changelog.gz", "changelog.Debian.gz", "SHA256SUMS"}
 LIBRARIES = "usr/lib/x86_64-linux-gnu"
-DIST_INFO = f"usr/lib/python3/dist-packages/pfs-{VERSION}.dist-info/METADATA"
-# What only the packages have: Debian's script that compiles the modules for another version of Python.
-MADE = ["usr/share/doc/pfs/PROVED", "usr/share/python3/runtime.d/pfs-tools.rtupdate", "usr/bin/pfs-plan", DIST_INFO,
-        f"{LIBRARIES}/pkgconfig/pfs.pc", f"{LIBRARIES}/cmake/pfs/pfsConfigVersion.cmake"]
+DIST_INFO = f"usr/lib/python3/dist-packages/pfs-{VERSION}.dist-info/"
+# What only the packages have.
+MADE = ["usr/share/doc/pfs/PROVED", *(f"usr/bin/pfs-{name}" for name in ("experiments", "gantt", "plan")),
+        *(DIST_INFO + name for name in ("METADATA", "RECORD", "WHEEL", "entry_points.txt", "top_level.txt", "INSTALLER"))
+        , f"{LIBRARIES}/pkgconfig/pfs.pc", f"{LIBRARIES}/cmake/pfs/pfsConfigVersion.cmake"]
 
 
 def places_in_debian(copy: Copy) -> dict[str, bytes]:
@@ -347,11 +346,12 @@ def places_in_debian(copy: Copy) -> dict[str, bytes]:
               if pathlib.Path(place).name not in ("CHANGELOG.md", "LICENSE-MIT", "LICENSE-APACHE", "libpfs.so")}
     places = {path.replace("usr/lib/", f"{LIBRARIES}/").replace("zsh/site-functions", "zsh/vendor-completions"): file
               for path, file in places.items()}
-    places["usr/share/man/man1/pfs-plan.1"] = "python/pfs-plan.1"
-    modules, pages = "usr/lib/python3/dist-packages/pfs", "usr/share/doc/python3-pfs"
-    places |= {f"{modules}/_gantt.py": "tools/chart.py", f"{pages}/README.md": "python/README.md"}
-    for folder, to in (("python/src/pfs", modules), ("python/examples", f"{pages}/examples")):
-        places |= {f"{to}/{path.name}": f"{folder}/{path.name}" for path in (copy.top / folder).glob("*.*")}
+    places |= {f"usr/share/man/man1/{page.name}": f"python/{page.name}" for page in (copy.top / "python").glob("*.1")}
+    pages = "usr/share/doc/python3-pfs"
+    places |= {f"{pages}/README.md": "python/README.md"}
+    for folder, to in (("python/src/pfs", "usr/lib/python3/dist-packages/pfs"), ("python/examples", f"{pages}/examples")):
+        places |= {f"{to}/{path.relative_to(copy.top / folder)}": str(path.relative_to(copy.top))
+                   for path in (copy.top / folder).rglob("*") if path.is_file()}
     return {place: (copy.top / file).read_bytes() for place, file in places.items()
             if not place.startswith(f"{LIBRARIES}/libpfs")}
 
@@ -414,10 +414,9 @@ def test_a_package_has_these_fields(package: str, made: Made, copy: Copy, pfs: P
                                     "Maintainer": "A Tester <tester@example.org>"}
 
 
-@pytest.mark.parametrize("package", ["pfs-tools", "python3-pfs"])
-def test_compiled_modules_are_removed_with_a_package(package: str, made: Made, folder: pathlib.Path) -> None:
-    output_of(["dpkg-deb", "--control", made.path(f"/{package}_"), "control"], folder)
-    assert f"py3clean -p {package}" in (folder / "control" / "prerm").read_text()
+def test_compiled_modules_are_removed_with_the_package(made: Made, folder: pathlib.Path) -> None:
+    output_of(["dpkg-deb", "--control", made.path("/python3-pfs_"), "control"], folder)
+    assert "py3clean -p python3-pfs" in (folder / "control" / "prerm").read_text()
 
 
 @pytest.mark.seconds(20)

@@ -1,7 +1,6 @@
 """The pages that users read, against the built program. Each example of README.md, of the pages on commands and recipes
 and of the manual page is run, and must print what the page shows. The faults, exit statuses, ranges, defaults and
 limits of share/facts.toml, which the pages have in marked blocks, must be the program's."""
-import os
 import pathlib
 import re
 import shutil
@@ -86,7 +85,7 @@ EXAMPLES = {page: page_examples(page) for page in ("README.md", "docs/COMMANDS.m
 
 
 @pytest.fixture(scope="module")
-def shown(pfs: Program, tmp_path_factory: pytest.TempPathFactory) -> Callable[[Example], str]:
+def shown(pfs: Program, scripts: pathlib.Path, tmp_path_factory: pytest.TempPathFactory) -> Callable[[Example], str]:
     """What the commands of a page print, run one after the other in a folder that is empty at first, with the programs
     that an installation has."""
     printed: dict[str, dict[Example, str]] = {}
@@ -96,7 +95,7 @@ def shown(pfs: Program, tmp_path_factory: pytest.TempPathFactory) -> Callable[[E
             folder = tmp_path_factory.mktemp("page")
             (folder / ".bin").mkdir()
             shutil.copy(pfs.path, folder / ".bin" / "pfs")
-            (folder / ".bin" / "pfs-gantt").symlink_to(TOP / "tools" / "gantt")
+            (folder / ".bin" / "pfs-gantt").symlink_to(scripts / "pfs-gantt")
             printed[example.page] = {each: run_line(each.command, folder) for each in EXAMPLES[example.page]}
         return printed[example.page][example]
     return run
@@ -158,8 +157,8 @@ def test_readme_is_short() -> None:
 
 def test_the_page_on_pictures_shows_the_usage_of_gantt() -> None:
     usage = (TOP / "docs" / "PICTURES.md").read_text().partition("\n`")[2].partition("`")[0]
-    assert usage.startswith("tools/gantt ")
-    assert f"usage: {usage}\n" in (TOP / "tools" / "gantt").read_text().replace('"""', "\n")
+    assert usage.startswith("pfs-gantt ")
+    assert f"usage: {usage}\n" in (TOP / "python" / "src" / "pfs" / "_gantt.py").read_text().replace('"""', "\n")
 
 
 SLIPS = [re.findall("`([^`]+)`", typed)[0] for typed, _ in table(TROUBLESHOOTING, "Typed", "Reason")]
@@ -483,23 +482,25 @@ def test_pages_name_the_library_as_it_is_called() -> None:
 
 
 def test_the_page_of_gantt_has_its_options() -> None:
-    usage = (TOP / "tools" / "gantt").read_text().partition("usage: ")[2].partition('"""')[0]
+    usage = (TOP / "python" / "src" / "pfs" / "_gantt.py").read_text().partition("usage: ")[2].partition('"""')[0]
     options = re.findall(r"--([\w-]+)", usage)
     for macro in ("It", "Op"):
         got = re.findall(rf"^\.{macro} Fl -([\w-]+)", TOOL_PAGES["pfs-gantt"], re.MULTILINE)
         assert sorted(got) == sorted(options), f"the options of .{macro} in pfs-gantt.1"
     lines = re.findall(r"^\.Op Fl -([\w-]+)(?: Ar (\w+))?$", TOOL_PAGES["pfs-gantt"], re.MULTILINE)
     assert " ".join(f"[--{option}{' ' * bool(value)}{value}]" for option, value in lines) \
-        == usage.removeprefix("tools/gantt ").partition(" [TABLE]")[0], "the synopsis of pfs-gantt.1"
+        == usage.removeprefix("pfs-gantt ").partition(" [TABLE]")[0], "the synopsis of pfs-gantt.1"
     listed = re.findall(r"^\.It Fl -([\w-]+)(?: Ar (\w+))?$", TOOL_PAGES["pfs-gantt"], re.MULTILINE)
     assert listed == lines, "the list of the options in pfs-gantt.1"
 
 
 def test_the_page_of_experiments_has_its_scripts() -> None:
-    scripts = {path.name for path in (TOP / "experiments").iterdir() if path.is_file() and os.access(path, os.X_OK)}
+    commands = re.findall(r'^COMMANDS = \((.*)\)$', (TOP / "python" / "src" / "pfs" / "experiments" / "__main__.py").read_text(),
+                          re.MULTILINE)
+    scripts = set(re.findall(r'"(\w+)"', commands[0]))
     synopsis, listed = (re.findall(rf"^\.{macro} (\w+)$", TOOL_PAGES["pfs-experiments"], re.MULTILINE)
                         for macro in ("Cm", "It Cm"))
-    assert set(synopsis) >= set(listed) == scripts - {"one"}
+    assert set(synopsis) >= set(listed) == scripts
 
 
 @pytest.mark.parametrize("page", ["pfs", *TOOL_PAGES])

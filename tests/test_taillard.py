@@ -11,7 +11,7 @@ import tomllib
 import pytest
 from support.files import generated
 from support.program import Program, Ran
-from support.tools import Done, csv_rows, output_of, run_tool, write_script
+from support.tools import csv_rows, output_of, run_tool, write_script
 
 SIZES = [(20, 5), (20, 10), (20, 20), (50, 5), (50, 10), (50, 20), (100, 5), (100, 10), (100, 20), (200, 10),
          (200, 20), (500, 20)]
@@ -28,14 +28,14 @@ Listed = dict[str, dict[str, str]]
 @pytest.fixture(scope="module")
 def listed(top: pathlib.Path) -> Listed:
     """The rows of the list, by name."""
-    return {row["instance"]: row for row in csv_rows(top / "experiments" / "taillard.csv")}
+    return {row["instance"]: row for row in csv_rows(top / "python" / "src" / "pfs" / "taillard.csv")}
 
 
 @pytest.fixture(scope="module")
-def shops(top: pathlib.Path, pfs: Program, tmp_path_factory: pytest.TempPathFactory) -> pathlib.Path:
+def shops(scripts: pathlib.Path, pfs: Program, tmp_path_factory: pytest.TempPathFactory) -> pathlib.Path:
     """A folder with the instances."""
     folder = tmp_path_factory.mktemp("taillard")
-    output_of([top / "experiments" / "taillard", "shops", pfs.path], folder)
+    output_of([scripts / "pfs-experiments", "taillard", "--pfs", pfs.path, "shops"], folder)
     return folder / "shops"
 
 
@@ -77,22 +77,24 @@ TABLE_PASSES = [0, 1]
 
 @pytest.fixture(scope="module")
 def best_known(top: pathlib.Path) -> dict[str, int]:
-    return {row["instance"]: int(row["makespan"]) for row in csv_rows(top / "experiments" / "best_known.csv")}
+    return {row["instance"]: int(row["makespan"]) for row in csv_rows(top / "python" / "src" / "pfs" / "best_known.csv")}
 
 
-def test_a_killed_program_leaves_no_part_of_an_instance(top: pathlib.Path, folder: pathlib.Path) -> None:
+def test_a_killed_program_leaves_no_part_of_an_instance(scripts: pathlib.Path, pfs: Program,
+                                                        folder: pathlib.Path) -> None:
     """Under the name of an instance there is a whole one or none."""
-    program = write_script(folder / "pfs", "#!/bin/sh\necho half\ncase \"$*\" in *' 379008056') kill -9 $$;; esac\n")
-    got = run_tool([top / "experiments" / "taillard", "shops", program], folder)
+    program = write_script(folder / "pfs", "#!/bin/sh\ncase $* in *' 379008056') echo half; kill -9 $$;; esac\n"
+                           f"exec {pfs.path} \"$@\"\n")
+    got = run_tool([scripts / "pfs-experiments", "taillard", "--pfs", program, "shops"], folder)
     assert got.status != 0, "the script says nothing of the program that was killed"
     whole = sorted(path.name for path in (folder / "shops").iterdir() if path.suffix != ".new")
     assert whole == ["ta001"], "a part of ta002 has the name of the whole instance"
 
 
-@pytest.mark.parametrize("words", [[], ["--help"], ["a", "b", "c"]], ids=["none", "an option", "too many"])
-def test_other_words_get_the_usage(words: list[str], top: pathlib.Path, folder: pathlib.Path) -> None:
-    got = run_tool([top / "experiments" / "taillard", *words], folder)
-    assert got == Done(2, "", "usage: experiments/taillard FOLDER [PROGRAM]\n")
+@pytest.mark.parametrize("words", [[], ["a", "b"]], ids=["none", "too many"])
+def test_other_words_get_the_usage(words: list[str], scripts: pathlib.Path, folder: pathlib.Path) -> None:
+    got = run_tool([scripts / "pfs-experiments", "taillard", *words], folder)
+    assert got.status == 2 and "(usage: pfs-experiments taillard [--pfs PROGRAM] FOLDER)" in got.stderr
     assert list(folder.iterdir()) == []
 
 
@@ -112,7 +114,7 @@ def test_the_deviation_of_neh_is_the_published_one(best_known: dict[str, int], s
 
 
 def test_the_plan_of_the_tables_is_that_of_readme(top: pathlib.Path) -> None:
-    """Its instances, rounds, passes and seeds are those of the tables, and its reference the best known makespans."""
+    """Its instances, rounds, passes and seeds are those of the tables."""
     plan = tomllib.loads((top / "experiments" / "quality.toml").read_text())
     names = [name for pattern in plan["instances"] for name in NAMES
              if fnmatch.fnmatchcase(f"out/taillard/{name}", pattern)]
@@ -127,8 +129,7 @@ def test_the_plan_of_the_tables_is_that_of_readme(top: pathlib.Path) -> None:
     seed = re.search(r"iterated greedy on 10 of Taillard's instances of each size \(`--seed (\d+)`",
                      (top / "README.md").read_text())
     assert seed and plan["seeds"] == [int(seed[1])], "seeds of quality.toml and of README"
-    assert plan["reference"] == "best_known.csv", "the reference of quality.toml"
-    others = plan.keys() - {"instances", "rounds", "seeds", "reference", "passes"}
+    others = plan.keys() - {"instances", "rounds", "seeds", "passes"}
     assert others == set(), "options that are not the default ones"
 
 

@@ -26,12 +26,6 @@ WHEEL = f"pfs-{VERSION}-py3-none-linux_x86_64.whl"
 pytestmark = pytest.mark.xdist_group("wheel")
 
 
-def test_charts_of_a_checkout_are_drawn_by_the_tools_module() -> None:
-    if pathlib.Path(_library.__file__).is_relative_to(HERE):
-        drawing: str = importlib.import_module("pfs._chart")._gantt.__file__
-        assert pathlib.Path(drawing).samefile(TOP / "tools" / "chart.py")
-
-
 def run(words: list[str | pathlib.Path], cwd: pathlib.Path, **more: str) -> str:
     """What a program prints that finds neither the checkout nor its library."""
     env = {name: value for name, value in os.environ.items() if name not in ("PFS_LIBRARY", "PYTHONPATH")}
@@ -63,14 +57,14 @@ def wheel(tmp_path_factory: pytest.TempPathFactory) -> pathlib.Path:
 def test_what_a_wheel_holds(wheel: pathlib.Path) -> None:
     with zipfile.ZipFile(wheel) as archive:
         held = {name for name in archive.namelist() if ".dist-info/" not in name and ".data/" not in name}
-        sources = {path.name: path for path in (HERE / "src" / "pfs").iterdir()}
-        sources |= {"_gantt.py": TOP / "tools" / "chart.py"}
-        passed_over = {"__pycache__", _library.FILE}
-        assert held == {f"pfs/{name}" for name in sources.keys() - passed_over | {_library.FILE}}
-        for name in sources.keys() - passed_over:
-            assert sum_of(archive.read(f"pfs/{name}")) == sum_of(sources[name].read_bytes()), f"other bytes in {name}"
-        page = archive.read(f"pfs-{VERSION}.data/data/share/man/man1/pfs-plan.1")
-        assert page == (TOP / "python" / "pfs-plan.1").read_bytes()
+        sources = {str(path.relative_to(HERE / "src")): path for path in (HERE / "src").rglob("*.*")
+                   if "__pycache__" not in path.parts and path.name != _library.FILE}
+        sources["pfs/experiments/task"] = HERE / "src" / "pfs" / "experiments" / "task"
+        assert held == {*sources, f"pfs/{_library.FILE}"}
+        for name, path in sources.items():
+            assert sum_of(archive.read(name)) == sum_of(path.read_bytes()), f"other bytes in {name}"
+        for path in HERE.glob("*.1"):
+            assert archive.read(f"pfs-{VERSION}.data/data/share/man/man1/{path.name}") == path.read_bytes()
         library = pathlib.Path(_library.PATH).resolve().read_bytes()
         assert sum_of(archive.read(f"pfs/{_library.FILE}")) == sum_of(library), "another library"
 

@@ -21,19 +21,13 @@ VALUE = ["value", "--layout", "taillard"]
 TOP = pathlib.Path(__file__).resolve().parent.parent.parent
 VERSION = (TOP / "VERSION").read_text().strip()
 PAGES = ["README.md", "CHANGELOG.md", "CITATION.cff", "CONTRIBUTING.md", "SECURITY.md", "LICENSE-MIT", "LICENSE-APACHE",
-         "experiments/README.md", "experiments/taillard.csv", "experiments/best_known.csv", "lib/pfs.h"]
+         "experiments/README.md", "lib/pfs.h"]
 # Those with examples that need the program and its tools.
 EXAMPLES = ["README.md", "docs/COMMANDS.md", "docs/COOKBOOK.md"]
-# The tools, but for what is only of the repository.
-TOOLS = [path for path in (TOP / "tools" / "gantt", *sorted((TOP / "tools").glob("*.py")),
-                           *sorted((TOP / "experiments").iterdir()))
-         if path.is_file() and path.suffix in (".py", "", ".csv")]
 TOOL_NAMES = ("experiments", "gantt")
 # Where each file goes below the prefix, and which one it is.
 PLACES = {
     "bin/pfs": PROGRAM,
-    "bin/pfs-experiments": "tools/pfs-experiments",
-    "bin/pfs-gantt": "tools/gantt",
     "share/bash-completion/completions/pfs": "share/completions/pfs.bash",
     "share/zsh/site-functions/_pfs": "share/completions/_pfs",
     "share/fish/vendor_completions.d/pfs.fish": "share/completions/pfs.fish",
@@ -41,7 +35,7 @@ PLACES = {
     **{f"share/bash-completion/completions/pfs-{name}": "share/completions/pfs-tools.bash" for name in TOOL_NAMES},
     **{f"share/fish/vendor_completions.d/pfs-{name}.fish": "share/completions/pfs-tools.fish" for name in TOOL_NAMES},
     **{f"share/doc/pfs/examples/{name}": f"experiments/{name}"
-       for name in ("best_known.csv", *(path.name for path in sorted((TOP / "experiments").glob("*.toml"))))},
+       for name in (path.name for path in sorted((TOP / "experiments").glob("*.toml")))},
     **{f"share/man/man1/{page.name}": f"share/{page.name}" for page in sorted((TOP / "share").glob("*.1"))},
     **{f"share/doc/pfs/{page}": page for page in PAGES},
     **{f"share/doc/pfs/{page.relative_to(TOP)}": str(page.relative_to(TOP))
@@ -49,8 +43,6 @@ PLACES = {
                     *(TOP / "python").glob("README.md"))},
     **{f"share/doc/pfs/python/examples/{page.name}": f"python/examples/{page.name}"
        for page in sorted((TOP / "python" / "examples").glob("*.py"))},
-    **{f"libexec/pfs/{path.relative_to(TOP)}": str(path.relative_to(TOP)) for path in TOOLS},
-    **{f"libexec/pfs/{folder}/_atomic.py": "python/src/pfs/_atomic.py" for folder in ("experiments", "tools")},
 }
 # Which folders the installation has made.
 NOTES = "libexec/pfs/installed-folders"
@@ -197,8 +189,7 @@ def assert_usual_modes(folder: pathlib.Path) -> None:
     wrong = {}
     for path in (path for path in folder.rglob("*") if not path.is_symlink()):
         name, mode = f"/{path.relative_to(folder)}", path.stat().st_mode & 0o7777
-        is_script = "/libexec/" in name and not name.endswith((".py", ".csv", "/task", "installed-folders"))
-        is_run = path.is_dir() or is_script or "/bin/" in name or "/runtime.d/" in name
+        is_run = path.is_dir() or "/bin/" in name or "/runtime.d/" in name
         if mode != (0o755 if is_run else 0o644):
             wrong[name] = oct(mode)
     assert wrong == {}, "modes that aren't the usual ones"
@@ -214,8 +205,8 @@ def left_below(folder: pathlib.Path) -> list[str]:
 
 
 def tools_of(prefix: pathlib.Path) -> dict[str, str]:
-    """The environment of somebody who has installed these programs."""
-    return with_path(prefix / "bin")
+    """The environment of somebody who has installed these programs and Debian's package for Python."""
+    return with_path(prefix / "bin") | {"PYTHONPATH": f"{prefix}/lib/python3/dist-packages"}
 
 
 # Besides its texts, a call of the C library, which `libpfs0` depends on.

@@ -1,19 +1,17 @@
-"""Charts of schedules: pictures, drawn with the code of tools/gantt, and HTML pages."""
+"""Charts of schedules: pictures and HTML pages."""
 from __future__ import annotations
 
 import base64
 import hashlib
 import html
 import importlib.resources
-import importlib.util
 import json
 import logging
 import os
-import pathlib
 import re
-import sys
 from typing import TYPE_CHECKING, Any, NamedTuple
 
+from pfs import _drawing
 from pfs._atomic import atomic_write
 from pfs._calendar import Calendar, Clock
 from pfs._names import amount, shown
@@ -21,26 +19,6 @@ from pfs._validate import checked_int
 
 if TYPE_CHECKING:
     from pfs._schedule import Schedule
-
-
-def _drawing() -> Any:
-    """Import the drawing code of tools/gantt. A wheel has it as a module of the package, a checkout in tools/."""
-    try:
-        return importlib.import_module("pfs._gantt")
-    except ModuleNotFoundError:
-        path = pathlib.Path(__file__).resolve().parents[3] / "tools" / "chart.py"
-        spec = importlib.util.spec_from_file_location("pfs._gantt", path)
-        if spec is None or spec.loader is None or not path.exists():
-            raise
-        sys.modules[spec.name] = module = importlib.util.module_from_spec(spec)
-        spec.loader.exec_module(module)
-        return module
-
-
-if TYPE_CHECKING:
-    import chart as _gantt
-else:
-    _gantt = _drawing()
 
 ENDINGS = ("svg", "png", "pdf", "html")
 UNIT = "units of the instance"
@@ -78,7 +56,7 @@ def svg_of(schedule: Schedule) -> str | None:
         figure = plot(schedule, None, True, True, None)
     except ImportError:
         return None
-    picture: bytes = _gantt.picture_of(figure, "svg", _gantt.Look())
+    picture: bytes = _drawing.picture_of(figure, "svg", _drawing.Look())
     return picture.decode("utf-8")
 
 
@@ -91,7 +69,7 @@ def plot(schedule: Schedule, path: str | os.PathLike[str] | None, critical: bool
     frame = frame.checked()
     if ending == "html" and frame.ax is not None:
         raise ValueError("ax is for pictures: a page has no axes")
-    look = _gantt.Look(critical=critical, bound=shop.bound() if bound else None,
+    look = _drawing.Look(critical=critical, bound=shop.bound() if bound else None,
                        unit=shown(unit or shop.unit or UNIT), decimals=shop.decimals, width=float(frame.width),
                        dpi=frame.dpi, title=frame.title is True,
                        key=shop.job_names is not None and frame.ax is None)
@@ -99,7 +77,7 @@ def plot(schedule: Schedule, path: str | os.PathLike[str] | None, critical: bool
         look = look._replace(scale=scale_of(clock), marks=clock.marks(schedule.makespan, most_marks(look.width)))
     jobs, machines = ([shown(name) for name in names or counted(count)]
                       for names, count in ((shop.job_names, shop.jobs), (shop.machine_names, shop.machines)))
-    table = _gantt.Table([job + 1 for job in schedule.order.tolist()], schedule.starts, schedule.ends, jobs, machines)
+    table = _drawing.Table([job + 1 for job in schedule.order.tolist()], schedule.starts, schedule.ends, jobs, machines)
     if ending == "html":
         assert path is not None
         more = {"named": shop.job_names is not None, "dates": None if clock is None else dates_of(clock, schedule)}
@@ -130,7 +108,7 @@ def require_matplotlib() -> Any:
     return matplotlib
 
 
-def drawn(table: _gantt.Table, look: _gantt.Look, path: str | os.PathLike[str] | None, ending: str | None,
+def drawn(table: _drawing.Table, look: _drawing.Look, path: str | os.PathLike[str] | None, ending: str | None,
           frame: Frame) -> Any:
     """Draw the figure, and save it if there is a path. The settings of matplotlib don't change."""
     matplotlib = require_matplotlib()
@@ -138,16 +116,16 @@ def drawn(table: _gantt.Table, look: _gantt.Look, path: str | os.PathLike[str] |
     level = logger.level
     try:
         with matplotlib.rc_context():
-            figure = _gantt.new_figure(table, look)
+            figure = _drawing.new_figure(table, look)
             if frame.ax is not None:
                 figure = frame.ax.figure
-                look = look._replace(width=frame.ax.get_window_extent().width / figure.dpi + _gantt.BESIDE)
-            _gantt.draw(SingleAxes(frame.ax) if frame.ax is not None else figure, table, look)
+                look = look._replace(width=frame.ax.get_window_extent().width / figure.dpi + _drawing.BESIDE)
+            _drawing.draw(SingleAxes(frame.ax) if frame.ax is not None else figure, table, look)
             if isinstance(frame.title, str):
                 axes = frame.ax or figure.axes[0]
                 axes.set_title(shown(frame.title), parse_math=False)
             if path is not None:
-                atomic_write(path, _gantt.picture_of(figure, str(ending), look))
+                atomic_write(path, _drawing.picture_of(figure, str(ending), look))
             return figure
     finally:
         logger.setLevel(level)
@@ -170,7 +148,7 @@ def scale_of(clock: Clock) -> str:
 
 def most_marks(width: float) -> int:
     """How many dates a scale of this width has room for."""
-    return max(1, int((width - _gantt.BESIDE) / 1.1))
+    return max(1, int((width - _drawing.BESIDE) / 1.1))
 
 
 def dates_of(clock: Clock, schedule: Schedule) -> dict[str, Any]:
@@ -180,24 +158,24 @@ def dates_of(clock: Clock, schedule: Schedule) -> dict[str, Any]:
             "digits": clock.digits(schedule.starts, schedule.ends), "steps": clock.steps(), "scale": scale_of(clock)}
 
 
-def page_of(table: _gantt.Table, look: _gantt.Look, name: str, more: dict[str, Any]) -> str:
+def page_of(table: _drawing.Table, look: _drawing.Look, name: str, more: dict[str, Any]) -> str:
     """The page: one file, that asks for nothing else. Its data has more than a picture needs."""
     title = f"{table.jobs} jobs on {table.machines} machines: makespan {amount(table.makespan, look.decimals)}"
     title += f" {look.unit}" if look.unit != UNIT else ""
     title += f", bound {amount(look.bound, look.decimals)} (dashed)" if look.bound is not None else ""
     title += ", critical path outlined" if look.critical else ""
-    fills = _gantt.colours(table.order)
+    fills = _drawing.colours(table.order)
     data = {
         "jobs": [table.label(job) for job in table.order],
         "machines": list(table.machine_names),
         "starts": table.starts.T.tolist(),
         "ends": table.ends.T.tolist(),
         "fills": ["#" + "".join(f"{round(255 * part):02x}" for part in fill) for fill in fills],
-        "inks": [_gantt.ink(fill) for fill in fills],
-        "idle": _gantt.IDLE,
+        "inks": [_drawing.ink(fill) for fill in fills],
+        "idle": _drawing.IDLE,
         "makespan": table.makespan,
         "bound": look.bound,
-        "critical": _gantt.critical_path(table) if look.critical else [],
+        "critical": _drawing.critical_path(table.starts, table.ends) if look.critical else [],
         "decimals": look.decimals,
         "unit": look.unit,
         **more,

@@ -10,6 +10,7 @@ import numpy as np
 
 from pfs._atomic import atomic_write, text_cell
 from pfs._calendar import Calendar, Clock, text_of
+from pfs._drawing import critical_path
 from pfs._names import amount
 from pfs._validate import Order
 
@@ -101,15 +102,7 @@ class Schedule:
         >>> schedule.critical_path()
         [(0, 0), (0, 1), (1, 1), (2, 1)]
         """
-        place, machine = (size - 1 for size in self.starts.shape)
-        path = [(place, machine)]
-        while place or machine:
-            if place and (not machine or self.ends[place - 1, machine] == self.starts[place, machine]):
-                place -= 1
-            else:
-                machine -= 1
-            path.append((place, machine))
-        return path[::-1]
+        return critical_path(self.starts, self.ends)
 
     def idle(self) -> Order:
         """Return the idle time of each machine before each operation.

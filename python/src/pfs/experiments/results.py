@@ -8,8 +8,8 @@ import os
 import pathlib
 import re
 
-from csvs import MOST, MOST_MAKESPAN, ExperimentError, Row, parse_int
-from runs import runs_of, time_of
+from pfs.experiments.csvs import MOST, MOST_MAKESPAN, ExperimentError, Row, parse_int
+from pfs.experiments.runs import runs_of, time_of
 
 # The last line that experiments/one prints of a run, or its first six. Only a run by time has rounds there.
 RESULT = ["number", "makespan", "bound", "cells", "seconds", "status", "rounds", "left"]

@@ -13,13 +13,13 @@ import threading
 from collections.abc import Callable
 from typing import NoReturn
 
-from csvs import ExperimentError as ExperimentError
+from pfs.experiments.csvs import ExperimentError
 
 HERE = pathlib.Path(__file__).resolve().parent
-# A folder of the repository has the built program; the installed scripts are in PREFIX/libexec/pfs/experiments.
-IS_INSTALLED = HERE.parts[-3:] == ("libexec", "pfs", "experiments")
-# Where the program is searched for.
-PROGRAMS = f"{HERE.parent}/crates/pfs/out:{os.environ.get('PATH', os.defpath)}"
+# The package, which has Taillard's instances.
+DATA = HERE.parent
+# Where the program is searched for: on the path, and beside pfs-experiments.
+PROGRAMS = f"{os.environ.get('PATH', os.defpath)}:{os.path.dirname(os.path.abspath(sys.argv[0]))}"
 # Seconds after which a program that is being tested is killed.
 PATIENCE = 20.0
 # What `pfs generate 1 1 1` prints ends with this. Its first number is the one job's time.
@@ -28,7 +28,7 @@ ONE_JOB = b"\n1 1 1 0 0\nprocessing times :\n1\n"
 
 def name_of(script: str) -> str:
     """The name by which a user calls a script."""
-    return f"pfs-experiments {script}" if IS_INSTALLED else f"experiments/{script}"
+    return f"pfs-experiments {script}"
 
 
 class CommandLine(argparse.ArgumentParser):
@@ -59,7 +59,7 @@ def require_program(program: str, package: str) -> None:
 def find_pfs(program: str | None) -> str:
     """Returns the absolute path of the program, which must be pfs."""
     if program is None:
-        raise ExperimentError("pfs is not built (make run) and not on the path: pass it with --pfs")
+        raise ExperimentError("pfs is not on the path: pass it with --pfs")
     if not os.access(program, os.X_OK) or os.path.isdir(program):
         raise ExperimentError(f"{program} is not a program")
     if not prints(program, ONE_JOB):
@@ -100,12 +100,12 @@ def report_error(script: str, error: Exception) -> int:
     return 2
 
 
-def run_script(script: str, main: Callable[[], int]) -> int:
+def run_script(script: str, main: Callable[[list[str]], int], words: list[str]) -> int:
     """Runs a script, and returns its exit status. Printed file names may contain bytes that are not UTF-8."""
     for stream in (sys.stdout, sys.stderr):
         if isinstance(stream, io.TextIOWrapper):
             stream.reconfigure(errors="backslashreplace")
     try:
-        return main()
+        return main(words)
     except (ExperimentError, OSError, ImportError) as error:
         return report_error(script, error)

@@ -10,10 +10,10 @@ import textwrap
 from collections.abc import Callable
 from typing import Any, NamedTuple
 
-from commands import plain
-from reported import Run, grouped, known, names_of
-from runs import write_bytes
-from tables import size_name
+from pfs.experiments.commands import plain
+from pfs.experiments.reported import Run, grouped, known, names_of
+from pfs.experiments.runs import write_bytes
+from pfs.experiments.tables import size_name
 
 # The same runs give the same bytes on every machine. The fonts of a PDF are TrueType. No name is shown as a formula.
 SETTINGS = {"svg.fonttype": "none", "svg.hashsalt": "pfs", "pdf.fonttype": 42, "axes.grid": True, "grid.alpha": 0.3,

@@ -16,13 +16,11 @@ import sys
 from collections.abc import Iterator
 from typing import Any, NamedTuple
 
-from commands import HERE, IS_INSTALLED, find_pfs
-from csvs import ExperimentError, Row, reference_of
-from plan import read_plan
+from pfs.experiments.commands import HERE, find_pfs
+from pfs.experiments.csvs import ExperimentError, Row, reference_of
+from pfs.experiments.plan import read_plan
 
-# A module of the package for Python. Where the scripts are installed, it is in this folder.
-sys.path.append(str(HERE.parent / "python" / "src" / "pfs"))
-import _atomic  # type: ignore[import]  # noqa: E402
+from pfs import _atomic
 
 # A line of the list of runs, with tabs between the columns. An unknown value is a hyphen. The number is that of the
 # line. Rounds of a run by time are `time-FACTOR-SECONDS`.
@@ -104,7 +102,7 @@ def begin(folder: pathlib.Path, program: str) -> None:
     stage = folder / f"pfs-experiment-{secrets.token_hex(6)}"
     (stage / "instances").mkdir(parents=True)
     (folder / "results").mkdir(exist_ok=True)
-    for source, name in ((pathlib.Path(program), "pfs"), (HERE / "one", "one")):
+    for source, name in ((pathlib.Path(program), "pfs"), (HERE / "one.py", "one")):
         shutil.copy(source, stage / name)
         (stage / name).chmod(0o755)
 
@@ -123,24 +121,18 @@ def copy_inputs(plan: dict[str, Any], plan_folder: str, folder: pathlib.Path, cs
         shutil.copy(HERE / "others.py", stage)
         write_text(stage / "command.json", json.dumps({"words": plan["command"]}))
     elif "time_factors" in plan and "command" not in plan and not (stage / LIBRARY).exists():
-        for name in ("one", "timed.py"):
-            shutil.copy(HERE / name, stage)
+        shutil.copy(HERE / "one.py", stage / "one")
+        shutil.copy(HERE / "timed.py", stage)
         shutil.copy(library(), stage / f"{LIBRARY}.new")
         os.replace(stage / f"{LIBRARY}.new", stage / LIBRARY)
 
 
-def library() -> pathlib.Path:
-    """Returns the path of the library for C: the one of PFS_LIBRARY, the built one, or the installed one."""
-    if os.environ.get("PFS_LIBRARY"):
-        return pathlib.Path(os.environ["PFS_LIBRARY"])
-    places = [HERE.parent / "lib" / "out" / LIBRARY]
-    if IS_INSTALLED:
-        places = [HERE.parents[2] / "lib" / LIBRARY, *HERE.parents[2].glob(f"lib/*/{LIBRARY}")]
-    for place in places:
-        if place.exists():
-            return place
-    raise ExperimentError(f"time_factors needs the library for C, and {places[0]} is missing: run `make lib`, install "
-                          "it (Debian: libpfs0), or set PFS_LIBRARY to its path")
+def library() -> str:
+    """Returns the path of the library for C that the package loads, which may be known by its name only."""
+    from pfs import _library
+    loaded = re.search(rf"/.*{re.escape(os.path.basename(_library.PATH))}$", pathlib.Path("/proc/self/maps").read_text(),
+                       re.MULTILINE)
+    return _library.PATH if "/" in _library.PATH or loaded is None else loaded[0]
 
 
 def add_runs(plan: dict[str, Any], plan_folder: str, folder: pathlib.Path, csv_path: str) -> None:

@@ -9,7 +9,7 @@ import re
 import shlex
 from typing import Any
 
-from csvs import ExperimentError
+from pfs.experiments.csvs import ExperimentError
 
 NUMBERS = {"blocks": [1], "rounds": [0], "takes": None, "passes": [0], "seeds": [0]}
 # What pfs accepts.

@@ -1,4 +1,3 @@
-#!/usr/bin/env python3
 """Audits each order of an experiment again, with `pfs check` and the copies of the instances next to the CSV, and
 compares the output with the CSV. Prints each wrong row, and the number of orders. The exit status is 0 if the rows of
 all runs that succeeded are right."""
@@ -8,13 +7,10 @@ import pathlib
 import os
 import shutil
 import subprocess
-import sys
 
-sys.dont_write_bytecode = True
-import csvs  # noqa: E402
-import runs  # noqa: E402
-from commands import PROGRAMS, CommandLine, run_script, find_pfs, plain  # noqa: E402
-from run_csv import identity  # noqa: E402
+from pfs.experiments import csvs, runs
+from pfs.experiments.commands import PROGRAMS, CommandLine, find_pfs, plain
+from pfs.experiments.run_csv import identity
 
 USAGE = "[--pfs PROGRAM] CSV"
 NEEDED = ["instance", "rounds", "take", "passes", "seed", "repetition", "makespan", "bound", "status", "order"]
@@ -46,11 +42,11 @@ def wrong(row: csvs.Row, program: str, folder: pathlib.Path, listed: dict[tuple[
     return "" if printed == expected else f"{row['order']}: {printed or 'no output'}, but the CSV has {expected}"
 
 
-def main() -> int:
+def main(words: list[str]) -> int:
     parser = CommandLine("check", USAGE)
     parser.add_argument("--pfs", default=shutil.which("pfs", path=PROGRAMS))
     parser.add_argument("csv")
-    args = parser.parse_args()
+    args = parser.parse_args(words)
     rows = [row for row in csvs.rows_of(args.csv, NEEDED) if row["status"] == "ok"]
     folder = pathlib.Path(os.path.abspath(args.csv) + ".d")
     if not (folder / "plan.json").exists():
@@ -64,7 +60,3 @@ def main() -> int:
     count = sum(fault != "" for _, fault in faults)
     print(f"{args.csv}: {len(rows)} orders audited, {count} of them wrong")
     return 1 if count else 0
-
-
-if __name__ == "__main__":
-    sys.exit(run_script("check", main))

@@ -1,4 +1,3 @@
-#!/usr/bin/env python3
 """Runs the experiment of a plan on a Slurm cluster, as one array job, and writes the same CSV as experiments/run. It
 waits for the array. After an interruption the array continues, and the same command waits for it and makes the missing
 runs. The CSV must be in a folder that all nodes share. Options after the CSV are passed to sbatch."""
@@ -8,17 +7,13 @@ import math
 import pathlib
 import shlex
 import shutil
-import signal
 import subprocess
 import sys
 
-signal.signal(signal.SIGINT, signal.SIG_DFL)
-sys.dont_write_bytecode = True
-import results  # noqa: E402
-import runs  # noqa: E402
-from commands import HERE, PROGRAMS, CommandLine, run_script, require_program, integer_from  # noqa: E402
-from csvs import Row  # noqa: E402
-from run_csv import gather  # noqa: E402
+from pfs.experiments import results, runs
+from pfs.experiments.commands import HERE, PROGRAMS, CommandLine, require_program, integer_from
+from pfs.experiments.csvs import Row
+from pfs.experiments.run_csv import gather
 
 USAGE = "[--pfs PROGRAM] [--retry] [--tasks N] [--dry-run] PLAN CSV [option of sbatch ...]"
 # By default an array has at most this number of tasks, and each takes at least about this number of seconds.
@@ -55,7 +50,7 @@ def words_of(folder: pathlib.Path, tasks: int, options: list[str]) -> list[str]:
             "--output=slurm/%A-%a.log", *options, str(HERE / "task"), stage]
 
 
-def main() -> int:
+def main(words: list[str]) -> int:
     parser = CommandLine("slurm", USAGE, allow_abbrev=False)
     parser.add_argument("--pfs", default=shutil.which("pfs", path=PROGRAMS))
     parser.add_argument("--retry", action="store_true")
@@ -63,7 +58,7 @@ def main() -> int:
     parser.add_argument("--dry-run", action="store_true", help="print the command line of sbatch")
     parser.add_argument("plan")
     parser.add_argument("csv")
-    args, options = parser.parse_known_args()
+    args, options = parser.parse_known_args(words)
     require_program("sbatch", "slurm-client")
     experiment = runs.prepare(args.plan, args.csv, args.pfs)
     left = results.runs_to_make(experiment.folder, args.retry)
@@ -77,7 +72,3 @@ def main() -> int:
     if left:
         subprocess.run(words, cwd=experiment.folder, stdin=subprocess.DEVNULL, stdout=sys.stderr)
     return 1 if any(gather(experiment, args.csv)) else 0
-
-
-if __name__ == "__main__":
-    sys.exit(run_script("slurm", main))

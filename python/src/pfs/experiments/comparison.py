@@ -10,8 +10,8 @@ from collections.abc import Callable
 from fractions import Fraction
 from typing import Any, NamedTuple
 
-from reported import Run, grouped
-from tables import cells_of, write_tables
+from pfs.experiments.reported import Run, grouped
+from pfs.experiments.tables import cells_of, write_tables
 
 SETTING = ["method", "rounds", "take", "passes"]
 RESULT = ["instances", "won", "tied", "lost", "p", "pairs", "p_holm", "median_difference_percent", "vargha_delaney_a"]

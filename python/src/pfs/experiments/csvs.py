@@ -4,14 +4,10 @@ from __future__ import annotations
 import argparse
 import csv
 import math
-import pathlib
 import re
-import sys
 from collections.abc import Iterable
 
-# A module of the package for Python. Where the scripts are installed, it is in this folder.
-sys.path.append(str(pathlib.Path(__file__).resolve().parents[1] / "python" / "src" / "pfs"))
-import _atomic  # type: ignore[import]  # noqa: E402
+from pfs import _atomic
 
 
 class ExperimentError(Exception):

@@ -1,24 +1,19 @@
-#!/usr/bin/python3
 """Draws a Gantt chart of the time table that `pfs table` prints: a row for each machine, a colour for each job, idle
 time in grey. The table is read from the file TABLE or from standard input. The extension of PICTURE selects the format:
-SVG, PNG or PDF. Needs matplotlib (Debian: python3-matplotlib), and chart.py in the same folder.
+SVG, PNG or PDF. Needs matplotlib (Debian: python3-matplotlib).
 
-usage: tools/gantt [--critical] [--bound B] [--unit UNIT] [--width INCHES] [--dpi DPI] [--no-title] [TABLE] PICTURE"""
+usage: pfs-gantt [--critical] [--bound B] [--unit UNIT] [--width INCHES] [--dpi DPI] [--no-title] [TABLE] PICTURE"""
 from __future__ import annotations
 
 import argparse
 import importlib
 import os
-import pathlib
 import re
 import sys
 from typing import NoReturn
 
-sys.dont_write_bytecode = True
-# A module of the package for Python. Where the tools are installed, it is in this folder.
-sys.path.append(str(pathlib.Path(__file__).resolve().parent.parent / "python" / "src" / "pfs"))
-import _atomic  # type: ignore[import]  # noqa: E402
-import chart  # noqa: E402
+from pfs import _drawing as chart
+from pfs._atomic import atomic_write
 
 # The most pixels of a PNG, so that it fits into memory.
 MOST_PIXELS = 100_000_000
@@ -142,9 +137,9 @@ def draw() -> None:
     if width * height * look.dpi ** 2 > MOST_PIXELS:
         raise GanttError(f"a picture of {width:g} by {height:g} inches at {look.dpi} dots per inch has too many pixels")
     chart.draw(figure, table, look)
-    _atomic.atomic_write(args.picture, chart.picture_of(figure, extension, look))
+    atomic_write(args.picture, chart.picture_of(figure, extension, look))
     if chart.is_image(table, look):
-        print(f"gantt: {table.jobs * table.machines:,} operations are too many or too short to draw one by one: the "
+        print(f"pfs-gantt: {table.jobs * table.machines:,} operations are too many or too short to draw one by one: the "
               f"rows are an image of {look.dpi} dots per inch", file=sys.stderr)
 
 
@@ -158,10 +153,10 @@ def main() -> int:
     try:
         draw()
     except ImportError as error:
-        print(f"gantt: {error}: install NumPy and matplotlib (Debian: python3-matplotlib)", file=sys.stderr)
+        print(f"pfs-gantt: {error}: install NumPy and matplotlib (Debian: python3-matplotlib)", file=sys.stderr)
         return 2
     except (GanttError, OSError, UnicodeDecodeError) as error:
-        print(f"gantt: {shown(str(error))}", file=sys.stderr)
+        print(f"pfs-gantt: {shown(str(error))}", file=sys.stderr)
         return 2
     return 0
 

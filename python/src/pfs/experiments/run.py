@@ -1,4 +1,3 @@
-#!/usr/bin/env python3
 """Runs the experiment of a plan with GNU parallel, by default one run per core at a time, audits each order, and writes
 one CSV. After an interruption the same command continues, and it repeats the runs whose program was killed; with
 --retry it repeats all that failed. Options after the CSV are passed to GNU parallel."""
@@ -13,13 +12,9 @@ import subprocess
 import sys
 from types import FrameType
 
-signal.signal(signal.SIGINT, signal.SIG_DFL)
-sys.dont_write_bytecode = True
-import others  # noqa: E402
-import results  # noqa: E402
-import runs  # noqa: E402
-from commands import PROGRAMS, CommandLine, run_script, require_program  # noqa: E402
-from run_csv import gather  # noqa: E402
+from pfs.experiments import others, results, runs
+from pfs.experiments.commands import PROGRAMS, CommandLine, require_program
+from pfs.experiments.run_csv import gather
 
 USAGE = "[--pfs PROGRAM] [--retry] PLAN CSV [--sshloginfile FILE] [option of GNU parallel ...]"
 HEAD = "Seq\tHost\tStarttime\tJobRuntime\tSend\tReceive\tExitval\tSignal\tCommand"
@@ -63,14 +58,14 @@ def parallel(folder: pathlib.Path, words: list[str]) -> None:
     others.kill_descendants()
 
 
-def main() -> int:
+def main(words: list[str]) -> int:
     parser = CommandLine("run", USAGE, allow_abbrev=False)
     parser.add_argument("--pfs", default=shutil.which("pfs", path=PROGRAMS))
     parser.add_argument("--retry", action="store_true")
     parser.add_argument("--sshloginfile")
     parser.add_argument("plan")
     parser.add_argument("csv")
-    args, options = parser.parse_known_args()
+    args, options = parser.parse_known_args(words)
     require_program("parallel", "parallel")
     experiment = runs.prepare(args.plan, args.csv, args.pfs)
     sshloginfile = args.sshloginfile
@@ -88,7 +83,3 @@ def clear(sshloginfile: str, stage: str) -> None:
     """Removes the copies on the other machines."""
     words = ["parallel", "--plain", "--will-cite", "--sshloginfile", sshloginfile, "--nonall", f"rm -rf ~/{stage}"]
     subprocess.run(words, stdin=subprocess.DEVNULL)
-
-
-if __name__ == "__main__":
-    sys.exit(run_script("run", main))

@@ -1,6 +1,5 @@
-"""Draws a time table as a Gantt chart: a row for each machine, a colour for each job, idle time in grey. tools/gantt is
-its command line. As a module: make a `Table`, and draw it on a figure of matplotlib. Needs matplotlib, which depends on
-NumPy (Debian: python3-matplotlib)."""
+"""Draws a time table as a Gantt chart: a row for each machine, a colour for each job, idle time in grey. A `Table` is
+drawn on a figure of matplotlib. This needs matplotlib, and not the library."""
 from __future__ import annotations
 
 import importlib
@@ -96,13 +95,13 @@ def table_of(order: list[int], starts: Any, ends: Any) -> Table:
     return Table(order, numpy.asarray(starts, dtype="int64"), numpy.asarray(ends, dtype="int64"))
 
 
-def critical_path(table: Table) -> list[tuple[int, int]]:
+def critical_path(starts: Array, ends: Array) -> list[tuple[int, int]]:
     """Return the places and machines of a critical path: operations from 0 to the makespan without a wait between
-    them."""
-    place, machine = table.jobs - 1, table.machines - 1
+    them. Going back from the end, a step along the machine is preferred."""
+    place, machine = (size - 1 for size in starts.shape)
     path = [(place, machine)]
     while place or machine:
-        if place and (not machine or table.ends[place - 1, machine] == table.starts[place, machine]):
+        if place and (not machine or ends[place - 1, machine] == starts[place, machine]):
             place -= 1
         else:
             machine -= 1
@@ -322,7 +321,7 @@ def draw_bound(axis: Axis, bound: int) -> None:
 def draw_path(axis: Axis, table: Table, look: Look) -> None:
     """Outline the critical operations of each machine, which follow each other without a wait. With few jobs the line
     covers at most a quarter of the first and of the last of them, unless it would be too thin to see."""
-    for machine, group in itertools.groupby(critical_path(table), lambda operation: operation[1]):
+    for machine, group in itertools.groupby(critical_path(table.starts, table.ends), lambda operation: operation[1]):
         places = [place for place, _ in group]
         start, end = int(table.starts[places[0], machine]), int(table.ends[places[-1], machine])
         lengths = [int(table.ends[place, machine] - table.starts[place, machine]) for place in places]

@@ -7,10 +7,10 @@ import pathlib
 import re
 import sys
 
-from commands import plain
-from csvs import Row, path_cell, reference_for, text_cell
-from results import endings, keep_order, order_name, result_of
-from runs import Experiment, in_plan_order, time_of, write_text
+from pfs.experiments.commands import plain
+from pfs.experiments.csvs import Row, path_cell, reference_for, text_cell
+from pfs.experiments.results import endings, keep_order, order_name, result_of
+from pfs.experiments.runs import Experiment, in_plan_order, time_of, write_text
 
 COLUMNS = ["instance", "jobs", "machines", "rounds", "take", "passes", "seed", "repetition",
            "makespan", "bound", "gap_percent", "cells", "seconds", "status", "order", "reference", "source"]

@@ -7,10 +7,10 @@ from collections import defaultdict
 from collections.abc import Callable, Iterable
 from typing import Any, NamedTuple, TypeVar
 
-import csvs
-from csvs import ExperimentError, finite, parse_int
+from pfs.experiments import csvs
+from pfs.experiments.commands import DATA
+from pfs.experiments.csvs import ExperimentError, finite, parse_int
 
-HERE = pathlib.Path(__file__).resolve().parent
 # Greater numbers in a CSV are rejected.
 MOST_SECONDS, MOST_PERCENT = 1e12, 1e20
 
@@ -129,9 +129,9 @@ def with_deviations(runs: list[Run], reference_path: str | None) -> Reported:
 
 def best_known_of(runs: list[Run]) -> dict[str, int]:
     """Returns the best known makespans of Taillard's instances, which are recognised by their names and sizes."""
-    best = csvs.reference_of(str(HERE / "best_known.csv"))
+    best = csvs.reference_of(str(DATA / "best_known.csv"))
     sizes = {row["instance"]: (int(row["jobs"]), int(row["machines"]))
-             for row in csvs.rows_of(str(HERE / "taillard.csv"), ["instance", "jobs", "machines"])}
+             for row in csvs.rows_of(str(DATA / "taillard.csv"), ["instance", "jobs", "machines"])}
     found = {}
     for run in runs:
         name = os.path.basename(run.instance)

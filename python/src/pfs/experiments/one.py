@@ -81,7 +81,7 @@ def by_rounds(instance: list[str], rounds: str, take: str, passes: str, seed: st
 
 def by_time(instance: list[str], seconds: str, take: str, passes: str, seed: str) -> Found:
     """Searches with the library for C."""
-    import timed
+    import timed  # type: ignore[import]  # beside this file in the folder of the runs
     _, layout, *block, file = instance
     numbers = list(map(int, pfs("convert", "--from", layout, "--to", "orlib", *block, file).split()[3:]))
     jobs, machines = numbers[:2]
@@ -98,7 +98,7 @@ def by_time(instance: list[str], seconds: str, take: str, passes: str, seed: str
 def by_command(instance: list[str], seconds: str, seed: str) -> Found:
     """Searches with another program, which gets its own copy of the instance. If it prints only job numbers, the
     audit computes the makespan."""
-    import others
+    import others  # type: ignore[import]
     with open(COMMAND, encoding="utf-8") as file:
         command = json.load(file)
     values = {"block": instance[3], "seed": seed, "seconds": seconds}

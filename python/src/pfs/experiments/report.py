@@ -1,4 +1,3 @@
-#!/usr/bin/python3
 """Writes tables (Markdown, CSV and LaTeX) and plots of the CSVs of experiments or of other programs: the gap to the
 bound and the relative percentage deviation (RPD) from a reference by rounds, the RPD by seconds and by setting, and the
 time of a table cell by size. Each CSV is a method; several are compared. Runs that failed are only counted."""
@@ -10,20 +9,16 @@ import logging
 import pathlib
 import sys
 
-sys.dont_write_bytecode = True
-import comparison  # noqa: E402
-import csvs  # noqa: E402
-import plots  # noqa: E402
-import tables  # noqa: E402
-from commands import CommandLine, run_script, name_of, plain  # noqa: E402
-from reported import read  # noqa: E402
+from pfs.experiments import comparison, csvs, plots, tables
+from pfs.experiments.commands import CommandLine, name_of, plain
+from pfs.experiments.reported import read
 
 USAGE = "[--format png|svg|pdf] [--reference CSV] [--width INCHES] [--dpi DPI] [--no-title] CSV ... FOLDER"
 # The most pairs of methods without a common instance that are reported.
 MOST_UNRELATED = 5
 
 
-def parse_args() -> argparse.Namespace:
+def parse_args(words: list[str]) -> argparse.Namespace:
     parser = CommandLine("report", USAGE)
     parser.add_argument("--format", choices=("png", "svg", "pdf"), default="png")
     parser.add_argument("--reference", help="a CSV with instance, makespan and source")
@@ -32,15 +27,15 @@ def parse_args() -> argparse.Namespace:
     parser.add_argument("--no-title", action="store_true")
     parser.add_argument("csv", nargs="+")
     parser.add_argument("folder")
-    return parser.parse_args()
+    return parser.parse_args(words)
 
 
 def warn(text: str) -> None:
     print(plain(f"{name_of('report')}: {text}"), file=sys.stderr)
 
 
-def main() -> int:
-    args = parse_args()
+def main(words: list[str]) -> int:
+    args = parse_args(words)
     logging.getLogger("matplotlib").setLevel(logging.ERROR)
     importlib.import_module("matplotlib")
     reported = read(args.csv, args.reference)
@@ -60,7 +55,3 @@ def main() -> int:
     for name in shown:
         print((folder / name).read_text(encoding="utf-8"), end="")
     return 0
-
-
-if __name__ == "__main__":
-    sys.exit(run_script("report", main))

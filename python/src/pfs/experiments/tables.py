@@ -9,10 +9,10 @@ import statistics
 from collections.abc import Iterable
 from typing import Any
 
-from commands import plain
-from csvs import text_cell
-from reported import Reported, Run, grouped, known, names_of
-from runs import write_text
+from pfs.experiments.commands import plain
+from pfs.experiments.csvs import text_cell
+from pfs.experiments.reported import Reported, Run, grouped, known, names_of
+from pfs.experiments.runs import write_text
 
 GROUP = ["method", "jobs", "machines", "rounds", "take", "passes"]
 VALUES = ["runs", "failed", "mean_rpd_percent", "greatest_rpd_percent", "mean_gap_percent", "greatest_gap_percent",
