@@ -35,8 +35,8 @@ def installed(libpfs: Library, tmp_path_factory: pytest.TempPathFactory) -> path
     for folder in ("include", "lib/pkgconfig"):
         (prefix / folder).mkdir(parents=True)
     shutil.copy(HEADER, prefix / "include")
-    shutil.copy(libpfs.path, prefix / "lib" / "libpfs.so.0")
-    (prefix / "lib" / "libpfs.so").symlink_to("libpfs.so.0")
+    shutil.copy(libpfs.path, prefix / "lib" / "libpfs.so.1")
+    (prefix / "lib" / "libpfs.so").symlink_to("libpfs.so.1")
     lines = {"prefix=.*": f"prefix={prefix}", "libdir=.*": "libdir=${prefix}/lib", "Version:.*": f"Version: {VERSION}"}
     text = HEADER.with_name("pfs.pc.in").read_text()
     for line, filled in lines.items():

@@ -596,7 +596,7 @@ def started(*words):
 
 def timed_by(top: pathlib.Path, libpfs: Library, folder: pathlib.Path, code: str) -> str:
     for path in (EXPERIMENTS / "timed.py", libpfs.path):
-        shutil.copy(path, folder / path.name.replace(libpfs.path.name, "libpfs.so.0"))
+        shutil.copy(path, folder / path.name.replace(libpfs.path.name, "libpfs.so.1"))
     return output_of(["/usr/bin/python3", "-c", CLOCK + code], folder)
 
 

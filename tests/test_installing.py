@@ -195,7 +195,7 @@ def test_the_librarys_installation_has_these_files(with_library: pathlib.Path, c
     with library_in(copy):
         assert_same_files(found, {place: (copy.top / file).read_bytes() for place, file in LIBRARY.items()})
     assert f"prefix={with_library}\n" in config and f"\nVersion: {VERSION}\n" in config and "@" not in config
-    assert os.readlink(with_library / "lib" / "libpfs.so") == "libpfs.so.0"
+    assert os.readlink(with_library / "lib" / "libpfs.so") == "libpfs.so.1"
     assert_usual_modes(with_library)
     assert set(files_below(with_library)) >= set(PLACES) or not (with_library / "bin").exists()
 

@@ -91,10 +91,10 @@ def extracted(made: Made, tmp_path_factory: pytest.TempPathFactory) -> pathlib.P
 # The fields of each package that no other one has, or not the same.
 FIELDS = {
     "pfs": {"Depends": "libc6 (>= {libc})", "Suggests": "python3-pfs", "Section": "science", "Architecture": "amd64"},
-    "libpfs0": {"Depends": "libc6 (>= 2.2.5)", "Section": "libs", "Architecture": "amd64", "Multi-Arch": "same"},
-    "libpfs-dev": {"Depends": "libpfs0 (= {version}-1)", "Section": "libdevel", "Architecture": "amd64",
+    "libpfs1": {"Depends": "libc6 (>= 2.2.5)", "Section": "libs", "Architecture": "amd64", "Multi-Arch": "same"},
+    "libpfs-dev": {"Depends": "libpfs1 (= {version}-1)", "Section": "libdevel", "Architecture": "amd64",
                    "Multi-Arch": "same"},
-    "python3-pfs": {"Depends": f"libpfs0 (>= {VERSION}~), python3-numpy, python3:any (>= 3.10~)",
+    "python3-pfs": {"Depends": f"libpfs1 (>= {VERSION}~), python3-numpy, python3:any (>= 3.10~)",
                     "Recommends": "parallel, pfs, python3-matplotlib, python3-pandas, python3-scipy",
                     "Suggests": "openssh-client, python3-tqdm, rsync, slurm-client",
                     **dict.fromkeys(("Breaks", "Provides", "Replaces"), "pfs-tools"),
@@ -364,7 +364,7 @@ def test_the_packages_have_their_files_where_debian_looks(extracted: pathlib.Pat
     output_of(["strip", "--remove-section=.comment", "--remove-section=.note", "stripped"], folder)
     wanted = places_in_debian(copy) | {"usr/bin/pfs": (folder / "stripped").read_bytes()}
     found = files_below(extracted)
-    for path in (*MADE, f"{LIBRARIES}/libpfs.a", f"{LIBRARIES}/libpfs.so", f"{LIBRARIES}/libpfs.so.0"):
+    for path in (*MADE, f"{LIBRARIES}/libpfs.a", f"{LIBRARIES}/libpfs.so", f"{LIBRARIES}/libpfs.so.1"):
         del found[path]
     for package in FIELDS:
         pages = {name: found.pop(f"usr/share/doc/{package}/{name}") for name in DEBIAN_PAGES}
@@ -382,9 +382,9 @@ def test_the_packages_have_their_files_where_debian_looks(extracted: pathlib.Pat
 def test_the_librarys_packages_are_for_this_machine(extracted: pathlib.Path, made: Made, folder: pathlib.Path) -> None:
     """The files of pkg-config and CMake name Debian's folders, and Debian's tools know the library."""
     assert "prefix=/usr\nlibdir=${prefix}/lib/x86_64-linux-gnu\n" in (extracted / MADE[4]).read_text()
-    assert os.readlink(extracted / LIBRARIES / "libpfs.so") == "libpfs.so.0"
-    output_of(["dpkg-deb", "--control", made.path("/libpfs0_"), "control"], folder)
-    assert (folder / "control" / "shlibs").read_text() == f"libpfs 0 libpfs0 (>= {VERSION}~)\n"
+    assert os.readlink(extracted / LIBRARIES / "libpfs.so") == "libpfs.so.1"
+    output_of(["dpkg-deb", "--control", made.path("/libpfs1_"), "control"], folder)
+    assert (folder / "control" / "shlibs").read_text() == f"libpfs 1 libpfs1 (>= {VERSION}~)\n"
     assert "activate-noawait ldconfig\n" in (folder / "control" / "triggers").read_text()
 
 

@@ -67,7 +67,7 @@ def touching(tmp_path_factory: pytest.TempPathFactory) -> dict[str, str]:
         pytest.skip("gcc isn't installed (Debian: gcc)")
     folder = tmp_path_factory.mktemp("touching")
     (folder / "touching.c").write_text(HEAD + "".join(functions()))
-    library = folder / "libpfs.so.0"
+    library = folder / "libpfs.so.1"
     subprocess.run(["gcc", *FLAGS, "-Wall", "-Werror", f"-I{TOP / 'lib'}", "-o", library, folder / "touching.c"],
                    check=True)
     asan = subprocess.run(["gcc", "-print-file-name=libasan.so"], capture_output=True, text=True).stdout.strip()

@@ -47,8 +47,8 @@ PLACES = {
 # Which folders the installation has made.
 NOTES = "libexec/pfs/installed-folders"
 # What the library's installation has besides links.
-LIBRARY = {"lib/libpfs.a": "lib/out/libpfs.a", "lib/libpfs.so.0": "lib/out/libpfs.so.0",
-           "lib/libpfs.so": "lib/out/libpfs.so.0", "include/pfs.h": "lib/pfs.h",
+LIBRARY = {"lib/libpfs.a": "lib/out/libpfs.a", "lib/libpfs.so.1": "lib/out/libpfs.so.1",
+           "lib/libpfs.so": "lib/out/libpfs.so.1", "include/pfs.h": "lib/pfs.h",
            "lib/cmake/pfs/pfsConfig.cmake": "lib/pfsConfig.cmake", "share/man/man3/pfs.3": "share/pfs.3"}
 COPIED = [".gitattributes", "CHANGELOG.md", "CITATION.cff", "CONTRIBUTING.md", "HANDLES", "LICENSE-APACHE",
           "LICENSE-MIT", "Makefile", "README.md", "SECURITY.md", "VERSION", "crates", "crates.txt", "debian", "docs",
@@ -209,7 +209,7 @@ def tools_of(prefix: pathlib.Path) -> dict[str, str]:
     return with_path(prefix / "bin") | {"PYTHONPATH": f"{prefix}/lib/python3/dist-packages"}
 
 
-# Besides its texts, a call of the C library, which `libpfs0` depends on.
+# Besides its texts, a call of the C library, which `libpfs1` depends on.
 CALL = "int puts(const char *); int pfs_call(void) { return puts(\"\"); }\n"
 
 
@@ -224,7 +224,7 @@ def library_in(copy: Copy) -> Iterator[None]:
     try:
         for words in (["cc", "-fPIC", "-c", "lib/pfs_text.c", "-o", objects[0]],
                       ["cc", "-fPIC", "-c", "lib/out/call.c", "-o", objects[1]],
-                      ["cc", "-shared", "-Wl,-soname,libpfs.so.0", "-o", "lib/out/libpfs.so.0", *objects],
+                      ["cc", "-shared", "-Wl,-soname,libpfs.so.1", "-o", "lib/out/libpfs.so.1", *objects],
                       ["ar", "rcD", "lib/out/libpfs.a", *objects]):
             output_of(words, copy.top)
         yield

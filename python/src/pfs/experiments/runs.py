@@ -26,7 +26,7 @@ from pfs import _atomic
 # line. Rounds of a run by time are `time-FACTOR-SECONDS`.
 RUN = ["number", "file", "layout", "block", "rounds", "take", "passes", "seed", "repetition", "jobs", "machines",
        "instance"]
-LIBRARY = "libpfs.so.0"
+LIBRARY = "libpfs.so.1"
 Key = tuple[str, ...]
 # The columns that identify a run. A run that is twice in a plan has two lines.
 KEY = ["file", "block", "rounds", "take", "passes", "seed", "repetition"]

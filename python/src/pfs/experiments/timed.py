@@ -9,7 +9,7 @@ from collections.abc import Iterator
 from typing import NamedTuple
 
 HERE = os.path.dirname(os.path.abspath(__file__))
-LIBRARY = "libpfs.so.0"
+LIBRARY = "libpfs.so.1"
 # A seed has this number of rounds. A longer search continues with rounds of the next seed, which is greater by STEP.
 MOST_ROUNDS, STEP = 1_000_000, 0x9E3779B97F4A7C15
 # About how many seconds a part takes, and the greatest ratio of its rounds to those of the part before it.
