@@ -43,6 +43,7 @@ static void touch(const volatile void *memory, size_t size, int is_output) {
 
 const char *pfs_version(void) { return REAL(pfs_version)(); }
 const char *pfs_message(int number) { return REAL(pfs_message)(number); }
+void pfs_release(struct pfs_instance *instance) { REAL(pfs_release)(instance); }
 """
 
 
@@ -94,8 +95,8 @@ import ctypes
 import numpy
 from pfs import _library
 times = numpy.full({size}, 1, numpy.uint32)
-span = ctypes.c_uint64()
-print(_library.library.pfs_bound(times.ctypes.data, 200, 20, 10, ctypes.byref(span)), flush=True)
+handle = _library.Handle()
+print(_library.library.pfs_prepare(times.ctypes.data, 200, 20, 10, ctypes.byref(handle)), flush=True)
 """
 
 

@@ -46,7 +46,7 @@ def ready():
 
 def typed():
     place, makespan = c_size_t(), c_uint64()
-    _library.library.pfs_insert(*shop._arguments, own, 19, job, byref(place), byref(makespan))
+    _library.library.pfs_insert(shop._ready().address, own, 19, job, byref(place), byref(makespan))
     return pfs.Place(place.value, makespan.value)
 
 assert typed() == ready()

@@ -1,5 +1,5 @@
 //! Passes over a list of jobs.
-ghost use Rattle.std.specs.Prelude.{◌≡◌, ◌+◌, ◌<◌, ◌≤◌, ℕ, filter, insert, not, nat_eq, All, Contains};
+ghost use Rattle.std.specs.Prelude.{◌≡◌, ◌<◌, ◌≤◌, ℕ, length, filter, insert, slice_index, not, nat_eq, All, Contains};
 ghost use Rattle.std.specs.Prelude.{vec_len, vec_capacity};
 ghost use Rattle.pfs_order.specs.Sequence.{IsSequence};
 ghost use Rattle.pfs_search.specs.Greedy.{moved};
@@ -60,8 +60,21 @@ fn take_out(jobs: &mut Vec<u32>, job: u32)
     ensures absent { Contains jobs.new.items job → ⊥ }
     ensures capacity { vec_capacity jobs.new ≡ vec_capacity jobs.old }
 {
-    if let Some(place) = jobs.iter().position(|other| *other == job) {
+    if jobs.contains(&job) {
+        let place = place_of(jobs, job);
         jobs.remove(place);
+    }
+}
+
+// The place of a job that a list contains.
+fn place_of(jobs: &[u32], job: u32) -> usize
+    requires { Contains jobs.now job }
+    ensures within { result < length jobs.now }
+    ensures job { slice_index jobs.now result ≡ job }
+{
+    match jobs.iter().position(|other| *other == job) {
+        Some(place) => place,
+        None => unreachable!(),
     }
 }
 

@@ -14,7 +14,7 @@ from pfs import _search
 from pfs._atomic import atomic_write
 from pfs._bounds import bound_by_pairs
 from pfs._faults import Interrupted
-from pfs._library import LENGTHS, SHORT, Prepared, library
+from pfs._library import LENGTHS, SHORT, Prepared
 from pfs._names import frame_names, is_frame, names_of
 from pfs._schedule import Schedule
 from pfs._search import Progress, Search, Stop
@@ -173,7 +173,7 @@ class Instance:
         """Call a function of the library on the prepared instance, and return its number."""
         prepared = self._ready()
         with prepared.lock:
-            number: int = getattr(library, name)(prepared.address, *arguments)
+            number: int = getattr(c.library, name)(prepared.address, *arguments)
         return number
 
     def job_name(self, job: int) -> str:

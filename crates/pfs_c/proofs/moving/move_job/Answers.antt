@@ -1,7 +1,5 @@
-use Rattle.std.proofs.Common.{◌≡◌, ◌<◌, ◌≤◌, IsTrue, length, insert, vec_len, ap, sym, ◌∙◌, arith}
-use Rattle.pfs_base.specs.FlowShop.{FlowShop}
+use Rattle.std.proofs.Common.{insert, ap, ◌∙◌, arith}
 use Rattle.pfs_insert.specs.Insertion.{with_job}
-use Rattle.pfs_order.specs.Sequence.{IsSequence}
 use Rattle.pfs_order.proofs.Published.Sequences.{IsSequence-insert, length-lt-size}
 use Rattle.pfs_c.proofs.moving.move_job.Goals as goal
 
@@ -27,5 +25,5 @@ returns-clause-jobs c =
 pub returns-clause-sequence : goal.returns-clause-sequence
 returns-clause-sequence c =
     let rest = c.take_out.ensures.sequence c.args.tables.now.jobs c.requires.sequence in
-    rw (c.put_in_room.ensures.items, c.best-best.ensures.shop) (IsSequence-insert c.args.tables.now.jobs c.best-best.result.place c.args.job
+    rw c.put_in_room.ensures.items (IsSequence-insert c.args.tables.now.jobs c.best-best.result.place c.args.job
     c.take_out.new.jobs.items c.requires.small c.take_out.ensures.absent rest)
