@@ -8,4 +8,4 @@ short_lanes-requires c =
       c.times-times.ensures.value,
       c.jobs-jobs.ensures.value,
       c.machines-machines.ensures.value,
-    ) served
+    ) (record { served = served })
