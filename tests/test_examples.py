@@ -179,7 +179,7 @@ def test_an_own_search_reports_failed_allocations(built: pathlib.Path, shop: pat
         if ran != right:
             assert (ran.stdout, ran.status) == (b"", 4 if b"cannot open" in ran.stderr else 2), f"allocation {growth}"
             failed.add(ran.stderr)
-    assert right.status == 0 and b"own_search: search: memory allocation failed\n" in failed
+    assert right.status == 0 and b"own_search: shop: memory allocation failed\n" in failed
     assert all(re.fullmatch(rb"own_search: (shop: cannot open|\w+: memory allocation failed)\n", line)
                for line in failed), failed
 

@@ -5,13 +5,14 @@ import ctypes
 import pathlib
 import re
 import subprocess
+from collections.abc import Callable
 from random import Random
 
 import fuzz
 import pytest
 from support import second_library, second_program
 from support.growths import Shim
-from support.library import (HEADER, SUPPORT, Library, Memory, Number, compile_quietly, compiled, list32,
+from support.library import (HEADER, SUPPORT, Answer, Library, Memory, Number, compile_quietly, compiled, list32,
                              list64, read32, text, u32s, u64s)
 from support.needs import tool
 from support.program import Program, Ran
@@ -30,11 +31,9 @@ NAMES = {f"pfs_{name}" for name in FUNCTIONS} | TEXTS
 # The words of library_calls: the functions, and calls on larger instances, which use other tables.
 NAMED = [*QUIET, *LOUD, *OTHERS, "prepare", "prepare_again", "prepare_lanes", "prepare_rows",
          "insert_lanes", "insert_rows"]
-ALL_CALLS = Ran(b"COUNTED calls, 0 failures\n", b"", 0)
+ALL_CALLS = Ran(b"173 calls, 0 failures\n", b"", 0)
 LONG_CALLS = Ran(b"4 calls, 0 failures\n", b"", 0)
-# The number of the first allocation of a call, after those of the calling program. No call makes more than
-# MOST_GROWTHS.
-FIRST_GROWTH = 3
+# No call makes as many allocations.
 MOST_GROWTHS = 200
 SHOPS = 200
 FILES = 1_000
@@ -304,7 +303,7 @@ def test_an_insertion_allocates_nothing_on_large_instances(calls: Program, shim:
 def allocations(calls: Program, shim: Shim, folder: pathlib.Path, name: str) -> int:
     """The number of allocations of a call, each of which was made to fail in the first and in the second of two."""
     got = []
-    for growth in range(FIRST_GROWTH, MOST_GROWTHS):
+    for growth in range(1, MOST_GROWTHS):
         ran, is_refused = shim.run_refused(calls, [name], folder, b"", growth)
         if not is_refused:
             break
@@ -439,9 +438,15 @@ def is_quick(name: str, arguments: Arguments) -> bool:
 
 def assert_same(libpfs: Library, name: str, arguments: Arguments) -> int:
     """Both libraries return the same number and leave the same bytes in all memory. Returns the number."""
-    answer = libpfs.call(name, *arguments)
-    assert answer == second_library.call(name, *arguments), (name, arguments)
+    answer, due = (named(library, name, arguments) for library in (libpfs.call, second_library.call))
+    assert answer == due, (name, arguments)
     return answer.number
+
+
+def named(call: Callable[..., Answer], name: str, arguments: Arguments) -> Answer:
+    """What a call returns, without the bytes after the last field of a `struct pfs_block`."""
+    number, memory = call(name, *arguments)
+    return Answer(number, [memory[0], memory[1][:28], *memory[2:]] if name == "pfs_read" else memory)
 
 
 @pytest.mark.quick

@@ -10,6 +10,7 @@
 #define _POSIX_C_SOURCE 200809L
 #include <limits.h>
 #include <pthread.h>
+#include <stddef.h>
 #include <stdio.h>
 #include <stdlib.h>
 #include <string.h>
@@ -54,9 +55,18 @@ static void fail(const char *what, int number) {
     printf("%s %d\n", what, number);
 }
 
+/* Nothing is said of the bytes after the last field of a block. */
+static void forget_padding(void) {
+    struct pfs_block *blocks[] = {&out.block, &due.block};
+    for (size_t at = 0; at < COUNT(blocks); ++at)
+        memset((char *)(&blocks[at]->notes + 1), PATTERN, sizeof *blocks[at] - offsetof(struct pfs_block, notes)
+                                                              - sizeof blocks[at]->notes);
+}
+
 /* Checks a call, which should have returned `number`, and fills the outputs with the pattern again. */
 static void check(int line, int number, int returned) {
     ++calls;
+    forget_padding();
     if (returned >= 0 && returned < (int)COUNT(seen))
         seen[returned] = 1;
     if (returned != number || held.before != PATTERN || held.after != PATTERN || memcmp(&out, &due, sizeof out) != 0) {
@@ -375,6 +385,7 @@ static void tell(const char *name) {
     if (number == PFS_OK && !IS("prepare_again"))
         number = call_named(name);
     pfs_release(shop);
+    forget_padding();
     if (number == PFS_MEMORY)
         memset(&due, PATTERN, sizeof due);
     if (number == PFS_MEMORY && IS("rounds") && out.list[0] == 0)
