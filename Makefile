@@ -9,11 +9,11 @@
 ##                 (and that below DESTDIR), and the library for C if `make lib` has built it. It proves and builds the
 ##                 program first if it is missing or older than a source. The package for Python is apart: make wheel
 ## make install-lib  installs the library for C alone. It proves and builds it first
-## make uninstall  removes what these two have installed, and the folders that they made
+## make uninstall  removes what these two have installed
 ## make docs       one site of the pages, the package for Python and the library's header: out/site/index.html
-## make dist       a tarball and Debian packages for machines without the kit, in the folder DIST (needs the kit,
-##                 dpkg-deb and binutils), with the library's packages if it is built; SIGN=KEY signs their sums
-## make wheel      a wheel of the package for Python with the built library, in the folder DIST (needs python3-build)
+## make dist       a tarball, Debian packages and a wheel for machines without the kit, in the folder DIST, with an SPDX
+##                 list and sums, which SIGN=KEY signs. It proves and builds the program and the library first
+## make wheel      the wheel of the package for Python alone, in the folder DIST
 ## make taillard   writes Taillard's 120 instances into experiments/out/taillard
 .PHONY: help try run check test fuzz install uninstall docs dist wheel taillard
 MINUTES = 5
@@ -25,7 +25,7 @@ LIB = lib
 ZSH = share/zsh/site-functions
 PROGRAM = crates/pfs/out/pfs
 LIBRARY = lib/out/libpfs.so.1
-PLANS = example.toml quality.toml
+PLANS = $(notdir $(wildcard experiments/*.toml))
 PACKAGE = PYTHONPATH=python/src /usr/bin/python3 -B -m
 
 define newline
@@ -36,14 +36,9 @@ endef
 define PROGRAM_FILES
 $(PROGRAM) bin/pfs
 share/pfs.1 share/man/man1/pfs.1
-share/completions/pfs.bash share/bash-completion/completions/pfs
-share/completions/pfs-tools.bash share/bash-completion/completions/pfs-gantt
-share/completions/pfs-tools.bash share/bash-completion/completions/pfs-experiments
-share/completions/_pfs $(ZSH)/_pfs
-share/completions/_pfs-tools $(ZSH)/_pfs-tools
-share/completions/pfs.fish share/fish/vendor_completions.d/pfs.fish
-share/completions/pfs-tools.fish share/fish/vendor_completions.d/pfs-gantt.fish
-share/completions/pfs-tools.fish share/fish/vendor_completions.d/pfs-experiments.fish
+share/pfs.bash $(ZSH)/_pfs
+$(foreach name,pfs pfs-plan pfs-gantt pfs-experiments,\
+    share/pfs.bash share/bash-completion/completions/$(name)$(newline))
 $(foreach name,$(PAGES),$(name) share/doc/pfs/$(name)$(newline))
 $(foreach name,$(PLANS),experiments/$(name) share/doc/pfs/examples/$(name)$(newline))
 endef
@@ -112,11 +107,11 @@ uninstall:
 docs:
 	tools/site/build
 
-dist: $(PROGRAM) $(BUILT_LIBRARY)
+dist: $(PROGRAM) $(LIBRARY)
 	tools/dist "$(DIST)"
 
-wheel:
-	tools/wheel "$(DIST)"
+wheel: $(LIBRARY)
+	tools/dist wheel "$(DIST)"
 
 taillard: $(PROGRAM)
 	$(PACKAGE) pfs.experiments taillard --pfs $(PROGRAM) experiments/out/taillard

@@ -12,7 +12,7 @@ from support.tree import files_below
 TOP = pathlib.Path(__file__).resolve().parent.parent
 # By what their first lines name, or by the endings of their names.
 KINDS = {"python3": "python", "sh": "shell", "bash": "shell"}
-ENDINGS = {".py": "python", ".bash": "shell", ".fish": "fish"}
+ENDINGS = {".py": "python", ".bash": "shell"}
 # Folders whose scripts are typed together.
 TYPED = [("tests/", "tools/"), ("bench/",)]
 
@@ -27,9 +27,7 @@ def kind_of(path: pathlib.Path) -> str:
     with open(path, "rb") as file:
         first = file.readline(200).decode(errors="replace")
     called = re.match(r"#!\S*/(?:env )?(\w+)\n", first)
-    if called:
-        return KINDS.get(called[1], "")
-    return "zsh" if first.startswith("#compdef ") else ENDINGS.get(path.suffix, "")
+    return KINDS.get(called[1], "") if called else ENDINGS.get(path.suffix, "")
 
 
 def assert_silent(words: list[str], cwd: pathlib.Path = TOP) -> None:
@@ -41,9 +39,7 @@ def assert_silent(words: list[str], cwd: pathlib.Path = TOP) -> None:
 
 def test_scripts_are_found_by_their_first_lines() -> None:
     assert {"python/src/pfs/_gantt.py", "tests/fuzz.py", "tools/build"} <= set(scripts("python"))
-    assert {".ci/run", "python/src/pfs/experiments/task", "share/completions/pfs.bash", "tools/dist"} <= set(scripts("shell"))
-    assert scripts("zsh") == ["share/completions/_pfs", "share/completions/_pfs-tools"]
-    assert scripts("fish") == ["share/completions/pfs-tools.fish", "share/completions/pfs.fish"]
+    assert {".ci/run", "share/pfs.bash", "tools/install"} <= set(scripts("shell"))
 
 
 @pytest.mark.seconds(20)
@@ -79,11 +75,6 @@ def test_pyflakes_finds_nothing() -> None:
 @pytest.mark.parametrize("path", scripts("shell"))
 def test_shellcheck_finds_nothing(path: str) -> None:
     assert_silent([tool("shellcheck"), path])
-
-
-@pytest.mark.parametrize(("shell", "path"), [(shell, path) for shell in ("zsh", "fish") for path in scripts(shell)])
-def test_a_shell_reads_its_completion(shell: str, path: str) -> None:
-    assert_silent([tool(shell), "-n", path])
 
 
 # The rules of the editors

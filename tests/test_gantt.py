@@ -24,7 +24,7 @@ THREE = "table 3 2\n2 0 2 2 7\n1 2 5 7 9\n3 5 9 9 10\nmakespan 10\n"
 IDLE = "#d9d9d9"
 # The size of the letters on bars, and in these sizes how far below its middle the base line of a digit is, and how
 # wide a digit is.
-LETTERS, BELOW_MIDDLE, DIGIT = 8, 0.36, 0.636
+LETTERS, SMALL, BELOW_MIDDLE, DIGIT = 8, 7, 0.36, 0.636
 BEGINNINGS = {"svg": b"<?xml", "png": b"\x89PNG\r\n", "pdf": b"%PDF-"}
 
 # Start and end of each operation, by place in the order and by machine.
@@ -275,7 +275,7 @@ def colours_in_turn(case: Case, picture: Picture) -> list[str]:
     return [fill for job in case.order for fill in found.get(job, ())]
 
 
-PAGE = (pathlib.Path(__file__).resolve().parent.parent / "docs" / "PICTURES.md").read_text()
+PAGE = (pathlib.Path(__file__).resolve().parent.parent / "docs" / "COOKBOOK.md").read_text()
 
 
 # How much the colours of jobs differ, as the page says.
@@ -373,24 +373,20 @@ def test_each_number_is_in_the_middle_of_a_bar_of_its_job(case: Case, picture: P
 def room(case: Case, picture: Picture, machine: int) -> list[tuple[int, float, float]]:
     """The jobs on a machine, how wide their bars are, and how wide their numbers."""
     time = picture.across()
-    return [(job, time.on_picture(end - start), DIGIT * LETTERS * len(str(job)))
+    return [(job, time.on_picture(end - start), DIGIT * SMALL * len(str(job)))
             for job, start, end in case.operations(machine)]
 
 
 @cases()
-def test_a_row_has_a_number_on_each_bar_where_it_fits_or_none_where_few_fit(case: Case, picture: Picture) -> None:
-    """Few are less than half of them."""
+def test_a_bar_has_a_number_where_it_fits(case: Case, picture: Picture) -> None:
+    """In small letters, if not in others."""
     numbers = [bar_below(case, picture, letters) for letters in numbers_on(picture)]
     for machine in case.machines():
         bars = room(case, picture, machine)
         got = {job for job, *_ in bars if (machine + 1, job) in numbers}
         assert len(got) == sum(row == machine + 1 for row, _ in numbers), f"numbers twice on machine {machine + 1}"
-        fit = {job for job, width, wanted in bars if width > wanted}
-        surely = {job for job, width, wanted in bars if width > 1.3 * wanted + 4}
-        assert got <= fit, f"numbers on narrow bars of machine {machine + 1}"
-        assert surely <= got or not got, f"numbers on some bars of machine {machine + 1}"
-        assert got or 2 * len(surely) <= len(bars), f"no numbers on machine {machine + 1}, where {len(surely)} fit"
-        assert not got or 2 * len(fit) >= len(bars), f"numbers on machine {machine + 1}, where {len(fit)} fit"
+        assert got <= {job for job, width, wanted in bars if width > wanted}, f"numbers on narrow bars of {machine + 1}"
+        assert got >= {job for job, width, wanted in bars if width > 1.3 * wanted + 3}, f"bars of {machine + 1} without"
 
 
 @cases()
@@ -400,7 +396,7 @@ def test_each_number_can_be_read_on_its_bar(case: Case, picture: Picture) -> Non
         (fill,) = fills[int(letters.text)]
         ink = {"black": "#000000", "white": "#ffffff"}.get(letters.fill, letters.fill)
         assert contrast(ink, fill) >= 4.5, f"{letters.fill} letters on {fill}"
-        assert letters.size == LETTERS
+        assert letters.size in (LETTERS, SMALL)
 
 
 # Axes
@@ -500,12 +496,12 @@ def test_the_critical_path_leads_from_0_to_the_makespan_without_idle_time(case: 
 # Papers
 
 def test_letters_can_be_read_at_the_width_of_a_column(drawn: Drawn) -> None:
-    """They have 8 points or more, and none is outside the picture; a letter is at most 0.65 of its height wide."""
+    """They have 7 points or more, and none is outside the picture; a letter is at most 0.65 of its height wide."""
     picture = drawn(PAPER)
     width = max(x for x, _ in picture.line("patch_1"))
     assert width == pytest.approx(3.5 * 72, abs=0.1)
     for letters in picture.texts():
-        assert letters.size >= 8, letters
+        assert letters.size >= 7, letters
         reach = 0.65 * letters.size * len(letters.text)
         ends = {"middle": (-0.5, 0.5), "end": (-1.0, 0.0)}.get(letters.anchor, (0.0, 1.0))
         if letters.text != "machine":
@@ -559,7 +555,7 @@ def defaults_of_page() -> dict[str, str]:
     return dict(re.findall(r"^\| `--(\w+) [^|]*\|[^|]*\| (\S+) \|$", PAGE, re.MULTILINE))
 
 
-@pytest.mark.parametrize("got", [defaults_of_manual(), defaults_of_page()], ids=["pfs-gantt.1", "PICTURES.md"])
+@pytest.mark.parametrize("got", [defaults_of_manual(), defaults_of_page()], ids=["pfs-gantt.1", "COOKBOOK.md"])
 def test_a_default_that_a_page_states_is_the_options(got: dict[str, str], gantt: Gantt, folder: pathlib.Path) -> None:
     """The same picture comes of it, and another one of another value."""
     assert got.keys() == {"width", "dpi"}
@@ -591,7 +587,8 @@ def test_an_exit_status_of_the_manual_page_is_that_of_gantt(gantt: Gantt, folder
     assert rejected == [str(got["The time table or the command line is rejected."])], "the status on the page"
 
 
-def test_the_example_of_the_manual_page(gantt: Gantt, folder: pathlib.Path, pfs: Program, scripts: pathlib.Path) -> None:
+def test_the_example_of_the_manual_page(gantt: Gantt, folder: pathlib.Path, pfs: Program,
+                                        scripts: pathlib.Path) -> None:
     line = re.search(r"^\.Dl \$ (.*)$", MANUAL, re.MULTILINE)
     assert line
     (folder / "instance").write_bytes(generated(20, 5, 873654221))

@@ -11,6 +11,8 @@ import textwrap
 from collections.abc import Sequence
 from typing import Any, NamedTuple
 
+from pfs._names import CLOCK, amount
+
 # Sizes are in inches, those of letters in points.
 LETTERS = 8
 DIGIT = 0.66 * LETTERS / 72
@@ -73,7 +75,8 @@ class Table(NamedTuple):
 class Look(NamedTuple):
     """How a table is drawn. The width is in inches, and `dpi` is dots per inch. `decimals` is the number of decimals of
     the times. A scale of dates has a title, `scale`, and marks, each a time and its text. With `key`, a bar that is too
-    short for its job's name has the job's place in the order, and a key below the rows has the names."""
+    short for its job's name has the job's place in the order, and a key below the rows has the names. Shifts and days
+    begin at `breaks`, each a time and the day or an empty text. `end` is the date of the end."""
     width: float = 12.0
     dpi: int = 110
     title: bool = True
@@ -84,9 +87,11 @@ class Look(NamedTuple):
     scale: str = ""
     marks: Sequence[tuple[float, str]] = ()
     key: bool = False
+    breaks: Sequence[tuple[float, str]] = ()
+    end: str = ""
 
     def formatted(self, time: float) -> str:
-        return f"{time:,.0f}" if self.decimals == 0 else f"{time / 10**self.decimals:,.{self.decimals}f}"
+        return amount(round(time), self.decimals, self.unit)
 
 
 def table_of(order: list[int], starts: Any, ends: Any) -> Table:
@@ -183,6 +188,7 @@ def draw(figure: Figure, table: Table, look: Look) -> None:
     for machine in range(0 if is_image(table, look) else table.machines):
         draw_machine(axis, table, look, machine, fills)
         draw_numbers(axis, table, look, machine, fills)
+    draw_breaks(axis, look)
     if look.bound is not None:
         draw_bound(axis, look.bound)
     if look.critical:
@@ -197,8 +203,9 @@ def draw(figure: Figure, table: Table, look: Look) -> None:
 
 def title_of(table: Table, look: Look, size: int) -> str:
     """Return the title, broken into lines that fit at this size of letters. A scale of dates doesn't have the unit."""
-    unit = f" {look.unit}" if look.scale else ""
+    unit = f" {look.unit}" if look.scale and look.unit != CLOCK else ""
     title = f"{table.jobs} jobs on {table.machines} machines: makespan {look.formatted(table.makespan)}{unit}"
+    title += f", end {look.end}" if look.end else ""
     title += f", bound {look.formatted(look.bound)} (dashed)" if look.bound is not None else ""
     title += ", critical path outlined" if look.critical else ""
     return textwrap.fill(title, max(20, int(72 * (look.width - 0.9) / (0.56 * size))))
@@ -238,16 +245,12 @@ def draw_machine(axis: Axis, table: Table, look: Look, machine: int, fills: list
 
 
 def draw_numbers(axis: Axis, table: Table, look: Look, machine: int, fills: list[Colour]) -> None:
-    """Write each job's name or number on its bar, or else its place in the key, if that fits. Without a key, a row has
-    no numbers if fewer than half of them fit."""
+    """Write each job's name or number on its bar, or else its place in the key, if that fits."""
     if row_height(table) <= SMALLEST_ROW:
         return
     starts, ends = table.starts[:, machine].tolist(), table.ends[:, machine].tolist()
-    bars = [(place, start, end) for place, (start, end) in enumerate(zip(starts, ends)) if end > start]
-    labels = [label_of(table, look, place, end - start) for place, start, end in bars]
-    if not look.key and 2 * sum(bool(label.text) for label in labels) < len(bars):
-        return
-    for label, (place, start, end) in zip(labels, bars):
+    for place, (start, end) in enumerate(zip(starts, ends)):
+        label = label_of(table, look, place, end - start)
         if label.text:
             axis.text((start + end) / 2, machine + 1, label.text, ha="center", va="center", fontsize=label.letters,
                       zorder=4, color=ink(fills[place]), clip_on=True, parse_math=False)
@@ -261,13 +264,13 @@ class Label(NamedTuple):
 
 
 def label_of(table: Table, look: Look, place: int, length: int) -> Label:
-    """Return the label of a bar of this length: the job's name, its place in the key, or an empty one."""
+    """Return the label of a bar of this length: the job's name, its place in the key or else its name in smaller
+    letters, or an empty one."""
     room, name = inches(table, look) * length, table.label(table.order[place])
     if room > DIGIT * len(name) + 0.03:
         return Label(name)
-    number = sign_of(table) + str(place + 1)
-    fits = look.key and room > KEY_DIGIT * len(number) + 0.02
-    return Label(number, KEY_LETTERS, True) if fits else Label("")
+    text = sign_of(table) + str(place + 1) if look.key else name
+    return Label(text, KEY_LETTERS, look.key) if room > KEY_DIGIT * len(text) + 0.02 else Label("")
 
 
 def sign_of(table: Table) -> str:
@@ -310,6 +313,15 @@ def draw_key(figure: Figure, table: Table, look: Look, fills: list[Colour]) -> N
             for shift, text, ink_of in ((0, "\u25a0", next(colour)), (2 * KEY_DIGIT, item, "black")):
                 figure.text((left + shift) / look.width, top / height, text, va="baseline", fontsize=KEY_LETTERS,
                             color=ink_of, parse_math=False)
+
+
+def draw_breaks(axis: Axis, look: Look) -> None:
+    """Draw a line where a day begins, and a thin one where another shift does."""
+    for name, wide, style in (("days", 0.9, "-"), ("shifts", 0.6, ":")):
+        times = [at for at, day in look.breaks if at and bool(day) == (name == "days")]
+        if times:
+            axis.vlines(times, 0, 1, transform=axis.get_xaxis_transform(), color="black", linewidth=wide,
+                        linestyle=style, zorder=2.5, gid=name)
 
 
 def draw_bound(axis: Axis, bound: int) -> None:

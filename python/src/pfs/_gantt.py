@@ -139,8 +139,8 @@ def draw() -> None:
     chart.draw(figure, table, look)
     atomic_write(args.picture, chart.picture_of(figure, extension, look))
     if chart.is_image(table, look):
-        print(f"pfs-gantt: {table.jobs * table.machines:,} operations are too many or too short to draw one by one: the "
-              f"rows are an image of {look.dpi} dots per inch", file=sys.stderr)
+        print(f"pfs-gantt: {table.jobs * table.machines:,} operations are too many or too short to draw one by one: "
+              f"the rows are an image of {look.dpi} dots per inch", file=sys.stderr)
 
 
 def shown(text: str) -> str:

@@ -1,15 +1,19 @@
-"""Plans of experiments: TOML files that list the instances and the settings of the search."""
+"""Plans of experiments: TOML files that list the instances and the settings of the search. And the CSVs of references
+and of runs, as they are read without pandas."""
 from __future__ import annotations
 
 import contextlib
+import csv
 import glob
 import importlib
 import os
 import re
 import shlex
+from collections.abc import Iterable
 from typing import Any
 
-from pfs.experiments.csvs import ExperimentError
+from pfs._benchmarks import canonical
+from pfs.experiments import ExperimentError
 
 NUMBERS = {"blocks": [1], "rounds": [0], "takes": None, "passes": [0], "seeds": [0]}
 # What pfs accepts.
@@ -21,6 +25,10 @@ KEYS = {*NUMBERS, *TEXTS, "layout", "instances", "repetitions", "time_factors", 
 OF_PFS = ("rounds", "takes", "passes")
 LEAST_FACTOR, MOST_FACTOR = 0.001, 10_000
 MOST_BYTES = 1_048_576
+# The greatest makespan that an order file can state.
+MOST_MAKESPAN = 10 ** 18 - 1
+
+Row = dict[str, str]
 
 
 def parse_toml(path: str) -> dict[str, Any]:
@@ -37,8 +45,6 @@ def parse_toml(path: str) -> dict[str, Any]:
         if len(text) > MOST_BYTES:
             raise ExperimentError(f"{path}: a plan has at most {MOST_BYTES:,} bytes")
         plan: dict[str, Any] = toml.loads(text.decode())
-    except OSError as error:
-        raise ExperimentError(f"{path}: {error.strerror}") from None
     except ValueError as error:
         raise ExperimentError(f"{path}: {error}") from None
     except RecursionError:
@@ -50,62 +56,46 @@ def read_plan(path: str) -> dict[str, Any]:
     """Reads a plan and adds the defaults. Patterns are replaced by the files that they match. `time_factors`,
     `command`, `method` and `files` have no defaults."""
     plan = parse_toml(path)
-    unknown = plan.keys() - KEYS
-    if unknown:
-        raise ExperimentError(f"{path}: unknown key {min(unknown)!r}")
+
+    def require(is_right: object, message: str) -> None:
+        if not is_right:
+            raise ExperimentError(f"{path}: {message}")
+
+    require(plan.keys() <= KEYS, f"unknown key {min(plan.keys() - KEYS, default='')!r}")
     for key, what in TEXTS.items():
-        if not isinstance(plan.get(key, ""), str) or "\0" in plan.get(key, ""):
-            raise ExperimentError(f"{path}: {key} must be {what}")
-    full = {key: numbers_of(path, plan, key) for key in NUMBERS}
-    full["layout"] = plan.get("layout", "taillard")
-    if full["layout"] not in ("taillard", "orlib"):
-        raise ExperimentError(f"{path}: layout must be \"taillard\" or \"orlib\"")
-    full["repetitions"] = plan.get("repetitions", 1)
-    if type(full["repetitions"]) is not int or full["repetitions"] < 1:
-        raise ExperimentError(f"{path}: repetitions must be a whole number from 1")
+        require(isinstance(plan.get(key, ""), str) and "\0" not in plan.get(key, ""), f"{key} must be {what}")
+    full = {"layout": "taillard", "repetitions": 1, "reference": None, **NUMBERS, **plan}
+    for key, (least, most) in LIMITS.items():
+        require(key not in plan or are_numbers(plan[key], (int,), least, most),
+                f"{key} must be a list of whole numbers from {least} to {most:,}")
+    require(full["layout"] in ("taillard", "orlib"), 'layout must be "taillard" or "orlib"')
+    require(are_numbers([full["repetitions"]], (int,), 1, MOST_MAKESPAN), "repetitions must be a whole number from 1")
     full["instances"] = matches(path, "instances", plan.get("instances"))
-    full["reference"] = plan.get("reference")
     if "time_factors" in plan:
-        full["time_factors"] = factors_of(path, plan["time_factors"])
-        full["rounds"] = full["rounds"] if "rounds" in plan else []
-    if plan.get("method", None) is not None:
-        full["method"] = name_of_method(path, plan["method"])
+        require(are_numbers(plan["time_factors"], (int, float), LEAST_FACTOR, MOST_FACTOR),
+                f"time_factors must be a list of numbers from {LEAST_FACTOR} to {MOST_FACTOR:,}")
+        full["rounds"] = plan.get("rounds", [])
+    require(plan.get("method", "m") and plan.get("method", "m").isprintable(),
+            "method must be a name without control characters")
     if "command" in plan or "files" in plan:
         full.update(command_of(path, plan))
     return full
 
 
-def numbers_of(path: str, plan: dict[str, Any], key: str) -> Any:
-    """Returns a list of numbers of the plan, or its default."""
-    numbers, (least, most) = plan.get(key, NUMBERS[key]), LIMITS[key]
-    if key in plan and not (isinstance(numbers, list) and numbers
-                            and all(type(number) is int and least <= number <= most for number in numbers)):
-        raise ExperimentError(f"{path}: {key} must be a list of whole numbers from {least} to {most:,}")
-    return numbers
+def are_numbers(numbers: object, types: tuple[type, ...], least: float, most: float) -> bool:
+    """Whether this is a list of numbers of these types, in this range, with at least one."""
+    return isinstance(numbers, list) and numbers != [] and all(
+        type(each) in types and least <= each <= most for each in numbers)
 
-
-def factors_of(path: str, factors: object) -> list[int | float]:
-    if not isinstance(factors, list) or not factors or not all(
-            type(factor) in (int, float) and LEAST_FACTOR <= factor <= MOST_FACTOR for factor in factors):
-        raise ExperimentError(f"{path}: time_factors must be a list of numbers from {LEAST_FACTOR} to {MOST_FACTOR:,}")
-    return factors
-
-
-def name_of_method(path: str, name: str) -> str:
-    if not name or not name.isprintable():
-        raise ExperimentError(f"{path}: method must be a name without control characters")
-    return name
-
-
-# Commands of other programs
 
 def command_of(path: str, plan: dict[str, Any]) -> dict[str, Any]:
-    """Returns the words of the command, and the files that it needs, as paths from the plan's folder."""
+    """Returns the words of the command of another program, and the files that it needs, as paths from the plan's
+    folder. The program itself is one of them if it is a path from there."""
     if not plan.get("command") or "method" not in plan:
         raise ExperimentError(f"{path}: command needs method, the name of the program, and files needs command")
-    useless = [key for key in OF_PFS if key in plan]
-    if useless:
-        raise ExperimentError(f"{path}: {useless[0]} is for pfs, not for a command")
+    for key in OF_PFS:
+        if key in plan:
+            raise ExperimentError(f"{path}: {key} is for pfs, not for a command")
     try:
         words = shlex.split(plan["command"])
     except ValueError as error:
@@ -118,23 +108,15 @@ def command_of(path: str, plan: dict[str, Any]) -> dict[str, Any]:
     if used - allowed:
         why = ", which needs time_factors" if min(used - allowed) == "seconds" else ""
         raise ExperimentError(f"{path}: command contains {{{min(used - allowed)}}}{why}")
-    return {"command": words, "files": files_of(path, words[0], plan.get("files")), "rounds": []}
+    files = [os.path.normpath(name) for name in matches(path, "files", plan["files"])] if "files" in plan else []
+    program = os.path.normpath(words[0])
+    if "/" in words[0] and not os.path.isabs(program) and program not in files:
+        files += matches(path, "command", [glob.escape(program)])
+    for name in files:
+        if os.path.isabs(name) or name.startswith(".."):
+            raise ExperimentError(f"{path}: {name} is not in the plan's folder")
+    return {"command": words, "files": files, "rounds": []}
 
-
-def files_of(path: str, program: str, patterns: object) -> list[str]:
-    """Returns the files that a command needs: those of the plan, and its program if that is a path from the plan's
-    folder."""
-    files = matches(path, "files", patterns) if patterns is not None else []
-    if "/" in program and not os.path.isabs(program):
-        program = os.path.normpath(program)
-        files += matches(path, "command", [glob.escape(program)]) if program not in files else []
-    outside = [name for name in files if os.path.isabs(name) or os.path.normpath(name).startswith("..")]
-    if outside:
-        raise ExperimentError(f"{path}: {outside[0]} is not in the plan's folder")
-    return [os.path.normpath(name) for name in files]
-
-
-# Files
 
 def matches(path: str, key: str, patterns: object) -> list[str]:
     """Returns the files that the patterns match, each once, as paths from the plan's folder."""
@@ -143,23 +125,57 @@ def matches(path: str, key: str, patterns: object) -> list[str]:
     found: dict[str, None] = {}
     top = os.path.join(os.path.dirname(path) or ".", "")
     for pattern in patterns:
-        names = sorted(glob.glob(os.path.join(glob.escape(top), pattern))) if "\0" not in pattern else []
-        names = [name[len(top):] if name.startswith(top) and not os.path.isabs(pattern) else name for name in names]
+        names = sorted(glob.glob(pattern, root_dir=top)) if "\0" not in pattern else []
         if not names:
             raise ExperimentError(f"{path}: no file matches {pattern}")
         found.update(dict.fromkeys(names))
     for name in found:
-        check_name(path, name)
         if not os.path.isfile(os.path.join(top, name)):
             raise ExperimentError(f"{path}: {name} is not a file")
+        if set(name) & set("\t\r\n"):
+            raise ExperimentError(f"{path}: the name {name!r} contains a tab or a line end")
+        if any("\udc80" <= sign <= "\udcff" for sign in name):
+            raise ExperimentError(f"{path}: the name {os.fsencode(name)!r} is not UTF-8")
     return list(found)
 
 
-def check_name(path: str, name: str) -> None:
-    """Rejects a name that the list of runs can't contain."""
-    if set(name) & set("\t\r\n"):
-        raise ExperimentError(f"{path}: the name {name!r} contains a tab or a line end")
+# CSVs
+
+def rows_of(path: str | os.PathLike[str], needed: Iterable[str]) -> list[Row]:
+    """Returns the rows of a CSV, which must have these columns. Missing cells at the end of a row are empty."""
     try:
-        name.encode()
-    except UnicodeEncodeError:
-        raise ExperimentError(f"{path}: the name {os.fsencode(name)!r} is not UTF-8") from None
+        with open(path, newline="", encoding="utf-8-sig") as file:
+            reader = csv.DictReader(file, restval="")
+            columns, rows = reader.fieldnames or [], list(reader)
+    except (ValueError, csv.Error) as error:
+        raise ExperimentError(f"{path}: {error}") from None
+    missing = [column for column in needed if column not in columns]
+    if missing:
+        raise ExperimentError(f"{path}: no column {', '.join(missing)}")
+    if not rows or any(None in row for row in rows):
+        raise ExperimentError(f"{path}: {'a row has more cells than the first line' if rows else 'no rows'}")
+    return rows
+
+
+def reference_of(path: str | os.PathLike[str]) -> dict[str, tuple[int, str]]:
+    """Returns the reference makespan of each instance in a CSV, and its source, by its name and, if that is clear, by
+    its canonical name."""
+    found: dict[str, tuple[int, str]] = {}
+    for row in rows_of(path, ["instance", "makespan"]):
+        whole = re.fullmatch(r" *([0-9]{1,18})(?:\.0*)? *", row["makespan"], re.ASCII)
+        if not whole:
+            raise ExperimentError(f"{path}: {row['makespan'][:40]!r} is not a whole number of at most 18 digits")
+        entry = int(whole[1]), row.get("source", "")
+        if found.setdefault(row["instance"], entry) != entry:
+            raise ExperimentError(f"{path}: {row['instance']} has two makespans")
+    same: dict[str, set[tuple[int, str]]] = {}
+    for name, entry in found.items():
+        same.setdefault(canonical(name), set()).add(entry)
+    return {key: entries.pop() for key, entries in same.items() if len(entries) == 1} | found
+
+
+def reference_for(reference: dict[str, tuple[int, str]], instance: str) -> tuple[int, str] | None:
+    """Returns the reference of an instance, by its full name, by the last part of its path, or by its canonical
+    name."""
+    return (reference.get(instance) or reference.get(instance.rpartition("/")[2])
+            or reference.get(canonical(instance)))
