@@ -46,8 +46,8 @@ int main(int count, char **words) {
     int is_wrong = 0;
     if (count < 3)
         return fputs("usage: audit_orders INSTANCE ORDER ..\n", stderr), 3;
-    int number = pfs_read(bytes, read_file(words[1]), PFS_TAILLARD, 1, &block, times, sizeof times / sizeof *times,
-                          &place);
+    int number =
+        pfs_read(bytes, read_file(words[1]), PFS_TAILLARD, 1, &block, times, sizeof times / sizeof *times, &place);
     if (number == PFS_OK)
         number = pfs_prepare(times, block.jobs * block.machines, block.jobs, block.machines, &instance);
     if (number == PFS_OK)

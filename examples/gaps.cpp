@@ -43,8 +43,8 @@ int main(int count, char** words) try {
         Shop shop(number(1), number(2), number(word));
         std::vector<std::uint32_t> order(number(1));
         std::uint64_t bound, neh, found, cells;
-        pfs_rounds_options options = {1, order.size() < 4 ? order.size() : 4, 0,
-                                      static_cast<std::uint32_t>(number(3)), 0};
+        pfs_rounds_options options = {1, order.size() < 4 ? order.size() : 4, 0, static_cast<std::uint32_t>(number(3)),
+                                      0};
         check(pfs_bound(&shop.instance, &bound));
         check(pfs_neh(&shop.instance, order.data(), order.size(), &neh, &cells));
         check(pfs_rounds(&shop.instance, &options, order.data(), order.size(), &found, &cells));

@@ -63,7 +63,7 @@ class RoundsOptions(ctypes.Structure):
 
 # The parameters of each function, an instance first where it works on one.
 LIST = [c_void_p, c_size_t]
-PROTOTYPES = {
+PROTOTYPES: Final[dict[str, list[type[Any]]]] = {
     "pfs_prepare": [*LIST, c_size_t, c_size_t, c_void_p],
     "pfs_release": [c_void_p],
     "pfs_makespan": [c_void_p, *LIST, c_void_p],
