@@ -143,7 +143,7 @@ class Prepared:
     """An instance that the library has prepared, and a lock that a caller holds during each call on it. It is released
     when it is no longer used.
 
-    A process may fork while another thread makes a call. So a forked process prepares its instances anew, and does not
+    A process may fork while another thread makes a call. So a forked process prepares its instances again, and does not
     touch the memory of the old ones."""
 
     # Counts the forks that led to this process.
