@@ -61,7 +61,7 @@ def command_line() -> CommandLine:
     slurm.add_argument("--tasks", metavar="N", type=number("[0-9]{1,9}", 1, 10 ** 9, "a whole number from 1"),
                        help="the most tasks of the array")
     slurm.add_argument("--dry-run", action="store_true", help="print the call of sbatch")
-    status = add("status", "Writes the CSV of the runs that have ended so far, while the others go on.", "run")
+    status = add("status", "Writes the CSV of the runs that have ended so far, while the others continue.", "run")
     status.add_argument("csv", metavar="CSV")
     check = add("check", "Audits the orders of a CSV again.", "run")
     check.add_argument("csv", metavar="CSV")

@@ -132,7 +132,7 @@ def path_cell(path: str) -> str:
 
 
 def status(args: argparse.Namespace) -> int:
-    """Writes the CSV of the runs that have ended so far, while the others go on."""
+    """Writes the CSV of the runs that have ended so far, while the others continue."""
     return 1 if any(gather(stage.started(args.csv), args.csv)) else 0
 
 
