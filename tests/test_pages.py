@@ -149,6 +149,14 @@ def test_a_page_has_examples(page: str) -> None:
     assert len(EXAMPLES[page]) > 3
 
 
+def test_the_first_files_of_the_page_on_formats_are_of_one_instance(pfs: Program, folder: pathlib.Path) -> None:
+    texts = re.findall(r"^```\n(.*?)^```$", FORMATS, re.MULTILINE | re.DOTALL)
+    for name, text in zip(("taillard", "orlib", "order"), texts):
+        (folder / name).write_text(text)
+    ran = [pfs.run(f"check --layout {name} {name} order", folder) for name in LAYOUTS]
+    assert ran == [Ran(b"valid\nmakespan 10\nbound 10\noptimal\n", b"", 0)] * 2
+
+
 @pytest.mark.seconds(40)
 def test_the_comparison_is_made_as_the_page_says(pfs: Program, libpfs: Library, scripts: pathlib.Path, scipy: None,
                                                  folder: pathlib.Path) -> None:
