@@ -12,7 +12,8 @@ from collections.abc import Callable
 from typing import Any
 
 import pytest
-from pfs.experiments import __main__, one, plan, run, slurm as on_cluster
+from pfs.experiments import one, plan, run
+from pfs.experiments.slurm import MOST_TASKS
 from support.experiments import HALF, HEAD, PLAN, Experiment, Started
 from support.library import Library
 from support.needs import missing, tool
@@ -82,7 +83,7 @@ def test_readme_has_the_keys_of_a_plan_with_their_defaults_the_columns_and_the_n
     columns = re.findall(r"^\| (`.*`) \|", README.partition("## CSV")[2].partition("\n## ")[0], re.MULTILINE)
     assert ",".join(name for cell in columns for name in re.findall("`([^`]+)`", cell)) == HEAD
     most = re.search(r"Each of at most ([\d,]+) tasks \(`--tasks`\)", README)
-    assert most and most[1] == f"{on_cluster.MOST_TASKS:,}"
+    assert most and most[1] == f"{MOST_TASKS:,}"
 
 
 def test_what_a_plan_leaves_out_is_as_readme_says(experiment: Experiment) -> None:
@@ -416,7 +417,7 @@ def test_a_search_by_time_continues_with_another_seed(search: Callable[..., one.
         again.neh()
         again.run_rounds(8)
         other = search(second % 2 ** 64)
-        other.order[:] = again.order[:]
+        other.order[:] = list(again.order)
         other.run_rounds(found.rounds - 8)
         orders.append(other.order[:])
     assert orders[0] == found.order[:] != orders[1], "rounds of two seeds"
@@ -765,7 +766,7 @@ def test_the_last_array_says_how_a_run_ended(folder: pathlib.Path) -> None:
     """By the times of the logs, which may have any bytes; numbers of arrays have more and more digits."""
     (folder / "slurm").mkdir()
     for age, name in enumerate(("9-1.log", "10-1.log")):
-        (folder / "slurm" / name).write_bytes(b"\xff\nrun 1\nrun 7\nslurmstepd: error: %s\n" % name.encode())
+        (folder / "slurm" / name).write_bytes(b"\xff\nrun 1\nrun 7\nslurmstepd-host: error: %s\n" % name.encode())
         os.utime(folder / "slurm" / name, (age, age))
     assert run.endings(folder) == {"7": "lost: 10-1.log"}
 

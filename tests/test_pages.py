@@ -108,7 +108,8 @@ EXAMPLES = {page: page_examples(page) for page in ("README.md", "docs/COMMANDS.m
 
 
 @pytest.fixture(scope="module")
-def shown(pfs: Program, libpfs: Library, scripts: pathlib.Path, tmp_path_factory: pytest.TempPathFactory) -> Callable[[Example], str]:
+def shown(pfs: Program, libpfs: Library, scripts: pathlib.Path,
+          tmp_path_factory: pytest.TempPathFactory) -> Callable[[Example], str]:
     """What the commands of a page print, run one after the other in a folder that is empty at first, with the programs
     that an installation has."""
     printed: dict[str, dict[Example, str]] = {}

@@ -117,7 +117,7 @@ def endings(folder: pathlib.Path) -> Row:
     for log in sorted((folder / "slurm").glob("*.log"), key=lambda path: path.stat().st_mtime_ns):
         text = log.read_bytes().decode(errors="replace")
         last = re.findall(r"^run ([0-9]+)$", text, re.MULTILINE | re.ASCII)
-        errors = re.findall(r"^slurmstepd: error: (.*)", text, re.MULTILINE)
+        errors = re.findall(r"^slurmstepd\S*: error: (.*)", text, re.MULTILINE)
         if last and errors:
             found[last[-1]] = f"lost: {errors[0]}"
     return found

@@ -100,13 +100,13 @@ def prepare(plan_path: str, csv_path: str, program: str | None) -> Experiment:
     try:
         if not (folder / "plan.json").exists():
             begin(folder, pfs or find_pfs(program))
-        stored = stored_plan(folder)
+        stored: dict[str, Any] = {"places": {}, "runs": [], **stored_plan(folder)}
         for key in ("command", "layout"):
-            if stored and stored.get(key) != plan.get(key):
+            if "layout" in stored and stored.get(key) != plan.get(key):
                 raise ExperimentError(f"{csv_path} was started with another {key}: use another CSV")
         copy_inputs(plan, top, folder / stage_of(folder))
         experiment = Experiment(plan, folder, add_runs(plan, stored, top, folder, csv_path), reference)
-        inputs = inputs_of(plan, stored_plan(folder)["places"], top, folder / experiment.stage)
+        inputs = inputs_of(plan, stored["places"], top, folder / experiment.stage)
         provenance.note_start(folder, plan, inputs)
         if changed := provenance.changed(inputs):
             print(plain(f"{csv_path}: changed since they were copied for its runs: {', '.join(changed)}. The copies "
@@ -208,7 +208,7 @@ def library() -> str:
 def add_runs(plan: dict[str, Any], stored: dict[str, Any], top: str, folder: pathlib.Path, csv_path: str) -> list[Row]:
     """Adds the plan's new instances and runs to the folder, and returns all runs in the order of the plan. A run keeps
     its number."""
-    places, listed = stored.get("places", {}), stored.get("runs", [])
+    places, listed = stored["places"], stored["runs"]
     known, runs = {key_of(run): run for run in listed}, dict[tuple[str, ...], Row]()
     for name in plan["instances"]:
         place = places.setdefault(name, len(places) + 1)
