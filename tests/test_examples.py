@@ -14,7 +14,7 @@ from support.library import HEADER, Library, compile_quietly
 from support.needs import tool
 from support.program import Program
 from support.second_program import Instance
-from support.tools import Done, require_debian_module, output_of, run_tool, with_path
+from support.tools import Done, csv_rows, require_debian_module, output_of, run_tool, with_path
 
 EXAMPLES = HEADER.parent.parent / "examples"
 PAGE = (EXAMPLES / "README.md").read_text()
@@ -201,6 +201,25 @@ def test_a_search_with_temperature(built: pathlib.Path, pfs: Program, shop: path
         makespans.append(int(found.stdout.split()[-1]))
     assert neh >= makespans[0] > makespans[1] == 1278
     assert run(built, "ig_temperature", "shop", "7", "0", cwd=shop).stdout.endswith(f"makespan {makespans[0]}\n")
+
+
+def test_a_plan_runs_and_audits_the_search_with_temperature(built: pathlib.Path, pfs: Program, libpfs: Library,
+                                                           shop: pathlib.Path, scripts: pathlib.Path) -> None:
+    """The program in C, and the one in Python."""
+    tool("parallel")
+    plan = (EXAMPLES.parent / "experiments" / "ig_temperature.toml").read_text().replace("ta*", "ta001")
+    (shop / "out" / "taillard").mkdir(parents=True)
+    shutil.copy(shop / "shop", shop / "out" / "taillard" / "ta001")
+    shutil.copy(built / "ig_temperature", shop / "out")
+    shutil.copy(EXAMPLES.parent / "python" / "examples" / "ig_temperature.py", shop / "out")
+    env = dict(os.environ, PFS_LIBRARY=str(libpfs.path), PYTHONPATH=str(EXAMPLES.parent / "python" / "src"))
+    for name in ("ig_temperature", "ig_temperature.py"):
+        (shop / "plan.toml").write_text(plan.replace("out/ig_temperature {", f"out/{name} {{"))
+        words = [scripts / "pfs-experiments", "run", "--pfs", pfs.path, "plan.toml", f"{name}.csv"]
+        got = run_tool(words, shop, env=env)
+        assert got == Done(0, "", f"{name}.csv: 1 runs, 0 of them failed, 0 still to run\n")
+        row, = csv_rows(shop / f"{name}.csv")
+        assert (row["instance"], row["makespan"], row["status"]) == ("out/taillard/ta001", "1278", "ok")
 
 
 def test_files_that_cannot_be_opened_or_written(built: pathlib.Path, shop: pathlib.Path) -> None:

@@ -54,7 +54,7 @@ INVALID = {
     "blocks": ALL + "blocks = [1001]\n", "reference must": ALL + "reference = 1\n",
     "none.csv": ALL + 'reference = "none.csv"\n', "no column instance, makespan": ALL + 'reference = "plan.toml"\n',
     "nested": "x = " + "[" * 5000 + "]" * 5000, "shops/": 'instances = ["shops/\\u0000"]\n',
-    "at most 1,048,576 bytes": "#" * 1_048_577, "time_factors": ALL + "time_factors = [nan]\n",
+    "time_factors": ALL + "time_factors = [nan]\n",
     "needs method": ALL + 'command = "a {instance}"\n', "must contain {instance}": MINE + 'command = "a"\n',
     "{x}": MINE + 'command = "a {instance} {x}"\n', "needs time_factors": MINE + 'command = "a {instance} {seconds}"\n',
     "rounds is for pfs": MINE + 'rounds = [1]\ncommand = "a {instance}"\n',
@@ -257,7 +257,8 @@ def test_layouts_blocks_takes_passes_and_repetitions(experiment: Experiment) -> 
                                            "out.csv: 16 runs, 8 of them failed, 0 still to run\n")
     rows = experiment.rows()
     wanted = [(f"{name}:{block}", *size, "5", take, "1", "7", again, status)
-              for name, sizes, status in (("two.or", [("3", "2"), ("20", "5")], "ok"), ("bad.or", [("", "")] * 2, fault))
+              for name, sizes, status in (("two.or", [("3", "2"), ("20", "5")], "ok"), ("bad.or", [("", "")] * 2,
+                                                                                         fault))
               for block, size in zip((2, 1), sizes) for take in "21" for again in "12"]
     assert [(*row[:8], row[-1]) for row in rows] == wanted
     line = "solve --layout orlib --block 1 --rounds 5 --take 2 --passes 1 --seed 7 --cells two.or"
@@ -298,7 +299,8 @@ def test_each_order_is_kept_and_check_audits_it_again(made: Experiment) -> None:
 def test_the_csv_has_the_reference_of_the_plan(made: Experiment) -> None:
     """Also one that is named once all runs are made. It begins with a byte order mark."""
     (made.folder / "best.csv").write_text("\N{BOM}instance,makespan,source\nb,12.0,a paper\nc,1,no paper\n")
-    assert made.plan(HALF + 'reference = "best.csv"\n').run() == Done(0, "", SIX)
+    assert made.plan(HALF + 'reference = "best.csv"\n').run() \
+        == Done(0, "", f"best.csv lacks 1 of 2 instances: shops/a\n{SIX}")
     assert made.columns("instance", "reference", "source") \
         == [("shops/a", "", "")] * 3 + [("shops/b", "12", "a paper")] * 3
 
@@ -676,7 +678,8 @@ def test_two_starts_at_once_make_each_run_once(experiment: Experiment) -> None:
 # GNU parallel on a terminal and on another machine
 
 def test_on_a_terminal_the_share_that_is_done_is_shown(experiment: Experiment) -> None:
-    with Terminal([str(word) for word in experiment.words("run", "plan.toml", "out.csv")], experiment.folder) as terminal:
+    words = [str(word) for word in experiment.words("run", "plan.toml", "out.csv")]
+    with Terminal(words, experiment.folder) as terminal:
         assert terminal.read_all() == 0
         assert re.search(rb"100% 12:0=\d+s", terminal.seen), terminal.seen[-300:]
         assert b"citation" not in terminal.seen.lower()
