@@ -76,7 +76,7 @@ def test_the_page_has_each_example() -> None:
     names = {path.name for path in SOURCES} | {"neh.R", "neh.rs", "neh_cffi.py", "pfs_r.c", "README.md"}
     assert {path.name for path in EXAMPLES.iterdir()} == names
     assert set(re.findall(r"^`(\w+) ", PAGE, re.MULTILINE)) == {path.stem for path in SOURCES}
-    assert all(len(path.read_text().splitlines()) <= 105 for path in SOURCES)
+    assert all(len(path.read_text().splitlines()) <= 110 for path in SOURCES)
 
 
 def run_page(built: pathlib.Path, pfs: Program, folder: pathlib.Path) -> None:
