@@ -569,8 +569,8 @@ def test_all_is_inside_of_the_picture_and_can_be_read(width: str, options: list[
         assert letters and min(float(size) for size, *_ in letters) >= 7
         for size, anchor, x, shown in letters:
             half = 0.25 * float(size) * len(shown)
-            right = float(x) + {"middle": half, "start": 2 * half, "": 2 * half, "end": 0}[anchor]
-            assert right <= 72 * float(width) + 2, shown
+            after = {"middle": half, "start": 2 * half, "": 2 * half, "end": 0}[anchor]
+            assert float(x) + after <= 72 * float(width) + 2, shown
         assert options == [] or "interval" not in picture and "range over" not in picture
 
 
