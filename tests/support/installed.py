@@ -15,7 +15,7 @@ from support.tools import Done, output_of, run_tool, with_path, write_script
 
 TOP = pathlib.Path(__file__).resolve().parent.parent.parent
 VERSION = (TOP / "VERSION").read_text().strip()
-PROGRAM, SHARED = "crates/pfs/out/pfs", "libpfs.so.0"
+PROGRAM, SHARED = "crates/pfs/out/pfs", "libpfs.so.1"
 # What of a page's table of contents is installed: patterns of files that keep their paths.
 PAGES = ["*.md", "CITATION.cff", "LICENSE-*", "docs/**/*.*", "examples/*", "experiments/README.md", "lib/pfs.h",
          "python/README.md", "python/examples/*.py"]
