@@ -719,7 +719,7 @@ def test_without_a_start_the_others_are_inserted_as_neh_does(times: plainly.Tabl
 
 
 def test_no_round_of_a_search_that_holds_jobs_increases_the_makespan() -> None:
-    shop = pfs.Instance(pfs.generate(15, 5, 4).times % 4)
+    shop = pfs.Instance(pfs.generate(20, 8, 4).times % 4)
     makespans = [shop.solve(rounds, hold=[3], take=2).makespan for rounds in range(60)]
     assert makespans == sorted(makespans, reverse=True) and len(set(makespans)) > 1
 
