@@ -84,7 +84,7 @@ def test_a_search_by_time_has_the_sum_of_the_library(experiment: Experiment, lib
 # The reference of a plan
 
 def test_a_reference_must_name_an_instance(experiment: Experiment) -> None:
-    """By its name in the plan, or without folder, ending and in lower case. What it lacks is told."""
+    """By its name in the plan, or without folder, ending and in lower case. What it lacks is reported."""
     plan = 'instances = ["shops/*"]\nreference = "best.csv"\n'
     (experiment.folder / "best.csv").write_text("instance,makespan\nc,9\n")
     assert experiment.plan(plan).run() == Done(2, "", (

@@ -339,9 +339,10 @@ def all_signs(differences: list[float]) -> float:
 
 # The makespans of two methods on instances with these references, and the differences in RPD. In the second case the
 # ranks of the differences in makespan are others. In the first four pairs are tied, and some differences are equal.
-PAIRS = {"ties": ([1000] * 11, [0, 0, 0, 0, 10, 10, 20, 20, 20, 30, 40]),
-         "scales": ([100, 100, 1000, 1000, 10000, 10000, 500], [9, 7, 50, 30, -100, -120, 15]),
-         "all tied": ([100], [0])}
+PAIRS: dict[str, tuple[list[int], list[int]]] = {
+    "ties": ([1000] * 11, [0, 0, 0, 0, 10, 10, 20, 20, 20, 30, 40]),
+    "scales": ([100, 100, 1000, 1000, 10000, 10000, 500], [9, 7, 50, 30, -100, -120, 15]),
+    "all tied": ([100], [0])}
 
 
 @pytest.mark.parametrize(("scales", "differences"), PAIRS.values(), ids=PAIRS)
@@ -404,8 +405,9 @@ def test_many_pairs_have_the_normal_approximation(report: Reported, folder: path
 def test_holms_correction_is_for_all_pairs() -> None:
     """The least p is taken as often as there are pairs, and none is less than one before, nor greater than 1."""
     pandas = pytest.importorskip("pandas")
-    for given, wanted in (([0.04, None, 0.03, 0.05], [0.09, None, 0.09, 0.09]), ([0.9, 0.5], [1, 1]),
-                          ([0.01, 0.04], [0.02, 0.04])):
+    cases: list[tuple[list[float | None], list[float | None]]] = [
+        ([0.04, None, 0.03, 0.05], [0.09, None, 0.09, 0.09]), ([0.9, 0.5], [1, 1]), ([0.01, 0.04], [0.02, 0.04])]
+    for given, wanted in cases:
         got = holm(pandas.Series(given)).reindex(range(len(given)))
         assert [None if each != each else each for each in got] == pytest.approx(wanted)
 
@@ -452,16 +454,24 @@ def done(folder: pathlib.Path) -> Callable[[str], Any]:
     return read
 
 
-def lines_of(axis: Any) -> dict[str, list[tuple[float, float]]]:
+def lines_of(axis: Any) -> dict[str, Any]:
     return {line.get_label(): [tuple(map(float, point)) for point in line.get_xydata()] for line in axis.get_lines()}
+
+
+# Figures of matplotlib, which has no types.
+by_rounds: Any = plots.by_rounds
+by_seconds: Any = plots.by_seconds
+cell_times: Any = plots.cell_times
+means: Any = plots.means
 
 
 def test_a_line_goes_through_the_means_and_its_band_from_seed_to_seed(done: Callable[[str], Any]) -> None:
     """The seeds at 100 rounds have the mean gaps 2 and 6, and the mean RPDs 0 and 3.9220."""
     runs = done(REPORTED)
     rpds = [(900 / 101 + 1700 / 103) / 2, 0, (400 / 101 + 400 / 103) / 2]
-    for value, points in (("gap_percent", [15, 2, 6]), ("rpd", rpds)):
-        axis = plots.by_rounds(runs, value, "y", "title", None).axes[0]
+    wanted: dict[str, list[float]] = {"gap_percent": [15, 2, 6], "rpd": rpds}
+    for value, points in wanted.items():
+        axis = by_rounds(runs, value, "y", "title", None).axes[0]
         assert lines_of(axis)["20×5"] == [(0, points[0]), (100, pytest.approx(sum(points[1:]) / 2))]
         band = {(x, round(y, 4)) for x, y in axis.collections[-1 if len(axis.collections) == 1 else 0]
                 .get_paths()[0].vertices}
@@ -472,7 +482,7 @@ def test_rounds_have_a_logarithmic_scale(done: Callable[[str], Any]) -> None:
     """From the first rounds on: tenfold rounds are always as far apart. 0 comes before them."""
     text = HEAD + "\n" + "".join(f"a,20,5,{rounds},4,0,1,1,{200 - at},100,{100 - at}.0,1,0.1,ok\n"
                                  for at, rounds in enumerate((0, 10, 100, 1000, 10000)))
-    axis = plots.by_rounds(done(text), "rpd", "y", "title", None).axes[0]
+    axis = by_rounds(done(text), "rpd", "y", "title", None).axes[0]
     places = [axis.transData.transform((rounds, 0))[0] for rounds in (0, 10, 100, 1000, 10000)]
     steps = [later - place for place, later in zip(places[1:], places[2:])]
     assert steps == pytest.approx([steps[0]] * 3, rel=0.01) and 0 < places[1] - places[0]
@@ -488,7 +498,7 @@ PANELS = HEAD + "\n" + "".join(
 def test_a_panel_shows_the_gaps_of_the_take_and_the_passes_in_its_title(done: Callable[[str], Any]) -> None:
     """A run of 0 rounds, which is made once, is in each."""
     text = PANELS + "a,20,5,0,2,0,1,1,1,1,30.0,1000,0.001000,ok\n"
-    panels = plots.by_rounds(done(text), "gap_percent", "y", "title", None).axes[:-1]
+    panels = by_rounds(done(text), "gap_percent", "y", "title", None).axes[:-1]
     got = {axis.get_title(): lines_of(axis)["20×5"] for axis in panels}
     assert got == {f"take {take}, passes {passes}": [(0, 30.0), (5, first), (10, second)]
                    for (take, passes), (first, second) in GAPS.items()}
@@ -496,7 +506,7 @@ def test_a_panel_shows_the_gaps_of_the_take_and_the_passes_in_its_title(done: Ca
 
 def test_the_rpd_by_seconds(done: Callable[[str], Any]) -> None:
     """A panel for each size; the seconds have a logarithmic scale with two marks or more."""
-    figure = plots.by_seconds(done(REPORTED), None)
+    figure = by_seconds(done(REPORTED), None)
     first, second, _ = figure.axes
     assert [axis.get_title() for axis in (first, second)] == ["20×5", "100×10"]
     (label, points), = lines_of(first).items()
@@ -509,7 +519,7 @@ def test_a_box_has_the_nanoseconds_a_cell_of_most_rounds(done: Callable[[str], A
     """Of 1, 2, 3, 4 and 10. The title names these rounds."""
     text = HEAD + "\na,20,5,0,4,0,1,1,101,100,1.0000,1000,0.001000,ok\n" + "".join(
         f"a,20,5,100,4,0,{at},1,101,100,1.0000,1000000,{time / 1000:.6f},ok\n" for at, time in enumerate((1, 2, 3, 4, 10)))
-    figure = plots.cell_times(done(text), None)
+    figure = cell_times(done(text), None)
     drawn = sorted({round(float(y), 6) for line in figure.axes[0].get_lines() for y in line.get_ydata()})
     assert drawn == [1, 2, 3, 4, 10] and "at 100 rounds" in figure._suptitle.get_text().replace("\n", " ")
 
@@ -533,7 +543,7 @@ def test_sizes_have_distinguishable_colours(done: Callable[[str], Any]) -> None:
     """By all eyes, five numbers of jobs on the same machines."""
     text = HEAD + "\n" + "".join(f"{jobs},{jobs},5,{rounds},4,0,1,1,9,9,{jobs}.0,1,0.1,ok\n"
                                  for jobs in (20, 50, 100, 200, 500) for rounds in (0, 10))
-    lines = plots.by_rounds(done(text), "gap_percent", "y", "title", None).axes[0].get_lines()
+    lines = by_rounds(done(text), "gap_percent", "y", "title", None).axes[0].get_lines()
     fills = [to_hex(line.get_color()) for line in lines]
     assert len(fills) == 5 and min(map(least_difference, fills, fills[1:])) > 10, fills
 

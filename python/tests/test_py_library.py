@@ -112,3 +112,13 @@ def test_the_numbers_and_limits_are_those_of_the_header() -> None:
     assert (_library.MOST_NOTE, _library.MOST_SEED) == (2**32 - 1, 2**64 - 1)
     version = re.search(r'^#define PFS_VERSION "(.*)"$', text, re.MULTILINE)
     assert version and version[1] == pfs.__version__
+
+
+def test_modules_that_need_no_library_are_imported_without_one(tmp_path: pathlib.Path) -> None:
+    """Those that draw a time table, and those of experiments. A name of the package says what is missing."""
+    code = ("import pfs, pfs._gantt, pfs.experiments.__main__\n"
+            "from pfs.experiments import plan, run, slurm\nprint(pfs.__version__)\npfs.Instance\n")
+    env = os.environ | {"PFS_LIBRARY": "/none", "PYTHONPATH": str(pathlib.Path(pfs.__file__).parents[1])}
+    done = subprocess.run([sys.executable, "-B", "-c", code], cwd=tmp_path, env=env, capture_output=True, text=True)
+    assert done.stdout == f"{pfs.__version__}\n", done.stderr
+    assert done.stderr.splitlines()[-1].startswith("ImportError: pfs can't load its library /none")
