@@ -399,7 +399,7 @@ def search(libpfs: Library, monkeypatch: pytest.MonkeyPatch) -> Callable[..., on
     class Search(one.Search):
         def call(self, function: str, *arguments: Any) -> None:
             super().call(function, *arguments)
-            clock[0] += arguments[1].value if arguments else 3
+            clock[0] += arguments[0]._obj.count if arguments else 3
 
     return lambda seed: Search(TIMES, 20, 10, 4, 0, seed)
 
