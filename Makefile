@@ -25,7 +25,6 @@ LIB = lib
 ZSH = share/zsh/site-functions
 PROGRAM = crates/pfs/out/pfs
 LIBRARY = lib/out/libpfs.so.1
-PLANS = $(notdir $(wildcard experiments/*.toml))
 PACKAGE = PYTHONPATH=python/src /usr/bin/python3 -B -m
 
 define newline
@@ -40,11 +39,9 @@ share/pfs.bash $(ZSH)/_pfs
 $(foreach name,pfs pfs-plan pfs-gantt pfs-experiments,\
     share/pfs.bash share/bash-completion/completions/$(name)$(newline))
 $(foreach name,$(PAGES),$(name) share/doc/pfs/$(name)$(newline))
-$(foreach name,$(PLANS),experiments/$(name) share/doc/pfs/examples/$(name)$(newline))
 endef
-PAGES = README.md CHANGELOG.md CITATION.cff CONTRIBUTING.md SECURITY.md LICENSE-MIT LICENSE-APACHE \
-    experiments/README.md lib/pfs.h \
-    $(sort $(wildcard docs/*.* docs/maintain/*.* examples/* python/README.md python/examples/*.py))
+PAGES = $(sort $(wildcard *.md CITATION.cff LICENSE-* docs/*.* docs/maintain/*.* examples/* experiments/*.* lib/pfs.h \
+    python/README.md python/examples/*.py))
 define LIBRARY_FILES
 lib/out/libpfs.a $(LIB)/libpfs.a
 $(LIBRARY) $(LIB)/libpfs.so.1

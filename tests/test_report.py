@@ -367,10 +367,11 @@ def test_two_methods_are_compared_by_plain_definitions(scales: list[int], differ
 def test_the_effect_size_is_the_mean_over_the_instances(report: Reported, folder: pathlib.Path) -> None:
     """On the first instance 3 of 4 pairs of runs are won, and on the second, which is longer, 1 and a tie. On the third
     one method lacks a seed, which has no part."""
+    spans: dict[str, dict[str, tuple[int, ...]]] = {"a": {"i": (10, 12), "j": (500, 510), "k": (7,)},
+                                                    "b": {"i": (11, 13), "j": (500, 505), "k": (8, 1)}}
     texts = {name: "instance,seed,makespan\n" + "".join(
-        f"{instance},{seed},{span}\n" for instance, spans in rows.items() for seed, span in enumerate(spans, 1))
-             for name, rows in {"a": {"i": (10, 12), "j": (500, 510), "k": (7,)},
-                                "b": {"i": (11, 13), "j": (500, 505), "k": (8, 1)}}.items()}
+        f"{instance},{seed},{span}\n" for instance, own in rows.items() for seed, span in enumerate(own, 1))
+             for name, rows in spans.items()}
     assert report(**texts).status == 0
     assert column(folder, "vargha_delaney_a", "comparison") == [f"{(0.75 + 0.375 + 1) / 3:.3f}"]
     assert column(folder, "lost", "comparison") == ["1"]
@@ -518,7 +519,8 @@ def test_the_rpd_by_seconds(done: Callable[[str], Any]) -> None:
 def test_a_box_has_the_nanoseconds_a_cell_of_most_rounds(done: Callable[[str], Any]) -> None:
     """Of 1, 2, 3, 4 and 10. The title names these rounds."""
     text = HEAD + "\na,20,5,0,4,0,1,1,101,100,1.0000,1000,0.001000,ok\n" + "".join(
-        f"a,20,5,100,4,0,{at},1,101,100,1.0000,1000000,{time / 1000:.6f},ok\n" for at, time in enumerate((1, 2, 3, 4, 10)))
+        f"a,20,5,100,4,0,{at},1,101,100,1.0000,1000000,{time / 1000:.6f},ok\n"
+        for at, time in enumerate((1, 2, 3, 4, 10)))
     figure = cell_times(done(text), None)
     drawn = sorted({round(float(y), 6) for line in figure.axes[0].get_lines() for y in line.get_ydata()})
     assert drawn == [1, 2, 3, 4, 10] and "at 100 rounds" in figure._suptitle.get_text().replace("\n", " ")
@@ -527,11 +529,12 @@ def test_a_box_has_the_nanoseconds_a_cell_of_most_rounds(done: Callable[[str], A
 def test_the_plot_of_means_has_intervals_of_students_distribution(done: Callable[[str], Any]) -> None:
     """For 5 instances the quantile is 2.776, as tables of it say. The variance of the differences of the two methods is
     0.5; without the means of the instances, each has half of it."""
-    one, two = {"a": (1, 2, 3, 4, 5)}, {"a": (1, 2, 3, 4, 5), "b": (3, 3, 5, 7, 7)}
-    for methods, variance in ((one, 2.5), (two, 0.25), ({"a": (3,)}, 0)):
+    cases: list[tuple[dict[str, list[int]], float]] = [
+        ({"a": [1, 2, 3, 4, 5]}, 2.5), ({"a": [1, 2, 3, 4, 5], "b": [3, 3, 5, 7, 7]}, 0.25), ({"a": [3]}, 0)]
+    for methods, variance in cases:
         text = "instance,makespan,method,reference\n" + "".join(
             f"i{at},{100 + rpd},{method},100\n" for method, rpds in methods.items() for at, rpd in enumerate(rpds))
-        axis = plots.means(done(text), None).axes[0]
+        axis = means(done(text), None).axes[0]
         half = 2.776 * math.sqrt(variance / 5)
         bars = [[float(y) for _, y in segment] for segment in axis.collections[0].get_segments()]
         assert bars == [pytest.approx([statistics.fmean(rpds) - half, statistics.fmean(rpds) + half], abs=0.002)
@@ -566,7 +569,8 @@ def test_all_is_inside_of_the_picture_and_can_be_read(width: str, options: list[
         assert letters and min(float(size) for size, *_ in letters) >= 7
         for size, anchor, x, shown in letters:
             half = 0.25 * float(size) * len(shown)
-            assert float(x) + {"middle": half, "start": 2 * half, "": 2 * half, "end": 0}[anchor] <= 72 * float(width) + 2, shown
+            after = {"middle": half, "start": 2 * half, "": 2 * half, "end": 0}[anchor]
+            assert float(x) + after <= 72 * float(width) + 2, shown
         assert options == [] or "interval" not in picture and "range over" not in picture
 
 
