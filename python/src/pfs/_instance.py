@@ -27,18 +27,6 @@ _pfs_makespan = c.quick_makespan
 _pfs_insert = c.quick_insert
 # Three times as fast as calling the class of a named tuple.
 _new_tuple = tuple.__new__
-# Buffers for the results of a call: a place and a makespan, with their addresses. A call removes a buffer from this
-# list and appends it again when it is done, so no two threads use the same one.
-_free: list[tuple[c_size_t, c_uint64, Any, Any]] = []
-
-
-def _free_buffer() -> tuple[c_size_t, c_uint64, Any, Any]:
-    """Return a buffer that no other call uses, a new one if none is free."""
-    try:
-        return _free.pop()
-    except IndexError:
-        place, makespan = c_size_t(), c_uint64()
-        return place, makespan, byref(place), byref(makespan)
 
 
 class Place(NamedTuple):
@@ -228,13 +216,13 @@ class Instance:
             If it isn't a list of distinct jobs. The message says which element is wrong.
         """
         jobs, count = as_uint32_bytes(order, "order", self.job_names)
-        found, prepared = _free_buffer(), self._taken()
-        number = _pfs_makespan(prepared.address, jobs, LENGTHS[count] if count < SHORT else c_size_t(count), found[3])
+        prepared = self._taken()
+        number = _pfs_makespan(prepared.address, jobs, LENGTHS[count] if count < SHORT else c_size_t(count),
+                               prepared.to_makespan)
+        makespan: int = prepared.makespan.value
         self._prepared.append(prepared)
         if number:
             raise jobs_error(number, self.jobs, jobs)
-        makespan: int = found[1].value
-        _free.append(found)
         return makespan
 
     def check(self, order: Jobs, stated: int | None = None) -> Check:
@@ -399,17 +387,16 @@ class Instance:
         jobs, count = as_uint32_bytes(sequence, "sequence")
         if type(job) is not int or not 0 <= job < self.jobs:
             job = checked_int(job, "job", 0, self.jobs - 1)
-        found, prepared = _free_buffer(), self._taken()
+        prepared = self._taken()
         number = _pfs_insert(prepared.address, jobs, LENGTHS[count] if count < SHORT else c_size_t(count), job,
-                             found[2], found[3])
+                             prepared.to_place, prepared.to_makespan)
+        best = _new_tuple(Place, (prepared.place.value, prepared.makespan.value))
         self._prepared.append(prepared)
         if number:
             fault = jobs_error(number, self.jobs, jobs, "sequence")
             if number == c.REPEATED and fault.args == (c.message(number),):
                 raise ValueError(f"job {job} is already in the sequence")
             raise fault
-        best = _new_tuple(Place, (found[0].value, found[1].value))
-        _free.append(found)
         return best
 
     def places(self, sequence: Jobs, job: int) -> Order:

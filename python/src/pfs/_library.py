@@ -140,7 +140,8 @@ class Handle(ctypes.Structure):
 
 
 class Prepared:
-    """An instance that the library has prepared. It is released when it is no longer used.
+    """An instance that the library has prepared, with memory for the results of the calls that methods make most often.
+    It is released when it is no longer used.
 
     A process may fork while another thread makes a call. So a forked process prepares its instances again, and does not
     touch the memory of the old ones."""
@@ -150,8 +151,8 @@ class Prepared:
 
     def __init__(self, times: bytes, jobs: int, machines: int) -> None:
         self.made = Prepared.forks
-        self.handle = Handle()
-        self.address = byref(self.handle)
+        self.handle, self.place, self.makespan = Handle(), c_size_t(), c_uint64()
+        self.address, self.to_place, self.to_makespan = byref(self.handle), byref(self.place), byref(self.makespan)
         done(library.pfs_prepare(times, jobs * machines, jobs, machines, self.address))
 
     def is_own(self) -> bool:
