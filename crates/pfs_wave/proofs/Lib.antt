@@ -5,6 +5,7 @@ pub mod EightLanes
 pub mod FilledSteps
 pub mod HeldLemmas
 pub mod JoinedRows
+pub mod LaneSteps
 pub mod LeastKey
 pub mod LoadedTimes
 pub mod Longest
@@ -15,11 +16,13 @@ pub mod ShopRows
 pub mod SkewedTimes
 pub mod SmallLanes
 pub mod Steps
+pub mod StepTables
 pub mod PaddedTables
 pub mod PartLaws
 pub mod PartOf
 pub mod PastRows
 pub mod PutParts
+pub mod TailCells
 pub mod TakenSteps
 pub mod VectorLemmas
 pub mod WavefrontLaws

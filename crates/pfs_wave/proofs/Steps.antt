@@ -54,7 +54,7 @@ module _ (width : ℕ) where
   pub length-zip : (f : ℕ → ℕ → ℕ) (a b : List ℕ) → width ≤ length a → length b ≡ width → length (zip2 f a b) ≡ width
   length-zip f a b p q = length-zip2_le f a b (omega arith) ∙ q
 
-  zip_lane : (f : ℕ → ℕ → ℕ) (a b : List ℕ) (lane : ℕ) → width ≤ length a → length b ≡ width → lane < width
+  pub zip_lane : (f : ℕ → ℕ → ℕ) (a b : List ℕ) (lane : ℕ) → width ≤ length a → length b ≡ width → lane < width
       → get_or (zip2 f a b) lane 0 ≡ f (get_or a lane 0) (get_or b lane 0)
   zip_lane f a b lane p q lt = get_or-zip2 f a b lane 0 0 0 (omega arith) (omega arith)
 
