@@ -22,6 +22,7 @@ pub mod PartLaws
 pub mod PartOf
 pub mod PastRows
 pub mod PutParts
+pub mod SumCells
 pub mod TailCells
 pub mod TakenSteps
 pub mod VectorLemmas
