@@ -1,13 +1,13 @@
 -- The pass of the heads, the inserted rows and the sums, one vector after the other.
 use Rattle.std.proofs.Common.{ℕ, zero, suc, ◌≡◌, ◌+◌, ◌-◌, ◌*◌, ◌<◌, ◌≤◌, List, [], length, map, get_or, slice_set, max}
-use Rattle.std.proofs.Common.{ap, ◌∙◌, sym, arith, inl, inr, refl}
+use Rattle.std.proofs.Common.{ap, ◌∙◌, sym, arith, inl, inr, refl, subst}
 use Rattle.std.proofs.lemmas.Bool.{cases_lt}
 use Rattle.std.proofs.lemmas.List.{get_or-set_same, get_or-set_other, length-set}
 use Rattle.pfs_wave.specs.Lanes.{capped_add}
-use Rattle.pfs_wave.specs.Private.Blocks.{Vectors, AreTimes, HoldCells, IsNoneBefore, IsRow, IsStep, step_of, vectors_of}
+use Rattle.pfs_wave.specs.Private.Blocks.{Cells, Vectors, AreTimes, HoldCells, IsNoneBefore, IsRow, IsStep, step_of, vectors_of}
 use Rattle.pfs_wave.specs.Private.Recurrences.{AreSummed, AreTables, TablesOfCells}
 use Rattle.pfs_wave.proofs.StepTables.{set_same, set_other}
-use Rattle.pfs_wave.proofs.TailCells.{IsNext, later_same}
+use Rattle.pfs_wave.proofs.TailCells.{IsNext, column_as, later_same}
 
 -- the lanes of `new` are those before them in `old`, and 0 is in the first lane
 pub record IsMoved (old new : List ℕ) : Type 0 where
@@ -202,3 +202,53 @@ step_summed lanes count rows step t heads inserted sum head k so all = record {
       let next : lane * count + k ≡ suc lane * count = omega arith in
       so.sum_is place lane lt le (omega arith) ∙ ap (t.sum place) next;
 }
+
+-- ---- the pass, after some steps
+
+pub record AreSumsFilled (count rows step : ℕ) (t : TablesOfCells) (heads : Vectors) (inserted sum sums : List ℕ) : Type 0
+    where
+  pub summed : AreSummed count rows step t heads inserted sum
+  pub kept : (place : ℕ) → place ≤ rows → place + 7 < step → get_or sums (place + 7) 0 ≡ t.sum place (8 * count)
+
+module _ (cap count rows : ℕ) (t : TablesOfCells) (are : AreTables cap rows t) where
+  pub sums_filled_none : (heads : Vectors) (inserted sum sums : List ℕ)
+      → ((lane k : ℕ) → lane < 8 → k < count → get_or (heads k) lane 0 ≡ 0)
+      → AreSumsFilled count rows 0 t heads inserted sum sums
+  sums_filled_none heads inserted sum sums zeros = record {
+    summed = record {
+      heads_are = λ lane k lt k_lt le.
+          let none : 0 ≡ 0 - lane = omega arith in
+          let machines = lane * count + suc k in
+          zeros lane k lt k_lt ∙ sym (are.first_head machines) ∙ ap (λ r. t.head r machines) none;
+      inserted_is = λ place lane lt le all. absurd (omega arith);
+      sum_is = λ place lane lt le all. absurd (omega arith);
+    };
+    kept = λ place le lt. absurd (omega arith);
+  }
+
+  pub sums_filled_more : (heads new : Vectors) (inserted sum new_inserted new_sum sums : List ℕ) (step last : ℕ)
+      → AreSumsFilled count rows step t heads inserted sum sums → step < length sums
+      → AreSummed count rows (suc step) t new new_inserted new_sum → last ≡ get_or new_sum 7 0
+      → AreSumsFilled count rows (step + 1) t new new_inserted new_sum (slice_set sums step last)
+  sums_filled_more heads new inserted sum new_inserted new_sum sums step last so_far inside summed last_is = record {
+    summed = subst (λ s. AreSummed count rows s t new new_inserted new_sum) (omega arith) summed;
+    kept = λ place le lt.
+        elim (cases_lt (place + 7) step) [
+          | inl earlier ↦ get_or-set_other sums step (place + 7) last 0 (omega arith) ∙ so_far.kept place le earlier
+          | inr later ↦
+              let same : step ≡ place + 7 = omega arith in
+              let all : place + suc 7 ≡ suc step = omega arith in
+              ap (λ s. get_or (slice_set sums step last) s 0) (sym same) ∙ get_or-set_same sums step last 0 inside
+              ∙ last_is ∙ summed.sum_is place 7 (omega arith) le all
+        ];
+  }
+
+-- a step that is read from a table
+module _ (count steps : ℕ) (read : Vectors) (table : List (List ℕ)) (step : ℕ) (lt : step < steps)
+    (same : (k : ℕ) → k < count → read k ≡ step_of count table step k) where
+  pub step_read : (cell : Cells) → HoldCells count steps cell table → IsStep count step cell read
+  step_read cell held k inside = column_as count step cell k (same k inside) (held step lt k inside)
+
+  pub none_read : (time : Cells) → AreTimes count steps time table → IsNoneBefore count step read
+  none_read time are lane k lane_lt inside before =
+      ap (λ v. get_or v lane 0) (same k inside) ∙ are.none_before step lt lane k lane_lt inside before
