@@ -8,11 +8,9 @@ use Rattle.std.proofs.lemmas.List.{length-replicate, same_lists}
 use Rattle.std.specs.List.{All}
 use Rattle.pfs_base.specs.FlowShop.{FlowShop}
 use Rattle.pfs_wave.specs.Lanes.{rows_of, zeros}
-use Rattle.pfs_wave.specs.Reduced.{AreReduced}
-use Rattle.pfs_wave.specs.Private.ReducedRows.{HasReducedRows}
 use Rattle.pfs_wave.specs.Wavefront.{AreSkewed, HasRows}
 use Rattle.pfs_wave.specs.Private.HeldRows.{IsPadded, IsKept, HoldLanes, HoldOutside, AreMoved, IsHolding, row_lane}
-use Rattle.pfs_wave.proofs.SkewedTimes.{are_skewed, are_reduced}
+use Rattle.pfs_wave.proofs.SkewedTimes.{are_skewed}
 
 module _ {rows : List (List ℕ)} {len : ℕ} {order : List ℕ} {width : ℕ} {times : List (List ℕ)}
     (holding : IsHolding rows len order width times) where
@@ -47,15 +45,6 @@ module _ {rows : List (List ℕ)} {len : ℕ} {order : List ℕ} {width : ℕ} {
   holding_skewed shop fits has =
       let long = held_len in
       are_skewed shop rows order (take len order) width times has (jobs_below shop.jobs has.count)
-      (padded_take shop.jobs (sym has.count))
-      holding.all_times (omega (arith, long, holding.some, holding.steps, holding.all_times)) holding.wide holding.lanes
-
-  pub holding_reduced : (shop : FlowShop) (reduction : ℕ) → shop.machines ≤ width
-      → HasReducedRows shop reduction width rows
-      → AreReduced shop (take len order) reduction width (rows_of times)
-  holding_reduced shop reduction fits has =
-      let long = held_len in
-      are_reduced shop rows order (take len order) reduction width times has (jobs_below shop.jobs has.count)
       (padded_take shop.jobs (sym has.count))
       holding.all_times (omega (arith, long, holding.some, holding.steps, holding.all_times)) holding.wide holding.lanes
 

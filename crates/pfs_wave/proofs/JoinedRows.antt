@@ -5,7 +5,7 @@ use Rattle.std.specs.Simd.Lanes.{zip2}
 use Rattle.std.proofs.lemmas.List.{take_more, take_all, length-take-le, length-append, length-drop, drop-append-le}
 use Rattle.std.proofs.lemmas.List.{take-append-le, get_or-take, get_or-drop}
 use Rattle.std.proofs.Math.Seq.{take-append-add, drop-append-add}
-use Rattle.pfs_wave.specs.Lanes.{LaneRule, tails_step, heads_step, sums_step}
+use Rattle.pfs_wave.specs.Lanes.{capped_add, tails_step, heads_step, sums_step}
 use Rattle.pfs_wave.proofs.Steps.{length-zip}
 
 zip2-append : (f : ℕ → ℕ → ℕ) (a b c d : List ℕ) → length a ≡ length b
@@ -63,40 +63,40 @@ band_lane row at part lane is few here =
 module _ (a b h k t s : List ℕ) (width : ℕ) (some : 8 ≤ width) (a_long : length a ≡ width) (h_long : length h ≡ width)
     (t_long : length t ≡ width) where
   -- the steps of two rows, from those of each
-  module _ (rule : LaneRule) (x : ℕ) (new_a new_b between : List ℕ) (at : ℕ) (last : 8 * at + 8 ≡ width)
+  module _ (cap : ℕ) (x : ℕ) (new_a new_b between : List ℕ) (at : ℕ) (last : 8 * at + 8 ≡ width)
       (is : between ≡ take 8 (drop (8 * at) a)) where
     carried : get_or between 7 0 ≡ get_or a (width - 1) 0
     carried = band_lane a at 7 (width - 1) is (omega arith) (omega arith)
 
-    pub heads_joined : new_a ≡ heads_step rule x a h t → new_b ≡ heads_step rule (get_or between 7 0) b k s
-        → new_a ++ new_b ≡ heads_step rule x (a ++ b) (h ++ k) (t ++ s)
+    pub heads_joined : new_a ≡ heads_step cap x a h t → new_b ≡ heads_step cap (get_or between 7 0) b k s
+        → new_a ++ new_b ≡ heads_step cap x (a ++ b) (h ++ k) (t ++ s)
     heads_joined p q =
         let w = width - 1 in
-        both_same p (q ∙ ap (λ c. heads_step rule c b k s) carried)
-        ∙ sym (ap (λ v. zip2 rule.add v (t ++ s)) (zip_joined max x w a b h k (omega arith) (omega arith))
-        ∙ zip2-append rule.add (zip2 max (x ∷ a) h) t (zip2 max (get_or a w 0 ∷ b) k) s
+        both_same p (q ∙ ap (λ c. heads_step cap c b k s) carried)
+        ∙ sym (ap (λ v. zip2 (capped_add cap) v (t ++ s)) (zip_joined max x w a b h k (omega arith) (omega arith))
+        ∙ zip2-append (capped_add cap) (zip2 max (x ∷ a) h) t (zip2 max (get_or a w 0 ∷ b) k) s
         (length-zip width max (x ∷ a) h (omega arith) h_long ∙ sym t_long))
 
-    pub sums_joined : new_a ≡ sums_step rule x a h t → new_b ≡ sums_step rule (get_or between 7 0) b k s
-        → new_a ++ new_b ≡ sums_step rule x (a ++ b) (h ++ k) (t ++ s)
+    pub sums_joined : new_a ≡ sums_step cap x a h t → new_b ≡ sums_step cap (get_or between 7 0) b k s
+        → new_a ++ new_b ≡ sums_step cap x (a ++ b) (h ++ k) (t ++ s)
     sums_joined p q =
         let w = width - 1 in
-        let long = length-zip width rule.add h t (omega arith) t_long in
-        both_same p (q ∙ ap (λ c. sums_step rule c b k s) carried)
-        ∙ sym (ap (λ v. zip2 max (x ∷ (a ++ b)) v) (zip2-append rule.add h t k s (h_long ∙ sym t_long))
-        ∙ zip_joined max x w a b (zip2 rule.add h t) (zip2 rule.add k s) (omega arith) (omega arith))
+        let long = length-zip width (capped_add cap) h t (omega arith) t_long in
+        both_same p (q ∙ ap (λ c. sums_step cap c b k s) carried)
+        ∙ sym (ap (λ v. zip2 max (x ∷ (a ++ b)) v) (zip2-append (capped_add cap) h t k s (h_long ∙ sym t_long))
+        ∙ zip_joined max x w a b (zip2 (capped_add cap) h t) (zip2 (capped_add cap) k s) (omega arith) (omega arith))
 
-pub tails_joined : (a b t s new_a new_b between : List ℕ) (rule : LaneRule) (x : ℕ) → 1 ≤ length a → 1 ≤ length b
-    → length t ≡ length a → between ≡ take 8 (drop (8 * 0) b) → new_a ≡ tails_step rule (get_or between 0 0) a t
-    → new_b ≡ tails_step rule x b s → new_a ++ new_b ≡ tails_step rule x (a ++ b) (t ++ s)
-tails_joined a b t s new_a new_b between rule x some too same is p q =
+pub tails_joined : (a b t s new_a new_b between : List ℕ) (cap : ℕ) (x : ℕ) → 1 ≤ length a → 1 ≤ length b
+    → length t ≡ length a → between ≡ take 8 (drop (8 * 0) b) → new_a ≡ tails_step cap (get_or between 0 0) a t
+    → new_b ≡ tails_step cap x b s → new_a ++ new_b ≡ tails_step cap x (a ++ b) (t ++ s)
+tails_joined a b t s new_a new_b between cap x some too same is p q =
     let down_a = drop 1 a ++ (get_or b 0 0 ∷ []) in
     let down_b = drop 1 b ++ (x ∷ []) in
     let long = length-down (get_or b 0 0) a some in
-    both_same (p ∙ ap (λ c. tails_step rule c a t) (band_lane b 0 0 0 is (omega arith) (omega arith))) q
-    ∙ sym (ap (λ v. zip2 rule.add (zip2 max v (a ++ b)) (t ++ s)) (down_joined x a b some too)
-    ∙ ap (λ v. zip2 rule.add v (t ++ s)) (zip2-append max down_a a down_b b long)
-    ∙ zip2-append rule.add (zip2 max down_a a) t (zip2 max down_b b) s
+    both_same (p ∙ ap (λ c. tails_step cap c a t) (band_lane b 0 0 0 is (omega arith) (omega arith))) q
+    ∙ sym (ap (λ v. zip2 (capped_add cap) (zip2 max v (a ++ b)) (t ++ s)) (down_joined x a b some too)
+    ∙ ap (λ v. zip2 (capped_add cap) v (t ++ s)) (zip2-append max down_a a down_b b long)
+    ∙ zip2-append (capped_add cap) (zip2 max down_a a) t (zip2 max down_b b) s
     (length-zip (length a) max down_a a (omega arith) refl ∙ sym same))
 
 module _ (a b : List ℕ) (first : ℕ) where

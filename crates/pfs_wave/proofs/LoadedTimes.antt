@@ -7,8 +7,7 @@ use Rattle.std.proofs.Math.Seq.{drop-cons}
 use Rattle.std.proofs.lemmas.List.{length-drop, length-take-le}
 use Rattle.std.proofs.lemmas.List.Elements.{All-get_or}
 use Rattle.std.proofs.lemmas.Simd.{Each1-chunk, Each1-from_get_or}
-use Rattle.pfs_wave.specs.Lanes.{LaneRule}
-use Rattle.pfs_wave.specs.Private.ShopTimes.{lane_sum, limited_time}
+use Rattle.pfs_wave.specs.Private.ShopTimes.{limited_time}
 use Rattle.pfs_wave.proofs.SmallLanes.{AreSmall}
 use Rattle.pfs_wave.proofs.VectorLemmas.{cons_same}
 
@@ -36,16 +35,6 @@ limited_eight times limits result at first left right is =
     is
     ∙ zip_parts min times limits (limited_time times at limits) 8 (at + first) first left right
     (λ k l to same. ap (λ i. min (get_or times i 0) (get_or limits l 0)) (omega arith))
-
--- the sums of eight lanes of two rows
-pub summed_eight : (rule : LaneRule) (row other result : List ℕ) (first : ℕ) → first + 8 ≤ length row
-    → first + 8 ≤ length other
-    → result ≡ zip2 rule.add (take 8 (drop first row)) (take 8 (drop first other))
-    → result ≡ map (lane_sum rule row other) (range_with_len first 8)
-summed_eight rule row other result first left right is =
-    is
-    ∙ zip_parts rule.add row other (lane_sum rule row other) 8 first first left right
-    (λ k l to same. ap (λ i. rule.add (get_or row i 0) (get_or other l 0)) (omega arith))
 
 -- each of eight times is at most a cap
 pub small_eight : (cap : ℕ) (times : List ℕ) (at : ℕ) → at + 8 ≤ length times → AreSmall cap times

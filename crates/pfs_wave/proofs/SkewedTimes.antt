@@ -6,8 +6,6 @@ use Rattle.std.proofs.lemmas.List.{get_or-take, get_or-drop, get_or-replicate, g
 use Rattle.std.specs.List.{All}
 use Rattle.pfs_base.specs.FlowShop.{FlowShop}
 use Rattle.pfs_wave.specs.Lanes.{rows_of}
-use Rattle.pfs_wave.specs.Reduced.{AreReduced, reduced_on, row_time}
-use Rattle.pfs_wave.specs.Private.ReducedRows.{HasReducedRows}
 use Rattle.pfs_wave.specs.Wavefront.{AreSkewed, HasRows, padded_time, step_count}
 use Rattle.pfs_wave.specs.Private.HeldRows.{IsPadded, HoldLanes, HoldOutside, row_lane}
 use Rattle.pfs_wave.specs.Private.SkewedBand.{IsBandFilled, band_rows, eight_from}
@@ -138,40 +136,6 @@ row_lane_is shop rows order jobs width has below padded row lane inside lt =
           padded row inside ∙ get_or_past jobs row shop.jobs none in
           rw (le-ltb row (length jobs) none, job_is, has.none) (get_or-replicate width lane 0 0 lt)
     ]
-
--- a lane of a row is a reduced time of the shop, or a reduced 0 after the last row of the sequence
-reduced_lane_is : (shop : FlowShop) (rows : List (List ℕ)) (order jobs : List ℕ) (reduction width : ℕ)
-    → HasReducedRows shop reduction width rows
-    → All (λ job. job < shop.jobs) jobs → IsPadded order jobs shop.jobs → (row lane : ℕ) → row < length order
-    → lane < width
-    → row_lane rows order row lane ≡ reduced_on shop reduction (row_time shop jobs row) lane
-unfolding row_lane
-reduced_lane_is shop rows order jobs reduction width has below padded row lane inside lt =
-    elim (cases_lt row (length jobs)) [
-      | inl some ↦
-          let job_is : get_or order row 0 ≡ get_or jobs row 0 =
-          padded row inside ∙ get_or_default jobs row shop.jobs 0 some in
-          rw (lt-ltb row (length jobs) some, job_is)
-          ((has.jobs_are (get_or jobs row 0) (below row 0 some)).times_are lane lt)
-      | inr none ↦
-          let job_is : get_or order row 0 ≡ shop.jobs =
-          padded row inside ∙ get_or_past jobs row shop.jobs none in
-          rw (le-ltb row (length jobs) none, job_is) (has.none lane lt)
-    ]
-
-pub are_reduced : (shop : FlowShop) (rows : List (List ℕ)) (order jobs : List ℕ) (reduction width : ℕ)
-    (times : List (List ℕ)) → HasReducedRows shop reduction width rows → All (λ job. job < shop.jobs) jobs
-    → IsPadded order jobs shop.jobs
-    → length times ≡ length order → step_count shop jobs ≤ length times
-    → ((step : ℕ) → step < length times → length (get_or times step []) ≡ width) → HoldLanes rows order 0 width times
-    → AreReduced shop jobs reduction width (rows_of times)
-are_reduced shop rows order jobs reduction width times has below padded steps enough wide hold = record {
-  lanes = λ step lt. wide step (omega arith);
-  times_are = λ row lane lt inside.
-      hold.times_are row lane (omega arith) lt (omega arith)
-      ∙ reduced_lane_is shop rows order jobs reduction width has below padded row lane (omega arith) lt;
-  none_before = λ step lane inside before lt. hold.none_before step lane before (omega arith) lt (omega arith);
-}
 
 pub are_skewed : (shop : FlowShop) (rows : List (List ℕ)) (order jobs : List ℕ) (width : ℕ) (times : List (List ℕ))
     → HasRows shop width rows → All (λ job. job < shop.jobs) jobs → IsPadded order jobs shop.jobs

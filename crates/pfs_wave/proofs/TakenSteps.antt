@@ -1,9 +1,8 @@
 -- The first steps of tables, which may have more.
-use Rattle.std.proofs.Common.{◌≡◌, ℕ, ◌+◌, ◌-◌, ◌*◌, ◌<◌, ◌≤◌, List, [], ◌++◌, length, take, map, ap, ◌∙◌, arith}
+use Rattle.std.proofs.Common.{◌≡◌, ℕ, ◌+◌, ◌<◌, ◌≤◌, List, [], ◌++◌, length, take, map, ap, ◌∙◌, arith}
 use Rattle.std.proofs.lemmas.List.{get_or-take, get_or_append_left, length-map, map-append, take-map}
 use Rattle.pfs_base.specs.FlowShop.{FlowShop}
 use Rattle.pfs_wave.specs.Lanes.{Rows, rows_of}
-use Rattle.pfs_wave.specs.Reduced.{AreReduced, HoldReducedTails}
 use Rattle.pfs_wave.specs.Wavefront.{lane_of, AreSkewed, HoldTails, step_count}
 
 -- rows that are the same in all steps of a sequence
@@ -24,25 +23,6 @@ module _ (shop : FlowShop) (jobs : List ℕ) (width : ℕ) (rows others : Rows)
   same_tails cap tails = record {
     lanes = λ step lt. ap length (same step lt) ∙ tails.lanes step lt;
     tails_are = λ row lane lt inside. same_lane (row + lane) lane inside ∙ tails.tails_are row lane lt inside;
-  }
-
-  pub same_reduced : (reduction : ℕ) → AreReduced shop jobs reduction width rows
-      → AreReduced shop jobs reduction width others
-  same_reduced reduction times = record {
-    lanes = λ step lt. ap length (same step lt) ∙ times.lanes step lt;
-    times_are = λ row lane lt inside. same_lane (row + lane) lane inside ∙ times.times_are row lane lt inside;
-    none_before = λ step lane inside before lt. same_lane step lane inside
-        ∙ times.none_before step lane inside before lt;
-  }
-
-  pub same_reduced_tails : (reduction : ℕ) → HoldReducedTails shop jobs reduction width rows
-      → HoldReducedTails shop jobs reduction width others
-  same_reduced_tails reduction tails = record {
-    lanes = λ step lt. ap length (same step lt) ∙ tails.lanes step lt;
-    tails_are = λ row lane lt inside.
-        ap (λ n. n + reduction * (step_count shop jobs - (row + lane))) (same_lane (row + lane) lane inside)
-        ∙ tails.tails_are row lane lt inside;
-    none_after = λ step lane inside past lt. same_lane step lane inside ∙ tails.none_after step lane inside past lt;
   }
 
 module _ {X : Type 0} (lanes : X → List ℕ) where

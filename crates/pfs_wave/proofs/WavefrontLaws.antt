@@ -4,7 +4,7 @@ use Rattle.std.proofs.Common.{◌∙◌, sym, arith, add-one, inl, inr}
 use Rattle.std.proofs.lemmas.Bool.{cases_lt}
 use Rattle.std.proofs.lemmas.List.{get_or_past}
 use Rattle.pfs_base.specs.FlowShop.{FlowShop}
-use Rattle.pfs_wave.specs.Lanes.{LaneRule, capped, capped_rule, starts, zeros, tails_step, heads_step, sums_step}
+use Rattle.pfs_wave.specs.Lanes.{capped, zeros, tails_step, heads_step, sums_step}
 use Rattle.pfs_wave.specs.Lanes.{Rows, tails_at, heads_at}
 use Rattle.pfs_wave.specs.Lanes.{inserted_at, sums_at}
 use Rattle.pfs_wave.specs.Wavefront.{lane_of, AreSkewed, FitsLanes, HoldTails, IsJobRow, TailsLaw, HeadsLaw}
@@ -21,41 +21,41 @@ use Rattle.pfs_base.specs.FlowShop.{time_of}
 use Rattle.pfs_base.proofs.Published.Heads.{heaviest_is}
 use Rattle.pfs_base.specs.Paths.{operation}
 
-module _ (rule : LaneRule) (times : Rows) (width : ℕ) where
-  pub tails_next : (steps left : ℕ) → tails_at rule times width steps (suc left)
-      ≡ tails_step rule 0 (tails_at rule times width steps left) (times (steps - suc left))
+module _ (cap : ℕ) (times : Rows) (width : ℕ) where
+  pub tails_next : (steps left : ℕ) → tails_at cap times width steps (suc left)
+      ≡ tails_step cap 0 (tails_at cap times width steps left) (times (steps - suc left))
   unfolding tails_at
   tails_next steps left = refl
 
-  pub tails_last : (steps : ℕ) → tails_at rule times width steps zero ≡ starts rule width
+  pub tails_last : (steps : ℕ) → tails_at cap times width steps zero ≡ zeros width
   unfolding tails_at
   tails_last steps = refl
 
-  pub heads_next : (step : ℕ) → heads_at rule times width (suc step)
-      ≡ heads_step rule 0 (heads_at rule times width step) (heads_at rule times width step) (times step)
+  pub heads_next : (step : ℕ) → heads_at cap times width (suc step)
+      ≡ heads_step cap 0 (heads_at cap times width step) (heads_at cap times width step) (times step)
   unfolding heads_at
   heads_next step = refl
 
-  pub heads_first : heads_at rule times width zero ≡ starts rule width
+  pub heads_first : heads_at cap times width zero ≡ zeros width
   unfolding heads_at
   heads_first = refl
 
-  pub inserted_next : (job : List ℕ) (step : ℕ) → inserted_at rule times job width (suc step)
-      ≡ heads_step rule 0 (inserted_at rule times job width step) (heads_at rule times width step) job
+  pub inserted_next : (job : List ℕ) (step : ℕ) → inserted_at cap times job width (suc step)
+      ≡ heads_step cap 0 (inserted_at cap times job width step) (heads_at cap times width step) job
   unfolding inserted_at
   inserted_next job step = refl
 
-  pub inserted_first : (job : List ℕ) → inserted_at rule times job width zero ≡ zeros width
+  pub inserted_first : (job : List ℕ) → inserted_at cap times job width zero ≡ zeros width
   unfolding inserted_at
   inserted_first job = refl
 
-  pub sums_next : (tails : Rows) (job : List ℕ) (step : ℕ) → sums_at rule times tails job width (suc step)
-      ≡ sums_step rule 0 (sums_at rule times tails job width step) (inserted_at rule times job width (suc step))
+  pub sums_next : (tails : Rows) (job : List ℕ) (step : ℕ) → sums_at cap times tails job width (suc step)
+      ≡ sums_step cap 0 (sums_at cap times tails job width step) (inserted_at cap times job width (suc step))
       (tails step)
   unfolding sums_at
   sums_next tails job step = refl
 
-  pub sums_first : (tails : Rows) (job : List ℕ) → sums_at rule times tails job width zero ≡ zeros width
+  pub sums_first : (tails : Rows) (job : List ℕ) → sums_at cap times tails job width zero ≡ zeros width
   unfolding sums_at
   sums_first tails job = refl
 
@@ -70,26 +70,26 @@ module _ (cap : ℕ) (shop : FlowShop) (jobs : List ℕ) (width : ℕ) (times : 
   time_at step row lane inside is lt =
       ap (λ s. lane_of times s lane) is ∙ skewed.times_are row lane lt (omega arith)
 
-  tails_wide : (left : ℕ) → left ≤ steps → length (tails_at (capped_rule cap) times width steps left) ≡ width
-  tails_wide zero le = ap length (tails_last (capped_rule cap) times width steps) ∙ length-zeros width
+  tails_wide : (left : ℕ) → left ≤ steps → length (tails_at cap times width steps left) ≡ width
+  tails_wide zero le = ap length (tails_last cap times width steps) ∙ length-zeros width
   tails_wide (suc left) le =
       let some = fits.some in
       let few = fits.few in
-      ap length (tails_next (capped_rule cap) times width steps left)
-      ∙ length-tails_step (capped_rule cap) width (tails_at (capped_rule cap) times width steps left) (times
+      ap length (tails_next cap times width steps left)
+      ∙ length-tails_step cap width (tails_at cap times width steps left) (times
       (steps - suc left)) (omega arith)
       (tails_wide left (omega arith)) (skewed.lanes (steps - suc left) (omega arith))
 
   tails_are : (left row lane : ℕ) → row + lane + left ≡ steps → lane < width →
-      get_or (tails_at (capped_rule cap) times width steps left) lane 0 ≡ capped cap (padded_back shop jobs row lane)
+      get_or (tails_at cap times width steps left) lane 0 ≡ capped cap (padded_back shop jobs row lane)
   tails_are zero row lane end lt =
-      ap (λ v. get_or v lane 0) (tails_last (capped_rule cap) times width steps) ∙ zeros-get_or width lane lt
+      ap (λ v. get_or v lane 0) (tails_last cap times width steps) ∙ zeros-get_or width lane lt
       ∙ capped_none cap ∙ ap (capped cap) (sym (elim (cases_lt row (length jobs)) [
         | inl some ↦ on_padding shop (heaviest_back shop jobs row) lane (omega arith)
         | inr none ↦ padded_none shop jobs row lane none
       ]))
   tails_are (suc left) row lane end lt =
-      let below = tails_at (capped_rule cap) times width steps left in
+      let below = tails_at cap times width steps left in
       let now = times (steps - suc left) in
       let wide = tails_wide left (omega arith) in
       let few = fits.few in
@@ -101,8 +101,8 @@ module _ (cap : ℕ) (shop : FlowShop) (jobs : List ℕ) (width : ℕ) (times : 
             ∙ ap (capped cap) (sym (on_padding shop (heaviest_back shop jobs row) (suc lane) (omega arith)))
       ] in
       let under = tails_are left (suc row) lane (omega arith) lt in
-      ap (λ v. get_or v lane 0) (tails_next (capped_rule cap) times width steps left)
-      ∙ tails_lane (capped_rule cap) width below now lane wide (skewed.lanes (steps - suc left) (omega arith)) lt
+      ap (λ v. get_or v lane 0) (tails_next cap times width steps left)
+      ∙ tails_lane cap width below now lane wide (skewed.lanes (steps - suc left) (omega arith)) lt
       ∙ capped_step cap (get_or below (suc lane) 0) (get_or below lane 0) (padded_back shop jobs row (suc lane))
       (padded_back shop jobs (suc row) lane) (get_or now lane 0) beside under
       ∙ ap (capped cap) (ap (λ t. max (padded_back shop jobs row (suc lane)) (padded_back shop jobs (suc row) lane) + t)
@@ -122,35 +122,35 @@ tails_law cap shop jobs width times tails fits skewed are =
 
 module _ (cap : ℕ) (shop : FlowShop) (jobs : List ℕ) (width : ℕ) (times : Rows) (fits : FitsLanes shop width)
     (skewed : AreSkewed shop jobs width times) where
-  heads_wide : (step : ℕ) → step ≤ step_count shop jobs → length (heads_at (capped_rule cap) times width step) ≡ width
-  heads_wide zero le = ap length (heads_first (capped_rule cap) times width) ∙ length-zeros width
+  heads_wide : (step : ℕ) → step ≤ step_count shop jobs → length (heads_at cap times width step) ≡ width
+  heads_wide zero le = ap length (heads_first cap times width) ∙ length-zeros width
   heads_wide (suc step) le =
       let before = heads_wide step (omega arith) in
-      ap length (heads_next (capped_rule cap) times width step)
-      ∙ length-heads_step (capped_rule cap) width (heads_at (capped_rule cap) times width step) (heads_at
-      (capped_rule cap) times width step)
+      ap length (heads_next cap times width step)
+      ∙ length-heads_step cap width (heads_at cap times width step) (heads_at
+      cap times width step)
       (times step) before before
       (skewed.lanes step (omega arith))
 
   -- a lane of heads, from the head before it and the head above it
   head_lane : (step lane a b : ℕ) → step < step_count shop jobs → lane < width
-      → get_or (0 ∷ (heads_at (capped_rule cap) times width step)) lane 0 ≡ capped cap a
-      → get_or (heads_at (capped_rule cap) times width step) lane 0
+      → get_or (0 ∷ (heads_at cap times width step)) lane 0 ≡ capped cap a
+      → get_or (heads_at cap times width step) lane 0
       ≡ capped cap b
-      → get_or (heads_at (capped_rule cap) times width (suc step)) lane 0 ≡ capped cap
+      → get_or (heads_at cap times width (suc step)) lane 0 ≡ capped cap
       (max a b + lane_of times step lane)
   head_lane step lane a b le lt before above =
-      let heads = heads_at (capped_rule cap) times width step in
+      let heads = heads_at cap times width step in
       let wide = heads_wide step (omega arith) in
-      ap (λ v. get_or v lane 0) (heads_next (capped_rule cap) times width step)
-      ∙ heads_lane (capped_rule cap) width heads heads (times step) lane wide wide (skewed.lanes step le) lt
+      ap (λ v. get_or v lane 0) (heads_next cap times width step)
+      ∙ heads_lane cap width heads heads (times step) lane wide wide (skewed.lanes step le) lt
       ∙ capped_step cap (get_or (0 ∷ heads) lane 0) (get_or heads lane 0) a b (lane_of times step lane) before above
 
   -- lanes that the wavefront has not reached yet are 0
   heads_none : (step lane : ℕ) → step ≤ step_count shop jobs → step ≤ lane → lane < width
-      → get_or (heads_at (capped_rule cap) times width step) lane 0 ≡ 0
+      → get_or (heads_at cap times width step) lane 0 ≡ 0
   heads_none zero lane inside le lt =
-      ap (λ v. get_or v lane 0) (heads_first (capped_rule cap) times width) ∙ zeros-get_or width lane lt
+      ap (λ v. get_or v lane 0) (heads_first cap times width) ∙ zeros-get_or width lane lt
   heads_none (suc step) zero inside le lt = absurd (omega arith)
   heads_none (suc step) (suc lane) inside le lt =
       head_lane step (suc lane) 0 0 (omega arith) lt
@@ -161,7 +161,7 @@ module _ (cap : ℕ) (shop : FlowShop) (jobs : List ℕ) (width : ℕ) (times : 
 
   heads_are : (step place lane : ℕ) → step ≤ step_count shop jobs → step ≡ place + lane → lane < width
       → place ≤ length jobs
-      → get_or (heads_at (capped_rule cap) times width step) lane 0 ≡ capped cap
+      → get_or (heads_at cap times width step) lane 0 ≡ capped cap
       (padded_head shop fits.some jobs place lane)
   heads_are step zero lane inside is lt le = heads_none step lane inside (omega arith) lt ∙ capped_none cap
   heads_are zero (suc place) lane inside is lt le = absurd (omega arith)
@@ -182,25 +182,25 @@ module _ (cap : ℕ) (shop : FlowShop) (jobs : List ℕ) (width : ℕ) (times : 
 
   module _ (job : ℕ) (job_times : List ℕ) (is_job : IsJobRow shop job width job_times) where
     inserted_wide : (step : ℕ) → step ≤ step_count shop jobs → length (inserted_at
-        (capped_rule cap) times job_times width step)
+        cap times job_times width step)
         ≡ width
-    inserted_wide zero le = ap length (inserted_first (capped_rule cap) times width job_times) ∙ length-zeros width
+    inserted_wide zero le = ap length (inserted_first cap times width job_times) ∙ length-zeros width
     inserted_wide (suc step) le =
-        ap length (inserted_next (capped_rule cap) times width job_times step)
-        ∙ length-heads_step (capped_rule cap) width (inserted_at (capped_rule cap) times job_times width step)
-        (heads_at (capped_rule cap) times width step) job_times
+        ap length (inserted_next cap times width job_times step)
+        ∙ length-heads_step cap width (inserted_at cap times job_times width step)
+        (heads_at cap times width step) job_times
         (inserted_wide step (omega arith)) (heads_wide step (omega arith)) is_job.lanes
 
     inserted_lane : (step lane a b : ℕ) → step < step_count shop jobs → lane < width
-        → get_or (0 ∷ (inserted_at (capped_rule cap) times job_times width step)) lane 0 ≡ capped cap a
-        → get_or (heads_at (capped_rule cap) times width step) lane 0 ≡ capped cap b
-        → get_or (inserted_at (capped_rule cap) times job_times width (suc step)) lane 0
+        → get_or (0 ∷ (inserted_at cap times job_times width step)) lane 0 ≡ capped cap a
+        → get_or (heads_at cap times width step) lane 0 ≡ capped cap b
+        → get_or (inserted_at cap times job_times width (suc step)) lane 0
         ≡ capped cap (max a b + on_machine shop (time_of shop job) lane)
     inserted_lane step lane a b le lt before above =
-        let inserted = inserted_at (capped_rule cap) times job_times width step in
-        let heads = heads_at (capped_rule cap) times width step in
-        ap (λ v. get_or v lane 0) (inserted_next (capped_rule cap) times width job_times step)
-        ∙ heads_lane (capped_rule cap) width inserted heads job_times lane (inserted_wide step (omega arith))
+        let inserted = inserted_at cap times job_times width step in
+        let heads = heads_at cap times width step in
+        ap (λ v. get_or v lane 0) (inserted_next cap times width job_times step)
+        ∙ heads_lane cap width inserted heads job_times lane (inserted_wide step (omega arith))
         (heads_wide step (omega arith))
         is_job.lanes lt
         ∙ capped_step cap (get_or (0 ∷ inserted) lane 0) (get_or heads lane 0) a b
@@ -209,7 +209,7 @@ module _ (cap : ℕ) (shop : FlowShop) (jobs : List ℕ) (width : ℕ) (times : 
 
     inserted_are : (lane step place : ℕ) → step < step_count shop jobs → step ≡ place + lane → lane < width
         → (within : place ≤ length jobs)
-        → get_or (inserted_at (capped_rule cap) times job_times width (suc step)) lane 0
+        → get_or (inserted_at cap times job_times width (suc step)) lane 0
         ≡ capped cap (padded_inserted shop fits.some jobs job place within lane)
     inserted_are zero step place inside is lt within =
         let first = padded_inserted_first shop fits.some jobs job place within in
@@ -227,28 +227,28 @@ module _ (cap : ℕ) (shop : FlowShop) (jobs : List ℕ) (width : ℕ) (times : 
 
     module _ (tails : Rows) (backs : HoldTails cap shop jobs width tails) where
       sums_wide : (step : ℕ) → step ≤ step_count shop jobs → length (sums_at
-          (capped_rule cap) times tails job_times width step)
+          cap times tails job_times width step)
           ≡ width
-      sums_wide zero le = ap length (sums_first (capped_rule cap) times width tails job_times) ∙ length-zeros width
+      sums_wide zero le = ap length (sums_first cap times width tails job_times) ∙ length-zeros width
       sums_wide (suc step) le =
-          ap length (sums_next (capped_rule cap) times width tails job_times step)
-          ∙ length-sums_step (capped_rule cap) width (sums_at (capped_rule cap) times tails job_times width step)
-          (inserted_at (capped_rule cap) times job_times width (suc step))
+          ap length (sums_next cap times width tails job_times step)
+          ∙ length-sums_step cap width (sums_at cap times tails job_times width step)
+          (inserted_at cap times job_times width (suc step))
           (tails step) (sums_wide step (omega arith)) (inserted_wide (suc step) le)
           (backs.lanes step (omega arith))
 
       sum_lane : (step place lane a : ℕ) → step < step_count shop jobs → step ≡ place + lane → lane < width
           → (within : place ≤ length jobs)
-          → get_or (0 ∷ (sums_at (capped_rule cap) times tails job_times width step)) lane 0 ≡ capped cap a
-          → get_or (sums_at (capped_rule cap) times tails job_times width (suc step)) lane 0
+          → get_or (0 ∷ (sums_at cap times tails job_times width step)) lane 0 ≡ capped cap a
+          → get_or (sums_at cap times tails job_times width (suc step)) lane 0
           ≡ capped cap (max a (padded_inserted shop fits.some jobs job place within lane + padded_back shop jobs place
           lane))
       sum_lane step place lane a inside is lt within before =
-          let sums = sums_at (capped_rule cap) times tails job_times width step in
-          let inserted = inserted_at (capped_rule cap) times job_times width (suc step) in
+          let sums = sums_at cap times tails job_times width step in
+          let inserted = inserted_at cap times job_times width (suc step) in
           let tail = tails step in
-          ap (λ v. get_or v lane 0) (sums_next (capped_rule cap) times width tails job_times step)
-          ∙ sums_lane (capped_rule cap) width sums inserted tail lane (sums_wide step (omega arith))
+          ap (λ v. get_or v lane 0) (sums_next cap times width tails job_times step)
+          ∙ sums_lane cap width sums inserted tail lane (sums_wide step (omega arith))
           (inserted_wide (suc step) (omega arith))
           (backs.lanes step (omega arith)) lt
           ∙ capped_more cap (get_or (0 ∷ sums) lane 0) (get_or inserted lane 0) (get_or tail lane 0) a
@@ -258,7 +258,7 @@ module _ (cap : ℕ) (shop : FlowShop) (jobs : List ℕ) (width : ℕ) (times : 
 
       sums_are : (lane step place : ℕ) → step < step_count shop jobs → step ≡ place + lane → lane < width
           → (within : place ≤ length jobs)
-          → get_or (sums_at (capped_rule cap) times tails job_times width (suc step)) lane 0
+          → get_or (sums_at cap times tails job_times width (suc step)) lane 0
           ≡ capped cap (padded_sum shop fits.some jobs job place within lane)
       sums_are zero step place inside is lt within =
           let first = padded_sum_first shop fits.some jobs job place within in
@@ -278,14 +278,14 @@ heads_law cap shop jobs width times fits skewed row lane lt inside in_steps =
 
 pub inserted_rows_law : InsertedRowsLaw
 inserted_rows_law cap shop jobs job width times job_times fits skewed is_job place lane lt within in_steps =
-    ap (λ s. get_or (inserted_at (capped_rule cap) times job_times width s) lane 0) (add-one (place + lane))
+    ap (λ s. get_or (inserted_at cap times job_times width s) lane 0) (add-one (place + lane))
     ∙ inserted_are cap shop jobs width times fits skewed job job_times is_job lane (place + lane) place in_steps refl lt
     within
     ∙ ap (capped cap) (sym (heaviest_is (operation shop (insert jobs place job)) place (machine_at shop lane)))
 
 pub sums_law : SumsLaw
 sums_law cap shop jobs job width times tails job_times fits skewed is_job backs place lane within lt all in_steps =
-    ap (λ s. get_or (sums_at (capped_rule cap) times tails job_times width s) lane 0) (add-one (place + lane))
+    ap (λ s. get_or (sums_at cap times tails job_times width s) lane 0) (add-one (place + lane))
     ∙ sums_are cap shop jobs width times fits skewed job job_times is_job tails backs lane (place + lane) place in_steps
     refl lt within
     ∙ ap (capped cap) (padded_sum_last shop fits.some jobs job place within lane (omega arith))

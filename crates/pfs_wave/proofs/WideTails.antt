@@ -5,7 +5,7 @@ use Rattle.std.specs.Simd.Lanes.{zip2}
 use Rattle.std.proofs.lemmas.List.{take_more, drop_all, drop-drop, drop_at, take-append-drop, take-append-le}
 use Rattle.std.proofs.lemmas.List.{drop-append-le, length-append, length-drop, length-take-le, get_or-drop, get_or-take}
 use Rattle.std.proofs.lemmas.List.{get_or_past}
-use Rattle.pfs_wave.specs.Lanes.{LaneRule, zeros, tails_step}
+use Rattle.pfs_wave.specs.Lanes.{capped_add, zeros, tails_step}
 use Rattle.pfs_wave.specs.Private.SkewedBand.{eight_from}
 use Rattle.pfs_wave.proofs.Steps.{length-tails_step, zeros-get_or}
 
@@ -42,7 +42,7 @@ get_or-zero [] (suc lane) = refl
 get_or-zero (x ∷ a) zero = refl
 get_or-zero (x ∷ a) (suc lane) = get_or-zero a lane
 
-module _ (rule : LaneRule) (first : ℕ) (below : List ℕ) (inside : first + 8 ≤ length below) where
+module _ (cap : ℕ) (first : ℕ) (below : List ℕ) (inside : first + 8 ≤ length below) where
   abbrev more : List ℕ
   more = below ++ (0 ∷ [])
 
@@ -66,11 +66,11 @@ module _ (rule : LaneRule) (first : ℕ) (below : List ℕ) (inside : first + 8 
       ∙ ap (λ n. drop 1 (eight_from first below) ++ (n ∷ [])) (get_or-drop first more 8 0
       ∙ get_or-zero below (first + 8))
 
-  pub eight_tails : (times : List ℕ) → eight_from first (tails_step rule 0 below times)
-      ≡ tails_step rule (get_or below (first + 8) 0) (eight_from first below) (eight_from first times)
+  pub eight_tails : (times : List ℕ) → eight_from first (tails_step cap 0 below times)
+      ≡ tails_step cap (get_or below (first + 8) 0) (eight_from first below) (eight_from first times)
   eight_tails times =
-      eight-zip2 rule.add first (zip2 max (drop 1 below ++ (0 ∷ [])) below) times
-      ∙ ap (λ v. zip2 rule.add v (eight_from first times)) (eight-zip2 max first (drop 1 below ++ (0 ∷ [])) below
+      eight-zip2 (capped_add cap) first (zip2 max (drop 1 below ++ (0 ∷ [])) below) times
+      ∙ ap (λ v. zip2 (capped_add cap) v (eight_from first times)) (eight-zip2 max first (drop 1 below ++ (0 ∷ [])) below
       ∙ ap (λ v. zip2 max v (eight_from first below)) eight_moved)
 
 -- lanes of which the first eight are written
@@ -86,42 +86,42 @@ put_from first width old new eight all fits wide is eight_is above =
 -- ---- the bands of a step, from the last to the first
 
 -- the bands from lane `first` on are done; the first lane of `carry` is lane `first` of the step after
-pub record IsTailSoFar {B : Type 0} (lanes : B → List ℕ) (rule : LaneRule) (first : ℕ) (after times row : List ℕ)
+pub record IsTailSoFar {B : Type 0} (lanes : B → List ℕ) (cap : ℕ) (first : ℕ) (after times row : List ℕ)
     (carry : B) : Type 0
   where
-    pub row_is : drop first row ≡ drop first (tails_step rule 0 after times)
+    pub row_is : drop first row ≡ drop first (tails_step cap 0 after times)
     pub carry_is : get_or (lanes carry) 0 0 ≡ get_or after first 0
 
-module _ {B : Type 0} (lanes : B → List ℕ) (rule : LaneRule) (width : ℕ) (after times : List ℕ) (some : 1 ≤ width)
+module _ {B : Type 0} (lanes : B → List ℕ) (cap : ℕ) (width : ℕ) (after times : List ℕ) (some : 1 ≤ width)
     (after_wide : length after ≡ width) (times_wide : length times ≡ width) where
-  all_wide : length (tails_step rule 0 after times) ≡ width
-  all_wide = length-tails_step rule width after times some after_wide times_wide
+  all_wide : length (tails_step cap 0 after times) ≡ width
+  all_wide = length-tails_step cap width after times some after_wide times_wide
 
   pub tail_begun : (row : List ℕ) (none : B) → length row ≡ width → lanes none ≡ zeros 8
-      → IsTailSoFar lanes rule width after times row none
+      → IsTailSoFar lanes cap width after times row none
   tail_begun row none wide is = record {
     row_is = drop_all width row (omega arith)
-        ∙ sym (drop_all width (tails_step rule 0 after times) (omega (arith, all_wide)));
+        ∙ sym (drop_all width (tails_step cap 0 after times) (omega (arith, all_wide)));
     carry_is = ap (λ l. get_or l 0 0) is ∙ zeros-get_or 8 0 (omega arith) ∙ sym (get_or_past after width 0
         (omega arith));
   }
 
   pub tail_more : (first next : ℕ) (carry now : B) (row new eight : List ℕ) → next ≡ first + 8 → next ≤ width
-      → length row ≡ width → IsTailSoFar lanes rule next after times row carry
+      → length row ≡ width → IsTailSoFar lanes cap next after times row carry
       → lanes now ≡ eight_from first after
-      → eight ≡ tails_step rule (get_or (lanes carry) 0 0) (lanes now) (eight_from first times)
+      → eight ≡ tails_step cap (get_or (lanes carry) 0 0) (lanes now) (eight_from first times)
       → new ≡ take first row ++ (eight ++ drop (first + 8) row)
-      → IsTailSoFar lanes rule first after times new now
+      → IsTailSoFar lanes cap first after times new now
   tail_more first next carry now row new eight next_is fits wide so_far now_is eight_is new_is =
-      let same : eight ≡ eight_from first (tails_step rule 0 after times) =
-      eight_is ∙ ap (λ c. tails_step rule c (lanes now) (eight_from first times)) (so_far.carry_is
+      let same : eight ≡ eight_from first (tails_step cap 0 after times) =
+      eight_is ∙ ap (λ c. tails_step cap c (lanes now) (eight_from first times)) (so_far.carry_is
       ∙ ap (λ n. get_or after n 0) next_is)
-      ∙ ap (λ b. tails_step rule (get_or after (first + 8) 0) b (eight_from first times)) now_is
-      ∙ sym (eight_tails rule first after (omega arith) times) in
+      ∙ ap (λ b. tails_step cap (get_or after (first + 8) 0) b (eight_from first times)) now_is
+      ∙ sym (eight_tails cap first after (omega arith) times) in
       record {
         row_is =
-            put_from first width row new eight (tails_step rule 0 after times) (omega arith) wide new_is same
-            (subst (λ n. drop n row ≡ drop n (tails_step rule 0 after times)) next_is so_far.row_is);
+            put_from first width row new eight (tails_step cap 0 after times) (omega arith) wide new_is same
+            (subst (λ n. drop n row ≡ drop n (tails_step cap 0 after times)) next_is so_far.row_is);
         carry_is = ap (λ l. get_or l 0 0) now_is ∙ get_or-take 8 (drop first after) 0 0 (omega arith)
             ∙ get_or-drop first after 0 0 ∙ ap (λ n. get_or after n 0) (omega arith);
       }

@@ -7,7 +7,7 @@ use Rattle.pfs_base.specs.FlowShop.{FlowShop, time_of}
 use Rattle.pfs_base.specs.Paths.{operation}
 use Rattle.pfs_insert.specs.Exchange.{heaviest_front, heaviest_back}
 use Rattle.pfs_insert.specs.Insertion.{makespan_with, IsFirstLeast}
-use Rattle.pfs_wave.specs.Lanes.{capped, capped_rule, zeros, Rows, tails_at, heads_at, inserted_at, sums_at}
+use Rattle.pfs_wave.specs.Lanes.{capped, zeros, Rows, tails_at, heads_at, inserted_at, sums_at}
 
 -- the value of a lane of a step
 abbrev pub lane_of : Rows → ℕ → ℕ → ℕ
@@ -57,7 +57,7 @@ TailsLaw =
     (cap : ℕ) (shop : FlowShop) (jobs : List ℕ) (width : ℕ) (times tails : Rows) → FitsLanes shop width
     → AreSkewed shop jobs width times
     → ((step : ℕ) → step < step_count shop jobs
-    → tails step ≡ tails_at (capped_rule cap) times width (step_count shop jobs) (step_count shop jobs - step))
+    → tails step ≡ tails_at cap times width (step_count shop jobs) (step_count shop jobs - step))
     → HoldTails cap shop jobs width tails
 
 -- the machine whose value a lane contains: the lane's own, or the last machine in the lanes after that
@@ -70,7 +70,7 @@ HeadsLaw =
     (cap : ℕ) (shop : FlowShop) (jobs : List ℕ) (width : ℕ) (times : Rows) → FitsLanes shop width
     → AreSkewed shop jobs width times → (row lane : ℕ) → lane < width → row < length jobs
     → row + lane < step_count shop jobs
-    → slice_index_or (heads_at (capped_rule cap) times width (row + lane + 1)) lane 0
+    → slice_index_or (heads_at cap times width (row + lane + 1)) lane 0
     ≡ capped cap (heaviest_front shop jobs row (machine_at shop lane))
 
 -- after the step of a place and a lane, the lane of inserted rows contains the head of the job inserted at the place,
@@ -81,7 +81,7 @@ InsertedRowsLaw =
     → FitsLanes shop width
     → AreSkewed shop jobs width times → IsJobRow shop job width job_times
     → (place lane : ℕ) → lane < width → place ≤ length jobs → place + lane < step_count shop jobs
-    → slice_index_or (inserted_at (capped_rule cap) times job_times width (place + lane + 1)) lane 0
+    → slice_index_or (inserted_at cap times job_times width (place + lane + 1)) lane 0
     ≡ capped cap (heaviest_front shop (insert jobs place job) place (machine_at shop lane))
 
 -- after the step of a place and a lane, where the lane is that of the last machine or after it, the lane of sums
@@ -93,7 +93,7 @@ SumsLaw =
     → HoldTails cap shop jobs width tails
     → (place lane : ℕ) → place ≤ length jobs → lane < width → shop.machines ≤ lane + 1
     → place + lane < step_count shop jobs
-    → slice_index_or (sums_at (capped_rule cap) times tails job_times width (place + lane + 1)) lane 0
+    → slice_index_or (sums_at cap times tails job_times width (place + lane + 1)) lane 0
     ≡ capped cap (makespan_with shop jobs job place)
 
 -- the first place of the least capped value, where that is below the cap, is the first place of the least value, and

@@ -1,11 +1,11 @@
 //! Rows of up to 64 lanes, joined from rows of fewer.
 ghost use Rattle.std.proofs.Common.{arith, refl};
 
-use crate::band::{Band, CappedBand};
+use crate::band::Band;
 use crate::joined::Joined;
-use crate::lanes::{CappedLanes, MixedLanes};
+use crate::lanes::MixedLanes;
 use crate::one_band::OneBand;
-use crate::reduced::Reduced;
+use crate::short::Short;
 use crate::whole_row::Part;
 
 /// Rows of 16 lanes.
@@ -36,70 +36,40 @@ impl<B: Band> Part for FiveBands<B> {
     ghost part = { Prim.omega arith };
 }
 
-impl<B: CappedBand> CappedLanes for OneBand<B> {
-    ghost capped = { B.capped };
-}
-
-impl<B: CappedBand> MixedLanes for OneBand<B> {
-    type Narrow = OneBand<Reduced>;
-
-    ghost reduced = { refl };
+impl<B: Band> MixedLanes for OneBand<B> {
+    type Narrow = OneBand<Short>;
 
     ghost narrow = { refl };
 
     ghost same = { refl };
 }
 
-impl<B: CappedBand> CappedLanes for TwoBands<B> {
-    ghost capped = { B.capped };
-}
-
-impl<B: CappedBand> MixedLanes for TwoBands<B> {
-    type Narrow = TwoBands<Reduced>;
-
-    ghost reduced = { refl };
+impl<B: Band> MixedLanes for TwoBands<B> {
+    type Narrow = TwoBands<Short>;
 
     ghost narrow = { refl };
 
     ghost same = { refl };
 }
 
-impl<B: CappedBand> CappedLanes for ThreeBands<B> {
-    ghost capped = { B.capped };
-}
-
-impl<B: CappedBand> MixedLanes for ThreeBands<B> {
-    type Narrow = ThreeBands<Reduced>;
-
-    ghost reduced = { refl };
+impl<B: Band> MixedLanes for ThreeBands<B> {
+    type Narrow = ThreeBands<Short>;
 
     ghost narrow = { refl };
 
     ghost same = { refl };
 }
 
-impl<B: CappedBand> CappedLanes for FiveBands<B> {
-    ghost capped = { B.capped };
-}
-
-impl<B: CappedBand> MixedLanes for FiveBands<B> {
-    type Narrow = FiveBands<Reduced>;
-
-    ghost reduced = { refl };
+impl<B: Band> MixedLanes for FiveBands<B> {
+    type Narrow = FiveBands<Short>;
 
     ghost narrow = { refl };
 
     ghost same = { refl };
 }
 
-impl<B: CappedBand> CappedLanes for EightBands<B> {
-    ghost capped = { B.capped };
-}
-
-impl<B: CappedBand> MixedLanes for EightBands<B> {
-    type Narrow = EightBands<Reduced>;
-
-    ghost reduced = { refl };
+impl<B: Band> MixedLanes for EightBands<B> {
+    type Narrow = EightBands<Short>;
 
     ghost narrow = { refl };
 

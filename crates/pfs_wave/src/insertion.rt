@@ -4,9 +4,6 @@ ghost use Rattle.std.specs.List.{All};
 ghost use Rattle.pfs_base.specs.FlowShop.{FlowShop};
 ghost use Rattle.pfs_insert.specs.Inserter.{IsBestPlace};
 ghost use Rattle.pfs_insert.specs.Insertion.{makespan_with};
-ghost use Rattle.pfs_wave.specs.Lanes.{capped_rule};
-ghost use Rattle.pfs_wave.specs.Reduced.{AreReducible, reduced_rule};
-ghost use Rattle.pfs_wave.specs.Private.ReducedRows.{HasReducedRows, span_of};
 ghost use Rattle.pfs_wave.specs.Wavefront.{FitsLanes, HasRows};
 
 use crate::band::Band;
@@ -16,8 +13,7 @@ use crate::tables::Tables;
 use pfs_insert::Placed;
 
 /// The best place for a job in a sequence, and the makespan with the job there. It is the best place where the makespan
-/// with the job at some place is below the greatest value of a lane. In lanes of reduced times it is the best place
-/// where all values fit (`AreReducible`), and the makespan is less by the reductions (`span_of`).
+/// with the job at some place is below the greatest value of a lane.
 #[inline(always)]
 pub(crate) fn best_in_tables<L: Lanes>(
     skewed: &mut SkewedTimes<L>,
@@ -33,17 +29,11 @@ pub(crate) fn best_in_tables<L: Lanes>(
     requires some { 1 ≤ machines }
     requires machines { machines ≤ L.WIDTH }
     ensures within { result.place ≤ length sequence.now }
-    ensures best { (shop : FlowShop) → L.Band.RULE ≡ capped_rule L.Band.CAP → FitsLanes shop L.WIDTH
+    ensures best { (shop : FlowShop) → FitsLanes shop L.WIDTH
         → shop.machines ≡ machines
         → HasRows shop L.WIDTH skewed.old.rows → job < shop.jobs
         → (other : ℕ) → other ≤ length sequence.now → makespan_with shop sequence.now job other < L.Band.CAP
         → IsBestPlace shop sequence.now job result.place result.span }
-    ensures reduced { (shop : FlowShop) (reduction : ℕ) → L.Band.RULE ≡ reduced_rule → FitsLanes shop L.WIDTH
-        → shop.machines ≡ machines
-        → HasReducedRows shop reduction L.WIDTH skewed.old.rows → job < shop.jobs
-        → AreReducible shop sequence.now job reduction
-        → IsBestPlace shop sequence.now job result.place
-        (span_of reduction (length sequence.now + machines) result.span) }
     ensures small { result.span < 2 ^ 32 }
     ensures rows { skewed.new.rows ≡ skewed.old.rows }
     ensures tables { tables.new.jobs ≡ tables.old.jobs }

@@ -43,14 +43,6 @@ impl<A: Part, B: Part<Band = A::Band>> WholeRow for Joined<A, B> {
     }
 
     #[inline(always)]
-    fn start() -> Joined<A, B> {
-        Joined {
-            a: A::start(),
-            b: B::start(),
-        }
-    }
-
-    #[inline(always)]
     fn again(&self) -> Joined<A, B> {
         Joined {
             a: self.a.again(),

@@ -18,11 +18,11 @@ struct StepRows<L: WholeRow> {
 #[inline(always)]
 fn next_step<L: WholeRow>(before: &StepRows<L>, times: &L, tails: &L, job: &L) -> StepRows<L>
     ensures inserted { L.lanes result.inserted
-        ≡ heads_step L.Band.RULE 0 (L.lanes before.now.inserted) (L.lanes before.now.head) (L.lanes job.now) }
+        ≡ heads_step L.Band.CAP 0 (L.lanes before.now.inserted) (L.lanes before.now.head) (L.lanes job.now) }
     ensures sum { L.lanes result.sum
-        ≡ sums_step L.Band.RULE 0 (L.lanes before.now.sum) (L.lanes result.inserted) (L.lanes tails.now) }
+        ≡ sums_step L.Band.CAP 0 (L.lanes before.now.sum) (L.lanes result.inserted) (L.lanes tails.now) }
     ensures head { L.lanes result.head
-        ≡ heads_step L.Band.RULE 0 (L.lanes before.now.head) (L.lanes before.now.head) (L.lanes times.now) }
+        ≡ heads_step L.Band.CAP 0 (L.lanes before.now.head) (L.lanes before.now.head) (L.lanes times.now) }
 {
     let zero = L::Band::zeros();
     let inserted = L::heads(&before.inserted, &before.head, job, zero);
@@ -42,11 +42,11 @@ pub fn fill_tails<L: WholeRow>(times: &[L], tails: &mut [L])
     requires steps { length tails.old ≡ length times.now }
     ensures steps { length tails.new ≡ length times.now }
     ensures tails { (step : ℕ) → step < length times.now → rows_of (map L.lanes tails.new) step
-        ≡ tails_at L.Band.RULE (rows_of (map L.lanes times.now)) L.WIDTH (length times.now) (length times.now - step) }
+        ≡ tails_at L.Band.CAP (rows_of (map L.lanes times.now)) L.WIDTH (length times.now) (length times.now - step) }
 {
     let steps = times.len();
     let zero = L::Band::zeros();
-    let mut after = L::start();
+    let mut after = L::none();
     for pair in 0..steps / 2 {
         let step = steps - 1 - 2 * pair;
         let last = L::tails(&after, &times[step], zero);
@@ -74,16 +74,16 @@ pub fn fill_sums<L: WholeRow>(
     requires sums { length sums.old ≡ length times.now }
     ensures steps { length sums.new ≡ length times.now }
     ensures sums { (step : ℕ) → step < length times.now → slice_index_or (map L.Band.number sums.new) step 0
-        ≡ slice_index_or (sums_at L.Band.RULE (rows_of (map L.lanes times.now)) (rows_of (map L.lanes tails.now))
+        ≡ slice_index_or (sums_at L.Band.CAP (rows_of (map L.lanes times.now)) (rows_of (map L.lanes tails.now))
         (L.lanes job.now) L.WIDTH (step + 1)) (L.WIDTH - 1) 0 }
     ensures last { L.lanes result
-        ≡ sums_at L.Band.RULE (rows_of (map L.lanes times.now)) (rows_of (map L.lanes tails.now)) (L.lanes job.now)
+        ≡ sums_at L.Band.CAP (rows_of (map L.lanes times.now)) (rows_of (map L.lanes tails.now)) (L.lanes job.now)
         L.WIDTH (length times.now) }
 {
     let steps = times.len();
     let job = job.again();
     let mut rows = StepRows {
-        head: L::start(),
+        head: L::none(),
         inserted: L::none(),
         sum: L::none(),
     };

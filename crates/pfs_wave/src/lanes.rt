@@ -1,8 +1,7 @@
 //! Rows of lanes, and the two passes of an insertion over them.
 ghost use Rattle.std.specs.Prelude.{◌≡◌, ℕ, ◌+◌, ◌-◌, ◌*◌, ◌%◌, ◌≤◌, ◌<◌, ◌^◌, List, ◌++◌, length, map, take, drop};
 ghost use Rattle.std.specs.List.{slice_index_or};
-ghost use Rattle.pfs_wave.specs.Lanes.{capped_rule, zeros, rows_of, tails_at, sums_at};
-ghost use Rattle.pfs_wave.specs.Reduced.{reduced_rule};
+ghost use Rattle.pfs_wave.specs.Lanes.{zeros, rows_of, tails_at, sums_at};
 
 use crate::band::Band;
 use crate::wide_steps::Front;
@@ -45,7 +44,7 @@ pub trait Lanes: Drop {
         requires steps { length tails.old ≡ length times.now }
         ensures steps { length tails.new ≡ length times.now }
         ensures tails { (step : ℕ) → step < length times.now → rows_of (map lanes tails.new) step
-            ≡ tails_at Self.Band.RULE (rows_of (map lanes times.now)) WIDTH (length times.now)
+            ≡ tails_at Self.Band.CAP (rows_of (map lanes times.now)) WIDTH (length times.now)
             (length times.now - step) };
 
     /// Computes the heads, the inserted rows and the sums of all steps, and keeps the last sum of each step. It returns
@@ -64,10 +63,10 @@ pub trait Lanes: Drop {
         ensures steps { length sums.new ≡ length times.now }
         ensures fronts { length fronts.new ≡ length fronts.old }
         ensures sums { (step : ℕ) → step < length times.now → slice_index_or (map Self.Band.number sums.new) step 0
-            ≡ slice_index_or (sums_at Self.Band.RULE (rows_of (map lanes times.now)) (rows_of (map lanes tails.now))
+            ≡ slice_index_or (sums_at Self.Band.CAP (rows_of (map lanes times.now)) (rows_of (map lanes tails.now))
             (lanes job.now) WIDTH (step + 1)) (WIDTH - 1) 0 }
         ensures last { lanes result
-            ≡ sums_at Self.Band.RULE (rows_of (map lanes times.now)) (rows_of (map lanes tails.now)) (lanes job.now)
+            ≡ sums_at Self.Band.CAP (rows_of (map lanes times.now)) (rows_of (map lanes tails.now)) (lanes job.now)
             WIDTH (length times.now) };
 
     ghost wide: { (row : Self) → length (lanes row) ≡ WIDTH };
@@ -79,17 +78,10 @@ pub trait Lanes: Drop {
     ghost whole: { WIDTH % 8 ≡ 0 };
 }
 
-/// A row of lanes that contain times as they are. Sums stop at the greatest value of a lane.
-pub trait CappedLanes: Lanes {
-    ghost capped: { Self.Band.RULE ≡ capped_rule Self.Band.CAP };
-}
-
-/// Such a row, and one of as many lanes of 16 bits for reduced times.
-pub trait MixedLanes: CappedLanes {
-    /// The row for reduced times.
+/// Such a row, and one of as many lanes of 16 bits.
+pub trait MixedLanes: Lanes {
+    /// The row of 16 bits.
     type Narrow: Lanes;
-
-    ghost reduced: { Self.Narrow.Band.RULE ≡ reduced_rule };
 
     ghost narrow: { Self.Narrow.Band.CAP ≡ 65535 };
 

@@ -2,9 +2,8 @@
 ghost use Rattle.std.proofs.Common.{refl};
 ghost use Rattle.std.specs.Prelude.{◌≡◌, ℕ, ◌≤◌, length};
 ghost use Rattle.std.specs.List.{All};
-ghost use Rattle.pfs_wave.specs.Lanes.{capped_rule};
 
-use crate::band::{Band, CappedBand};
+use crate::band::Band;
 use crate::least::{Found, first_least_long};
 use std::simd::prelude::*;
 
@@ -25,8 +24,6 @@ impl Band for Long {
 
     ghost CAP = { 2147483647 };
 
-    ghost RULE = { capped_rule 2147483647 };
-
     const CAP: u32 = 2147483647;
 
     ghost eight = { λ band. band.eight };
@@ -36,11 +33,6 @@ impl Band for Long {
         Long {
             values: u32x8::splat(0),
         }
-    }
-
-    #[inline(always)]
-    fn start() -> Long {
-        Band::zeros()
     }
 
     #[inline(always)]
@@ -142,8 +134,4 @@ impl Band for Long {
     fn first_least(sums: &[u32]) -> Found {
         first_least_long(sums)
     }
-}
-
-impl CappedBand for Long {
-    ghost capped = { refl };
 }

@@ -21,7 +21,7 @@ use std::alloc::{AllocError, Global};
 use std::marker::Model;
 
 /// A metered bench over an instance that a wavefront serves, with the times of each job in lanes. A mixed bench also
-/// has narrow lanes, of 16 bits for reduced times, for the insertions whose values are known to fit in them.
+/// has narrow lanes, of 16 bits, for the insertions whose makespans are known to fit in them.
 #[derive(Drop)]
 pub struct MeteredLanes<'a, L: MixedLanes> {
     bench: Metered<'a>,
@@ -50,8 +50,8 @@ impl<'a, L: MixedLanes> MeteredLanes<'a, L> {
     }
 
     /// A mixed bench over an instance, with a count of 0 cells, for one insertion after another. It has narrow lanes
-    /// where its own have more bits and insertions often fit in narrow ones (`IsOftenReducible`). It also reserves the
-    /// memory of these insertions, and returns `AllocError` where allocation fails.
+    /// where its own have more bits and all times fit in 16. It also reserves the memory of these insertions, and returns
+    /// `AllocError` where allocation fails.
     pub fn mixed(alloc: Global, instance: &'a Instance) -> Result<MeteredLanes<'a, L>, AllocError>
         requires { IsServed instance.now.shop L.WIDTH L.Band.CAP }
         ensures shop { IfOk result (λ made. ⟦<MeteredLanes<'a, L> as Bench>⟧.shop made ≡ instance.now.shop) }

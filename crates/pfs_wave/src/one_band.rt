@@ -37,11 +37,6 @@ impl<B: Band> WholeRow for OneBand<B> {
     }
 
     #[inline(always)]
-    fn start() -> OneBand<B> {
-        OneBand { one: B::start() }
-    }
-
-    #[inline(always)]
     fn again(&self) -> OneBand<B> {
         OneBand {
             one: self.one.copied(),

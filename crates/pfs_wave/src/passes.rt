@@ -5,9 +5,7 @@ ghost use Rattle.std.specs.List.{slice_index_or};
 ghost use Rattle.pfs_base.specs.FlowShop.{FlowShop};
 ghost use Rattle.pfs_insert.specs.Inserter.{IsBestPlace};
 ghost use Rattle.pfs_insert.specs.Insertion.{makespan_with};
-ghost use Rattle.pfs_wave.specs.Lanes.{capped_rule, rows_of};
-ghost use Rattle.pfs_wave.specs.Reduced.{AreReduced, AreReducible, HoldReducedTails, IsReducedRow, reduced_rule};
-ghost use Rattle.pfs_wave.specs.Private.ReducedRows.{span_of};
+ghost use Rattle.pfs_wave.specs.Lanes.{rows_of};
 ghost use Rattle.pfs_wave.specs.Wavefront.{AreSkewed, FitsLanes, HoldTails, IsJobRow, step_count};
 
 use crate::band::Band;
@@ -21,16 +19,10 @@ pub(crate) fn fill_front<L: Lanes>(times: &[L], tails: &mut [L])
     requires small { length times.now < 2 ^ 32 }
     requires tails { length times.now ≤ length tails.old }
     ensures tails { length tails.new ≡ length tails.old }
-    ensures filled { (shop : FlowShop) (jobs : List ℕ) → L.Band.RULE ≡ capped_rule L.Band.CAP
-        → FitsLanes shop L.WIDTH
+    ensures filled { (shop : FlowShop) (jobs : List ℕ) → FitsLanes shop L.WIDTH
         → AreSkewed shop jobs L.WIDTH (rows_of (map L.lanes times.now))
         → length times.now ≡ step_count shop jobs
         → HoldTails L.Band.CAP shop jobs L.WIDTH (rows_of (map L.lanes tails.new)) }
-    ensures reduced { (shop : FlowShop) (jobs : List ℕ) (job reduction : ℕ) → L.Band.RULE ≡ reduced_rule
-        → FitsLanes shop L.WIDTH
-        → AreReduced shop jobs reduction L.WIDTH (rows_of (map L.lanes times.now))
-        → AreReducible shop jobs job reduction → length times.now ≡ step_count shop jobs
-        → HoldReducedTails shop jobs reduction L.WIDTH (rows_of (map L.lanes tails.new)) }
 {
     L::fill_tails(times, &mut tails[..times.len()]);
 }
@@ -71,21 +63,13 @@ pub(crate) fn best_place<L: Lanes>(
     ensures sums { length sums.new ≡ length sums.old }
     ensures fronts { length fronts.new ≡ length fronts.old }
     ensures within { result.place + machines ≤ length times.now }
-    ensures best { (shop : FlowShop) (jobs : List ℕ) (inserted : ℕ) → L.Band.RULE ≡ capped_rule L.Band.CAP
-        → FitsLanes shop L.WIDTH
+    ensures best { (shop : FlowShop) (jobs : List ℕ) (inserted : ℕ) → FitsLanes shop L.WIDTH
         → shop.machines ≡ machines
         → AreSkewed shop jobs L.WIDTH (rows_of (map L.lanes times.now))
         → HoldTails L.Band.CAP shop jobs L.WIDTH (rows_of (map L.lanes tails.now))
         → IsJobRow shop inserted L.WIDTH (L.lanes job.now) → length times.now ≡ step_count shop jobs
         → (other : ℕ) → other ≤ length jobs → makespan_with shop jobs inserted other < L.Band.CAP
         → IsBestPlace shop jobs inserted result.place result.sum }
-    ensures reduced { (shop : FlowShop) (jobs : List ℕ) (inserted reduction : ℕ) → L.Band.RULE ≡ reduced_rule
-        → FitsLanes shop L.WIDTH → shop.machines ≡ machines
-        → AreReduced shop jobs reduction L.WIDTH (rows_of (map L.lanes times.now))
-        → HoldReducedTails shop jobs reduction L.WIDTH (rows_of (map L.lanes tails.now))
-        → IsReducedRow shop inserted reduction L.WIDTH (L.lanes job.now)
-        → AreReducible shop jobs inserted reduction → length times.now ≡ step_count shop jobs
-        → IsBestPlace shop jobs inserted result.place (span_of reduction (step_count shop jobs) result.sum) }
 {
     let steps = times.len();
     let row = L::fill_sums(times, &tails[..steps], job, &mut sums[..steps], fronts);

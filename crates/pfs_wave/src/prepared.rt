@@ -6,7 +6,7 @@ ghost use Rattle.pfs_wave.specs.Served.{IsServed};
 
 use crate::band::Band;
 use crate::insertion::best_in_tables;
-use crate::lanes::CappedLanes;
+use crate::lanes::Lanes;
 use crate::skewed::SkewedTimes;
 use crate::tables::Tables;
 use pfs_base::Instance;
@@ -16,7 +16,7 @@ use std::marker::Model;
 
 /// An instance that a wavefront serves, with its times in lanes and the tables of an insertion.
 #[derive(Drop)]
-pub struct PreparedLanes<L: CappedLanes> {
+pub struct PreparedLanes<L: Lanes> {
     instance: Instance,
     skewed: SkewedTimes<L>,
     tables: Tables<L>,
@@ -24,7 +24,7 @@ pub struct PreparedLanes<L: CappedLanes> {
     sequence: Vec<usize>,
 }
 
-impl<L: CappedLanes> Model for PreparedLanes<L> {
+impl<L: Lanes> Model for PreparedLanes<L> {
     ghost use Rattle.std.specs.Prelude.{◌≡◌, length};
     ghost use Rattle.pfs_base.specs.FlowShop.{FlowShop};
     ghost use Rattle.pfs_wave.specs.Served.{IsServed};
@@ -42,7 +42,7 @@ impl<L: CappedLanes> Model for PreparedLanes<L> {
     } };
 }
 
-impl<L: CappedLanes> PreparedLanes<L> {
+impl<L: Lanes> PreparedLanes<L> {
     /// Prepares an instance. It reserves all memory of an insertion, and returns `AllocError` where that fails.
     pub fn new(alloc: Global, instance: Instance) -> Result<PreparedLanes<L>, AllocError>
         requires { IsServed instance.shop L.WIDTH L.Band.CAP }

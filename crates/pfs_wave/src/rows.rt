@@ -2,9 +2,7 @@
 ghost use Rattle.std.specs.Prelude.{◌≡◌, ◌+◌, ◌<◌, ◌≤◌, ◌^◌, length, map, IfOk};
 ghost use Rattle.std.specs.List.{All, range_with_len};
 ghost use Rattle.pfs_base.specs.FlowShop.{time_of};
-ghost use Rattle.pfs_wave.specs.Private.ShopTimes.{HoldFirst, lane_sum, limited_time, value_on};
-ghost use Rattle.pfs_wave.specs.Reduced.{reduced_rule};
-ghost use Rattle.pfs_wave.specs.Private.ReducedRows.{HasReducedRows};
+ghost use Rattle.pfs_wave.specs.Private.ShopTimes.{HoldFirst, limited_time, value_on};
 ghost use Rattle.pfs_wave.specs.Wavefront.{HasRows, IsJobRow, on_machine};
 
 use crate::band::Band;
@@ -148,49 +146,5 @@ pub fn shop_rows<L: Lanes>(alloc: Global, instance: &Instance) -> Result<Vec<L>,
         rows.push_reserved(job_row(instance, job, &limits));
     }
     rows.push_reserved(L::none());
-    Ok(rows)
-}
-
-// The sum of two rows in each lane, by the rule of the lanes.
-#[inline(always)]
-fn row_sum<L: Lanes>(row: &L, other: &L) -> L
-    ensures { HoldFirst (lane_sum L.Band.RULE (L.lanes row.now) (L.lanes other.now)) L.WIDTH (L.lanes result) L.WIDTH }
-{
-    let mut sums = L::none();
-    for band in 0..L::WIDTH / 8 {
-        sums.put_band(band, row.band(band).sum(other.band(band)));
-    }
-    sums
-}
-
-/// Makes the rows of an instance for times that are less by `reduction`: as `shop_rows`, with reduced times, also in
-/// the last row. It reserves memory once, and returns `AllocError` where that fails.
-pub fn reduced_rows<L: Lanes>(
-    alloc: Global,
-    instance: &Instance,
-    reduction: u32,
-) -> Result<Vec<L>, AllocError>
-    requires machines { instance.now.shop.machines ≤ L.WIDTH }
-    requires short { All (λ time. time ≤ L.Band.CAP) instance.now.shop.times }
-    requires some { 1 ≤ reduction }
-    requires few { reduction ≤ 65536 }
-    requires cap { 65536 ≤ L.Band.CAP + reduction }
-    ensures count { IfOk result (λ rows. length rows.items ≡ instance.now.shop.jobs + 1) }
-    ensures few { IfOk result (λ rows. length rows.items ≤ MOST_JOBS + 1) }
-    ensures rows { L.Band.RULE ≡ reduced_rule → reduction ≤ 32768
-        → All (λ time. time ≤ 32767 + reduction) instance.now.shop.times
-        → IfOk result (λ rows. HasReducedRows instance.now.shop reduction L.WIDTH (map L.lanes rows.items)) }
-{
-    let jobs = instance.jobs();
-    let mut rows = Vec::new(alloc);
-    rows.reserve_exact(jobs + 1)?;
-    let machines = instance.machines();
-    let limits = machines_row(L::Band::CAP, machines);
-    let less = machines_row(65536 - reduction, machines);
-    for job in 0..jobs {
-        let row = job_row(instance, job, &limits);
-        rows.push_reserved(row_sum(&row, &less));
-    }
-    rows.push_reserved(row_sum(&L::none(), &less));
     Ok(rows)
 }

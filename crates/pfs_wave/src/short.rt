@@ -2,9 +2,9 @@
 ghost use Rattle.std.proofs.Common.{refl};
 ghost use Rattle.std.specs.Prelude.{◌≡◌, ℕ, ◌≤◌, length, min};
 ghost use Rattle.std.specs.Simd.Lanes.{Each1, zip2};
-ghost use Rattle.pfs_wave.specs.Lanes.{capped_add, capped_rule};
+ghost use Rattle.pfs_wave.specs.Lanes.{capped_add};
 
-use crate::band::{Band, CappedBand};
+use crate::band::Band;
 use crate::least::{Found, first_least};
 use std::simd::prelude::*;
 
@@ -49,8 +49,6 @@ impl Band for Short {
 
     ghost CAP = { 65535 };
 
-    ghost RULE = { capped_rule 65535 };
-
     const CAP: u32 = 65535;
 
     ghost eight = { λ band. band.eight };
@@ -60,11 +58,6 @@ impl Band for Short {
         Short {
             values: u16x8::splat(0),
         }
-    }
-
-    #[inline(always)]
-    fn start() -> Short {
-        Band::zeros()
     }
 
     #[inline(always)]
@@ -176,8 +169,4 @@ impl Band for Short {
     fn first_least(sums: &[u16]) -> Found {
         first_least(sums)
     }
-}
-
-impl CappedBand for Short {
-    ghost capped = { refl };
 }

@@ -2,21 +2,18 @@
 ghost use Rattle.std.specs.Prelude.{ℕ, ◌^◌, ◌≡◌, ◌+◌, ◌*◌, ◌-◌, ◌<◌, ◌≤◌, length, map, take, IfOk, []};
 ghost use Rattle.std.specs.List.{All};
 ghost use Rattle.pfs_base.specs.FlowShop.{FlowShop};
-ghost use Rattle.pfs_wave.specs.Lanes.{capped_rule, rows_of};
+ghost use Rattle.pfs_wave.specs.Lanes.{rows_of};
 ghost use Rattle.pfs_insert.specs.Inserter.{IsBestPlace};
 ghost use Rattle.pfs_insert.specs.Insertion.{makespan_with};
 ghost use Rattle.pfs_wave.specs.Wavefront.{AreSkewed, FitsLanes, HasRows, HoldTails};
 ghost use Rattle.pfs_wave.specs.Private.HeldRows.{HeldTimes, IsHolding};
-ghost use Rattle.pfs_wave.specs.Reduced.{AreReduced, AreReducible, HoldReducedTails, reduced_rule};
-ghost use Rattle.pfs_wave.specs.Private.ReducedRows.{HasReducedRows};
-ghost use Rattle.pfs_wave.specs.Private.ReducedRows.{span_of};
 
 use crate::band::Band;
 use crate::changes::{kept_rows, write_rows};
 use crate::lanes::Lanes;
 use crate::least::Found;
 use crate::passes::{best_place, fill_front};
-use crate::rows::{reduced_rows, shop_rows};
+use crate::rows::shop_rows;
 use crate::tables::rows_of_zeros;
 use crate::times::{Changed, fill_times, move_back};
 use crate::wide_steps::Front;
@@ -62,27 +59,6 @@ impl<L: Lanes> SkewedTimes<L> {
         ensures jobs { IfOk result (λ made. made.jobs ≡ []) }
     {
         let rows = shop_rows(alloc, instance)?;
-        SkewedTimes::with_rows(alloc, rows)
-    }
-
-    /// The times of an instance, each less by `reduction`, and a sequence of no jobs. It reserves three vectors, and
-    /// returns `AllocError` where allocation fails.
-    pub fn reduced(
-        alloc: Global,
-        instance: &Instance,
-        reduction: u32,
-    ) -> Result<SkewedTimes<L>, AllocError>
-        requires machines { instance.now.shop.machines ≤ L.WIDTH }
-        requires short { All (λ time. time ≤ L.Band.CAP) instance.now.shop.times }
-        requires some { 1 ≤ reduction }
-        requires few { reduction ≤ 65536 }
-        requires cap { 65536 ≤ L.Band.CAP + reduction }
-        ensures rows { L.Band.RULE ≡ reduced_rule → reduction ≤ 32768
-            → All (λ time. time ≤ 32767 + reduction) instance.now.shop.times
-            → IfOk result (λ made. HasReducedRows instance.now.shop reduction L.WIDTH made.rows) }
-        ensures jobs { IfOk result (λ made. made.jobs ≡ []) }
-    {
-        let rows = reduced_rows(alloc, instance, reduction)?;
         SkewedTimes::with_rows(alloc, rows)
     }
 
@@ -133,9 +109,6 @@ impl<L: Lanes> SkewedTimes<L> {
         ensures few { length result.now ≤ 2 ^ 16 }
         ensures skewed { (shop : FlowShop) → shop.machines ≡ machines → HasRows shop L.WIDTH self.now.rows
             → AreSkewed shop self.now.jobs L.WIDTH (rows_of (map L.lanes result.now)) }
-        ensures reduced { (shop : FlowShop) (reduction : ℕ) → shop.machines ≡ machines
-            → HasReducedRows shop reduction L.WIDTH self.now.rows
-            → AreReduced shop self.now.jobs reduction L.WIDTH (rows_of (map L.lanes result.now)) }
     {
         &self.times[..self.len + machines]
     }
@@ -146,13 +119,9 @@ impl<L: Lanes> SkewedTimes<L> {
         requires machines { machines ≤ L.WIDTH }
         requires tails { length self.now.jobs + L.WIDTH ≤ length tails.old }
         ensures length { length tails.new ≡ length tails.old }
-        ensures tails { (shop : FlowShop) → L.Band.RULE ≡ capped_rule L.Band.CAP → FitsLanes shop L.WIDTH
+        ensures tails { (shop : FlowShop) → FitsLanes shop L.WIDTH
             → shop.machines ≡ machines → HasRows shop L.WIDTH self.now.rows
             → HoldTails L.Band.CAP shop self.now.jobs L.WIDTH (rows_of (map L.lanes tails.new)) }
-        ensures reduced { (shop : FlowShop) (job reduction : ℕ) → L.Band.RULE ≡ reduced_rule → FitsLanes shop L.WIDTH
-            → shop.machines ≡ machines → HasReducedRows shop reduction L.WIDTH self.now.rows
-            → AreReducible shop self.now.jobs job reduction
-            → HoldReducedTails shop self.now.jobs reduction L.WIDTH (rows_of (map L.lanes tails.new)) }
     {
         fill_front(self.times(machines), tails);
     }
@@ -177,17 +146,11 @@ impl<L: Lanes> SkewedTimes<L> {
         ensures length { length sums.new ≡ length sums.old }
         ensures fronts { length fronts.new ≡ length fronts.old }
         ensures within { result.place ≤ length self.now.jobs }
-        ensures best { (shop : FlowShop) → L.Band.RULE ≡ capped_rule L.Band.CAP → FitsLanes shop L.WIDTH
+        ensures best { (shop : FlowShop) → FitsLanes shop L.WIDTH
             → shop.machines ≡ machines → HasRows shop L.WIDTH self.now.rows → job < shop.jobs
             → HoldTails L.Band.CAP shop self.now.jobs L.WIDTH (rows_of (map L.lanes tails.now))
             → (other : ℕ) → other ≤ length self.now.jobs → makespan_with shop self.now.jobs job other < L.Band.CAP
             → IsBestPlace shop self.now.jobs job result.place result.sum }
-        ensures reduced { (shop : FlowShop) (reduction : ℕ) → L.Band.RULE ≡ reduced_rule → FitsLanes shop L.WIDTH
-            → shop.machines ≡ machines → HasReducedRows shop reduction L.WIDTH self.now.rows → job < shop.jobs
-            → HoldReducedTails shop self.now.jobs reduction L.WIDTH (rows_of (map L.lanes tails.now))
-            → AreReducible shop self.now.jobs job reduction
-            → IsBestPlace shop self.now.jobs job result.place
-            (span_of reduction (length self.now.jobs + machines) result.sum) }
     {
         best_place(
             self.times(machines),

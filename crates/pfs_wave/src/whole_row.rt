@@ -1,7 +1,7 @@
 //! Rows of lanes that are computed as a whole.
 ghost use Rattle.std.specs.Prelude.{◌≡◌, ℕ, ◌+◌, ◌-◌, ◌*◌, ◌%◌, ◌≤◌, List, ◌++◌, length, take, drop};
 ghost use Rattle.std.specs.List.{slice_index_or};
-ghost use Rattle.pfs_wave.specs.Lanes.{starts, zeros, tails_step, heads_step, sums_step};
+ghost use Rattle.pfs_wave.specs.Lanes.{zeros, tails_step, heads_step, sums_step};
 
 use crate::band::Band;
 
@@ -22,10 +22,6 @@ pub trait WholeRow: Drop {
     /// A row of zeros.
     fn none() -> Self
         ensures { lanes result ≡ zeros WIDTH };
-
-    /// A row of heads or tails before the first step.
-    fn start() -> Self
-        ensures { lanes result ≡ starts Self.Band.RULE WIDTH };
 
     /// A copy of the row.
     fn again(&self) -> Self
@@ -48,21 +44,21 @@ pub trait WholeRow: Drop {
 
     /// The tails of a step from those of the step after it. The first lane of `carry` is the lane after the last one.
     fn tails(after: &Self, times: &Self, carry: Self::Band) -> Self
-        ensures { lanes result ≡ tails_step Self.Band.RULE (slice_index_or (Self.Band.lanes carry) 0 0)
+        ensures { lanes result ≡ tails_step Self.Band.CAP (slice_index_or (Self.Band.lanes carry) 0 0)
             (lanes after.now) (lanes times.now) };
 
     /// The heads of a step, or the inserted rows: in each lane the greater of the lane before it in `before` (for the
     /// first lane, the last lane of `carry`) and the same lane in `above`, plus the time of the lane.
     fn heads(before: &Self, above: &Self, times: &Self, carry: Self::Band) -> Self
         ensures { lanes result
-            ≡ heads_step Self.Band.RULE (slice_index_or (Self.Band.lanes carry) 7 0) (lanes before.now)
+            ≡ heads_step Self.Band.CAP (slice_index_or (Self.Band.lanes carry) 7 0) (lanes before.now)
             (lanes above.now) (lanes times.now) };
 
     /// The sums of a step from those of the step before it, the inserted rows and the tails. The last lane of `carry`
     /// is the lane before the first one.
     fn sums(before: &Self, inserted: &Self, tails: &Self, carry: Self::Band) -> Self
         ensures { lanes result
-            ≡ sums_step Self.Band.RULE (slice_index_or (Self.Band.lanes carry) 7 0) (lanes before.now)
+            ≡ sums_step Self.Band.CAP (slice_index_or (Self.Band.lanes carry) 7 0) (lanes before.now)
             (lanes inserted.now) (lanes tails.now) };
 
     ghost wide: { (row : Self) → length (lanes row) ≡ WIDTH };

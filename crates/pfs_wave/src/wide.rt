@@ -3,11 +3,11 @@ ghost use Rattle.std.specs.Prelude.{◌≡◌, ℕ, ◌+◌, ◌*◌, ◌≤◌,
 ghost use Rattle.std.proofs.Common.{arith, refl};
 ghost use Rattle.pfs_wave.specs.Private.WideRows.{all_lanes, row_wide};
 
-use crate::band::{Band, CappedBand};
+use crate::band::Band;
 use crate::bands::{EightBands, FiveBands};
-use crate::lanes::{CappedLanes, Lanes, MixedLanes};
+use crate::lanes::{Lanes, MixedLanes};
 use crate::long::Long;
-use crate::reduced::Reduced;
+use crate::short::Short;
 use crate::wide_steps::{Bands, Front, fill_sums, fill_tails};
 
 /// A number of bands that a wide row may have.
@@ -73,13 +73,6 @@ where
     fn none() -> Wide<B, N> {
         Wide {
             bands: [B::zeros(); N],
-        }
-    }
-
-    #[inline(always)]
-    fn start() -> Wide<B, N> {
-        Wide {
-            bands: [B::start(); N],
         }
     }
 
@@ -151,56 +144,32 @@ where
     }
 }
 
-impl CappedLanes for Wide<Long, 5> {
-    ghost capped = { refl };
-}
-
 impl MixedLanes for Wide<Long, 5> {
-    type Narrow = FiveBands<Reduced>;
-
-    ghost reduced = { refl };
+    type Narrow = FiveBands<Short>;
 
     ghost narrow = { refl };
 
     ghost same = { refl };
-}
-
-impl CappedLanes for Wide<Long, 8> {
-    ghost capped = { refl };
 }
 
 impl MixedLanes for Wide<Long, 8> {
-    type Narrow = EightBands<Reduced>;
-
-    ghost reduced = { refl };
+    type Narrow = EightBands<Short>;
 
     ghost narrow = { refl };
 
     ghost same = { refl };
 }
 
-impl<B: CappedBand> CappedLanes for Wide<B, 13> {
-    ghost capped = { B.capped };
-}
-
-impl<B: CappedBand> MixedLanes for Wide<B, 13> {
-    type Narrow = Wide<Reduced, 13>;
-
-    ghost reduced = { refl };
+impl<B: Band> MixedLanes for Wide<B, 13> {
+    type Narrow = Wide<Short, 13>;
 
     ghost narrow = { refl };
 
     ghost same = { refl };
 }
 
-impl<B: CappedBand> CappedLanes for Wide<B, 26> {
-    ghost capped = { B.capped };
-}
-
-impl<B: CappedBand> MixedLanes for Wide<B, 26> {
-    type Narrow = Wide<Reduced, 26>;
-
-    ghost reduced = { refl };
+impl<B: Band> MixedLanes for Wide<B, 26> {
+    type Narrow = Wide<Short, 26>;
 
     ghost narrow = { refl };
 

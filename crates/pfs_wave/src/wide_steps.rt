@@ -2,7 +2,7 @@
 //! in registers, so a step loads those of the step before, a band at a time, and stores its own.
 ghost use Rattle.std.specs.Prelude.{◌≡◌, ℕ, ◌+◌, ◌-◌, ◌*◌, ◌%◌, ◌^◌, ◌<◌, ◌≤◌, List, ◌++◌, length, map, take, drop};
 ghost use Rattle.std.specs.List.{slice_index_or};
-ghost use Rattle.pfs_wave.specs.Lanes.{rows_of, tails_at, tails_step, heads_step, sums_step, starts, sums_at, zeros};
+ghost use Rattle.pfs_wave.specs.Lanes.{rows_of, tails_at, tails_step, heads_step, sums_step, sums_at, zeros};
 ghost use Rattle.pfs_wave.specs.Private.SkewedBand.{eight_from};
 ghost use Rattle.pfs_wave.specs.Private.WideSteps.{WavePass, AreWide, AreFronts, IsCarry};
 
@@ -25,10 +25,6 @@ pub trait Bands: Drop {
     /// A row of zeros.
     fn none() -> Self
         ensures { lanes result ≡ zeros WIDTH };
-
-    /// A row of tails before the first step.
-    fn start() -> Self
-        ensures { lanes result ≡ starts Self.Band.RULE WIDTH };
 
     /// The eight lanes of a band.
     fn band(&self, band: usize) -> Self::Band
@@ -57,7 +53,7 @@ pub struct Front<B: Band> {
 }
 
 impl<B: Band> Front<B> {
-    /// A front of zeros.
+    /// A front of zeros, as before the first step.
     #[inline(always)]
     pub fn none() -> Front<B>
         ensures head { B.lanes result.head ≡ zeros 8 }
@@ -72,30 +68,15 @@ impl<B: Band> Front<B> {
         }
     }
 
-    // Before the first step.
-    #[inline(always)]
-    fn start() -> Front<B>
-        ensures head { B.lanes result.head ≡ starts B.RULE 8 }
-        ensures inserted { B.lanes result.inserted ≡ zeros 8 }
-        ensures sum { B.lanes result.sum ≡ zeros 8 }
-    {
-        let zero = B::zeros();
-        Front {
-            head: B::start(),
-            inserted: zero,
-            sum: zero,
-        }
-    }
-
     // The front after one more step. The last lanes of `carry` are those before the first lanes of this front.
     #[inline(always)]
     fn next(self, times: B, tails: B, job: B, carry: Front<B>) -> Front<B>
-        ensures head { B.lanes result.head ≡ heads_step B.RULE (slice_index_or (B.lanes carry.head) 7 0)
+        ensures head { B.lanes result.head ≡ heads_step B.CAP (slice_index_or (B.lanes carry.head) 7 0)
             (B.lanes self.head) (B.lanes self.head) (B.lanes times) }
         ensures inserted { B.lanes result.inserted
-            ≡ heads_step B.RULE (slice_index_or (B.lanes carry.inserted) 7 0) (B.lanes self.inserted)
+            ≡ heads_step B.CAP (slice_index_or (B.lanes carry.inserted) 7 0) (B.lanes self.inserted)
             (B.lanes self.head) (B.lanes job) }
-        ensures sum { B.lanes result.sum ≡ sums_step B.RULE (slice_index_or (B.lanes carry.sum) 7 0)
+        ensures sum { B.lanes result.sum ≡ sums_step B.CAP (slice_index_or (B.lanes carry.sum) 7 0)
             (B.lanes self.sum) (B.lanes result.inserted) (B.lanes tails) }
     {
         let inserted = self.inserted.up(carry.inserted).greater(self.head).sum(job);
@@ -114,8 +95,8 @@ fn next_fronts<L: Bands>(fronts: &mut [Front<L::Band>], times: &L, tails: &L, jo
     ensures bands { length fronts.new ≡ length fronts.old }
     ensures fronts { (pass : WavePass) (step : ℕ) → AreWide L.WIDTH pass → step < pass.steps
         → L.lanes times.now ≡ pass.times step → L.lanes tails.now ≡ pass.tails step → L.lanes job.now ≡ pass.job
-        → AreFronts L.Band.lanes L.Band.RULE L.WIDTH pass step fronts.old
-        → AreFronts L.Band.lanes L.Band.RULE L.WIDTH pass (step + 1) fronts.new }
+        → AreFronts L.Band.lanes L.Band.CAP L.WIDTH pass step fronts.old
+        → AreFronts L.Band.lanes L.Band.CAP L.WIDTH pass (step + 1) fronts.new }
 {
     let mut carry = Front::none();
     for band in 0..fronts.len() {
@@ -142,9 +123,9 @@ fn next_two_fronts<L: Bands>(
         → L.lanes times.now ≡ pass.times step → L.lanes tails.now ≡ pass.tails step
         → L.lanes next_times.now ≡ pass.times (step + 1) → L.lanes next_tails.now ≡ pass.tails (step + 1)
         → L.lanes job.now ≡ pass.job
-        → AreFronts L.Band.lanes L.Band.RULE L.WIDTH pass step fronts.old
-        → AreFronts L.Band.lanes L.Band.RULE L.WIDTH pass (step + 2) fronts.new
-        × IsCarry L.Band.lanes L.Band.RULE L.WIDTH pass L.WIDTH (step + 1) result }
+        → AreFronts L.Band.lanes L.Band.CAP L.WIDTH pass step fronts.old
+        → AreFronts L.Band.lanes L.Band.CAP L.WIDTH pass (step + 2) fronts.new
+        × IsCarry L.Band.lanes L.Band.CAP L.WIDTH pass L.WIDTH (step + 1) result }
 {
     let mut carry = Front::none();
     let mut between = Front::none();
@@ -196,14 +177,14 @@ pub fn fill_sums<L: Bands>(
     ensures steps { length sums.new ≡ length times.now }
     ensures fronts { length fronts.new ≡ length fronts.old }
     ensures sums { (step : ℕ) → step < length times.now → slice_index_or (map L.Band.number sums.new) step 0
-        ≡ slice_index_or (sums_at L.Band.RULE (rows_of (map L.lanes times.now)) (rows_of (map L.lanes tails.now))
+        ≡ slice_index_or (sums_at L.Band.CAP (rows_of (map L.lanes times.now)) (rows_of (map L.lanes tails.now))
         (L.lanes job.now) L.WIDTH (step + 1)) (L.WIDTH - 1) 0 }
     ensures last { L.lanes result
-        ≡ sums_at L.Band.RULE (rows_of (map L.lanes times.now)) (rows_of (map L.lanes tails.now)) (L.lanes job.now)
+        ≡ sums_at L.Band.CAP (rows_of (map L.lanes times.now)) (rows_of (map L.lanes tails.now)) (L.lanes job.now)
         L.WIDTH (length times.now) }
 {
     for band in 0..fronts.len() {
-        fronts[band] = Front::start();
+        fronts[band] = Front::none();
     }
     let last = fronts.len() - 1;
     let steps = times.len();
@@ -231,7 +212,7 @@ pub fn fill_sums<L: Bands>(
 // Fills the tails of a step from those of the step after it.
 #[inline(always)]
 fn tails_before<L: Bands>(after: &L, times: &L, row: &mut L)
-    ensures { L.lanes row.new ≡ tails_step L.Band.RULE 0 (L.lanes after.now) (L.lanes times.now) }
+    ensures { L.lanes row.new ≡ tails_step L.Band.CAP 0 (L.lanes after.now) (L.lanes times.now) }
 {
     let mut carry = L::Band::zeros();
     let bands = L::WIDTH / 8;
@@ -250,13 +231,13 @@ pub fn fill_tails<L: Bands>(times: &[L], tails: &mut [L])
     requires steps { length tails.old ≡ length times.now }
     ensures steps { length tails.new ≡ length times.now }
     ensures tails { (step : ℕ) → step < length times.now → rows_of (map L.lanes tails.new) step
-        ≡ tails_at L.Band.RULE (rows_of (map L.lanes times.now)) L.WIDTH (length times.now) (length times.now - step) }
+        ≡ tails_at L.Band.CAP (rows_of (map L.lanes times.now)) L.WIDTH (length times.now) (length times.now - step) }
 {
     let steps = times.len();
     if steps == 0 {
         return;
     }
-    tails_before(&L::start(), &times[steps - 1], &mut tails[steps - 1]);
+    tails_before(&L::none(), &times[steps - 1], &mut tails[steps - 1]);
     for left in 1..steps {
         let step = steps - 1 - left;
         let (rows, after) = tails.split_at_mut(step + 1);

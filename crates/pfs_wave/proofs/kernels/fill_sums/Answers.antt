@@ -9,11 +9,11 @@ pub loop-turn-init : goal.loop-turn-init
 loop-turn-init g c =
     let lanes = g.L.WholeRow.lanes in
     let number = g.L.Band.Band.number in
-    none_summed g.L.Band.Band.RULE g.L.WholeRow.WIDTH (map lanes c.args.times.now) (map lanes c.args.tails.now)
-    (lanes c.again-job.result) (map number c.args.sums.now) (lanes c.start.result) (lanes c.none.result)
-    (lanes c.none-2.result)
-    (length-map c.args.sums.now number ∙ c.requires.sums ∙ sym (length-map c.args.times.now lanes)) c.start.ensures
-    c.none.ensures c.none-2.ensures
+    none_summed g.L.Band.Band.CAP g.L.WholeRow.WIDTH (map lanes c.args.times.now) (map lanes c.args.tails.now)
+    (lanes c.again-job.result) (map number c.args.sums.now) (lanes c.none.result) (lanes c.none-2.result)
+    (lanes c.none-3.result)
+    (length-map c.args.sums.now number ∙ c.requires.sums ∙ sym (length-map c.args.times.now lanes)) c.none.ensures
+    c.none-2.ensures c.none-3.ensures
 
 pub loop-turn-preserved : goal.loop-turn-preserved
 loop-turn-preserved g c =
@@ -53,7 +53,7 @@ turns_summed : (g : given.Over) (c : goal.After-drop-job g) (count : ℕ) →
     let lanes = g.L.WholeRow.lanes in
     let left = length c.args.times.now % 3 in
     (left ≡ 0 → count ≡ length c.args.times.now) → (0 < left → count + left ≡ length c.args.times.now + 1) →
-    IsSummed g.L.Band.Band.RULE g.L.WholeRow.WIDTH (map lanes c.args.times.now) (map lanes c.args.tails.now)
+    IsSummed g.L.Band.Band.CAP g.L.WholeRow.WIDTH (map lanes c.args.times.now) (map lanes c.args.tails.now)
     (lanes c.again-job.result) (map g.L.Band.Band.number c.if-left-gt0.sums) (lanes c.if-left-gt0.rows.head)
     (lanes c.if-left-gt0.rows.inserted) (lanes c.if-left-gt0.rows.sum) count
 turns_summed g c count none some =
@@ -85,7 +85,7 @@ turns_summed g c count none some =
 -- all steps have their sums
 all_summed : (g : given.Over) (c : goal.After-drop-job g) →
     let lanes = g.L.WholeRow.lanes in
-    IsSummed g.L.Band.Band.RULE g.L.WholeRow.WIDTH (map lanes c.args.times.now) (map lanes c.args.tails.now)
+    IsSummed g.L.Band.Band.CAP g.L.WholeRow.WIDTH (map lanes c.args.times.now) (map lanes c.args.tails.now)
     (lanes c.again-job.result) (map g.L.Band.Band.number c.if-left-eq2.sums) (lanes c.if-left-eq2.rows.head)
     (lanes c.if-left-eq2.rows.inserted) (lanes c.if-left-eq2.rows.sum) (length c.args.times.now)
 all_summed g c =

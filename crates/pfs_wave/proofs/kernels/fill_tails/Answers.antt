@@ -5,8 +5,8 @@ use Rattle.pfs_wave.proofs.kernels.fill_tails.Goals as goal
 
 pub loop-pair-init : goal.loop-pair-init
 loop-pair-init g c =
-    none_filled_rows g.L.WholeRow.lanes g.L.Band.Band.RULE g.L.WholeRow.WIDTH c.args.times.now c.args.tails.now
-    c.start-after.result c.requires.steps c.start-after.ensures
+    none_filled_rows g.L.WholeRow.lanes g.L.Band.Band.CAP g.L.WholeRow.WIDTH c.args.times.now c.args.tails.now
+    c.none-after.result c.requires.steps c.none-after.ensures
 
 pub loop-pair-preserved : goal.loop-pair-preserved
 loop-pair-preserved g c =

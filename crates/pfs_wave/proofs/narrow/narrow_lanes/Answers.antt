@@ -7,6 +7,7 @@ new-requires-clause-short g c k d lt =
     omega (
       arith,
       greatest_all c.args.instance.now.shop.times k d lt,
-      c.if-longest_time-reduction.true,
+      c.if-longest_time-le65535.true,
       c.longest_time.ensures,
+      c.requires.cap,
     )

@@ -1,4 +1,4 @@
-use Rattle.std.proofs.Common.{inl, inr, ℕ, ◌≡◌, ◌+◌, ◌-◌, ◌*◌, ◌<◌, ◌≤◌, List, ◌++◌, length, take, drop, map, get_or}
+use Rattle.std.proofs.Common.{inl, inr, ℕ, ◌≡◌, ◌+◌, ◌-◌, ◌<◌, ◌≤◌, List, ◌++◌, length, take, drop, map, get_or}
 use Rattle.std.proofs.Common.{ap, ◌∙◌, sym, arith}
 use Rattle.std.proofs.lemmas.Bool.{cases_lt}
 use Rattle.std.proofs.lemmas.List.{length-drop, length-take-le, length-append, length-map, map-append}
@@ -9,10 +9,9 @@ use Rattle.pfs_wave.proofs.PutParts.{put_inside, put_before, put_long}
 use Rattle.pfs_base.specs.FlowShop.{FlowShop}
 use Rattle.pfs_insert.specs.Insertion.{makespan_with}
 use Rattle.pfs_wave.specs.Wavefront.{FitsLanes, step_count}
-use Rattle.pfs_wave.proofs.TakenSteps.{same_tails, same_reduced_tails, taken_rows}
+use Rattle.pfs_wave.proofs.TakenSteps.{same_tails, taken_rows}
 use Rattle.pfs_wave.proofs.WavefrontLaws.{sums_law}
-use Rattle.pfs_wave.proofs.ReducedLaws.{reduced_sums_law}
-use Rattle.pfs_wave.proofs.BestFound.{found, found_less, number_of_part, sum_at}
+use Rattle.pfs_wave.proofs.BestFound.{found, number_of_part, sum_at}
 use Rattle.pfs_wave.proofs.passes.best_place.Given as given
 use Rattle.pfs_wave.proofs.passes.best_place.Goals as goal
 
@@ -32,14 +31,14 @@ sum_of_place : (g : given.Over) (c : goal.After-drop-row g) (shop : FlowShop) (j
     → FitsLanes shop g.L.Lanes.WIDTH → shop.machines ≡ c.args.machines → length c.args.times.now ≡ step_count shop jobs
     → ((place lane : ℕ) → place ≤ length jobs → lane < g.L.Lanes.WIDTH → shop.machines ≤ lane + 1
     → place + lane < step_count shop jobs
-    → get_or (sums_at g.L.Band.Band.RULE (rows_of (map g.L.Lanes.lanes c.args.times.now))
+    → get_or (sums_at g.L.Band.Band.CAP (rows_of (map g.L.Lanes.lanes c.args.times.now))
     (rows_of (map g.L.Lanes.lanes (take (length c.args.times.now) c.args.tails.now)))
     (g.L.Lanes.lanes c.args.job.now) g.L.Lanes.WIDTH (place + lane + 1)) lane 0 ≡ value place)
     → (place : ℕ) → place < length jobs + 1 → get_or (sums_of g c) place 0 ≡ value place
 sum_of_place g c shop jobs value fits machines steps are =
     let lanes = g.L.Lanes.lanes in
     let width = g.L.Lanes.WIDTH in
-    let rule = g.L.Band.Band.RULE in
+    let cap = g.L.Band.Band.CAP in
     let number = g.L.Band.Band.number in
     let count = length c.args.times.now in
     let times = rows_of (map lanes c.args.times.now) in
@@ -69,9 +68,9 @@ sum_of_place g c shop jobs value fits machines steps are =
     length-take-le places (drop first all) (omega (arith, length-drop first all)) in
     let sums_are = c.fill_sums-row.ensures.sums in
     let numbers_long = length-map filled number in
-    sum_at rule shop jobs width times tails job row (map number filled)
+    sum_at cap shop jobs width times tails job row (map number filled)
     (map number (take places (drop first all))) value fits are
-    (c.fill_sums-row.ensures.last ∙ ap (sums_at rule times tails job width) steps)
+    (c.fill_sums-row.ensures.last ∙ ap (sums_at cap times tails job width) steps)
     (λ step lt. sums_are step (omega arith))
     (λ place early.
     let here : first + place ≡ place + (width - 1) = omega arith in
@@ -91,7 +90,7 @@ sum_of_place g c shop jobs value fits machines steps are =
           ∙ ap (λ n. get_or (map number written) n 0) zero
           ∙ c.write_reversed.ensures.lanes (width - 1) (omega arith)
           ∙ ap (λ l. get_or l (width - 1) 0) c.fill_sums-row.ensures.last
-          ∙ ap (λ n. get_or (sums_at rule times tails job width n) (width - 1) 0) (sym next)
+          ∙ ap (λ n. get_or (sums_at cap times tails job width n) (width - 1) 0) (sym next)
           ∙ sym (sums_are from (omega arith)) ∙ ap (λ n. get_or (map number filled) n 0) (sym at)
     ])
     (λ place lt late.
@@ -136,7 +135,7 @@ count_of g c shop jobs machines steps =
     length-take-le places (drop first all) (omega (arith, length-drop first all)) ∙ omega arith
 
 pub returns-clause-best : goal.returns-clause-best
-returns-clause-best g c shop jobs inserted rule_is fits machines skewed holds is_job steps other among short =
+returns-clause-best g c shop jobs inserted fits machines skewed holds is_job steps other among short =
     let lanes = g.L.Lanes.lanes in
     let width = g.L.Lanes.WIDTH in
     let cap = g.L.Band.Band.CAP in
@@ -149,30 +148,6 @@ returns-clause-best g c shop jobs inserted rule_is fits machines skewed holds is
     found shop jobs inserted (sums_of g c) cap
     (sum_of_place g c shop jobs (λ place. capped cap (makespan_with shop jobs inserted place)) fits machines steps
     (λ place lane le lt last inside.
-    rw rule_is (sums_law cap shop jobs inserted width times tails (lanes c.args.job.now) fits skewed is_job held place
-    lane le lt last inside)))
+    sums_law cap shop jobs inserted width times tails (lanes c.args.job.now) fits skewed is_job held place lane le lt
+    last inside))
     c.first_least.ensures (count_of g c shop jobs machines steps) other among short
-
-pub returns-clause-reduced : goal.returns-clause-reduced
-returns-clause-reduced g c shop jobs inserted reduction rule_is fits machines reduced holds is_row reducible steps =
-    let lanes = g.L.Lanes.lanes in
-    let width = g.L.Lanes.WIDTH in
-    let times = rows_of (map lanes c.args.times.now) in
-    let count = length c.args.times.now in
-    let tails = rows_of (map lanes (take count c.args.tails.now)) in
-    let held = same_reduced_tails shop jobs width (rows_of (map lanes c.args.tails.now)) tails
-    (λ step lt. taken_rows lanes count c.args.tails.now step (omega (arith, c.requires.tails)) (omega arith)) reduction
-    holds in
-    let more = reduction * (step_count shop jobs + 1) in
-    let value = λ (place : ℕ). makespan_with shop jobs inserted place + 16384 - more in
-    let are = sum_of_place g c shop jobs value fits machines steps
-    (λ place lane le lt last inside.
-    let sum_is = reduced_sums_law shop jobs inserted reduction width times tails (lanes c.args.job.now) fits reduced
-    is_row reducible held place lane le lt last inside in
-    rw rule_is (omega (arith, sum_is))) in
-    found_less shop jobs inserted (sums_of g c) more 16384
-    (λ place lt.
-    let low = reducible.spans_low place (omega arith) in
-    let is = are place lt in
-    omega arith)
-    c.first_least.ensures (count_of g c shop jobs machines steps)

@@ -17,7 +17,7 @@ loop-pair-init g c =
       bands = so_far.bands;
       fronts = λ band other lt.
           let none = so_far.starts band other (omega arith) in
-          front_zero g.L.Band.Band.lanes g.L.Band.Band.RULE g.L.Bands.WIDTH
+          front_zero g.L.Band.Band.lanes g.L.Band.Band.CAP g.L.Bands.WIDTH
           (whole_pass (map lanes c.args.times.now) (map lanes c.args.tails.now) (lanes c.args.job.now)) (8 * band)
           (get_or c.loop-band.fronts band other) (omega (arith, so_far.bands)) none.0 none.1 none.2;
       sums_are = λ step lt. absurd (omega arith);
@@ -28,7 +28,7 @@ loop-pair-preserved g c =
     let lanes = g.L.Bands.lanes in
     let band = g.L.Band.Band.lanes in
     let number = g.L.Band.Band.number in
-    let rule = g.L.Band.Band.RULE in
+    let cap = g.L.Band.Band.CAP in
     let width = g.L.Bands.WIDTH in
     let times = c.args.times.now in
     let tails = c.args.tails.now in
@@ -54,39 +54,39 @@ loop-pair-preserved g c =
     let bands : 8 * length two.new.fronts ≡ width = omega (arith, two.ensures.bands, so_far.bands) in
     let last = length c.loop-band.fronts - 1 in
     let read = c.index-fronts-last.result in
-    let value = λ (k : ℕ). get_or (sums_after rule width pass (k + 1)) (width - 1) 0 in
+    let value = λ (k : ℕ). get_or (sums_after cap width pass (k + 1)) (width - 1) 0 in
     let end : step + 2 ≡ next + 1 = omega arith in
     let all : step + 2 ≡ 2 * (c.loop-pair.pair + 1) = omega arith in
     let first =
     set_more number sums step c.last.result value (omega arith) so_far.sums_are
-    (c.last.ensures ∙ made.1.sum ∙ lane_last (sums_after rule width pass next) width (omega arith)) in
+    (c.last.ensures ∙ made.1.sum ∙ lane_last (sums_after cap width pass next) width (omega arith)) in
     let second =
     set_more number (slice_set sums step c.last.result) next c.last-in-loop-pair.result value
     (omega (arith, length-set sums step c.last.result)) first
     (c.last-in-loop-pair.ensures
-    ∙ last_sum band rule width pass wide (step + 2) last (get_or two.new.fronts last read)
+    ∙ last_sum band cap width pass wide (step + 2) last (get_or two.new.fronts last read)
     (omega (arith, two.ensures.bands, fronts_long)) (made.0 last read (omega (arith, two.ensures.bands, fronts_long)))
-    ∙ ap (λ n. get_or (sums_after rule width pass n) (width - 1) 0) end) in
+    ∙ ap (λ n. get_or (sums_after cap width pass n) (width - 1) 0) end) in
     record {
       bands = bands;
-      fronts = subst (λ n. AreFronts band rule width pass n two.new.fronts) all made.0;
+      fronts = subst (λ n. AreFronts band cap width pass n two.new.fronts) all made.0;
       sums_are = λ k lt. second k (omega arith);
     }
 
 -- after all steps, of an odd number too
 all_summed : (g : given.Over) (c : goal.After-row_of_sums g) →
     let lanes = g.L.Bands.lanes in
-    let rule = g.L.Band.Band.RULE in
+    let cap = g.L.Band.Band.CAP in
     let width = g.L.Bands.WIDTH in
     let pass = whole_pass (map lanes c.args.times.now) (map lanes c.args.tails.now) (lanes c.args.job.now) in
     let steps = length c.args.times.now in
-    AreFronts g.L.Band.Band.lanes rule width pass steps c.if-steps-eq1.fronts
+    AreFronts g.L.Band.Band.lanes cap width pass steps c.if-steps-eq1.fronts
     × ((step : ℕ) → step < steps → get_or (map g.L.Band.Band.number c.if-steps-eq1.sums) step 0
-    ≡ get_or (sums_after rule width pass (step + 1)) (width - 1) 0)
+    ≡ get_or (sums_after cap width pass (step + 1)) (width - 1) 0)
 all_summed g c =
     let lanes = g.L.Bands.lanes in
     let band = g.L.Band.Band.lanes in
-    let rule = g.L.Band.Band.RULE in
+    let cap = g.L.Band.Band.CAP in
     let width = g.L.Bands.WIDTH in
     let times = c.args.times.now in
     let tails = c.args.tails.now in
@@ -111,27 +111,27 @@ all_summed g c =
           w.next_fronts.ensures.fronts pass (steps - 1) wide (omega (arith, length-map times lanes))
           (row_read lanes times (steps - 1) w.index-times-steps.result (omega arith) w.index-times-steps.is)
           (row_read lanes tails (steps - 1) w.index-tails-steps.result (omega arith) w.index-tails-steps.is) refl
-          (subst (λ n. AreFronts band rule width pass n c.loop-pair.fronts) at so_far.fronts) in
+          (subst (λ n. AreFronts band cap width pass n c.loop-pair.fronts) at so_far.fronts) in
           let last = length c.loop-band.fronts - 1 in
           let read = w.index-fronts-last-then-steps-eq1.result in
           let new = w.last-then-steps-eq1.result in
           let summed =
           set_more g.L.Band.Band.number c.loop-pair.sums (steps - 1) new
-          (λ k. get_or (sums_after rule width pass (k + 1)) (width - 1) 0) (omega arith)
+          (λ k. get_or (sums_after cap width pass (k + 1)) (width - 1) 0) (omega arith)
           (λ k lt. so_far.sums_are k (omega arith))
           (w.last-then-steps-eq1.ensures
-          ∙ last_sum band rule width pass wide (steps - 1 + 1) last (get_or w.next_fronts.new.fronts last read)
+          ∙ last_sum band cap width pass wide (steps - 1 + 1) last (get_or w.next_fronts.new.fronts last read)
           (omega (arith, so_far.bands, fronts_long))
           (made last read (omega (arith, w.next_fronts.ensures.bands, so_far.bands, fronts_long)))) in
           rw (w.fronts-is, w.sums-is) (
-            subst (λ n. AreFronts band rule width pass n w.next_fronts.new.fronts) all made,
+            subst (λ n. AreFronts band cap width pass n w.next_fronts.new.fronts) all made,
             λ k lt. summed k (omega arith),
           )
       | else-steps-eq1 w ↦
           let even = w.if-steps-eq1.false in
           let all : pairs ≡ steps = omega arith in
           rw (w.fronts-is, w.sums-is) (
-            subst (λ n. AreFronts band rule width pass n c.loop-pair.fronts) all so_far.fronts,
+            subst (λ n. AreFronts band cap width pass n c.loop-pair.fronts) all so_far.fronts,
             λ k lt. so_far.sums_are k (omega arith),
           )
     ]
@@ -142,7 +142,7 @@ returns-clause-sums g c = (all_summed g c).1
 pub returns-clause-last : goal.returns-clause-last
 returns-clause-last g c =
     let lanes = g.L.Bands.lanes in
-    let rule = g.L.Band.Band.RULE in
+    let cap = g.L.Band.Band.CAP in
     let width = g.L.Bands.WIDTH in
     let times = c.args.times.now in
     let tails = c.args.tails.now in
@@ -150,6 +150,6 @@ returns-clause-last g c =
     let pass = whole_pass (map lanes times) (map lanes tails) (lanes job) in
     let wide = pass_wide lanes width g.met.L.Bands.wide times tails job c.requires.tails in
     let fronts = (all_summed g c).0 in
-    c.row_of_sums.ensures.row (sums_after rule width pass (length times))
-    (sums_wide rule width pass wide (length times) (omega (arith, length-map times lanes)))
+    c.row_of_sums.ensures.row (sums_after cap width pass (length times))
+    (sums_wide cap width pass wide (length times) (omega (arith, length-map times lanes)))
     (λ band other lt. (fronts band other lt).sum)

@@ -2,17 +2,17 @@ use Rattle.std.proofs.Common.{ℕ, List, [], ◌≡◌, ◌+◌, ◌-◌, ◌<�
 use Rattle.std.proofs.Common.{sym, refl, arith}
 use Rattle.std.proofs.lemmas.List.{length-map, map-set, set-append_left, get_or-append_right, get_or-set_same}
 use Rattle.std.proofs.lemmas.List.{length-set}
-use Rattle.pfs_wave.specs.Lanes.{LaneRule, rows_of, tails_step}
+use Rattle.pfs_wave.specs.Lanes.{rows_of, tails_step}
 use Rattle.pfs_wave.proofs.FilledSteps.{IsFilled, none_filled_rows, more_filled_rows, row_read}
 use Rattle.pfs_wave.proofs.wide_steps.fill_tails.Goals as goal
 
 -- one more step is filled, and the row of the step is the row after the next one
-more_in_table : {X : Type 0} (lanes : X → List ℕ) {rule : LaneRule} {width : ℕ} (times tails : List X) {after : X}
+more_in_table : {X : Type 0} (lanes : X → List ℕ) {cap : ℕ} {width : ℕ} (times tails : List X) {after : X}
     (left step : ℕ)
-    (row new : X) → IsFilled rule width (map lanes times) (map lanes tails) (lanes after) left → left < length times
+    (row new : X) → IsFilled cap width (map lanes times) (map lanes tails) (lanes after) left → left < length times
     → length tails ≡ length times → step ≡ length times - 1 - left → row ≡ get_or times step row
-    → lanes new ≡ tails_step rule 0 (lanes after) (lanes row)
-    → IsFilled rule width (map lanes times) (map lanes (slice_set tails step new))
+    → lanes new ≡ tails_step cap 0 (lanes after) (lanes row)
+    → IsFilled cap width (map lanes times) (map lanes (slice_set tails step new))
     (rows_of (map lanes (slice_set tails step new)) (length times - (left + 1))) (left + 1)
 more_in_table lanes times tails left step row new so_far lt same step_is row_is is =
     let at : length times - (left + 1) ≡ step = omega arith in
@@ -28,8 +28,8 @@ loop-left-init g c =
     let times = c.args.times.now in
     let some = c.if-steps-eq0.false in
     more_in_table lanes times c.args.tails.now 0 (length times - 1) c.index-times-steps.result c.tails_before.new.row
-    (none_filled_rows lanes g.L.Band.Band.RULE g.L.Bands.WIDTH times c.args.tails.now c.start.result c.requires.steps
-    c.start.ensures) (omega arith) c.requires.steps (omega arith) c.index-times-steps.is c.tails_before.ensures
+    (none_filled_rows lanes g.L.Band.Band.CAP g.L.Bands.WIDTH times c.args.tails.now c.none.result c.requires.steps
+    c.none.ensures) (omega arith) c.requires.steps (omega arith) c.index-times-steps.is c.tails_before.ensures
 
 pub loop-left-preserved : goal.loop-left-preserved
 loop-left-preserved g c =

@@ -7,5 +7,5 @@ abbrev pub invariant-loop-left : goal.invariant-loop-left
 invariant-loop-left g l =
     let lanes = g.L.Bands.lanes in
     let tails = map lanes l.tails in
-    IsFilled g.L.Band.Band.RULE g.L.Bands.WIDTH (map lanes l.times) tails (rows_of tails (length l.times - l.left))
+    IsFilled g.L.Band.Band.CAP g.L.Bands.WIDTH (map lanes l.times) tails (rows_of tails (length l.times - l.left))
     l.left

@@ -12,7 +12,7 @@ loop-band-init g c =
     record {
       bands = refl;
       so_far = λ pass step wide lt times tails next_times next_tails job are.
-          two_none g.L.Band.Band.lanes g.L.Band.Band.RULE g.L.Bands.WIDTH pass step c.args.fronts.now c.none-carry.result
+          two_none g.L.Band.Band.lanes g.L.Band.Band.CAP g.L.Bands.WIDTH pass step c.args.fronts.now c.none-carry.result
           c.none-between.result are none.head none.inserted none.sum none_between.head none_between.inserted
           none_between.sum;
     }
@@ -20,7 +20,7 @@ loop-band-init g c =
 pub loop-band-preserved : goal.loop-band-preserved
 loop-band-preserved g c =
     let lanes = g.L.Band.Band.lanes in
-    let rule = g.L.Band.Band.RULE in
+    let cap = g.L.Band.Band.CAP in
     let width = g.L.Bands.WIDTH in
     let so_far = c.loop-band.invariant in
     let band = c.loop-band.band in
@@ -40,19 +40,19 @@ loop-band-preserved g c =
           let before =
           rw (sym c.index-fronts-band.is) at (until.rest band old (omega arith) (omega (arith, so_far.bands))) in
           let is_middle =
-          front_more rule width pass wide lanes first fits step old c.loop-band.carry middle c.band.result
+          front_more cap width pass wide lanes first fits step old c.loop-band.carry middle c.band.result
           c.band-in-loop-band.result c.band-times_of_job.result (omega arith) before until.carried
           (c.band.ensures ∙ ap (eight_from first) times) (c.band-in-loop-band.ensures ∙ ap (eight_from first) tails)
           job_is c.next-middle.ensures.head c.next-middle.ensures.inserted c.next-middle.ensures.sum in
           let is =
-          front_more rule width pass wide lanes first fits (step + 1) middle c.loop-band.between new
+          front_more cap width pass wide lanes first fits (step + 1) middle c.loop-band.between new
           c.band-in-loop-band-2.result c.band-in-loop-band-3.result c.band-times_of_job.result lt is_middle
           until.carried_between (c.band-in-loop-band-2.ensures ∙ ap (eight_from first) next_times)
           (c.band-in-loop-band-3.ensures ∙ ap (eight_from first) next_tails) job_is c.next.ensures.head
           c.next.ensures.inserted c.next.ensures.sum in
-          two_more lanes rule width pass step band old middle new c.loop-band.carry c.loop-band.between
+          two_more lanes cap width pass step band old middle new c.loop-band.carry c.loop-band.between
           c.loop-band.fronts wide lt (omega (arith, so_far.bands)) until (omega (arith, so_far.bands)) before is_middle
-          (subst (λ n. IsBandAfter lanes rule width pass first n new) two is);
+          (subst (λ n. IsBandAfter lanes cap width pass first n new) two is);
     }
 
 pub returns-clause-fronts : goal.returns-clause-fronts
@@ -66,6 +66,6 @@ returns-clause-fronts g c pass step wide lt times tails next_times next_tails jo
     let outside = c.loop-band-test.false in
     let last : 8 * c.loop-band.band ≡ width = omega arith in (
       λ band other less. until.done band other (omega (arith, so_far.bands)),
-      subst (λ n. IsCarry lanes g.L.Band.Band.RULE width pass n (step + 1) c.loop-band.between) last
+      subst (λ n. IsCarry lanes g.L.Band.Band.CAP width pass n (step + 1) c.loop-band.between) last
           until.carried_between,
     )

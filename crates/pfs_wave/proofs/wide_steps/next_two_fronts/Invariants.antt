@@ -8,13 +8,13 @@ abbrev pub invariant-loop-band : goal.invariant-loop-band
 invariant-loop-band g l =
     let lanes = g.L.Bands.lanes in
     let band = g.L.Band.Band.lanes in
-    let rule = g.L.Band.Band.RULE in
+    let cap = g.L.Band.Band.CAP in
     let width = g.L.Bands.WIDTH in
     record {
       bands : length l.fronts ≡ length l.fn.fronts;
       so_far : (pass : WavePass) (step : ℕ) → AreWide width pass → step + 1 < pass.steps
           → lanes l.times ≡ pass.times step → lanes l.tails ≡ pass.tails step
           → lanes l.next_times ≡ pass.times (step + 1) → lanes l.next_tails ≡ pass.tails (step + 1)
-          → lanes l.job ≡ pass.job → AreFronts band rule width pass step l.fn.fronts
-          → AreTwoSoFar band rule width pass step l.band l.fronts l.carry l.between;
+          → lanes l.job ≡ pass.job → AreFronts band cap width pass step l.fn.fronts
+          → AreTwoSoFar band cap width pass step l.band l.fronts l.carry l.between;
     }

@@ -9,5 +9,5 @@ returns g c =
     let whole = g.met.A.WholeRow.whole in
     let is = c.WIDTH.ensures in
     heads_joined _ _ _ _ _ _ _ some (wide c.args.before.now.a) (wide c.args.above.now.a)
-    (wide c.args.times.now.a) g.A.Band.Band.RULE _ _ _ _ _
+    (wide c.args.times.now.a) g.A.Band.Band.CAP _ _ _ _ _
     (omega arith) c.band-between.ensures c.heads.ensures c.heads-2.ensures

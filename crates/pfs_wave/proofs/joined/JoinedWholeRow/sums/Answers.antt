@@ -9,5 +9,5 @@ returns g c =
     let whole = g.met.A.WholeRow.whole in
     let is = c.WIDTH.ensures in
     sums_joined _ _ _ _ _ _ _ some (wide c.args.before.now.a) (wide c.args.inserted.now.a)
-    (wide c.args.tails.now.a) g.A.Band.Band.RULE _ _ _ _ _
+    (wide c.args.tails.now.a) g.A.Band.Band.CAP _ _ _ _ _
     (omega arith) c.band-between.ensures c.sums.ensures c.sums-2.ensures
