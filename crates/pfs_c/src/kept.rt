@@ -15,7 +15,7 @@ use crate::numbers::CallFault;
 use pfs_base::Instance;
 use pfs_insert::Placed;
 use pfs_wave::{
-    CappedLanes, EightBands, FiveBands, Long, Method, OneBand, PreparedLanes, Short, ThreeBands,
+    EightBands, FiveBands, Lanes, Long, Method, OneBand, PreparedLanes, Short, ThreeBands,
     TwoBands, Wide, Width, method_for,
 };
 use std::alloc::Global;
@@ -141,10 +141,7 @@ fn long_tables(alloc: Global, instance: Instance, width: Width) -> Result<KeptTa
 }
 
 // Those of a wavefront with rows of these lanes.
-fn prepared<L: CappedLanes>(
-    alloc: Global,
-    instance: Instance,
-) -> Result<Box<PreparedLanes<L>>, CallFault>
+fn prepared<L: Lanes>(alloc: Global, instance: Instance) -> Result<Box<PreparedLanes<L>>, CallFault>
     requires { IsServed instance.shop L.WIDTH L.Band.CAP }
     ensures made { IfOk result (λ made. made.value ≡ instance.shop) }
     ensures memory { IfErr result (λ why. why ≡ CallFault.Memory) }

@@ -5,7 +5,7 @@ use Rattle.std.proofs.lemmas.Bool.{cases_lt}
 use Rattle.std.proofs.lemmas.List.{get_or-take, get_or-drop, take-map, drop-map}
 use Rattle.std.specs.List.{slice_index_or}
 use Rattle.pfs_base.specs.FlowShop.{FlowShop}
-use Rattle.pfs_insert.specs.Insertion.{makespan_with, IsFirstLeast}
+use Rattle.pfs_insert.specs.Insertion.{makespan_with}
 use Rattle.pfs_insert.specs.Inserter.{IsBestPlace}
 use Rattle.pfs_insert.proofs.Published.BestPlaces.{best_place_found}
 use Rattle.pfs_wave.specs.Lanes.{capped, Rows, sums_at}

@@ -2,7 +2,7 @@
 ghost use Rattle.std.specs.Prelude.{◌≡◌, ◌+◌, ◌<◌, ◌≤◌, ◌^◌, length, map, IfOk};
 ghost use Rattle.std.specs.List.{All, range_with_len};
 ghost use Rattle.pfs_base.specs.FlowShop.{time_of};
-ghost use Rattle.pfs_wave.specs.Private.ShopTimes.{HoldFirst, lane_sum, limited_time, value_on};
+ghost use Rattle.pfs_wave.specs.Private.ShopTimes.{HoldFirst, limited_time, value_on};
 ghost use Rattle.pfs_wave.specs.Wavefront.{HasRows, IsJobRow, on_machine};
 
 use crate::band::Band;

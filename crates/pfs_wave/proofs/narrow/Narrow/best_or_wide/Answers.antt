@@ -5,6 +5,28 @@ use Rattle.pfs_wave.proofs.ServedPaths.{served_path}
 use Rattle.pfs_wave.proofs.narrow.Narrow.best_or_wide.Goals as goal
 use Rattle.pfs_wave.proofs.narrow.Narrow.best_or_wide.Goals.{then-fits, else-fits}
 
+pub best_in_tables-best-requires-clause-few : goal.best_in_tables-best-requires-clause-few
+best_in_tables-best-requires-clause-few g c =
+    omega (
+      arith,
+      length-lt-size c.args.seq.now.size c.args.job c.args.seq.now.jobs c.requires.job c.requires.absent
+          c.as_slice-jobs.ensures.sequence,
+      c.requires.size,
+      ap (λ tables. tables.jobs) c.self.view_is,
+      ap length c.as_slice-jobs.ensures.value,
+    )
+
+pub best_in_tables-best-requires-else-fits-clause-few : goal.best_in_tables-best-requires-else-fits-clause-few
+best_in_tables-best-requires-else-fits-clause-few g c =
+    omega (
+      arith,
+      length-lt-size c.args.seq.now.size c.args.job c.args.seq.now.jobs c.requires.job c.requires.absent
+          c.as_slice-jobs.ensures.sequence,
+      c.requires.size,
+      c.requires.tables,
+      ap length c.as_slice-jobs.ensures.value,
+    )
+
 pub returns-clause-best : goal.returns-clause-best
 returns-clause-best g c shop are served rows total =
     let jobs = c.args.seq.now.jobs in
@@ -16,10 +38,18 @@ returns-clause-best g c shop are served rows total =
       | then-fits w ↦
           let best = rw c.as_slice-jobs.ensures.value at w.best_in_tables-best.ensures.best in
           let room = w.if-fits.ensures refl shop served.some are in
+<<<<<<< HEAD
           rw w.best-is (best shop (record { some = served.some; few = omega arith }) (omega arith) are.rows job_in
           (length jobs) (omega arith) (omega (arith, appended_law shop jobs c.args.job served.some, room, total)))
       | else-fits w ↦
           let best = rw c.as_slice-jobs.ensures.value at w.best_in_tables-best.ensures.best in
+=======
+          let rows = rw (← ap (λ tables. tables.rows) c.self.view_is) at are.rows in
+          rw w.best-is (best shop (record { some = served.some; few = omega (arith, are.machines, c.self.invariant.few, machines) })
+          (omega (arith, machines, are.machines)) rows job_in (length jobs) (omega arith) (omega (arith, appended_law shop jobs c.args.job served.some, room, total)))
+      | else-fits w ↦
+          let best = rw c.as_slice-jobs.ensures.value at w.best_in_tables-best-else-fits.ensures.best in
+>>>>>>> 62707551647d1344f58737bf580e0532d92f97ed
           rw w.best-is (best shop (record { some = served.some; few = served.few })
           (omega (arith, machines, are.machines)) rows job_in 0 (omega arith)
           (served_path shop g.L.Lanes.WIDTH g.L.Band.Band.CAP served jobs c.args.job 0

@@ -16,7 +16,7 @@ returns-clause-best g c =
     let served = c.self.invariant.served in
     let few = rw (← c.self.view_is) at c.requires.few in
     rw (← c.self.view_is)
-    (found shop g.met.L.CappedLanes.capped (record { some = served.some; few = served.few })
+    (found shop (record { some = served.some; few = served.few })
     (sym c.machines-machines.ensures.value)
     c.self.invariant.rows (rw (← c.self.view_is) at c.requires.job) 0 (omega arith)
     (served_path shop g.L.Lanes.WIDTH g.L.Band.Band.CAP served c.args.sequence.now c.args.job 0 few (omega arith)))
