@@ -1,14 +1,12 @@
 pub mod BandSteps
 pub mod BestFound
+pub mod CappedCells
 pub mod CappedLeast
 pub mod EightLanes
 pub mod FilledSteps
 pub mod HeldLemmas
 pub mod JoinedRows
-<<<<<<< HEAD
 pub mod LaneSteps
-=======
->>>>>>> 62707551647d1344f58737bf580e0532d92f97ed
 pub mod LeastKey
 pub mod LoadedTimes
 pub mod Longest
@@ -25,11 +23,8 @@ pub mod PartLaws
 pub mod PartOf
 pub mod PastRows
 pub mod PutParts
-<<<<<<< HEAD
 pub mod SumCells
 pub mod TailCells
-=======
->>>>>>> 62707551647d1344f58737bf580e0532d92f97ed
 pub mod TakenSteps
 pub mod VectorLemmas
 pub mod WavefrontLaws

@@ -1,15 +1,8 @@
 -- Narrow tables, and the insertions that are known to fit in them.
-<<<<<<< HEAD
-use Rattle.std.proofs.Common.{◌≡◌, ℕ, ◌+◌, ◌<◌, ◌≤◌, Bool, true, false, Some, length, nat_eq, nat_le}
-use Rattle.std.proofs.Common.{if◌then◌else◌, subst, arith, List}
-use Rattle.std.specs.Option.{IfSome}
-use Rattle.pfs_base.specs.FlowShop.{FlowShop, total_of}
-=======
 use Rattle.std.proofs.Common.{ℕ, ◌+◌, ◌<◌, ◌≤◌, Bool, true, false, Some, length, nat_eq, nat_le}
 use Rattle.std.proofs.Common.{if◌then◌else◌, subst, arith, List}
 use Rattle.std.specs.Option.{IfSome}
 use Rattle.pfs_base.specs.FlowShop.{FlowShop}
->>>>>>> 62707551647d1344f58737bf580e0532d92f97ed
 use Rattle.pfs_base.specs.Paths.{makespan}
 use Rattle.pfs_insert.specs.Inserter.{IsBestPlace}
 use Rattle.pfs_order.specs.Sequence.{Sequence}

@@ -5,11 +5,7 @@ use Rattle.std.specs.Simd.Lanes.{zip2}
 use Rattle.std.proofs.lemmas.Bool.{cases_lt}
 use Rattle.std.proofs.lemmas.List.{get_or-set_same, get_or-set_other, length-set, length-map, map-set, get_or-take}
 use Rattle.std.proofs.lemmas.List.{get_or-drop}
-<<<<<<< HEAD
-use Rattle.std.proofs.lemmas.List.{take-replicate, drop-replicate, length-replicate}
-=======
 use Rattle.std.proofs.lemmas.List.{take-replicate, drop-replicate}
->>>>>>> 62707551647d1344f58737bf580e0532d92f97ed
 use Rattle.pfs_wave.specs.Lanes.{capped_add, rows_of, heads_step, sums_step, zeros}
 use Rattle.pfs_wave.specs.Private.SkewedBand.{eight_from}
 use Rattle.pfs_wave.specs.Private.WideSteps.{WavePass, AreWide, IsBandAfter, IsCarry, AreFronts, heads_after}

@@ -5,6 +5,7 @@
 mod band;
 mod bands;
 mod bench;
+mod best;
 mod blends;
 mod changes;
 mod insertion;

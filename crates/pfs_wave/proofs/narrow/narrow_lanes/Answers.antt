@@ -7,11 +7,7 @@ new-requires-clause-short g c k d lt =
     omega (
       arith,
       greatest_all c.args.instance.now.shop.times k d lt,
-<<<<<<< HEAD
-      c.if-longest_time-65535.true,
-=======
       c.if-longest_time-le65535.true,
->>>>>>> 62707551647d1344f58737bf580e0532d92f97ed
       c.longest_time.ensures,
       c.requires.cap,
     )

@@ -38,18 +38,11 @@ returns-clause-best g c shop are served rows total =
       | then-fits w ↦
           let best = rw c.as_slice-jobs.ensures.value at w.best_in_tables-best.ensures.best in
           let room = w.if-fits.ensures refl shop served.some are in
-<<<<<<< HEAD
-          rw w.best-is (best shop (record { some = served.some; few = omega arith }) (omega arith) are.rows job_in
-          (length jobs) (omega arith) (omega (arith, appended_law shop jobs c.args.job served.some, room, total)))
-      | else-fits w ↦
-          let best = rw c.as_slice-jobs.ensures.value at w.best_in_tables-best.ensures.best in
-=======
           let rows = rw (← ap (λ tables. tables.rows) c.self.view_is) at are.rows in
           rw w.best-is (best shop (record { some = served.some; few = omega (arith, are.machines, c.self.invariant.few, machines) })
           (omega (arith, machines, are.machines)) rows job_in (length jobs) (omega arith) (omega (arith, appended_law shop jobs c.args.job served.some, room, total)))
       | else-fits w ↦
           let best = rw c.as_slice-jobs.ensures.value at w.best_in_tables-best-else-fits.ensures.best in
->>>>>>> 62707551647d1344f58737bf580e0532d92f97ed
           rw w.best-is (best shop (record { some = served.some; few = served.few })
           (omega (arith, machines, are.machines)) rows job_in 0 (omega arith)
           (served_path shop g.L.Lanes.WIDTH g.L.Band.Band.CAP served jobs c.args.job 0

@@ -1,12 +1,3 @@
-<<<<<<< HEAD
-use Rattle.std.proofs.Common.{arith}
-use Rattle.pfs_wave.proofs.NarrowLemmas.{known_room}
-use Rattle.pfs_wave.proofs.narrow.Narrow.fits.Goals as goal
-
-pub returns : goal.returns
-returns g c is shop some are =
-    grind (arith, known_room)
-=======
 use Rattle.std.proofs.Common.{refl, ap}
 use Rattle.pfs_wave.proofs.NarrowLemmas.{known_room}
 use Rattle.pfs_wave.proofs.narrow.Narrow.fits.Goals as goal
@@ -22,4 +13,3 @@ returns-else-has_room g c is shop some are =
     let tables = c.args.self.now in
     known_room shop tables.kept c.args.seq.now.jobs c.args.total some are.kept
     (rw (ap (λ t. t.kept) c.self.view_is, c.as_slice-jobs.ensures.value) at c.has_room-else-has_room.ensures.0 is)
->>>>>>> 62707551647d1344f58737bf580e0532d92f97ed

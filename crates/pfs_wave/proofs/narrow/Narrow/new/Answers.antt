@@ -1,8 +1,4 @@
-<<<<<<< HEAD
-use Rattle.std.proofs.Common.{◌≤◌, arith, ap}
-=======
 use Rattle.std.proofs.Common.{arith, ap}
->>>>>>> 62707551647d1344f58737bf580e0532d92f97ed
 use Rattle.pfs_wave.proofs.narrow.Narrow.new.Goals as goal
 
 pub invariant_of-result : goal.invariant_of-result
