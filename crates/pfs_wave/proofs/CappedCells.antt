@@ -24,7 +24,7 @@ module _ (cap : ℕ) (shop : FlowShop) (jobs : List ℕ) where
 
   pub capped_tails : (count : ℕ) → shop.machines ≤ 8 * count → AreTails cap count (padded_time shop jobs) tail_cell
   capped_tails count few = record {
-    none = λ row. ap (capped cap) (on_padding shop _ (8 * count) few) ∙ sym (capped_none cap);
+    none = λ row. ap (capped cap) (on_padding shop (heaviest_back shop jobs row) (8 * count) few) ∙ sym (capped_none cap);
     next = λ row machine inside.
         let beside = padded_back shop jobs row (suc machine) in
         let under = padded_back shop jobs (suc row) machine in
@@ -39,8 +39,8 @@ module _ (cap : ℕ) (shop : FlowShop) (jobs : List ℕ) where
   no_tail count lanes steps row lane k few all is =
       elim (cases_lt row (length jobs)) [
         | inl before ↦
-            let more = mul-le-mul_right {lanes} {lane} count (omega arith) in
-            ap (capped cap) (on_padding shop _ (lane * count + k) (omega arith)) ∙ sym (capped_none cap)
+            let more : lanes * count ≤ lane * count = mul-le-mul_right count (omega arith) in
+            ap (capped cap) (on_padding shop (heaviest_back shop jobs row) (lane * count + k) (omega arith)) ∙ sym (capped_none cap)
         | inr after ↦ ap (capped cap) (padded_none shop jobs row (lane * count + k) after) ∙ sym (capped_none cap)
       ]
 
