@@ -17,20 +17,18 @@ either P true one other is_one is_other = is_one
 either P false one other is_one is_other = is_other
 
 -- tables that are narrow tables of a shop are so after an insertion at the best place
-pub narrow_after : (shop : FlowShop) (width : ℕ) (tables : NarrowTables) → AreNarrow shop width tables
+pub narrow_after : (shop : FlowShop) (tables : NarrowTables) → AreNarrow shop tables
     → (seq : Sequence) (job place span : ℕ) → IsBestPlace shop seq.jobs job place span
-    → AreNarrow shop width (after_best tables seq job place span)
-narrow_after shop width tables are seq job place span best =
+    → AreNarrow shop (after_best tables seq job place span)
+narrow_after shop tables are seq job place span best =
     let with_job = known_with seq job place span in
     let is_known : IsKnown shop with_job = omega (arith, best.span_is) in
     let no_longer = nat_le span tables.kept.span in
     record {
-      jobs = are.jobs;
-      machines = are.machines;
-      rows = are.rows;
+      blocks = are.blocks;
       last = is_known;
       kept =
-          either (IsKnown shop) (nat_eq (length seq.jobs + 1) tables.jobs) (if no_longer then with_job else tables.kept)
+          either (IsKnown shop) (nat_eq (length seq.jobs + 1) tables.blocks.jobs) (if no_longer then with_job else tables.kept)
           tables.kept (either (IsKnown shop) no_longer with_job tables.kept is_known are.kept) are.kept;
     }
 
@@ -42,7 +40,5 @@ known_room shop known jobs time some is_known room =
     omega (arith, part_law shop jobs known.seq.jobs some room.1, is_known, room.0)
 
 -- narrow tables that a bench has
-pub has_narrow : (shop : FlowShop) (width : ℕ) (tables : NarrowTables) → AreNarrow shop width tables
-    → HasNarrow shop width (Some tables)
-has_narrow shop width tables are =
-    record { are = λ made is. subst (λ o. IfSome o (AreNarrow shop width)) is are }
+pub has_narrow : (shop : FlowShop) (tables : NarrowTables) → AreNarrow shop tables → HasNarrow shop (Some tables)
+has_narrow shop tables are = record { are = λ made is. subst (λ o. IfSome o (AreNarrow shop)) is are }

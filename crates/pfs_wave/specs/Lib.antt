@@ -3,5 +3,4 @@ pub mod Least
 pub mod Parts
 pub mod Private
 pub mod Served
-pub mod Tables
 pub mod Wavefront

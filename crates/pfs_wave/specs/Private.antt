@@ -4,6 +4,4 @@ pub mod HeldRows
 pub mod Narrow
 pub mod Recurrences
 pub mod SkewedBand
-pub mod ShopTimes
-pub mod WideRows
-pub mod WideSteps
+pub mod Waves

@@ -1,10 +1,10 @@
 -- Lanes of 16 bits, for the insertions whose makespans are known to fit in them.
-use Rattle.std.specs.Prelude.{ℕ, ◌≡◌, ◌+◌, ◌≤◌, List, Option, length, insert, nat_eq, nat_le, if◌then◌else◌}
+use Rattle.std.specs.Prelude.{ℕ, ◌+◌, ◌≤◌, Option, length, insert, nat_eq, nat_le, if◌then◌else◌}
 use Rattle.std.specs.Option.{ForSome}
 use Rattle.pfs_base.specs.FlowShop.{FlowShop}
 use Rattle.pfs_base.specs.Paths.{makespan}
 use Rattle.pfs_order.specs.Sequence.{Sequence}
-use Rattle.pfs_wave.specs.Wavefront.{HasRows}
+use Rattle.pfs_wave.specs.Private.Blocks.{BlockRows, HasShop}
 
 -- a sequence, and a bound on its makespan
 pub record KnownSequence : Type 0 where
@@ -20,20 +20,15 @@ abbrev pub known_with : Sequence → ℕ → ℕ → ℕ → KnownSequence
 known_with seq job place span =
     record { seq = record seq { jobs = insert seq.jobs place job }; span = span }
 
--- the rows of all jobs, the numbers of jobs and machines of the shops that the tables were made for, the last sequence
--- that is known, and the sequence of all jobs that is kept
+-- what insertions are computed with, the last sequence that is known, and the sequence of all jobs that is kept
 pub record NarrowTables : Type 0 where
-  pub rows : List (List ℕ)
-  pub jobs : ℕ
-  pub machines : ℕ
+  pub blocks : BlockRows
   pub last : KnownSequence
   pub kept : KnownSequence
 
 -- narrow tables of a shop
-pub record AreNarrow (shop : FlowShop) (width : ℕ) (tables : NarrowTables) : Type 0 where
-  pub jobs : tables.jobs ≡ shop.jobs
-  pub machines : tables.machines ≡ shop.machines
-  pub rows : HasRows shop width tables.rows
+pub record AreNarrow (shop : FlowShop) (tables : NarrowTables) : Type 0 where
+  pub blocks : HasShop shop tables.blocks
   pub last : IsKnown shop tables.last
   pub kept : IsKnown shop tables.kept
 
@@ -44,11 +39,11 @@ after_best tables seq job place span =
     record tables {
       last = known_with seq job place span;
       kept =
-          if nat_eq (length seq.jobs + 1) tables.jobs
+          if nat_eq (length seq.jobs + 1) tables.blocks.jobs
           then (if nat_le span tables.kept.span then known_with seq job place span else tables.kept)
           else tables.kept;
     }
 
 -- the narrow tables of a shop, if there are any
-pub record HasNarrow (shop : FlowShop) (width : ℕ) (tables : Option NarrowTables) : Type 0 where
-  pub are : ForSome tables (AreNarrow shop width)
+pub record HasNarrow (shop : FlowShop) (tables : Option NarrowTables) : Type 0 where
+  pub are : ForSome tables (AreNarrow shop)
