@@ -4,6 +4,7 @@ use Rattle.std.proofs.Common.{get_or, slice_set, ap, ◌∙◌, sym, refl, arith
 use Rattle.std.proofs.lemmas.Bool.{cases_lt, cases_eq}
 use Rattle.std.proofs.lemmas.List.{get_or-map, get_or-set_same, get_or-set_other, get_or_past, length-map, length-set}
 use Rattle.std.proofs.lemmas.List.{map-set}
+use Rattle.std.proofs.lemmas.Nat.{mul-add-lt}
 use Rattle.pfs_wave.specs.Lanes.{Rows}
 use Rattle.pfs_wave.specs.Private.Blending.{past_at, diagonal}
 use Rattle.pfs_wave.specs.Private.Blocks.{step_of}
@@ -138,3 +139,8 @@ module _ {X : Type 0} (lanes : X → List ℕ) where
             let old_long = length-map old lanes in
             get_or_past (map lanes new) i [] (omega arith) ∙ sym (get_or_past (map lanes old) i [] (omega arith))
       ]
+
+-- a vector of a step is inside a table of as many steps
+pub vector_inside : (count steps step k long : ℕ) → step < steps → k < count → long ≡ steps * count
+    → step * count + k < long
+vector_inside count steps step k long lt k_lt is = omega (arith, mul-add-lt step count k steps lt k_lt)
