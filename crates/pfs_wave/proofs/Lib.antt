@@ -8,6 +8,7 @@ pub mod LaneSteps
 pub mod LeastKey
 pub mod Longest
 pub mod NarrowLemmas
+pub mod RowCells
 pub mod ServedPaths
 pub mod SkewedTimes
 pub mod SmallLanes

@@ -29,13 +29,13 @@ same_vector count step other j k j_lt k_lt is =
 
 module _ {X : Type 0} (lanes : X → List ℕ) (count : ℕ) (table : List X) (row k at : ℕ) (new : X) (k_lt : k < count)
     (at_is : at ≡ row * count + k) where
-  put_here : at < length table → step_of count (map lanes (slice_set table at new)) row k ≡ lanes new
+  pub put_here : at < length table → step_of count (map lanes (slice_set table at new)) row k ≡ lanes new
   put_here inside =
       let long = length-map table lanes in
       ap (λ i. get_or (map lanes (slice_set table at new)) i []) (sym at_is)
       ∙ rw (map-set lanes table at new) (get_or-set_same (map lanes table) at (lanes new) [] (omega arith))
 
-  put_there : (step j : ℕ) → j < count → ((step ≡ row) × (j ≡ k) → ⊥)
+  pub put_there : (step j : ℕ) → j < count → ((step ≡ row) × (j ≡ k) → ⊥)
       → step_of count (map lanes (slice_set table at new)) step j ≡ step_of count (map lanes table) step j
   put_there step j j_lt other =
       rw (map-set lanes table at new)

@@ -1,8 +1,8 @@
 //! Bands of eight lanes.
-ghost use Rattle.std.specs.Prelude.{◌≡◌, ℕ, ◌+◌, ◌-◌, ◌<◌, ◌≤◌, ◌^◌, ◌∷◌, [], ◌++◌, List, length, map, max, min};
+ghost use Rattle.std.specs.Prelude.{◌≡◌, ℕ, ◌-◌, ◌<◌, ◌≤◌, ◌^◌, ◌∷◌, [], ◌++◌, List, length, map, max};
 ghost use Rattle.std.specs.Prelude.{take, drop};
 ghost use Rattle.std.specs.List.{All, slice_index_or};
-ghost use Rattle.std.specs.Simd.Lanes.{chunk, zip2};
+ghost use Rattle.std.specs.Simd.Lanes.{zip2};
 ghost use Rattle.pfs_wave.specs.Lanes.{capped_add, zeros};
 ghost use Rattle.pfs_wave.specs.Least.{IsLeastSoFar};
 
@@ -28,20 +28,10 @@ pub trait Band: Copy + Drop {
     fn zeros() -> Self
         ensures { lanes result ≡ zeros 8 };
 
-    /// A copy of the band, from one register to another.
-    fn copied(self) -> Self
-        ensures { lanes result ≡ lanes self };
-
     /// A band of eight times.
     fn from_times(times: [u32; 8]) -> Self
         requires { All (λ time. time ≤ CAP) times }
         ensures { lanes result ≡ times };
-
-    /// The eight times from a place on, each at most the limit in its lane.
-    fn load(times: &[u32], at: usize, limits: Self) -> Self
-        requires inside { at + 8 ≤ length times.now }
-        requires short { All (λ time. time ≤ CAP) times.now }
-        ensures { lanes result ≡ zip2 min (chunk at 8 times.now) (lanes limits) };
 
     /// Moves each lane to the next one. Lane 0 is the last lane of `carry`.
     fn up(self, carry: Self) -> Self

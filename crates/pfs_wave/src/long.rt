@@ -36,23 +36,9 @@ impl Band for Long {
     }
 
     #[inline(always)]
-    fn copied(self) -> Long {
-        Long {
-            values: self.values,
-        }
-    }
-
-    #[inline(always)]
     fn from_times(times: [u32; 8]) -> Long {
         Long {
             values: u32x8::from_array(times),
-        }
-    }
-
-    #[inline(always)]
-    fn load(times: &[u32], at: usize, limits: Long) -> Long {
-        Long {
-            values: u32x8::from_slice(&times[at..]).simd_min(limits.values),
         }
     }
 

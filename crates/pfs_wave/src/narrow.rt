@@ -5,7 +5,7 @@ ghost use Rattle.pfs_base.specs.FlowShop.{FlowShop, total_of};
 ghost use Rattle.pfs_base.specs.Paths.{greatest, makespan};
 ghost use Rattle.pfs_insert.specs.Inserter.{IsBestPlace};
 ghost use Rattle.pfs_wave.specs.Private.Narrow.{AreNarrow, HasNarrow, after_best};
-ghost use Rattle.pfs_wave.specs.Private.Waves.{Serves, jobs_in};
+ghost use Rattle.pfs_wave.specs.Private.Waves.{Serves, blocks_of};
 ghost use Rattle.pfs_wave.specs.Served.{longest_path};
 
 use crate::blocks::Blocks;
@@ -101,7 +101,7 @@ impl Narrow {
     #[inline(never)]
     pub fn best_or_wide(&mut self, wide: &mut Wave, seq: &Seq, job: usize, total: u64) -> Placed<u64>
         requires size { seq.now.size ≡ self.old.blocks.jobs }
-        requires wide { jobs_in wide.old ≡ self.old.blocks.jobs }
+        requires wide { (blocks_of wide.old).jobs ≡ self.old.blocks.jobs }
         requires job { job < seq.now.size }
         requires absent { Contains seq.now.jobs job → ⊥ }
         ensures best { (shop : FlowShop) → AreNarrow shop self.old → Serves shop wide.old → total ≡ total_of shop job

@@ -22,7 +22,7 @@ pub struct PreparedLanes {
 impl Model for PreparedLanes {
     ghost use Rattle.std.specs.Prelude.{◌≡◌, length};
     ghost use Rattle.pfs_base.specs.FlowShop.{FlowShop};
-    ghost use Rattle.pfs_wave.specs.Private.Waves.{Serves, jobs_in};
+    ghost use Rattle.pfs_wave.specs.Private.Waves.{Serves, blocks_of};
 
     ghost Value = { FlowShop };
 
@@ -30,7 +30,7 @@ impl Model for PreparedLanes {
 
     ghost invariant = { λ a. record {
       serves : Serves a.instance.shop a.wave;
-      jobs : jobs_in a.wave ≡ a.instance.shop.jobs;
+      jobs : (blocks_of a.wave).jobs ≡ a.instance.shop.jobs;
       room : length a.sequence.items ≡ a.instance.shop.jobs;
     } };
 }

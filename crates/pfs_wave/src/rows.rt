@@ -1,12 +1,13 @@
 //! The times of a shop's jobs in vectors.
-ghost use Rattle.std.specs.Prelude.{◌≡◌, ℕ, ◌+◌, ◌*◌, ◌<◌, ◌≤◌, ◌^◌, length, map, replicate, IfOk};
+ghost use Rattle.std.specs.Prelude.{◌≡◌, ℕ, ◌+◌, ◌*◌, ◌<◌, ◌≤◌, ◌≢◌, ◌^◌, length, map, replicate, IfOk};
 ghost use Rattle.std.specs.List.{All, slice_index_or};
 ghost use Rattle.pfs_base.specs.FlowShop.{time_of};
 ghost use Rattle.pfs_wave.specs.Lanes.{zeros};
-ghost use Rattle.pfs_wave.specs.Private.Blocks.{HasRows};
+ghost use Rattle.pfs_wave.specs.Private.Blocks.{HasRows, IsRow, step_of};
 ghost use Rattle.pfs_wave.specs.Wavefront.{on_machine};
 
 use crate::band::Band;
+use crate::vectors::put;
 use pfs_base::Instance;
 use std::alloc::{AllocError, Global};
 
@@ -44,6 +45,36 @@ fn job_vector<V: Band>(instance: &Instance, job: usize, count: usize, k: usize) 
     ])
 }
 
+// Writes the vectors of a job.
+fn fill_job<V: Band>(rows: &mut [V], instance: &Instance, job: usize, count: usize)
+    requires job { job < instance.now.shop.jobs }
+    requires short { All (λ time. time ≤ V.CAP) instance.now.shop.times }
+    requires few { count ≤ 26 }
+    requires inside { job * count + count ≤ length rows.old }
+    ensures length { length rows.new ≡ length rows.old }
+    ensures job { IsRow count (on_machine instance.now.shop (time_of instance.now.shop job))
+        (step_of count (map V.lanes rows.new) job) }
+    ensures others { (other k : ℕ) → k < count → other ≢ job
+        → step_of count (map V.lanes rows.new) other k ≡ step_of count (map V.lanes rows.old) other k }
+{
+    for k in 0..count {
+        put(rows, job * count + k, job_vector(instance, job, count, k));
+    }
+}
+
+// Writes the vectors of all jobs over vectors of zeros.
+fn fill_rows<V: Band>(rows: &mut [V], instance: &Instance, count: usize)
+    requires short { All (λ time. time ≤ V.CAP) instance.now.shop.times }
+    requires few { count ≤ 26 }
+    requires zeros { map V.lanes rows.old ≡ replicate (instance.now.shop.jobs * count + count) (zeros 8) }
+    ensures length { length rows.new ≡ length rows.old }
+    ensures rows { HasRows instance.now.shop count (map V.lanes rows.new) }
+{
+    for job in 0..instance.jobs() {
+        fill_job(rows, instance, job, count);
+    }
+}
+
 /// The times of each job of an instance in `count` vectors, and after them as many vectors of zeros. It reserves memory
 /// once, and returns `AllocError` where that fails.
 pub fn shop_rows<V: Band>(
@@ -52,22 +83,12 @@ pub fn shop_rows<V: Band>(
     count: usize,
 ) -> Result<Vec<V>, AllocError>
     requires short { All (λ time. time ≤ V.CAP) instance.now.shop.times }
-    requires some { 1 ≤ count }
     requires few { count ≤ 26 }
     ensures long { IfOk result (λ rows. length rows.items ≡ instance.now.shop.jobs * count + count) }
     ensures rows { IfOk result (λ rows. HasRows instance.now.shop count (map V.lanes rows.items)) }
 {
-    let jobs = instance.jobs();
-    let mut rows = Vec::new(alloc);
-    rows.reserve_exact(jobs * count + count)?;
-    for job in 0..jobs {
-        for k in 0..count {
-            rows.push_reserved(job_vector(instance, job, count, k));
-        }
-    }
-    for _k in 0..count {
-        rows.push_reserved(V::zeros());
-    }
+    let mut rows = zero_vectors(alloc, instance.jobs() * count + count)?;
+    fill_rows(&mut rows, instance, count);
     Ok(rows)
 }
 

@@ -23,23 +23,6 @@ fn saturating_sum(a: u16x8, b: u16x8) -> u16x8
     a.saturating_add(b)
 }
 
-// The lesser value of each lane.
-#[inline(always)]
-fn lesser(a: u16x8, b: u16x8) -> u16x8
-    ensures { result ≡ zip2 min a b }
-{
-    a.simd_min(b)
-}
-
-// The same values in lanes of 16 bits.
-#[inline(always)]
-fn narrowed(v: u32x8) -> u16x8
-    requires short { Each1 (λ value. value ≤ 65535) v }
-    ensures { result ≡ v }
-{
-    v.cast::<u16>()
-}
-
 impl Band for Short {
     type Number = u16;
 
@@ -61,13 +44,6 @@ impl Band for Short {
     }
 
     #[inline(always)]
-    fn copied(self) -> Short {
-        Short {
-            values: self.values,
-        }
-    }
-
-    #[inline(always)]
     fn from_times(times: [u32; 8]) -> Short {
         Short {
             values: u16x8::from_array([
@@ -80,14 +56,6 @@ impl Band for Short {
                 times[6] as u16,
                 times[7] as u16,
             ]),
-        }
-    }
-
-    #[inline(always)]
-    fn load(times: &[u32], at: usize, limits: Short) -> Short {
-        let eight = narrowed(u32x8::from_slice(&times[at..]));
-        Short {
-            values: lesser(eight, limits.values),
         }
     }
 

@@ -1,6 +1,6 @@
 //! The skewed times of a sequence: at each step, lane l of vector k has lane l of vector k of the row that is l rows
 //! back. Each of the vectors is skewed on its own.
-ghost use Rattle.std.specs.Prelude.{◌≡◌, ℕ, suc, ◌+◌, ◌-◌, ◌*◌, ◌<◌, ◌≤◌, ◌^◌, length, map, max, min, slice_set};
+ghost use Rattle.std.specs.Prelude.{◌≡◌, ℕ, suc, ◌+◌, ◌-◌, ◌*◌, ◌<◌, ◌≤◌, ◌^◌, length, map, max, min};
 ghost use Rattle.std.specs.List.{All};
 ghost use Rattle.pfs_wave.specs.Private.HeldRows.{AreMoved, HoldLanes, HoldOutside, column, rows_at};
 ghost use Rattle.pfs_wave.specs.Private.Blending.{AreBlends, past_at};
@@ -9,6 +9,7 @@ ghost use Rattle.pfs_wave.specs.Private.SkewedBand.{IsFilled};
 use crate::band::Band;
 use crate::blends::Blends;
 use crate::changes::Kept;
+use crate::vectors::put;
 
 /// The rows from `from` to before `to`, at the steps before `end`.
 #[derive(Clone, Copy, Debug, PartialEq, Eq)]
@@ -68,15 +69,6 @@ fn filled_end(changed: Changed, room: usize) -> usize
     let end = (to + 7).min(room);
     let fours = changed.from + (end - changed.from + 3) / 4 * 4;
     if fours <= room { fours } else { end }
-}
-
-// Writes one vector.
-#[inline(always)]
-fn put<V: Band>(table: &mut [V], at: usize, vector: V)
-    requires { at < length table.old }
-    ensures { table.new ≡ slice_set table.old at vector }
-{
-    table[at] = vector;
 }
 
 // Fills vector k of the steps from `from` to before `to`. With four rows in each turn of the loop the blends stay in

@@ -1,5 +1,5 @@
 //! What the passes do with the vectors of a step.
-ghost use Rattle.std.specs.Prelude.{◌≡◌, ℕ, suc, ◌<◌, length, map};
+ghost use Rattle.std.specs.Prelude.{◌≡◌, ℕ, suc, ◌<◌, length, map, slice_set};
 ghost use Rattle.std.specs.List.{slice_index_or};
 ghost use Rattle.pfs_wave.specs.Private.Blocks.{later, vectors_of};
 
@@ -60,4 +60,13 @@ pub fn from_after<V: Band>(vector: V) -> V
         → slice_index_or (V.lanes result) lane 0 ≡ slice_index_or (V.lanes vector) (suc lane) 0 }
 {
     vector.down(V::zeros())
+}
+
+/// Writes one vector of a table.
+#[inline(always)]
+pub fn put<V: Band>(table: &mut [V], at: usize, vector: V)
+    requires { at < length table.old }
+    ensures { table.new ≡ slice_set table.old at vector }
+{
+    table[at] = vector;
 }

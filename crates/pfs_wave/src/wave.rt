@@ -3,7 +3,7 @@ ghost use Rattle.std.specs.Prelude.{◌≡◌, ◌<◌, ◌≤◌, length, IfOk}
 ghost use Rattle.std.specs.List.{All};
 ghost use Rattle.pfs_base.specs.FlowShop.{FlowShop};
 ghost use Rattle.pfs_insert.specs.Inserter.{IsBestPlace};
-ghost use Rattle.pfs_wave.specs.Private.Waves.{Serves, jobs_in};
+ghost use Rattle.pfs_wave.specs.Private.Waves.{Serves, blocks_of};
 ghost use Rattle.pfs_wave.specs.Served.{IsServed};
 
 use crate::blocks::Blocks;
@@ -38,9 +38,9 @@ impl Wave {
     /// nothing.
     #[inline(always)]
     pub fn best(&mut self, sequence: &[usize], job: usize) -> Placed<u64>
-        requires jobs { All (λ other. other < jobs_in self.old) sequence.now }
-        requires few { length sequence.now < jobs_in self.old }
-        requires job { job < jobs_in self.old }
+        requires jobs { All (λ other. other < (blocks_of self.old).jobs) sequence.now }
+        requires few { length sequence.now < (blocks_of self.old).jobs }
+        requires job { job < (blocks_of self.old).jobs }
         ensures within { result.place ≤ length sequence.now }
         ensures best { (shop : FlowShop) → Serves shop self.old
             → IsBestPlace shop sequence.now job result.place result.span }
