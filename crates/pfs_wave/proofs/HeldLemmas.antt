@@ -1,15 +1,16 @@
 -- Skewed times that are kept from one sequence to the next.
 use Rattle.std.proofs.Common.{inl, inr, max, ◌≡◌, ℕ, zero, suc, ◌+◌, ◌-◌, ◌*◌, ◌<◌, ◌≤◌, List, [], ◌++◌, length, take}
-use Rattle.std.proofs.Common.{get_or, replicate, ap, ◌∙◌, sym, refl, arith}
+use Rattle.std.proofs.Common.{get_or, replicate, map, ap, ◌∙◌, sym, refl, arith}
 use Rattle.std.proofs.lemmas.Bool.{cases_lt, lt-ltb, le-ltb}
 use Rattle.std.proofs.lemmas.List.{get_or-take, get_or-replicate, get_or_default, get_or_past, length-take-le}
-use Rattle.std.proofs.lemmas.List.{length-replicate, same_lists}
+use Rattle.std.proofs.lemmas.List.{length-replicate, same_lists, take-map}
 use Rattle.std.specs.List.{All}
 use Rattle.pfs_base.specs.FlowShop.{FlowShop}
 use Rattle.pfs_wave.specs.Lanes.{Rows, zeros}
-use Rattle.pfs_wave.specs.Private.Blocks.{AreTimes, HasRows, step_of}
+use Rattle.pfs_wave.specs.Private.Blocks.{AreTimes, Cells, HasRows, step_of}
 use Rattle.pfs_wave.specs.Private.HeldRows.{AreMoved, HoldLanes, HoldOutside, IsHolding, IsKept, IsPadded, column, rows_at}
 use Rattle.pfs_wave.specs.Wavefront.{padded_time}
+use Rattle.pfs_wave.proofs.SkewedTimes.{vector_inside}
 
 module _ {count jobs : ℕ} {rows : List (List ℕ)} {len : ℕ} {order : List ℕ} {times : List (List ℕ)}
     (holding : IsHolding count jobs rows len order times) where
@@ -98,11 +99,11 @@ holding_more {count} {jobs} {rows} {len} {order} {times} seq others new old belo
 }
 
 -- an empty list, resized
-none_taken : (count : ℕ) (rest : List ℕ) → take count [] ++ rest ≡ rest
+none_taken : {X : Type 0} (count : ℕ) (rest : List X) → take count [] ++ rest ≡ rest
 none_taken zero rest = refl
 none_taken (suc count) rest = refl
 
-pub resized_none : (items : List ℕ) (count len value : ℕ) → items ≡ [] → len ≡ 0
+pub resized_none : {X : Type 0} (items : List X) (count len : ℕ) (value : X) → items ≡ [] → len ≡ 0
     → take count items ++ replicate (count - len) value ≡ replicate count value
 resized_none items count len value none is =
     let all : count - len ≡ count = omega arith in
@@ -231,3 +232,52 @@ module _ (count : ℕ) (rows : List (List ℕ)) (order others held seq : List �
               ap (λ l. get_or l lane 0) (moved.before step (omega arith))
               ∙ old.none_before step lane early lt (omega arith);
         }
+
+-- a sequence of no jobs
+pub holding_none : (count jobs : ℕ) (shop : FlowShop) (rows : List (List ℕ)) (order : List ℕ) (times : List (List ℕ))
+    → HasRows shop count rows → jobs ≡ shop.jobs → order ≡ replicate (jobs + 8) jobs
+    → times ≡ replicate ((jobs + 8) * count) (zeros 8) → IsHolding count jobs rows 0 order times
+holding_none count jobs shop rows order times has jobs_is order_is times_are =
+    let order_long : length order ≡ jobs + 8 = ap length order_is ∙ length-replicate (jobs + 8) jobs in
+    let job_is : (row d : ℕ) → row < jobs + 8 → get_or order row d ≡ jobs =
+    λ row d lt. ap (λ l. get_or l row d) order_is ∙ get_or-replicate (jobs + 8) row jobs d lt in
+    let zero : (step lane k : ℕ) → step < jobs + 8 → lane < 8 → k < count
+    → get_or (step_of count times step k) lane 0 ≡ 0 =
+    λ step lane k lt lane_lt k_lt.
+    ap (λ t. get_or (get_or t (step * count + k) []) lane 0) times_are
+    ∙ ap (λ l. get_or l lane 0) (get_or-replicate ((jobs + 8) * count) (step * count + k) (zeros 8) []
+    (vector_inside count (jobs + 8) step k ((jobs + 8) * count) lt k_lt refl))
+    ∙ get_or-replicate 8 lane 0 0 lane_lt in
+    record {
+      some = omega arith;
+      steps = order_long;
+      rows_in = λ row d lt. omega (arith, job_is row d (omega arith));
+      jobs_in = λ row none_before. absurd (omega arith);
+      rest = λ row after inside. job_is row 0 (omega arith);
+      all_times = ap length times_are ∙ length-replicate ((jobs + 8) * count) (zeros 8)
+          ∙ ap (λ n. n * count) (sym order_long);
+      lanes = λ k k_lt. record {
+        times_are = λ row lane lt inside.
+            zero (row + lane) lane k (omega arith) lt k_lt ∙ sym (has.none lane k lt k_lt)
+            ∙ ap (λ j. get_or (step_of count rows j k) lane 0) (sym (job_is row 0 (omega arith) ∙ jobs_is));
+        none_before = λ step lane early lt inside. zero step lane k (omega arith) lt k_lt;
+      };
+    }
+
+-- the first steps of a table of times
+pub times_taken : {X : Type 0} (lanes : X → List ℕ) (count steps n : ℕ) (time : Cells) (table : List X)
+    → steps * count ≤ n → AreTimes count steps time (map lanes table)
+    → AreTimes count steps time (map lanes (take n table))
+times_taken lanes count steps n time table enough are =
+    let same : (step k : ℕ) → step < steps → k < count
+    → step_of count (map lanes (take n table)) step k ≡ step_of count (map lanes table) step k =
+    λ step k lt k_lt.
+    let inside = vector_inside count steps step k (steps * count) lt k_lt refl in
+    ap (λ l. get_or l (step * count + k) []) (sym (take-map lanes n table))
+    ∙ get_or-take n (map lanes table) (step * count + k) [] (omega arith) in
+    record {
+      cells_are = λ step lt k k_lt row lane lane_lt here.
+          ap (λ l. get_or l lane 0) (same step k lt k_lt) ∙ are.cells_are step lt k k_lt row lane lane_lt here;
+      none_before = λ step lt lane k lane_lt k_lt early.
+          ap (λ l. get_or l lane 0) (same step k lt k_lt) ∙ are.none_before step lt lane k lane_lt k_lt early;
+    }

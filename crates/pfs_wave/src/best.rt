@@ -30,8 +30,8 @@ pub fn best_place<V: Band, const N: usize>(
     requires small { steps * N + N < 2 ^ 32 }
     requires times { length times.now ≡ steps * N }
     requires job { length job.now ≡ N }
-    requires tails { length tails.old ≡ steps * N }
-    requires sums { length sums.old ≡ steps + 7 }
+    requires tails { steps * N ≤ length tails.old }
+    requires sums { steps + 7 ≤ length sums.old }
     ensures tails { length tails.new ≡ length tails.old }
     ensures sums { length sums.new ≡ length sums.old }
     ensures within { result.place + lanes ≤ steps }
@@ -41,6 +41,8 @@ pub fn best_place<V: Band, const N: usize>(
         → (other : ℕ) → other ≤ length jobs → makespan_with shop jobs inserted other < V.CAP
         → IsBestPlace shop jobs inserted result.place result.sum }
 {
+    let tails = &mut tails[..steps * N];
+    let sums = &mut sums[..steps + 7];
     fill_tails::<V, N>(steps, times, tails);
     fill_sums::<V, N>(steps, times, tails, job, sums);
     V::first_least(&sums[7..steps + 8 - lanes])

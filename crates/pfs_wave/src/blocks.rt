@@ -162,8 +162,8 @@ impl<V: Band> Blocks<V> {
             steps,
             &self.times[..steps * N],
             &self.rows[job * N..job * N + N],
-            &mut self.tails[..steps * N],
-            &mut self.sums[..steps + 7],
+            &mut self.tails,
+            &mut self.sums,
         );
         Placed {
             place: found.place,

@@ -27,8 +27,8 @@ returns-clause-best g c shop jobs inserted some few all times_are job_is other a
     let summed = c.fill_sums.new.sums in
     let part = drop 7 summed in
     let n = steps + 8 - lanes - 7 in
-    let long = c.fill_sums.ensures.length in
-    let old_long = c.requires.sums in
+    let long : length summed ≡ steps + 7 =
+    c.fill_sums.ensures.length ∙ length-take-le (steps + 7) c.args.sums.now c.requires.sums in
     let count_is : length (take n part) ≡ length jobs + 1 =
     length-take-le n part (omega (arith, length-drop 7 summed)) ∙ omega arith in
     let tables = capped_tables cap shop jobs some inserted in

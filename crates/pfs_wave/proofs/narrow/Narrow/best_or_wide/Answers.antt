@@ -1,0 +1,42 @@
+use Rattle.std.proofs.Common.{◌<◌, length, refl, arith, ap}
+use Rattle.pfs_order.proofs.Published.Sequences.{length-lt-size}
+use Rattle.pfs_wave.proofs.PartLaws.{appended_law}
+use Rattle.pfs_wave.proofs.narrow.Narrow.best_or_wide.Goals as goal
+use Rattle.pfs_wave.proofs.narrow.Narrow.best_or_wide.Goals.{then-fits, else-fits}
+
+pub best-best-requires-clause-few : goal.best-best-requires-clause-few
+best-best-requires-clause-few c =
+    omega (
+      arith,
+      length-lt-size c.args.seq.now.size c.args.job c.args.seq.now.jobs c.requires.job c.requires.absent
+          c.as_slice-jobs.ensures.sequence,
+      c.requires.size,
+      ap (λ tables. tables.blocks.jobs) c.self.view_is,
+      ap length c.as_slice-jobs.ensures.value,
+    )
+
+pub best-best-requires-else-fits-clause-few : goal.best-best-requires-else-fits-clause-few
+best-best-requires-else-fits-clause-few c =
+    omega (
+      arith,
+      length-lt-size c.args.seq.now.size c.args.job c.args.seq.now.jobs c.requires.job c.requires.absent
+          c.as_slice-jobs.ensures.sequence,
+      c.requires.size,
+      c.requires.wide,
+      ap length c.as_slice-jobs.ensures.value,
+    )
+
+pub returns-clause-best : goal.returns-clause-best
+returns-clause-best c shop are serves total =
+    let jobs = c.args.seq.now.jobs in
+    elim c.if-fits.branch [
+      | then-fits w ↦
+          let best = rw c.as_slice-jobs.ensures.value at w.best-best.ensures.best in
+          let room = w.if-fits.ensures refl shop are.blocks.some are in
+          let blocks = rw (← ap (λ tables. tables.blocks) c.self.view_is) at are.blocks in
+          rw w.best-is (best shop blocks (length jobs) (omega arith)
+          (omega (arith, appended_law shop jobs c.args.job are.blocks.some, room, total)))
+      | else-fits w ↦
+          let best = rw c.as_slice-jobs.ensures.value at w.best-best-else-fits.ensures.best in
+          rw w.best-is (best shop serves)
+    ]
