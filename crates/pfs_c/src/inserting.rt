@@ -1,10 +1,10 @@
-//! The best place for a job, by the method that `method_for` chooses for the instance.
+//! The best place for a job, by a wavefront where it serves the instance, and else by rows.
 ghost use Rattle.std.specs.Prelude.{◌≡◌, ◌+◌, ◌*◌, ◌<◌, length, Contains, IfOk, IfErr};
 ghost use Rattle.pfs_base.specs.FlowShop.{IsWithin};
 ghost use Rattle.pfs_base.specs.Limits.{limits};
 ghost use Rattle.pfs_insert.specs.Inserter.{IsBestPlace};
 ghost use Rattle.pfs_order.specs.Sequence.{IsSequence};
-ghost use Rattle.pfs_wave.specs.Served.{IsServed, lanes_of};
+ghost use Rattle.pfs_wave.specs.Served.{IsServed};
 ghost use Rattle.pfs_c.specs.Validation.{shop_of};
 ghost use Rattle.pfs_c.specs.Private.Rows.{TailsFrom};
 
@@ -14,9 +14,7 @@ use crate::rows::{add_head, span_with};
 use pfs_base::{Instance, MOST_MACHINES};
 use pfs_insert::{HeadsTails, Inserter, Placed};
 use pfs_order::Seq;
-use pfs_wave::{
-    Bits16, Bits32, LaneSize, MeteredLanes, Method, MixedLanes, Wavefront, Width, method_for,
-};
+use pfs_wave::{MeteredLanes, Wavefront, is_served};
 use std::alloc::Global;
 
 /// Returns the best place for a job in a sequence, and the makespan with the job there, from the caller's times. It
@@ -90,14 +88,10 @@ pub(crate) fn best_place(
         IsBestPlace instance.now.shop sequence.now.jobs job best.place best.span) }
     ensures memory { IfErr result (λ why. why ≡ CallFault.Memory) }
 {
-    match method_for(instance) {
-        Method::HeadsTails => best_by_rows(alloc, instance, sequence, job),
-        Method::Wavefront16(width) => {
-            best_in_width::<Bits16>(alloc, instance, width, sequence, job)
-        }
-        Method::Wavefront32(width) => {
-            best_in_width::<Bits32>(alloc, instance, width, sequence, job)
-        }
+    if is_served(instance) {
+        best_in_lanes(alloc, instance, sequence, job)
+    } else {
+        best_by_rows(alloc, instance, sequence, job)
     }
 }
 
@@ -131,41 +125,14 @@ pub(crate) fn best_by_rows(
     })
 }
 
-// `best_place` by a wavefront of a given width.
-fn best_in_width<S: LaneSize>(
-    alloc: Global,
-    instance: &Instance,
-    width: Width,
-    sequence: &Seq,
-    job: usize,
-) -> Result<Placed<u64>, CallFault>
-    requires served { IsServed instance.now.shop (lanes_of width) S.Band.CAP }
-    requires size { sequence.now.size ≡ instance.now.shop.jobs }
-    requires job { job < instance.now.shop.jobs }
-    requires absent { Contains sequence.now.jobs job → ⊥ }
-    ensures best { IfOk result (λ best.
-        IsBestPlace instance.now.shop sequence.now.jobs job best.place best.span) }
-    ensures memory { IfErr result (λ why. why ≡ CallFault.Memory) }
-{
-    match width {
-        Width::Lanes8 => best_in_lanes::<S::Lanes8>(alloc, instance, sequence, job),
-        Width::Lanes16 => best_in_lanes::<S::Lanes16>(alloc, instance, sequence, job),
-        Width::Lanes24 => best_in_lanes::<S::Lanes24>(alloc, instance, sequence, job),
-        Width::Lanes40 => best_in_lanes::<S::Lanes40>(alloc, instance, sequence, job),
-        Width::Lanes64 => best_in_lanes::<S::Lanes64>(alloc, instance, sequence, job),
-        Width::Lanes104 => best_in_lanes::<S::Lanes104>(alloc, instance, sequence, job),
-        Width::Lanes208 => best_in_lanes::<S::Lanes208>(alloc, instance, sequence, job),
-    }
-}
-
 // `best_place` by a wavefront.
-fn best_in_lanes<L: MixedLanes>(
+fn best_in_lanes(
     alloc: Global,
     instance: &Instance,
     sequence: &Seq,
     job: usize,
 ) -> Result<Placed<u64>, CallFault>
-    requires served { IsServed instance.now.shop L.WIDTH L.Band.CAP }
+    requires served { IsServed instance.now.shop 2147483647 }
     requires size { sequence.now.size ≡ instance.now.shop.jobs }
     requires job { job < instance.now.shop.jobs }
     requires absent { Contains sequence.now.jobs job → ⊥ }
@@ -176,12 +143,10 @@ fn best_in_lanes<L: MixedLanes>(
     // Called for their contracts: the instance and the sequence are within the limits.
     let _jobs = instance.jobs();
     let _len = sequence.len();
-    let Ok(mut bench) = MeteredLanes::<L>::new(alloc, instance) else {
+    let Ok(mut bench) = MeteredLanes::new(alloc, instance) else {
         return Err(CallFault::Memory);
     };
-    let Ok(mut inserter) = Wavefront::new(alloc, &bench) else {
-        return Err(CallFault::Memory);
-    };
+    let mut inserter = Wavefront::new(&bench);
     let Ok(found) = inserter.best(alloc, &mut bench, sequence, job) else {
         return Err(CallFault::Memory);
     };

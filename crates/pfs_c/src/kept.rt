@@ -4,7 +4,6 @@ ghost use Rattle.pfs_base.specs.FlowShop.{IsWithin};
 ghost use Rattle.pfs_base.specs.Limits.{limits};
 ghost use Rattle.pfs_insert.specs.Inserter.{IsBestPlace};
 ghost use Rattle.pfs_order.specs.Sequence.{IsSequence};
-ghost use Rattle.pfs_wave.specs.Served.{IsServed, lanes_of};
 ghost use Rattle.pfs_c.specs.Validation.{insertion_fault};
 ghost use Rattle.pfs_c.specs.Private.Outcomes.{Rejects};
 ghost use Rattle.pfs_c.specs.Private.Kept.{shop_in};
@@ -14,33 +13,16 @@ use crate::inserting::best_by_rows;
 use crate::numbers::CallFault;
 use pfs_base::Instance;
 use pfs_insert::Placed;
-use pfs_wave::{
-    EightBands, FiveBands, Lanes, Long, Method, OneBand, PreparedLanes, Short, ThreeBands,
-    TwoBands, Wide, Width, method_for,
-};
+use pfs_wave::{PreparedLanes, is_served};
 use std::alloc::Global;
 use std::marker::Model;
 
-/// An instance with what the method that serves it needs: the tables of a wavefront, whose number of lanes is in the
-/// name, with 16 bits (`Short`) or 32 bits (`Long`), or the instance alone for `HeadsTails` (`Rows`). The tables are in
-/// boxes because the borrow checker of the toolchain rejects an enum with this many types of `PreparedLanes` in it.
+/// An instance with what the method that serves it needs: the tables of a wavefront, or the instance alone for
+/// `HeadsTails`.
 #[derive(Drop)]
 pub(crate) enum KeptTables {
     Rows(Instance),
-    Short8(Box<PreparedLanes<OneBand<Short>>>),
-    Short16(Box<PreparedLanes<TwoBands<Short>>>),
-    Short24(Box<PreparedLanes<ThreeBands<Short>>>),
-    Short40(Box<PreparedLanes<FiveBands<Short>>>),
-    Short64(Box<PreparedLanes<EightBands<Short>>>),
-    Short104(Box<PreparedLanes<Wide<Short, 13>>>),
-    Short208(Box<PreparedLanes<Wide<Short, 26>>>),
-    Long8(Box<PreparedLanes<OneBand<Long>>>),
-    Long16(Box<PreparedLanes<TwoBands<Long>>>),
-    Long24(Box<PreparedLanes<ThreeBands<Long>>>),
-    Long40(Box<PreparedLanes<Wide<Long, 5>>>),
-    Long64(Box<PreparedLanes<Wide<Long, 8>>>),
-    Long104(Box<PreparedLanes<Wide<Long, 13>>>),
-    Long208(Box<PreparedLanes<Wide<Long, 26>>>),
+    Lanes(PreparedLanes),
 }
 
 /// A kept instance.
@@ -99,57 +81,13 @@ fn tables_of(alloc: Global, instance: Instance) -> Result<KeptTables, CallFault>
     ensures made { IfOk result (λ made. shop_in made ≡ instance.shop) }
     ensures memory { IfErr result (λ why. why ≡ CallFault.Memory) }
 {
-    match method_for(&instance) {
-        Method::HeadsTails => Ok(KeptTables::Rows(instance)),
-        Method::Wavefront16(width) => short_tables(alloc, instance, width),
-        Method::Wavefront32(width) => long_tables(alloc, instance, width),
+    if !is_served(&instance) {
+        return Ok(KeptTables::Rows(instance));
     }
-}
-
-// Those of a wavefront of a given width, whose lanes have 16 bits.
-fn short_tables(alloc: Global, instance: Instance, width: Width) -> Result<KeptTables, CallFault>
-    requires served { IsServed instance.shop (lanes_of width) 65535 }
-    ensures made { IfOk result (λ made. shop_in made ≡ instance.shop) }
-    ensures memory { IfErr result (λ why. why ≡ CallFault.Memory) }
-{
-    Ok(match width {
-        Width::Lanes8 => KeptTables::Short8(prepared(alloc, instance)?),
-        Width::Lanes16 => KeptTables::Short16(prepared(alloc, instance)?),
-        Width::Lanes24 => KeptTables::Short24(prepared(alloc, instance)?),
-        Width::Lanes40 => KeptTables::Short40(prepared(alloc, instance)?),
-        Width::Lanes64 => KeptTables::Short64(prepared(alloc, instance)?),
-        Width::Lanes104 => KeptTables::Short104(prepared(alloc, instance)?),
-        Width::Lanes208 => KeptTables::Short208(prepared(alloc, instance)?),
-    })
-}
-
-// Those of a wavefront whose lanes have 32 bits.
-fn long_tables(alloc: Global, instance: Instance, width: Width) -> Result<KeptTables, CallFault>
-    requires served { IsServed instance.shop (lanes_of width) 2147483647 }
-    ensures made { IfOk result (λ made. shop_in made ≡ instance.shop) }
-    ensures memory { IfErr result (λ why. why ≡ CallFault.Memory) }
-{
-    Ok(match width {
-        Width::Lanes8 => KeptTables::Long8(prepared(alloc, instance)?),
-        Width::Lanes16 => KeptTables::Long16(prepared(alloc, instance)?),
-        Width::Lanes24 => KeptTables::Long24(prepared(alloc, instance)?),
-        Width::Lanes40 => KeptTables::Long40(prepared(alloc, instance)?),
-        Width::Lanes64 => KeptTables::Long64(prepared(alloc, instance)?),
-        Width::Lanes104 => KeptTables::Long104(prepared(alloc, instance)?),
-        Width::Lanes208 => KeptTables::Long208(prepared(alloc, instance)?),
-    })
-}
-
-// Those of a wavefront with rows of these lanes.
-fn prepared<L: Lanes>(alloc: Global, instance: Instance) -> Result<Box<PreparedLanes<L>>, CallFault>
-    requires { IsServed instance.shop L.WIDTH L.Band.CAP }
-    ensures made { IfOk result (λ made. made.value ≡ instance.shop) }
-    ensures memory { IfErr result (λ why. why ≡ CallFault.Memory) }
-{
-    let Ok(lanes) = PreparedLanes::new(alloc, instance) else {
-        return Err(CallFault::Memory);
-    };
-    Box::new(alloc, lanes).or(Err(CallFault::Memory))
+    match PreparedLanes::new(alloc, instance) {
+        Ok(lanes) => Ok(KeptTables::Lanes(lanes)),
+        Err(_) => Err(CallFault::Memory),
+    }
 }
 
 // The best place for a job in a sequence, and the makespan with the job there. The only error is `Memory`; a wavefront
@@ -171,20 +109,7 @@ fn best_in_tables(
 {
     match tables {
         KeptTables::Rows(instance) => best_of_instance(alloc, instance, sequence, job),
-        KeptTables::Short8(lanes) => Ok(lanes.best(sequence, job)),
-        KeptTables::Short16(lanes) => Ok(lanes.best(sequence, job)),
-        KeptTables::Short24(lanes) => Ok(lanes.best(sequence, job)),
-        KeptTables::Short40(lanes) => Ok(lanes.best(sequence, job)),
-        KeptTables::Short64(lanes) => Ok(lanes.best(sequence, job)),
-        KeptTables::Short104(lanes) => Ok(lanes.best(sequence, job)),
-        KeptTables::Short208(lanes) => Ok(lanes.best(sequence, job)),
-        KeptTables::Long8(lanes) => Ok(lanes.best(sequence, job)),
-        KeptTables::Long16(lanes) => Ok(lanes.best(sequence, job)),
-        KeptTables::Long24(lanes) => Ok(lanes.best(sequence, job)),
-        KeptTables::Long40(lanes) => Ok(lanes.best(sequence, job)),
-        KeptTables::Long64(lanes) => Ok(lanes.best(sequence, job)),
-        KeptTables::Long104(lanes) => Ok(lanes.best(sequence, job)),
-        KeptTables::Long208(lanes) => Ok(lanes.best(sequence, job)),
+        KeptTables::Lanes(lanes) => Ok(lanes.best(sequence, job)),
     }
 }
 

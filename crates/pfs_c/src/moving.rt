@@ -5,16 +5,14 @@ ghost use Rattle.pfs_base.specs.Paths.{makespan};
 ghost use Rattle.pfs_insert.specs.Insertion.{heads_tails_cost};
 ghost use Rattle.pfs_insert.specs.Inserter.{Fits};
 ghost use Rattle.pfs_search.specs.Greedy.{moved};
-ghost use Rattle.pfs_wave.specs.Served.{IsServed, lanes_of};
+ghost use Rattle.pfs_wave.specs.Served.{IsServed};
 ghost use Rattle.pfs_c.specs.Building.{after_visits, visited};
 
 use crate::numbers::CallFault;
 use pfs_base::{Bench, Instance, Length, MOST_PASSES};
 use pfs_insert::{HeadsTails, Inserter};
 use pfs_order::Seq;
-use pfs_wave::{
-    Bits16, Bits32, LaneSize, MeteredLanes, Method, MixedLanes, Wavefront, Width, method_for,
-};
+use pfs_wave::{MeteredLanes, Wavefront, is_served};
 use std::alloc::Global;
 
 /// Makes passes over a list of jobs: each job leaves its place in the sequence, if it has one, for its first best
@@ -35,14 +33,10 @@ pub(crate) fn make_visits(
     ensures span { IfOk result (λ last. IfSome last (λ span. span ≡ makespan instance.now.shop seq.new.jobs)) }
     ensures memory { IfErr result (λ why. why ≡ CallFault.Memory) }
 {
-    match method_for(instance) {
-        Method::HeadsTails => visit_by_rows(alloc, instance, seq, list, passes),
-        Method::Wavefront16(width) => {
-            visit_in_width::<Bits16>(alloc, instance, width, seq, list, passes)
-        }
-        Method::Wavefront32(width) => visit_in_width::<Bits32>(
-            alloc, instance, width, seq, list, passes,
-        ),
+    if is_served(instance) {
+        visit_in_lanes(alloc, instance, seq, list, passes)
+    } else {
+        visit_by_rows(alloc, instance, seq, list, passes)
     }
 }
 
@@ -72,44 +66,15 @@ fn visit_by_rows(
     }
 }
 
-// What `make_visits` does, by a wavefront of a given width.
-fn visit_in_width<S: LaneSize>(
-    alloc: Global,
-    instance: &Instance,
-    width: Width,
-    seq: &mut Seq,
-    list: &[u32],
-    passes: u32,
-) -> Result<Option<u64>, CallFault>
-    requires served { IsServed instance.now.shop (lanes_of width) S.Band.CAP }
-    requires size { seq.old.size ≡ instance.now.shop.jobs }
-    requires jobs { All (λ job. job < instance.now.shop.jobs) list.now }
-    requires few { length list.now ≤ instance.now.shop.jobs }
-    requires passes { passes ≤ MOST_PASSES }
-    ensures jobs { OnOk result (seq.new.jobs ≡ after_visits instance.now.shop list.now passes seq.old.jobs) }
-    ensures span { IfOk result (λ last. IfSome last (λ span. span ≡ makespan instance.now.shop seq.new.jobs)) }
-    ensures memory { IfErr result (λ why. why ≡ CallFault.Memory) }
-{
-    match width {
-        Width::Lanes8 => visit_in_lanes::<S::Lanes8>(alloc, instance, seq, list, passes),
-        Width::Lanes16 => visit_in_lanes::<S::Lanes16>(alloc, instance, seq, list, passes),
-        Width::Lanes24 => visit_in_lanes::<S::Lanes24>(alloc, instance, seq, list, passes),
-        Width::Lanes40 => visit_in_lanes::<S::Lanes40>(alloc, instance, seq, list, passes),
-        Width::Lanes64 => visit_in_lanes::<S::Lanes64>(alloc, instance, seq, list, passes),
-        Width::Lanes104 => visit_in_lanes::<S::Lanes104>(alloc, instance, seq, list, passes),
-        Width::Lanes208 => visit_in_lanes::<S::Lanes208>(alloc, instance, seq, list, passes),
-    }
-}
-
 // What `make_visits` does, by a wavefront.
-fn visit_in_lanes<L: MixedLanes>(
+fn visit_in_lanes(
     alloc: Global,
     instance: &Instance,
     seq: &mut Seq,
     list: &[u32],
     passes: u32,
 ) -> Result<Option<u64>, CallFault>
-    requires served { IsServed instance.now.shop L.WIDTH L.Band.CAP }
+    requires served { IsServed instance.now.shop 2147483647 }
     requires size { seq.old.size ≡ instance.now.shop.jobs }
     requires jobs { All (λ job. job < instance.now.shop.jobs) list.now }
     requires few { length list.now ≤ instance.now.shop.jobs }
@@ -118,12 +83,10 @@ fn visit_in_lanes<L: MixedLanes>(
     ensures span { IfOk result (λ last. IfSome last (λ span. span ≡ makespan instance.now.shop seq.new.jobs)) }
     ensures memory { IfErr result (λ why. why ≡ CallFault.Memory) }
 {
-    let Ok(mut bench) = MeteredLanes::<L>::new(alloc, instance) else {
+    let Ok(mut bench) = MeteredLanes::new(alloc, instance) else {
         return Err(CallFault::Memory);
     };
-    let Ok(mut inserter) = Wavefront::new(alloc, &bench) else {
-        return Err(CallFault::Memory);
-    };
+    let mut inserter = Wavefront::new(&bench);
     match visit_all(alloc, &mut bench, &mut inserter, seq, list, passes)? {
         Some(span) => Ok(Some(bench.reveal(span))),
         None => Ok(None),
