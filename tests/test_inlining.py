@@ -34,10 +34,10 @@ def loops(pfs: Program, loop: str) -> list[str] | None:
     return re.findall(rf"^[0-9a-f]+ <pfs_wave::{loop}\b.*>:\n((?:.+\n)+)", done.stdout, re.MULTILINE)
 
 
-# The numbers of instances of the loops. The program has seven widths with lanes of 16 bits, with lanes of 16 bits for
-# reduced times, and with lanes of 32 bits; two, two and four of these are computed one band after the other.
-LOOPS = {"times::fill_times": 21, "kernels::fill_tails": 13, "kernels::fill_sums": 13, "wide_steps::fill_tails": 8,
-         "wide_steps::fill_sums": 8}
+# The numbers of instances of the loops. The program has seven widths with lanes of 16 bits and with lanes of 32 bits;
+# two and four of these are computed one band after the other.
+LOOPS = {"times::fill_times": 14, "kernels::fill_tails": 8, "kernels::fill_sums": 8, "wide_steps::fill_tails": 6,
+         "wide_steps::fill_sums": 6}
 
 
 def calls(body: str) -> list[tuple[str, bool]]:

@@ -1,0 +1,17 @@
+-- A lane of vectors that are combined.
+use Rattle.std.proofs.Common.{ℕ, ◌≡◌, ◌*◌, ◌+◌, ◌<◌, List, max, length, get_or, ap, arith}
+use Rattle.std.specs.Simd.Lanes.{zip2}
+use Rattle.pfs_wave.specs.Lanes.{capped_add}
+use Rattle.pfs_wave.specs.Private.Blocks.{later}
+use Rattle.pfs_wave.proofs.Steps.{zip_lane}
+
+pub combined : (f : ℕ → ℕ → ℕ) (a b : List ℕ) {result : List ℕ} (lane : ℕ) → result ≡ zip2 f a b → length a ≡ 8
+    → length b ≡ 8 → lane < 8 → get_or result lane 0 ≡ f (get_or a lane 0) (get_or b lane 0)
+combined f a b lane is p q lt = rw is (zip_lane 8 f a b lane (omega arith) q lt)
+
+-- a value computed beside the first of two
+pub beside_is : (cap beside above time next_above next_time : ℕ)
+    → max (capped_add cap beside (capped_add cap time next_time))
+    (capped_add cap (max (capped_add cap above time) next_above) next_time)
+    ≡ later cap (later cap beside above time) next_above next_time
+beside_is cap beside above time next_above next_time = omega arith
