@@ -19,7 +19,6 @@ use Rattle.pfs_base.specs.FlowShop.{FlowShop}
 use Rattle.pfs_base.specs.Paths.{makespan}
 use Rattle.pfs_order.specs.Sequence.{IsSequence}
 use Rattle.pfs_order.proofs.Published.Sequences.{IsSequence-insert, IsSequence-moved, IsSequence-permutation}
-use Rattle.pfs_order.proofs.Published.Sequences.{length-le-size}
 use Rattle.pfs_insert.specs.Insertion.{best_place}
 use Rattle.pfs_search.specs.Neh.{with_jobs}
 use Rattle.pfs_c.specs.declared.numbers.CallFault.{CallFault}

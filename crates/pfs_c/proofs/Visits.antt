@@ -1,5 +1,5 @@
 -- Jobs of a list that leave their places for their best ones in turn.
-use Rattle.std.proofs.Common.{◌≡◌, ℕ, zero, suc, ◌+◌, ◌-◌, ◌*◌, ◌<◌, ◌≤◌, ◌^◌, ◌++◌, List, [], ◌∷◌, length, filter}
+use Rattle.std.proofs.Common.{◌≡◌, ℕ, zero, suc, ◌+◌, ◌<◌, ◌≤◌, ◌++◌, List, [], ◌∷◌, length, filter}
 use Rattle.std.proofs.Common.{not}
 use Rattle.std.proofs.Common.{get_or, take, insert, remove, eqb, refl, ap, sym, ◌∙◌, add-one, arith}
 use Rattle.std.proofs.Common.{All, Contains}
