@@ -14,7 +14,7 @@ from typing import Any
 import pytest
 from pfs.experiments import one, plan, run
 from pfs.experiments.slurm import MOST_TASKS
-from support.experiments import HALF, HEAD, PLAN, Experiment, Started
+from support.experiments import HALF, HEAD, PLAN, Experiment
 from support.library import Library
 from support.needs import missing, tool
 from support.program import Program
@@ -506,12 +506,6 @@ def test_over_ssh_another_program_is_run(ssh_server: Server, experiment: Experim
     other_is_right(experiment, with_other(experiment).run("out.csv", "--sshloginfile", "machines"))
 
 
-@on_slurm
-def test_on_slurm_another_program_is_run(slurm: Cluster, experiment: Experiment) -> None:
-    got = with_other(experiment).script("slurm", "--tasks", "3", "plan.toml", "out.csv", "--time=5", env=slurm.env)
-    other_is_right(experiment, got)
-
-
 def test_a_wrong_makespan_of_another_program_fails_and_isnt_made_again(experiment: Experiment) -> None:
     """Nor is a run whose program crashed, whatever its method is called."""
     plan = 'seeds = [1, 2, 3]\nmethod = "solve"\ncommand = "./mine {instance} {seed}"\n'
@@ -603,12 +597,13 @@ def test_ten_kinds_of_errors_are_reported(experiment: Experiment) -> None:
 
 # Interruptions
 
-Kills = list[tuple[int, Callable[[Started], None]]]
+# After how many runs which process gets which signal.
+Kills = list[tuple[int, str, int]]
 KILLS: dict[str, Kills] = {
-    "killed at once": [(0, Started.kill_all)], "interrupted": [(2, Started.interrupt_all)],
-    "its starter killed": [(1, Started.kill_starter)], "GNU parallel killed": [(2, Started.kill_parallel)],
-    "terminated": [(1, Started.terminate)],
-    "killed three times": [(1, Started.kill_starter), (0, Started.kill_parallel), (1, Started.kill_all)],
+    "killed at once": [(0, "all", signal.SIGKILL)], "interrupted": [(2, "all", signal.SIGINT)],
+    "its starter killed": [(1, "starter", signal.SIGKILL)], "GNU parallel killed": [(2, "parallel", signal.SIGKILL)],
+    "terminated": [(1, "starter", signal.SIGTERM)],
+    "killed three times": [(1, "starter", signal.SIGKILL), (0, "parallel", signal.SIGKILL), (1, "all", signal.SIGKILL)],
 }
 
 
@@ -619,15 +614,15 @@ def test_no_run_is_lost_or_made_again(kills: Kills, experiment: Experiment) -> N
     wanted, made = experiment.wanted(rounds=(10,)), {}
     # as a start leaves it that was killed while it made copies
     (experiment.runs / "pfs-experiment-begun" / "instances").mkdir(parents=True)
-    for most, kill in kills:
-        done = experiment.interrupted(most, kill)
+    for most, whom, number in kills:
+        done = experiment.interrupted(most, whom, number)
         counts = experiment.searches()
         made.update({number: counts[number] for number in done})
-        if kill in (Started.interrupt_all, Started.terminate):
+        if number in (signal.SIGINT, signal.SIGTERM):
             so_far = experiment.rows()
             assert len(so_far) >= most and [row for row in so_far if row not in wanted] == [], "the CSV so far"
             assert experiment.script("check", "out.csv").status == 0, "the orders so far, each whole"
-        if kill in (Started.terminate, Started.kill_starter):
+        if whom == "starter":
             assert len(experiment.started()) <= most + 2, "runs that GNU parallel begins without its starter"
     assert experiment.run(program=experiment.replacement()).status == 0
     assert experiment.rows() == wanted
@@ -665,17 +660,16 @@ def test_an_earlier_start_writes_into_no_file_of_a_later_one(made: Experiment) -
 
 def test_two_starts_at_once_make_each_run_once(experiment: Experiment) -> None:
     experiment.plan(HALF)
-    with experiment.gate() as gate, open(experiment.folder / "report", "wb") as got:
+    with experiment.gate(), open(experiment.folder / "report", "wb") as got:
         first = experiment.start("plan.toml", "out.csv", "--jobs", "1")
         wait_until(lambda: len(experiment.started()) == 1, "the first start makes a run")
         second = experiment.start("plan.toml", "out.csv", "--jobs", "1", stderr=got)
         waits = (experiment.folder / "report").read_text
         wait_until(lambda: len(experiment.started()) > 1 or "\n" in waits(), "the second start waits, or makes a run")
         started, line = experiment.started(), waits()
-        gate.open()
-        statuses = [start.process.wait(60) for start in (first, second)]
+    statuses = [start.wait(60) for start in (first, second)]
     assert len(started) == 1, "runs that are made at once by two starts"
-    holder = f"process {first.process.pid} on {os.uname().nodename}"
+    holder = f"process {first.pid} on {os.uname().nodename}"
     assert (line, statuses) == (f"waiting for {holder}, which is already running out.csv\n", [0, 0])
     assert set(experiment.searches().values()) == {1}, "how often each run was made"
 
@@ -741,16 +735,15 @@ def test_on_slurm_a_second_start_waits_for_the_array_of_the_first(experiment: Ex
     """Also if the first start was killed while it waited for its array. A result exists only once it is complete."""
     experiment.plan(HALF)
     words = ["--tasks", "1", "plan.toml", "out.csv", "--time=5"]
-    with experiment.gate() as gate:
+    with experiment.gate():
         first = experiment.start(*words, name="slurm", env=slurm.env)
         wait_until(lambda: len(experiment.started()) == 1, "the array makes a run")
-        first.kill_all()
-        first.process.wait(60)
+        os.killpg(first.pid, signal.SIGKILL)
+        first.wait(60)
         assert experiment.done() == set(), "results of runs that have not ended"
         second = experiment.start(*words, name="slurm", env=slurm.env)
         wait_until(lambda: "Dependency" in slurm.tells("squeue", "-h", "-o", "%r"), "the second array waits")
-        gate.open()
-        assert second.process.wait(120) == 0
+    assert second.wait(120) == 0
     assert set(experiment.searches().values()) == {1}, "how often each run was made"
     assert experiment.rows() == experiment.wanted(rounds=(10,))
 
@@ -763,7 +756,7 @@ def test_what_slurm_says_of_a_task_that_it_ended_is_in_the_csv(experiment: Exper
         begun = experiment.start(*words, name="slurm", env=slurm.env)
         wait_until(lambda: len(experiment.started()) == 2, "two tasks make a run each")
         slurm.tells("scancel", "--full", slurm.tells("squeue", "-h", "-o", "%F").split()[0])
-        assert begun.process.wait(100) == 1
+        assert begun.wait(100) == 1
     said = r"lost: \*\*\* JOB \d+ ON \S+ CANCELLED AT \S+ \*\*\*"
     assert [bool(re.fullmatch(said, row[-1])) for row in experiment.rows()] == [True] * 2
     assert experiment.script("slurm", *words, env=slurm.env, program=experiment.replacement()).status == 0

@@ -41,27 +41,6 @@ exec $pfs "$@"
 Row = tuple[str, ...]
 
 
-class Started(NamedTuple):
-    """A start of a plan, and the file with the process of GNU parallel, which it has started."""
-    process: subprocess.Popen[Any]
-    parallel: pathlib.Path
-
-    def kill_all(self) -> None:
-        os.killpg(self.process.pid, signal.SIGKILL)
-
-    def interrupt_all(self) -> None:
-        os.killpg(self.process.pid, signal.SIGINT)
-
-    def kill_starter(self) -> None:
-        self.process.kill()
-
-    def kill_parallel(self) -> None:
-        os.kill(int(self.parallel.read_text()), signal.SIGKILL)
-
-    def terminate(self) -> None:
-        self.process.terminate()
-
-
 class Experiment(NamedTuple):
     """A folder with shops and a plan, and the program that its runs are made with."""
     scripts: pathlib.Path
@@ -124,43 +103,43 @@ class Experiment(NamedTuple):
                                                                         cases=cases))
 
     @contextmanager
-    def gate(self) -> Iterator["Gate"]:
-        """The gate, which exists until the block ends, and is shut at first."""
+    def gate(self) -> Iterator[Callable[[int], object]]:
+        """The gate, which is shut until the block ends, but for as many searches as the function is called with."""
         path = self.folder / "gate"
         os.mkfifo(path)
-        gate = Gate(path, os.open(path, os.O_RDWR))
+        end = os.open(path, os.O_RDWR)
         try:
-            yield gate
+            yield lambda count: os.write(end, b"\n" * count)
         finally:
-            gate.open()
+            path.unlink()
+            os.close(end)
 
     def start(self, *words: str, name: str = "run", env: dict[str, str] | None = None,
-              stderr: int | IO[bytes] = subprocess.DEVNULL) -> Started:
+              stderr: int | IO[bytes] = subprocess.DEVNULL) -> subprocess.Popen[Any]:
         """Starts the plan with the program that waits. A script before GNU parallel notes its process."""
-        noted = self.folder / "parallel"
-        first = write_script(self.folder / "bin" / "parallel",
-                             f"#!/bin/sh\necho $$ > {noted}\nexec {tool('parallel')} \"$@\"\n")
-        line = self.words(name, *words, program=self.replacement())
-        process = subprocess.Popen(line, cwd=self.folder, env=env or with_path(first.parent), stdin=subprocess.DEVNULL,
-                                   stdout=subprocess.DEVNULL, stderr=stderr, start_new_session=True)
-        return Started(process, noted)
+        first = write_script(self.folder / "bin" / "parallel", f"#!/bin/sh\necho $$ > {self.folder}/parallel\n"
+                             f"exec {tool('parallel')} \"$@\"\n")
+        return subprocess.Popen(self.words(name, *words, program=self.replacement()), cwd=self.folder,
+                                env=env or with_path(first.parent), stdin=subprocess.DEVNULL, stdout=subprocess.DEVNULL,
+                                stderr=stderr, start_new_session=True)
 
-    def interrupted(self, most: int, kill: Callable[[Started], None]) -> set[str]:
-        """Starts the plan, lets `most` more runs finish and kills it while two wait; returns the runs that are done by
-        then."""
+    def interrupted(self, most: int, whom: str, number: int) -> set[str]:
+        """Starts the plan, lets `most` more runs finish and sends a signal while two wait; returns the runs that are
+        done by then."""
         before, started_before = len(self.done()), len(self.started())
-        with self.gate() as gate:
+        with self.gate() as let_through:
             begun = self.start("plan.toml", "out.csv", "--jobs", "2")
+            let_through(most)
             try:
-                gate.let_through(most)
                 wait_until(lambda: len(self.done()) == before + most
                            and len(self.started()) == started_before + most + 2, f"{most} runs are done, two wait")
                 done = self.done()
             finally:
-                kill(begun)
-                begun.process.wait(60)
-                if kill != Started.kill_all:
-                    wait_until(lambda: self.left() == [], "what a start has begun ends with it")
+                os.kill({"all": -begun.pid, "starter": begun.pid}.get(whom) or
+                        int((self.folder / "parallel").read_text()), number)
+                begun.wait(60)
+            if (whom, number) != ("all", signal.SIGKILL):
+                wait_until(lambda: self.left() == [], "what a start has begun ends with it")
         wait_until(lambda: self.left() == [], "what a start has begun ends")
         return done
 
@@ -188,21 +167,6 @@ class Experiment(NamedTuple):
                 if os.readlink(process / "cwd").startswith(str(self.runs)):
                     found.append((process / "cmdline").read_text())
         return found
-
-
-class Gate:
-    def __init__(self, path: pathlib.Path, end: int) -> None:
-        self.path, self.end, self.is_open = path, end, False
-
-    def let_through(self, count: int) -> None:
-        os.write(self.end, b"\n" * count)
-
-    def open(self) -> None:
-        """Lets all through, those that wait and those to come."""
-        if not self.is_open:
-            self.is_open = True
-            self.path.unlink()
-            os.close(self.end)
 
 
 @pytest.fixture
