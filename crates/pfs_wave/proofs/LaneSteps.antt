@@ -9,9 +9,8 @@ pub combined : (f : ℕ → ℕ → ℕ) (a b : List ℕ) {result : List ℕ} (l
     → length b ≡ 8 → lane < 8 → get_or result lane 0 ≡ f (get_or a lane 0) (get_or b lane 0)
 combined f a b lane is p q lt = rw is (zip_lane 8 f a b lane (omega arith) q lt)
 
--- a value computed beside the first of two
+-- a value computed from two times at once
 pub beside_is : (cap beside above time next_above next_time : ℕ)
-    → max (capped_add cap beside (capped_add cap time next_time))
-    (capped_add cap (max (capped_add cap above time) next_above) next_time)
+    → max (capped_add cap (max beside above) (capped_add cap time next_time)) (capped_add cap next_above next_time)
     ≡ later cap (later cap beside above time) next_above next_time
 beside_is cap beside above time next_above next_time = omega arith

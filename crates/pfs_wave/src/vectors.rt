@@ -30,8 +30,8 @@ pub fn next_value<V: Band>(beside: V, above: V, time: V) -> V
     beside.greater(above).sum(time)
 }
 
-/// The value after two more vectors. Capped sums are associative, so it is computed beside the first of these values,
-/// and `beside` is waited for by two operations in place of four.
+/// The value after two more vectors. Capped sums are associative, so it is computed from both times, and waits for
+/// `beside` by three operations in place of four.
 #[inline(always)]
 pub fn second_value<V: Band>(beside: V, above: V, time: V, next_above: V, next_time: V) -> V
     ensures { (lane : ℕ) → lane < 8 → slice_index_or (V.lanes result) lane 0
@@ -39,8 +39,10 @@ pub fn second_value<V: Band>(beside: V, above: V, time: V, next_above: V, next_t
         (slice_index_or (V.lanes time) lane 0)) (slice_index_or (V.lanes next_above) lane 0)
         (slice_index_or (V.lanes next_time) lane 0) }
 {
-    let without = above.sum(time).greater(next_above).sum(next_time);
-    beside.sum(time.sum(next_time)).greater(without)
+    let greater = beside.greater(above);
+    let both = time.sum(next_time);
+    let without = next_above.sum(next_time);
+    greater.sum(both).greater(without)
 }
 
 /// Each lane from the lane before it, and 0 in the first one.

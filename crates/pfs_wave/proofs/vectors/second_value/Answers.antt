@@ -13,21 +13,19 @@ returns g c lane lt =
     let time = c.args.time in
     let next_above = c.args.next_above in
     let next_time = c.args.next_time in
-    let first = combined (capped_add cap) (lanes above) (lanes time) lane c.sum.ensures (eight above) (eight time) lt in
-    let second =
-    combined max (lanes c.sum.result) (lanes next_above) lane c.greater.ensures (eight c.sum.result)
-    (eight next_above) lt in
+    let greater =
+    combined max (lanes beside) (lanes above) lane c.greater-greater.ensures (eight beside) (eight above) lt in
+    let both = combined (capped_add cap) (lanes time) (lanes next_time) lane c.sum-both.ensures (eight time)
+    (eight next_time) lt in
     let without =
-    combined (capped_add cap) (lanes c.greater.result) (lanes next_time) lane c.sum-without.ensures
-    (eight c.greater.result) (eight next_time) lt in
-    let times =
-    combined (capped_add cap) (lanes time) (lanes next_time) lane c.sum-2.ensures (eight time) (eight next_time) lt in
-    let with_beside =
-    combined (capped_add cap) (lanes beside) (lanes c.sum-2.result) lane c.sum-3.ensures (eight beside)
-    (eight c.sum-2.result) lt in
-    let both =
-    combined max (lanes c.sum-3.result) (lanes c.sum-without.result) lane c.greater-2.ensures (eight c.sum-3.result)
+    combined (capped_add cap) (lanes next_above) (lanes next_time) lane c.sum-without.ensures (eight next_above)
+    (eight next_time) lt in
+    let later =
+    combined (capped_add cap) (lanes c.greater-greater.result) (lanes c.sum-both.result) lane c.sum.ensures
+    (eight c.greater-greater.result) (eight c.sum-both.result) lt in
+    let made =
+    combined max (lanes c.sum.result) (lanes c.sum-without.result) lane c.greater.ensures (eight c.sum.result)
     (eight c.sum-without.result) lt in
-    (rw (with_beside, times, without, second, first) at both)
+    (rw (later, greater, both, without) at made)
     ∙ beside_is cap (get_or (lanes beside) lane 0) (get_or (lanes above) lane 0) (get_or (lanes time) lane 0)
     (get_or (lanes next_above) lane 0) (get_or (lanes next_time) lane 0)
