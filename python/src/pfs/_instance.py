@@ -14,7 +14,8 @@ from pfs import _search
 from pfs._atomic import atomic_write
 from pfs._bounds import bound_by_pairs
 from pfs._faults import Interrupted
-from pfs._library import LENGTHS, SHORT, library
+from pfs._held import HeldSearch
+from pfs._library import LENGTHS, SHORT, Prepared
 from pfs._names import frame_names, is_frame, names_of
 from pfs._schedule import Schedule
 from pfs._search import Progress, Search, Stop
@@ -26,18 +27,6 @@ _pfs_makespan = c.quick_makespan
 _pfs_insert = c.quick_insert
 # Three times as fast as calling the class of a named tuple.
 _new_tuple = tuple.__new__
-# Buffers for the results of a call: a place and a makespan, with their addresses. A call removes a buffer from this
-# list and appends it again when it is done, so no two threads use the same one.
-_free: list[tuple[c_size_t, c_uint64, Any, Any]] = []
-
-
-def _free_buffer() -> tuple[c_size_t, c_uint64, Any, Any]:
-    """Return a buffer that no other call uses, a new one if none is free."""
-    try:
-        return _free.pop()
-    except IndexError:
-        place, makespan = c_size_t(), c_uint64()
-        return place, makespan, byref(place), byref(makespan)
 
 
 class Place(NamedTuple):
@@ -52,6 +41,27 @@ class Sequence(NamedTuple):
 
     jobs: Order
     makespan: int
+
+
+class Check(NamedTuple):
+    """The verdict on an order.
+
+    Attributes
+    ----------
+    valid : bool
+        Whether it is an order of all jobs, with the stated makespan.
+    makespan : int or None
+        Its makespan, or None if it isn't an order of all jobs.
+    bound : int
+        The lower bound of the instance. An order with this makespan is optimal.
+    fault : str
+        What is wrong, or an empty text.
+    """
+
+    valid: bool
+    makespan: int | None
+    bound: int
+    fault: str
 
 
 class Instance:
@@ -102,7 +112,7 @@ class Instance:
     """
 
     __slots__ = ("name", "job_names", "machine_names", "unit", "decimals", "seed", "upper", "lower", "_times",
-                 "_arguments", "_converted")
+                 "_data", "_prepared")
 
     def __init__(self, times: npt.ArrayLike, *, name: str = "", job_names: Iterable[str] | None = None,
                  machine_names: Iterable[str] | None = None, unit: str = "", decimals: int = 0, seed: int = 0,
@@ -112,10 +122,10 @@ class Instance:
             job_names = frame_names(times, "index") if job_names is None else job_names
             machine_names = frame_names(times, "columns") if machine_names is None else machine_names
         # An array over `bytes` can't be made writable.
-        data = own.tobytes()
+        self._data = own.tobytes()
         self._times: Order = np.frombuffer(own.astype(np.int64).tobytes(), dtype=np.int64).reshape(own.shape)
-        self._arguments: tuple[bytes, int, int, int] = (data, own.size, own.shape[0], own.shape[1])
-        self._converted = c.converted(self._arguments)
+        # What the library has prepared: one from the first call on, and as many as there were calls at once.
+        self._prepared: list[Prepared] = []
         self.name = str(name)
         self.job_names = names_of(job_names, self.jobs, "job_names")
         self.machine_names = names_of(machine_names, self.machines, "machine_names")
@@ -150,13 +160,34 @@ class Instance:
     def __eq__(self, other: object) -> bool:
         if not isinstance(other, Instance):
             return NotImplemented
-        return self._arguments == other._arguments and self._metadata() == other._metadata()
+        return self._key() == other._key() and self._metadata() == other._metadata()
 
     def __hash__(self) -> int:
-        return hash(self._arguments)
+        return hash(self._key())
+
+    def _key(self) -> tuple[bytes, tuple[int, ...]]:
+        return self._data, self._times.shape
 
     def __reduce__(self) -> tuple[Any, ...]:
         return _instance_of, (np.array(self.times), self._metadata())
+
+    def _taken(self) -> Prepared:
+        """Return what the library has prepared in this process and no other call uses, or prepare the instance again. A
+        call appends it to the list again when it is done. So threads neither wait for each other nor share one."""
+        try:
+            prepared = self._prepared.pop()
+            while not prepared.is_own():
+                prepared = self._prepared.pop()
+        except IndexError:
+            prepared = Prepared(self._data, self.jobs, self.machines)
+        return prepared
+
+    def _call(self, name: str, *arguments: Any) -> int:
+        """Call a function of the library on the prepared instance, and return its number."""
+        prepared = self._taken()
+        number: int = getattr(c.library, name)(prepared.address, *arguments)
+        self._prepared.append(prepared)
+        return number
 
     def job_name(self, job: int) -> str:
         """The name of a job, or its number, counted from 0, if jobs have no names."""
@@ -185,13 +216,55 @@ class Instance:
             If it isn't a list of distinct jobs. The message says which element is wrong.
         """
         jobs, count = as_uint32_bytes(order, "order", self.job_names)
-        found = _free_buffer()
-        number = _pfs_makespan(*self._converted, jobs, LENGTHS[count] if count < SHORT else c_size_t(count), found[3])
+        prepared = self._taken()
+        number = _pfs_makespan(prepared.address, jobs, LENGTHS[count] if count < SHORT else c_size_t(count),
+                               prepared.to_makespan)
+        makespan: int = prepared.makespan.value
+        self._prepared.append(prepared)
         if number:
             raise jobs_error(number, self.jobs, jobs)
-        makespan: int = found[1].value
-        _free.append(found)
         return makespan
+
+    def check(self, order: Jobs, stated: int | None = None) -> Check:
+        """Return the verdict on an order and its stated makespan, as ``pfs check`` does.
+
+        Parameters
+        ----------
+        order : array_like or Solution
+            Jobs, by number from 0 or by name.
+        stated : int, optional
+            The makespan to check. By default it is that of a `Solution` or `Sequence`, and otherwise only the order is
+            checked.
+
+        Returns
+        -------
+        Check
+
+        Raises
+        ------
+        TypeError, ValueError
+            If the order isn't a list of numbers or names, or the makespan isn't an integer or is out of range.
+
+        Examples
+        --------
+        >>> import pfs
+        >>> shop = pfs.Instance([[3, 2], [2, 5], [4, 1]])
+        >>> shop.check([1, 0, 2], 10)
+        Check(valid=True, makespan=10, bound=10, fault='')
+        >>> shop.check([1, 0, 2], 9).fault, shop.check([1, 0], 10).fault
+        ('states 9, takes 10', 'order has 2 jobs, but the instance has 3')
+        """
+        if stated is None and isinstance(order, (Solution, Sequence)):
+            stated = order.makespan
+        own = None if stated is None else checked_int(stated, "stated", 0, 2**64 - 1)
+        bound = self.bound()
+        try:
+            jobs = checked_order(as_order(order, self), self.jobs, "order", self.job_names)
+            makespan = self.makespan(np.frombuffer(jobs, dtype=np.uint32))
+        except ValueError as error:
+            return Check(False, None, bound, str(error))
+        valid = own in (None, makespan)
+        return Check(valid, makespan, bound, "" if valid else f"states {own}, takes {makespan}")
 
     def bound(self, method: str = "machines") -> int:
         """Return a lower bound on the makespan of all orders.
@@ -229,15 +302,15 @@ class Instance:
         if method not in ("machines", "pairs"):
             raise ValueError(f"method must be 'machines' or 'pairs', not {method!r}")
         bound = c_uint64()
-        c.done(library.pfs_bound(*self._arguments, byref(bound)))
+        c.done(self._call("pfs_bound", byref(bound)))
         return max(bound.value, bound_by_pairs(self._times)) if method == "pairs" else bound.value
 
-    def rpd(self, makespan: int | Solution, reference: int | None = None) -> float:
+    def rpd(self, makespan: int | Solution | Sequence, reference: int | None = None) -> float:
         """Return the relative percentage deviation of a makespan from a reference.
 
         Parameters
         ----------
-        makespan : int or Solution
+        makespan : int, Solution or Sequence
             0 or more.
         reference : int, optional
             A makespan of 1 or more. The default is ``upper``, which is the best known makespan of an instance of
@@ -262,7 +335,7 @@ class Instance:
         >>> round(shop.rpd(shop.neh()), 2)
         0.63
         """
-        own = checked_int(makespan.makespan if isinstance(makespan, Solution) else makespan, "makespan", 0, 2**64 - 1)
+        own = checked_int(getattr(makespan, "makespan", makespan), "makespan", 0, 2**64 - 1)
         if reference is None and self.upper == 0:
             raise ValueError("rpd needs a reference, since `upper` of the instance is 0")
         base = self.upper if reference is None else checked_int(reference, "reference", 1, 2**64 - 1)
@@ -312,18 +385,18 @@ class Instance:
         Place(place=0, makespan=10)
         """
         jobs, count = as_uint32_bytes(sequence, "sequence")
-        if type(job) is not int or not 0 <= job < self._arguments[2]:
+        if type(job) is not int or not 0 <= job < self.jobs:
             job = checked_int(job, "job", 0, self.jobs - 1)
-        found = _free_buffer()
-        number = _pfs_insert(*self._converted, jobs, LENGTHS[count] if count < SHORT else c_size_t(count), job,
-                             found[2], found[3])
+        prepared = self._taken()
+        number = _pfs_insert(prepared.address, jobs, LENGTHS[count] if count < SHORT else c_size_t(count), job,
+                             prepared.to_place, prepared.to_makespan)
+        best = _new_tuple(Place, (prepared.place.value, prepared.makespan.value))
+        self._prepared.append(prepared)
         if number:
             fault = jobs_error(number, self.jobs, jobs, "sequence")
             if number == c.REPEATED and fault.args == (c.message(number),):
                 raise ValueError(f"job {job} is already in the sequence")
             raise fault
-        best = _new_tuple(Place, (found[0].value, found[1].value))
-        _free.append(found)
         return best
 
     def places(self, sequence: Jobs, job: int) -> Order:
@@ -357,8 +430,7 @@ class Instance:
         jobs, count = as_uint32_bytes(sequence, "sequence")
         job = checked_int(job, "job", 0, self.jobs - 1)
         spans = np.empty(min(count, self.jobs) + 1, dtype=np.int64)
-        number = library.pfs_insertions(*self._arguments, jobs, min(count, self.jobs), job, spans.ctypes.data,
-                                        spans.size)
+        number = self._call("pfs_insertions", jobs, min(count, self.jobs), job, spans.ctypes.data, spans.size)
         if number:
             fault = jobs_error(number, self.jobs, jobs, "sequence")
             if number == c.REPEATED and fault.args == (c.message(number),):
@@ -435,8 +507,8 @@ class Instance:
         jobs, count = as_uint32_bytes(sequence, "sequence")
         shape = min(count, self.jobs + 1), self.machines
         heads, tails = np.empty(shape, dtype=np.int64), np.empty(shape, dtype=np.int64)
-        number = library.pfs_heads_tails(*self._arguments, jobs, shape[0], heads.ctypes.data, heads.size,
-                                         tails.ctypes.data, tails.size)
+        number = self._call("pfs_heads_tails", jobs, shape[0], heads.ctypes.data, heads.size, tails.ctypes.data,
+                            tails.size)
         if number:
             raise jobs_error(number, self.jobs, jobs, "sequence")
         return heads, tails
@@ -471,7 +543,14 @@ class Instance:
         >>> pfs.Instance([[3, 2], [2, 5], [4, 1]]).insert_all([2], [0, 1])
         Sequence(jobs=array([1, 0, 2]), makespan=10)
         """
-        return self._reinserted("pfs_construct", sequence, jobs)
+        given, count = as_uint32_bytes(sequence, "sequence")
+        more, many = as_uint32_bytes(jobs, "jobs")
+        found = np.empty(min(count + many, 2 * c.MOST_JOBS), dtype=np.uint32)
+        makespan = c_uint64()
+        number = self._call("pfs_construct", given, count, more, many, found.ctypes.data, found.size, byref(makespan))
+        if number:
+            raise self._reinsertion_error(number, given, more, is_in=True)
+        return Sequence(found.astype(np.int64), makespan.value)
 
     def local_search(self, sequence: Jobs, jobs: Jobs | None = None, *, passes: int = 1) -> Sequence:
         """Improve a sequence of jobs: in a pass, each of some jobs is removed and inserted at its best place.
@@ -508,18 +587,13 @@ class Instance:
         passes = checked_int(passes, "passes", 0, c.MOST_PASSES)
         if jobs is None:
             jobs = np.sort(checked_jobs(sequence, "sequence"))
-        return self._reinserted("pfs_local_search", sequence, jobs, passes)
-
-    def _reinserted(self, name: str, sequence: Jobs, jobs: Jobs, *passes: int) -> Sequence:
-        """Call a function that inserts jobs into a sequence. Only pfs_local_search has passes."""
-        given, count = as_uint32_bytes(sequence, "sequence")
-        moved, more = as_uint32_bytes(jobs, "jobs")
-        found = np.empty(min(count + (0 if passes else more), 2 * c.MOST_JOBS), dtype=np.uint32)
+        given, _ = as_uint32_bytes(sequence, "sequence")
+        moved, many = as_uint32_bytes(jobs, "jobs")
+        found = np.frombuffer(bytearray(given), dtype=np.uint32)
         makespan = c_uint64()
-        number = getattr(library, name)(*self._arguments, given, count, moved, more, *passes, found.ctypes.data,
-                                        found.size, byref(makespan))
+        number = self._call("pfs_local_search", moved, many, passes, found.ctypes.data, found.size, byref(makespan))
         if number:
-            raise self._reinsertion_error(number, given, moved, is_in=not passes)
+            raise self._reinsertion_error(number, given, moved, is_in=False)
         return Sequence(found.astype(np.int64), makespan.value)
 
     def _reinsertion_error(self, number: int, given: bytes, moved: bytes, *, is_in: bool) -> Exception:
@@ -568,10 +642,10 @@ class Instance:
         jobs = as_uint32(own, 2**32 - 1, "orders", "row {}, place {}", "isn't a job: jobs count from 0")
         rows = jobs.tobytes()
         spans = np.empty(len(jobs), dtype=np.int64)
-        number = library.pfs_makespans(*self._arguments, rows, jobs.size, jobs.shape[1], spans.ctypes.data, spans.size)
+        number = self._call("pfs_makespans", rows, jobs.size, jobs.shape[1], spans.ctypes.data, spans.size)
         if number in (c.JOB, c.REPEATED):
             for row, sequence in enumerate(jobs):
-                if library.pfs_makespan(*self._arguments, sequence.tobytes(), len(sequence), byref(c_uint64())):
+                if self._call("pfs_makespan", sequence.tobytes(), len(sequence), byref(c_uint64())):
                     raise jobs_error(number, self.jobs, sequence.tobytes(), f"orders, row {row}")
         c.done(number)
         return spans
@@ -579,7 +653,7 @@ class Instance:
     def solve(self, rounds: int | None = None, *, take: int | None = None, passes: int = 0, seed: int = 0,
               start: Jobs | None = None, first: int = 0, progress: Progress | None = None,
               time_limit: float | None = None, target: int | None = None, stop: Stop | None = None,
-              history: bool = False) -> Solution:
+              history: bool = False, hold: Jobs = (), move: Jobs | None = None) -> Solution:
         """Improve an order by iterated greedy (Ruiz and Stützle 2007).
 
         A round removes ``take`` jobs, inserts each at its best place, and makes ``passes`` passes. In a pass each job
@@ -591,7 +665,8 @@ class Instance:
         rounds : int, optional
             The number of rounds. ``first + rounds`` is at most 1,000,000. The default is 1,000; with a time limit the
             search runs until its end. Without ``rounds``, the search continues after round 1,000,000 of a seed with
-            round 0 of the next seed, which is then the ``seed`` of the solution.
+            round 0 of a seed that is greater by 11400714819323198485 (modulo 2^64), which is then the ``seed`` of the
+            solution.
         take : int, optional
             The destruction size, 1 to the number of jobs. The default is 4, or the number of jobs if that is less.
         passes : int
@@ -617,6 +692,12 @@ class Instance:
             Record the round, the seconds and the makespan of each improvement in ``history`` of the solution, the start
             order first. To find the exact round of an improvement some rounds are repeated, so the search may take up
             to twice as long while it improves often. The seconds are interpolated.
+        hold : array_like
+            Jobs, by numbers or names, that have the first places in this order. The search moves none of them. The
+            other jobs begin in the order of ``start``, or where they are best.
+        move : array_like, optional
+            The only jobs, by numbers or names, that rounds and passes move. The others keep their order. With ``hold``
+            or ``move`` the rounds are run in Python, and take ten times as long or more; ``cells`` is then 0.
 
         Returns
         -------
@@ -647,8 +728,12 @@ class Instance:
         >>> found = shop.solve(1000, target=1278, history=True)
         >>> found.rounds < 1000, found.history[-1].makespan
         (True, 1278)
+        >>> shop.solve(100, hold=[7, 3]).order[:2]
+        array([7, 3])
         """
-        search = Search(self, start, first, take, passes, seed)
+        options = self, start, first, take, passes, seed
+        is_held = move is not None or not isinstance(hold, tuple) or hold
+        search = HeldSearch(*options, hold, move) if is_held else Search(*options)
         if type(history) not in BOOLS:
             raise TypeError(f"history must be True or False, not {history!r}")
         try:
@@ -679,8 +764,7 @@ class Instance:
         jobs = checked_order(as_order(order, self), self.jobs, "order", self.job_names)
         starts = np.empty((self.jobs, self.machines), dtype=np.int64)
         ends = np.empty_like(starts)
-        number = library.pfs_table(*self._arguments, jobs, self.jobs, starts.ctypes.data, starts.size, ends.ctypes.data,
-                                   ends.size)
+        number = self._call("pfs_table", jobs, self.jobs, starts.ctypes.data, starts.size, ends.ctypes.data, ends.size)
         if number:
             raise jobs_error(number, self.jobs, jobs)
         own = np.frombuffer(jobs, dtype=np.uint32).astype(np.int64)
@@ -705,7 +789,7 @@ class Instance:
         notes = c.Notes(self.seed, self.upper, self.lower)
         length = c_size_t()
         text = create_string_buffer(256 + 16 * self.times.size + 8 * self.jobs)
-        c.done(library.pfs_write(*self._arguments, byref(notes), number, text, len(text), byref(length)))
+        c.done(self._call("pfs_write", byref(notes), number, text, len(text), byref(length)))
         return text.raw[:length.value].decode("ascii")
 
     def write(self, path: str | os.PathLike[str], layout: str = "taillard") -> None:

@@ -86,17 +86,16 @@ class Search:
         part = Part(self.start or bytes(4 * shop.jobs), self.first, 0, self.seed, self.first)
         self.running = part
         if self.start is None:
-            c.done(c.library.pfs_neh(*shop._arguments, part.order.ctypes.data, shop.jobs, byref(part.makespan),
-                                     byref(part.cells)))
+            c.done(shop._call("pfs_neh", part.order.ctypes.data, shop.jobs, byref(part.makespan), byref(part.cells)))
         else:
-            number = c.library.pfs_makespan(*shop._arguments, self.start, shop.jobs, byref(part.makespan))
+            number = shop._call("pfs_makespan", self.start, shop.jobs, byref(part.makespan))
             if number != c.OK:
                 raise jobs_error(number, shop.jobs, self.start, "start")
         self.last = part
         self.solution()
 
     def run_rounds(self, count: int) -> None:
-        """Run the next `count` rounds. After the last round of a seed, those of the next seed follow."""
+        """Run the next `count` rounds. After the last round of a seed, those of another one follow."""
         before = self.finished()
         part = self.part_after(before, count)
         self.running = part
@@ -108,14 +107,15 @@ class Search:
         """Return a part for the next `count` rounds, which aren't run yet."""
         rounds, seed = before.rounds, before.seed
         if rounds == c.MOST_ROUNDS and count:
-            rounds, seed = 0, (seed + 1) % 2**64
+            rounds, seed = 0, (seed + c.SEED_STEP) % 2**64
         return Part(before.order.tobytes(), rounds + count, before.cells_before + before.cells.value, seed,
                     before.total + count)
 
     def run_part(self, part: Part, count: int) -> None:
         """Run the `count` rounds of a part."""
-        c.done(c.library.pfs_rounds(*self.shop._arguments, part.order.ctypes.data, self.shop.jobs, part.rounds - count,
-                                    count, self.take, self.passes, part.seed, byref(part.makespan), byref(part.cells)))
+        options = c.RoundsOptions(part.seed, self.take, part.rounds - count, count, self.passes)
+        c.done(self.shop._call("pfs_rounds", byref(options), part.order.ctypes.data, self.shop.jobs,
+                               byref(part.makespan), byref(part.cells)))
 
     def first_within(self, before: Part, after: Part, makespan: int) -> Part:
         """Return the part up to the first round with at most this makespan.
@@ -135,7 +135,7 @@ class Search:
         self.solution()
 
     def left_of_seed(self) -> int:
-        """Return the number of rounds that the seed has left, or those of the next seed if it has none."""
+        """Return the number of rounds that the seed has left, or those of the seed after it if it has none."""
         return c.MOST_ROUNDS - self.finished().rounds or c.MOST_ROUNDS
 
     def finished(self) -> Part:

@@ -1,0 +1,88 @@
+"""The comparison of methods and of settings in a report."""
+from __future__ import annotations
+
+import itertools
+from typing import Any
+
+import numpy as np
+import pandas as pd
+import scipy.stats
+
+from pfs.experiments.fair import SETTING, common, made_of
+
+# The exact test is for at most this number of pairs; for more, SciPy's normal approximation is used.
+MOST_EXACT = 50
+NOTE = ("Compared are settings of the same rounds or time factor, on the instances and seeds that both have. Won, "
+        "tied, lost: the numbers of instances on which the first setting's mean makespan is less than, equal to or "
+        "greater than the other's. p: Wilcoxon's signed-rank test, two-sided, of the differences in RPD that are not "
+        "0, exact up to 50 pairs. p holm: p with Holm's correction for all rows. Median difference: the median of the "
+        "first setting's RPD minus the other's. Vargha-Delaney A: the probability that a run of the first setting is "
+        "shorter than one of the other on the same instance, as a mean over the instances; ties count half.")
+
+
+def compared(done: pd.DataFrame) -> pd.DataFrame:
+    """Returns a row for each pair of settings that can be compared and have a common instance and seed. They are
+    compared by the means of each instance, and equal means may differ by a rounding."""
+    rows = []
+    for (one, first), (other, second) in itertools.combinations(done.groupby(SETTING), 2):
+        if are_comparable(one, other):
+            runs = pd.concat([first, second])
+            runs = runs[common(made_of(runs))[0]]
+            both = by_instance(runs, one).join(by_instance(runs, other), rsuffix="_other")
+            names = [*SETTING, *(f"other_{column}" for column in SETTING)]
+            rows += [dict(zip(names, one + other)) | comparison_of(both)] if len(both) else []
+    table = pd.DataFrame(rows)
+    if rows:
+        table.insert(table.columns.get_loc("pairs") + 1, "p_holm", holm(table["p"]))
+    return table
+
+
+def are_comparable(one: tuple[Any, ...], other: tuple[Any, ...]) -> bool:
+    """Whether two settings have the same rounds or time factor, or are of two methods of which one has neither."""
+    budgets = [(setting[1], setting[4]) for setting in (one, other)]
+    return budgets[0] == budgets[1] or (one[0] != other[0] and (-1, -1) in budgets)
+
+
+def by_instance(runs: pd.DataFrame, setting: tuple[Any, ...]) -> pd.DataFrame:
+    """Returns the means of a setting and its makespans by instance."""
+    own = runs[(runs[SETTING] == setting).all(axis=1)].groupby("instance")
+    return own.agg(makespan=("makespan", "mean"), rpd=("rpd", "mean"), spans=("makespan", list)).round(9)
+
+
+def comparison_of(both: pd.DataFrame) -> dict[str, Any]:
+    """Compares two settings on the instances that both have."""
+    signs = np.sign(both["makespan"] - both["makespan_other"])
+    row: dict[str, Any] = {"instances": len(both), "won": (signs < 0).sum(), "tied": (signs == 0).sum(),
+                           "lost": (signs > 0).sum(), "p": None, "pairs": 0, "median_difference_percent": None,
+                           "vargha_delaney_a": np.mean([*map(superiority, both["spans"], both["spans_other"])])}
+    differences = (both["rpd"] - both["rpd_other"]).dropna().round(9)
+    if differences.empty:
+        return row
+    return row | {"p": probability(differences[differences != 0]), "pairs": int((differences != 0).sum()),
+                  "median_difference_percent": differences.median()}
+
+
+def superiority(ones: list[float], others: list[float]) -> float:
+    """Returns Vargha and Delaney's A of the makespans of two settings on an instance. Less is better."""
+    first, second = np.array(ones)[:, None], np.array(others)
+    return float((first < second).mean() + (first == second).mean() / 2)
+
+
+def probability(differences: pd.Series) -> float:
+    """Returns the p-value of Wilcoxon's signed-rank test of differences that are not 0. The exact one is the share of
+    all choices of signs whose sum of ranks is at least as far from the middle as that of these differences. Equal
+    differences have the mean of their ranks, so twice a rank is a whole number."""
+    if len(differences) > MOST_EXACT:
+        return float(scipy.stats.wilcoxon(differences, method="approx").pvalue)
+    ranks = (2 * differences.abs().rank()).astype(int)
+    counts = np.ones(1)
+    for rank in ranks:
+        counts = np.append(counts, np.zeros(rank)) + np.append(np.zeros(rank), counts)
+    distances = abs(np.arange(len(counts)) - ranks.sum() / 2)
+    return float(counts[distances >= abs(ranks[differences > 0].sum() - ranks.sum() / 2)].sum() / 2 ** len(ranks))
+
+
+def holm(probabilities: pd.Series) -> pd.Series:
+    """Returns the probabilities with Holm's correction."""
+    least_first = probabilities.astype(float).dropna().sort_values(kind="stable")
+    return (least_first * range(len(least_first), 0, -1)).cummax().clip(upper=1)

@@ -1,0 +1,152 @@
+"""What an experiment was made with, what has changed since, and what there is of it before its end."""
+import hashlib
+import json
+import os
+import pathlib
+import subprocess
+
+import pytest
+from support.experiments import Experiment
+from support.library import Library
+from support.needs import tool
+from support.tools import Done, csv_rows, run_tool, wait_until, write_script
+
+ORDER = "#!/bin/sh\necho {order}\n"
+PLAN = """instances = ["shops/b"]
+seeds = [{seeds}]
+method = "mine"
+command = "./mine {{instance}}"
+files = ["data"]
+"""
+
+
+@pytest.fixture(scope="module", autouse=True)
+def parallel() -> None:
+    tool("parallel")
+
+
+def sum_of(data: bytes) -> str:
+    return hashlib.sha256(data).hexdigest()
+
+
+@pytest.fixture
+def mine(experiment: Experiment) -> Experiment:
+    """An experiment with a command and a file."""
+    write_script(experiment.folder / "mine", ORDER.format(order="1 2 3"))
+    (experiment.folder / "data").write_text("1\n")
+    return experiment.plan(PLAN.format(seeds="1"))
+
+
+def test_what_has_changed_is_told_and_the_copies_are_used(mine: Experiment) -> None:
+    assert mine.run() == mine.run() == Done(0, "", "out.csv: 1 runs, 0 of them failed, 0 still to run\n")
+    before = mine.columns("makespan")
+    write_script(mine.folder / "mine", ORDER.format(order="1 3 2"))
+    for name in ("data", "shops/b"):
+        with open(mine.folder / name, "a") as file:
+            file.write("# changed\n")
+    got = mine.plan(PLAN.format(seeds="1, 2")).run()
+    assert got == Done(0, "", "out.csv: changed since they were copied for its runs: data, mine, shops/b. The copies "
+                              "are used: to begin anew, name another CSV or delete out.csv.d\n"
+                              "out.csv: 2 runs, 0 of them failed, 0 still to run\n")
+    assert mine.columns("makespan") == before * 2
+    assert mine.run("new.csv").stderr == "new.csv: 2 runs, 0 of them failed, 0 still to run\n"
+    assert mine.columns("makespan", csv_name="new.csv") != before * 2
+    for name in ("mine", "data"):
+        (mine.folder / name).rename(mine.folder / f"{name}.gone")
+    assert "no file matches data" in mine.run().stderr
+
+
+def test_the_file_has_the_version_the_sums_and_each_start(mine: Experiment, top: pathlib.Path) -> None:
+    mine.run()
+    (mine.folder / "shops" / "b").write_bytes(shop := (mine.folder / "shops" / "b").read_bytes())
+    mine.run()
+    stored = json.loads((mine.runs / "provenance.json").read_text())
+    assert stored["version"] == (top / "VERSION").read_text().strip()
+    assert stored["plan"]["seeds"] == [1] and stored["plan"]["method"] == "mine"
+    wanted = {"pfs": mine.pfs.path.read_bytes(), "shops/b": shop, "data": b"1\n",
+              "mine": (mine.folder / "mine").read_bytes()}
+    assert stored["sha256"] == {name: sum_of(data) for name, data in wanted.items()}
+    assert [start["host"] for start in stored["starts"]] == [os.uname().nodename] * 2
+    assert all(start["at"] <= other["at"] for start, other in zip(stored["starts"], stored["starts"][1:]))
+    for damaged in (b"", b"{", b"[1]", b'{"starts": 3}', b"\xff"):
+        (mine.runs / "provenance.json").write_bytes(damaged)
+        assert mine.run().status == 0
+        assert len(json.loads((mine.runs / "provenance.json").read_text())["starts"]) == 1
+
+
+def test_a_search_by_time_has_the_sum_of_the_library(experiment: Experiment, libpfs: Library) -> None:
+    env = dict(os.environ, PFS_LIBRARY=str(libpfs.path))
+    experiment.plan('instances = ["shops/b"]\ntime_factors = [1]\n').run(env=env)
+    stored = json.loads((experiment.runs / "provenance.json").read_text())
+    assert stored["sha256"]["libpfs.so.1"] == sum_of(libpfs.path.read_bytes())
+
+
+# The reference of a plan
+
+def test_a_reference_must_name_an_instance(experiment: Experiment) -> None:
+    """By its name in the plan, or without folder, ending and in lower case. What it lacks is reported."""
+    plan = 'instances = ["shops/*"]\nreference = "best.csv"\n'
+    (experiment.folder / "best.csv").write_text("instance,makespan\nc,9\n")
+    assert experiment.plan(plan).run() == Done(2, "", (
+        "pfs-experiments run: plan.toml: the reference best.csv names none of the instances: it has c, and the plan "
+        "shops/a\n"))
+    assert not experiment.runs.exists()
+    (experiment.folder / "best.csv").write_text("instance,makespan\nc,9\nB.txt,7\n")
+    assert experiment.run() == Done(0, "", "best.csv lacks 1 of 2 instances: shops/a\n"
+                                           "out.csv: 2 runs, 0 of them failed, 0 still to run\n")
+    assert experiment.columns("reference") == [("",), ("7",)]
+
+
+# Its report
+
+def test_a_report_audits_the_runs_with_the_instances_next_to_the_csv(mine: Experiment, libpfs: Library) -> None:
+    """As long as they are there and whole. An order that isn't that of the makespan is an error."""
+    env = dict(os.environ, PFS_LIBRARY=str(libpfs.path))
+
+    def report() -> Done:
+        return run_tool([mine.scripts / "pfs-experiments", "report", "out.csv", "report"], mine.folder, env=env)
+
+    mine.run()
+    assert (report().status, csv_rows(mine.folder / "report" / "table.csv")[0]["audited"]) == (0, "1")
+    text = (mine.folder / "out.csv").read_text()
+    (name, makespan), = mine.columns("order", "makespan")
+    (mine.folder / "out.csv").write_text(text.replace(f",{makespan},", f",{int(makespan) + 1},"))
+    assert report() == Done(2, "", f"pfs-experiments report: out.csv: line 2, shops/b: wrong makespan: states "
+                                   f"{int(makespan) + 1}, takes {makespan}\n")
+    (mine.folder / "out.csv").write_text(text)
+    (mine.folder / name).write_text("order 3\n1 1 2\nmakespan 9\n")
+    assert report().stderr == f"pfs-experiments report: out.csv: {name}: order file job repeated at place 2\n"
+    (mine.runs / "plan.json").write_text("{")
+    (mine.folder / name).unlink()
+    assert (report().status, csv_rows(mine.folder / "report" / "table.csv")[0]["audited"]) == (0, "0")
+
+
+# Before the end
+
+def status(experiment: Experiment) -> Done:
+    return run_tool([experiment.scripts / "pfs-experiments", "status", "out.csv"], experiment.folder)
+
+
+def test_status_writes_what_there_is(mine: Experiment) -> None:
+    """The CSV has the order of the plan, and its reference."""
+    assert status(mine) == Done(2, "", "pfs-experiments status: out.csv was not started: out.csv.d is missing\n")
+    os.mkfifo(mine.folder / "gate")
+    write_script(mine.folder / "mine", f"#!/bin/sh\nread -r line < {mine.folder}/gate\necho 1 2 3\n")
+    (mine.folder / "best.csv").write_text("instance,makespan\nb,9\n")
+    mine.plan(PLAN.format(seeds="2, 1") + 'reference = "best.csv"\n')
+    process = subprocess.Popen(mine.words("run", "plan.toml", "out.csv", "--jobs", "1"), cwd=mine.folder,
+                               stderr=subprocess.DEVNULL)
+    gate = os.open(mine.folder / "gate", os.O_RDWR)
+    try:
+        os.write(gate, b"\n")
+        one_of_two = Done(1, "", "out.csv: 1 runs, 0 of them failed, 1 still to run\n")
+        wait_until(lambda: (mine.runs / "plan.json").exists() and status(mine) == one_of_two, "a run has ended")
+        assert mine.columns("instance", "seed", "reference") == [("shops/b", "2", "9")]
+        os.write(gate, b"\n")
+        assert process.wait(60) == 0
+    finally:
+        process.kill()
+        os.close(gate)
+    before = (mine.folder / "out.csv").read_bytes()
+    assert status(mine) == Done(0, "", "out.csv: 2 runs, 0 of them failed, 0 still to run\n")
+    assert (mine.folder / "out.csv").read_bytes() == before and before.count(b"\n") == 3
