@@ -5,15 +5,15 @@
 ## make check      what to run before each commit: layout, types, scripts and pages, in less than a minute
 ## make test       proves and tests all that a change has to pass but the mutants (tools/test; times: docs/TESTS.md)
 ## make fuzz       compares the built program with a second program on random input, for MINUTES (5)
-## make install    installs the program, the tools, the manual pages, the completions and the pages below PREFIX, an
-##                 absolute path (and that below DESTDIR), and the library for C if `make lib` has built it. It proves
-##                 and builds the program first if it is missing or older than a source
+## make install    installs the program, its manual page, the completions and the pages below PREFIX, an absolute path
+##                 (and that below DESTDIR), and the library for C if `make lib` has built it. It proves and builds the
+##                 program first if it is missing or older than a source. The package for Python is apart: make wheel
 ## make install-lib  installs the library for C alone. It proves and builds it first
-## make uninstall  removes what these two have installed, and the folders that they made
+## make uninstall  removes what these two have installed
 ## make docs       one site of the pages, the package for Python and the library's header: out/site/index.html
-## make dist       a tarball and Debian packages for machines without the kit, in the folder DIST (needs the kit,
-##                 dpkg-deb and binutils), with the library's packages if it is built; SIGN=KEY signs their sums
-## make wheel      a wheel of the package for Python with the built library, in the folder DIST (needs python3-build)
+## make dist       a tarball, Debian packages and a wheel for machines without the kit, in the folder DIST, with an SPDX
+##                 list and sums, which SIGN=KEY signs. It proves and builds the program and the library first
+## make wheel      the wheel of the package for Python alone, in the folder DIST
 ## make taillard   writes Taillard's 120 instances into experiments/out/taillard
 .PHONY: help try run check test fuzz install uninstall docs dist wheel taillard
 MINUTES = 5
@@ -25,12 +25,8 @@ LIB = lib
 ZSH = share/zsh/site-functions
 PROGRAM = crates/pfs/out/pfs
 LIBRARY = lib/out/libpfs.so.0
-# What tools/gantt and the scripts of experiments/ consist of: scripts, modules of Python and tables.
-GANTT = gantt $(notdir $(wildcard tools/*.py))
-EXPERIMENTS = one report run slurm taillard task taillard.csv best_known.csv \
-    $(notdir $(wildcard experiments/*.py experiments/check))
-
-PLANS = example.toml quality.toml best_known.csv
+PLANS = example.toml quality.toml
+PACKAGE = PYTHONPATH=python/src /usr/bin/python3 -B -m
 
 define newline
 
@@ -39,26 +35,14 @@ endef
 # What is installed: a file of the repository, and its place below PREFIX; or where a link leads, and its place.
 define PROGRAM_FILES
 $(PROGRAM) bin/pfs
-tools/pfs-experiments bin/pfs-experiments
--> ../libexec/pfs/tools/gantt bin/pfs-gantt
-$(foreach name,$(GANTT),tools/$(name) libexec/pfs/tools/$(name)$(newline))
-python/src/pfs/_atomic.py libexec/pfs/tools/_atomic.py
-$(foreach name,$(EXPERIMENTS),experiments/$(name) libexec/pfs/experiments/$(name)$(newline))
-python/src/pfs/_atomic.py libexec/pfs/experiments/_atomic.py
-$(foreach name,pfs pfs-gantt pfs-experiments,share/$(name).1 share/man/man1/$(name).1$(newline))
-share/completions/pfs.bash share/bash-completion/completions/pfs
-share/completions/pfs-tools.bash share/bash-completion/completions/pfs-gantt
-share/completions/pfs-tools.bash share/bash-completion/completions/pfs-experiments
-share/completions/_pfs $(ZSH)/_pfs
-share/completions/_pfs-tools $(ZSH)/_pfs-tools
-share/completions/pfs.fish share/fish/vendor_completions.d/pfs.fish
-share/completions/pfs-tools.fish share/fish/vendor_completions.d/pfs-gantt.fish
-share/completions/pfs-tools.fish share/fish/vendor_completions.d/pfs-experiments.fish
+share/pfs.1 share/man/man1/pfs.1
+share/pfs.bash $(ZSH)/_pfs
+$(foreach name,pfs pfs-plan pfs-gantt pfs-experiments,share/pfs.bash share/bash-completion/completions/$(name)$(newline))
 $(foreach name,$(PAGES),$(name) share/doc/pfs/$(name)$(newline))
 $(foreach name,$(PLANS),experiments/$(name) share/doc/pfs/examples/$(name)$(newline))
 endef
 PAGES = README.md CHANGELOG.md CITATION.cff CONTRIBUTING.md SECURITY.md LICENSE-MIT LICENSE-APACHE \
-    experiments/README.md experiments/taillard.csv experiments/best_known.csv lib/pfs.h \
+    experiments/README.md lib/pfs.h \
     $(sort $(wildcard docs/*.* docs/maintain/*.* examples/* python/README.md python/examples/*.py))
 define LIBRARY_FILES
 lib/out/libpfs.a $(LIB)/libpfs.a
@@ -109,6 +93,8 @@ $(LIBRARY): crates.txt $(wildcard lib/*.*) $(shell find crates \( -name out -o -
 install: $(PROGRAM) $(BUILT_LIBRARY)
 	printf '%s\n' "$$PROGRAM_FILES" $(if $(BUILT_LIBRARY),"$$LIBRARY_FILES") | \
 	    tools/install put "$(DESTDIR)" "$(PREFIX)" "$(LIB)"
+	@$(if $(DESTDIR),,echo "pfs-plan, pfs-gantt and pfs-experiments are in the package for Python:" \
+	    "\`make wheel\`, and then python/README.md says how pip installs it")
 
 .PHONY: install-lib
 install-lib: $(LIBRARY)
@@ -120,11 +106,11 @@ uninstall:
 docs:
 	tools/site/build
 
-dist: $(PROGRAM) $(BUILT_LIBRARY)
+dist: $(PROGRAM) $(LIBRARY)
 	tools/dist "$(DIST)"
 
-wheel:
-	tools/wheel "$(DIST)"
+wheel: $(LIBRARY)
+	tools/dist wheel "$(DIST)"
 
 taillard: $(PROGRAM)
-	experiments/taillard experiments/out/taillard
+	$(PACKAGE) pfs.experiments taillard --pfs $(PROGRAM) experiments/out/taillard

@@ -26,7 +26,7 @@ sys.dont_write_bytecode = True
 from support import second_program
 from support.lines import KINDS, kind_of
 from support.pipes import unread
-from support.second_program import COMMANDS, MOST_BYTES, UNREADABLE, Contents, Instance, Stop
+from support.second_program import COMMANDS, LONGEST_INPUT, UNREADABLE, Contents, Instance, Stop
 
 TOP = pathlib.Path(__file__).resolve().parent.parent
 PROGRAM = TOP / "crates" / "pfs" / "out" / "pfs"
@@ -321,7 +321,7 @@ def with_number_changed(random: Random, text: bytes, start: int) -> bytes:
 
 def near_the_limit(random: Random, text: bytes) -> bytes:
     """The text with plain bytes or zeros put in, so that it ends near the greatest number of bytes."""
-    missing = MOST_BYTES - len(text) + random.choice([-1, 0, 1, 1, 2])
+    missing = LONGEST_INPUT - len(text) + random.choice([-1, 0, 1, 1, 2])
     place = random.choice([0] + [match.end() for match in re.finditer(rb"\n", text)])
     filler = random.choice([b" ", b"x", b"0", b"x" * 99_999 + b"\n"])
     last = b"" if filler == b"0" else b"\n"

@@ -1,57 +1,43 @@
-"""tools/build, with a program that replaces `rt`: what is said of a crate that fails, and which crate goes first."""
-import os
+"""tools/build, with a program in place of `rt`: which crates it builds, and what it says of them."""
 import pathlib
-import re
 import shutil
-from concurrent.futures import Future
-from contextlib import nullcontext
-from types import SimpleNamespace
-from typing import Any
 
 import pytest
-from support.tools import imported, run_tool, with_path, write_script
+from support.tools import Done, run_tool, with_path, write_script
 
-# It notes its crate, and fails in the crate `left`.
+# It notes its crate, proves `low` and `app`, and fails in the crate `left`.
 RT = """#!/bin/sh
 crate=${PWD##*/}
 echo "$crate $1" >> "$NOTES"
-test $crate != left || { echo 'goal left open'; exit 1; }
+case $crate in
+low) echo 'logic=proved' ;;
+app) cat; echo 'logic=proved' >&2 ;;
+left) echo 'goal left open'; exit 7 ;;
+esac
 """
 
 
-def test_a_crate_that_fails_is_reported_and_none_above_it_begins(top: pathlib.Path, folder: pathlib.Path) -> None:
-    for crate in ("low", "left", "app"):
-        (folder / "crates" / crate).mkdir(parents=True)
-    (folder / "crates.txt").write_text("low:\nleft: low\napp: left\n")
+@pytest.mark.parametrize(("targets", "status", "notes", "stdout", "said"), [
+    ("app lib", 0, "low lib, right lib, app run, lib lib", "the stored input\n",
+     "low: proved and built in 0:00 minutes, 3 left\napp: proved and built in 0:00 minutes, 1 left\n"),
+    ("above", 7, "low lib, left lib", "",
+     "low: proved and built in 0:00 minutes, 2 left\ngoal left open\n"
+     "build: left failed with status 7; see the output above or {0}/crates/left/out/build.log\n"),
+    ("none", 1, "", "", "build: no crate none in crates.txt\n"),
+])
+def test_each_crate_is_built_once_after_those_below_it(targets: str, status: int, notes: str, stdout: str, said: str,
+                                                       top: pathlib.Path, folder: pathlib.Path) -> None:
+    """And none after one that fails."""
+    (folder / "crates.txt").write_text("app: right low other\nright: low\nlow:\nabove: left\nleft: low\n"
+                                       "lib staticlib: right low\n")
+    for crate in ("app", "right", "low", "above", "left", "lib"):
+        (folder / "crates" / crate / "src").mkdir(parents=True)
+    (folder / "crates" / "app" / "src" / "main.rt").touch()
+    (folder / "crates" / "app" / "stdin").write_text("the stored input\n")
     (folder / "tools").mkdir()
     build = shutil.copy(top / "tools" / "build", folder / "tools")
     write_script(folder / "bin" / "rt", RT)
-    got = run_tool([build, "app"], folder, env=with_path(folder / "bin") | {"NOTES": str(folder / "notes")})
-    log = folder / "crates" / "left" / "out" / "build.log"
-    said = f"goal left open\nbuild: left failed with status 1; see the output above or {log}\n"
-    assert got == (1, "", said)
-    assert (folder / "notes").read_text() == "low lib\nleft lib\n"
-    assert run_tool([build, "none"], folder) == (1, "", "build: no crate none in crates.txt\n")
-
-
-@pytest.mark.parametrize(("crates", "due"), [
-    ("low: left: low, right: low, above: left, app: above right", "low left right+ above app"),
-    ("low: right: low, left: low, above: left, app: above right", "low left right+ above app"),
-    ("low: a: low, b: low, c: low, d: c, e: d, f: b, app: a e f", "low c b+ a+ d f+ e app"),
-])
-def test_the_crate_with_the_longest_chain_above_it_goes_first(top: pathlib.Path, monkeypatch: pytest.MonkeyPatch,
-                                                              crates: str, due: str) -> None:
-    """The others, with a plus here, have a lower priority."""
-    module = imported(top / "tools" / "build")
-    begun: list[str] = []
-
-    def at_once(_: object, name: str, programs: set[str], may_wait: bool) -> "Future[Any]":
-        begun.append(name + "+" * may_wait)
-        future: Future[Any] = Future()
-        future.set_result(module.Build(0, 0.0, pathlib.Path(os.devnull)))
-        return future
-
-    monkeypatch.setattr(module, "ThreadPoolExecutor", lambda _: nullcontext(SimpleNamespace(submit=at_once)))
-    below = {name: uses.split() for name, uses in re.findall(r"(\w+):((?: \w+(?![\w:]))*)", crates)}
-    assert module.build_all({"app"}, below) == 0
-    assert " ".join(begun) == due
+    (folder / "notes").touch()
+    got = run_tool([build, *targets.split()], folder, env=with_path(folder / "bin") | {"NOTES": str(folder / "notes")})
+    assert got == Done(status, stdout, said.format(folder))
+    assert ", ".join((folder / "notes").read_text().splitlines()) == notes

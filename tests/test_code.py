@@ -12,9 +12,9 @@ from support.tree import files_below
 TOP = pathlib.Path(__file__).resolve().parent.parent
 # By what their first lines name, or by the endings of their names.
 KINDS = {"python3": "python", "sh": "shell", "bash": "shell"}
-ENDINGS = {".py": "python", ".bash": "shell", ".fish": "fish"}
-# Folders whose scripts are typed together. `bench` and `experiments` both have a script `run`.
-TYPED = [("tests/", "tools/", "experiments/"), ("bench/",)]
+ENDINGS = {".py": "python", ".bash": "shell"}
+# Folders whose scripts are typed together.
+TYPED = [("tests/", "tools/"), ("bench/",)]
 
 
 @functools.cache
@@ -27,9 +27,7 @@ def kind_of(path: pathlib.Path) -> str:
     with open(path, "rb") as file:
         first = file.readline(200).decode(errors="replace")
     called = re.match(r"#!\S*/(?:env )?(\w+)\n", first)
-    if called:
-        return KINDS.get(called[1], "")
-    return "zsh" if first.startswith("#compdef ") else ENDINGS.get(path.suffix, "")
+    return KINDS.get(called[1], "") if called else ENDINGS.get(path.suffix, "")
 
 
 def assert_silent(words: list[str], cwd: pathlib.Path = TOP) -> None:
@@ -40,10 +38,8 @@ def assert_silent(words: list[str], cwd: pathlib.Path = TOP) -> None:
 
 
 def test_scripts_are_found_by_their_first_lines() -> None:
-    assert {"experiments/one", "experiments/plan.py", "experiments/run", "tools/gantt"} <= set(scripts("python"))
-    assert {".ci/run", "experiments/taillard", "share/completions/pfs.bash", "tools/dist"} <= set(scripts("shell"))
-    assert scripts("zsh") == ["share/completions/_pfs", "share/completions/_pfs-tools"]
-    assert scripts("fish") == ["share/completions/pfs-tools.fish", "share/completions/pfs.fish"]
+    assert {"python/src/pfs/_gantt.py", "tests/fuzz.py", "tools/build"} <= set(scripts("python"))
+    assert {".ci/run", "share/pfs.bash", "tools/install"} <= set(scripts("shell"))
 
 
 @pytest.mark.seconds(20)
@@ -62,18 +58,14 @@ def test_the_package_for_python_is_typed() -> None:
 
 
 @pytest.mark.seconds(20)
-@pytest.mark.parametrize("which", ["package", "scripts"])
-def test_nothing_is_used_that_the_oldest_python_lacks(which: str) -> None:
+def test_nothing_is_used_that_the_oldest_python_lacks() -> None:
     """Of what is installed, by mypy: Debian 12 has no interpreter of that version."""
     settings = (TOP / "python" / "pyproject.toml").read_text()
     [version] = re.findall(r'^requires-python = ">=(.*)"$', settings, re.MULTILINE)
     needed = re.findall(r"^X-Python3-Version: >= ([\d.]+)$", (TOP / "debian" / "control").read_text(), re.MULTILINE)
     assert needed == [version], "Debian's packages need the same version as the wheel"
-    words = [tool("mypy"), "--strict", "--scripts-are-modules", "--no-error-summary", f"--python-version={version}",
-             f"--cache-dir={TOP}/out/mypy-oldest-{which}"]
-    installed = [path for path in scripts("python") if re.match(r"experiments/|tools/gantt$|tools/[^/]*\.py$", path)]
-    words += ["src"] if which == "package" else installed
-    assert_silent(words, TOP / ("python" if which == "package" else ""))
+    assert_silent([tool("mypy"), "--strict", "--no-error-summary", f"--python-version={version}",
+                   f"--cache-dir={TOP}/out/mypy-oldest", "src"], TOP / "python")
 
 
 def test_pyflakes_finds_nothing() -> None:
@@ -83,11 +75,6 @@ def test_pyflakes_finds_nothing() -> None:
 @pytest.mark.parametrize("path", scripts("shell"))
 def test_shellcheck_finds_nothing(path: str) -> None:
     assert_silent([tool("shellcheck"), path])
-
-
-@pytest.mark.parametrize(("shell", "path"), [(shell, path) for shell in ("zsh", "fish") for path in scripts(shell)])
-def test_a_shell_reads_its_completion(shell: str, path: str) -> None:
-    assert_silent([tool(shell), "-n", path])
 
 
 # The rules of the editors

@@ -1,11 +1,10 @@
-"""What has to be believed is listed: DEFINITIONS.md has each definition that the contract of a public function cites,
-but for the laws, which are there by the names of their functions. A page of the site lists each on which one of these
-rests."""
+"""What has to be believed is listed: the page that support/definitions.py prints has each definition that the contract
+of a public function cites, and each on which one of these rests."""
 import pathlib
 import re
 
 import pytest
-from support.definitions import WORD, Definition, all_definitions, cited, page, reached
+from support.definitions import WORD, Definition, all_definitions, page, reached
 
 # Words that the whole program's and the search's promise rest on.
 HEADLINE = ["take_for", "words_for", "neh_cells", "rounds_cells", "solution_text", "PrintsSolution", "ReportsFault",
@@ -14,7 +13,7 @@ HEADLINE = ["take_for", "words_for", "neh_cells", "rounds_cells", "solution_text
 
 
 def test_the_page_of_what_is_reached_has_each(top: pathlib.Path) -> None:
-    rows = re.findall(r"^\| (\S+) \| `([^`]+)` \| .*\|$", page(top / "crates"), re.MULTILINE)
+    rows = re.findall(r"^\| (\S+) \| \*{0,2}`([^`]+)`\*{0,2} \| .*\|$", page(top / "crates"), re.MULTILINE)
     assert sorted(rows) == sorted((each.file, each.name) for each in reached(top / "crates")) and len(rows) > 300
 
 
@@ -60,19 +59,6 @@ def test_no_name_of_a_definition_means_two_things(top: pathlib.Path) -> None:
 
 def test_the_words_of_the_headline_are_reached(top: pathlib.Path) -> None:
     assert set(HEADLINE) - {each.name for each in reached(top / "crates")} == set()
-
-
-def got(top: pathlib.Path) -> set[str]:
-    """The names between backquotes in DEFINITIONS.md."""
-    text = (top / "docs" / "DEFINITIONS.md").read_text()
-    return {name for code in re.findall("`([^`]+)`", text) for name in WORD.findall(code)}
-
-
-def test_each_definition_that_is_cited_is_in_the_page(top: pathlib.Path) -> None:
-    crates = top / "crates"
-    own = all_definitions(crates)
-    missing = {each for each in cited(crates, "laws.rt") if each in own and each.name not in got(top)}
-    assert missing == set()
 
 
 # The list of what is proved
@@ -159,7 +145,7 @@ def test_what_is_reached(item: str, shown: str, wanted: set[Definition], crates:
     assert reached(crates) == wanted
 
 
-def test_the_page_has_the_comments_of_the_definitions(crates: pathlib.Path) -> None:
+def test_the_page_has_the_comments_of_the_definitions_and_marks_what_a_contract_cites(crates: pathlib.Path) -> None:
     assert re.findall(r"^\| (?!File|-).*$|^##.*$", page(crates), re.MULTILINE) \
-        == ["## high", r"| Times | `Fourfold` | four of it, by doubled \| and not by thrice |",
+        == ["## high", r"| Times | **`Fourfold`** | four of it, by doubled \| and not by thrice |",
             "## low", "| Sums | `doubled` | twice the number |"]

@@ -20,7 +20,8 @@ from support.tools import Done, require_debian_module, output_of, run_tool, with
 EXAMPLES = HEADER.parent.parent / "examples"
 README = HEADER.parent.parent / "README.md"
 PAGE = (EXAMPLES / "README.md").read_text()
-SOURCES = [EXAMPLES / name for name in ("audit_orders.c", "gaps.cpp", "neh_ties.c", "own_search.c", "timed_search.c")]
+SOURCES = [EXAMPLES / name for name in ("audit_orders.c", "gaps.cpp", "ig_temperature.c", "neh_ties.c", "own_search.c",
+                                         "timed_search.c")]
 VERSION = (HEADER.parent.parent / "VERSION").read_text().strip()
 STRICT = {"cc": "-std=c99", "c++": "-std=c++17"}
 SEED = 873654221
@@ -63,9 +64,9 @@ def compile_examples(installed: pathlib.Path, folder: pathlib.Path, *options: st
     lines = {compiler: line for line, compiler in re.findall(r"^((cc|c\+\+) .*)$", PAGE, re.MULTILINE)}
     for source in SOURCES:
         compiler = "cc" if source.suffix == ".c" else "c++"
-        assert lines[compiler].endswith("$(pkg-config --cflags --libs pfs)") and STRICT[compiler] in lines[compiler]
+        assert "$(pkg-config --cflags --libs pfs)" in lines[compiler] and STRICT[compiler] in lines[compiler]
         compile_quietly([tool(compiler), STRICT[compiler], "-O2", "-Wall", "-Wextra", "-pedantic", "-Werror",
-                         *options, "-o", folder / source.stem, source, *flags_of(installed)])
+                         *options, "-o", folder / source.stem, source, *flags_of(installed), "-lm"])
     return folder
 
 
@@ -77,7 +78,7 @@ def test_the_page_has_each_example() -> None:
     names = {path.name for path in SOURCES} | {"neh.R", "neh.rs", "neh_cffi.py", "pfs_r.c", "README.md"}
     assert {path.name for path in EXAMPLES.iterdir()} == names
     assert set(re.findall(r"^`(\w+) ", PAGE, re.MULTILINE)) == {path.stem for path in SOURCES}
-    assert all(len(path.read_text().splitlines()) <= 100 for path in SOURCES)
+    assert all(len(path.read_text().splitlines()) <= 105 for path in SOURCES)
 
 
 def run_page(built: pathlib.Path, pfs: Program, folder: pathlib.Path) -> None:
@@ -85,7 +86,7 @@ def run_page(built: pathlib.Path, pfs: Program, folder: pathlib.Path) -> None:
     for path in (*(built / source.stem for source in SOURCES), pfs.path):
         (folder / path.name).symlink_to(path)
     shown = re.findall(r"^\$ (.*)\n((?:(?!\$|```).*\n)*)", PAGE, re.MULTILINE)
-    assert len(shown) == 7
+    assert len(shown) == 8
     for line, text in shown:
         printed = output_of(["sh", "-c", f"{{ {line}; }} 2>&1 || [ $? = 1 ]"], folder, env=with_path(folder))
         assert printed == text, line
@@ -190,18 +191,35 @@ def test_an_own_search_rejects_other_files(built: pathlib.Path, shop: pathlib.Pa
     assert got == Done(2, "", "own_search: empty: the file ends before the block\n")
 
 
+def test_a_search_with_temperature(built: pathlib.Path, pfs: Program, shop: pathlib.Path) -> None:
+    """It finds the best known makespan of this instance, of which a search without temperature stays above."""
+    neh = int(pfs.run("solve --layout taillard shop", shop).stdout.split()[-1])
+    makespans = []
+    for seconds in ("0", "1"):
+        found = run(built, "ig_temperature", "shop", "7", seconds, cwd=shop)
+        assert (found.status, found.stderr) == (0, "")
+        (shop / "found").write_text(found.stdout)
+        assert pfs.run("check --layout taillard shop found", shop).stdout.startswith(b"valid\n")
+        makespans.append(int(found.stdout.split()[-1]))
+    assert neh > makespans[0] >= makespans[1] == 1278
+    assert run(built, "ig_temperature", "shop", "7", "0", cwd=shop).stdout.endswith(f"makespan {makespans[0]}\n")
+
+
 def test_files_that_cannot_be_opened_or_written(built: pathlib.Path, shop: pathlib.Path) -> None:
     got = run(built, "timed_search", "none", "state", "7", "0", cwd=shop)
     assert got == Done(4, "", "timed_search: none: cannot open\n")
     got = run(built, "timed_search", "shop", "none/state", "7", "0", cwd=shop)
     assert got == Done(4, "", "timed_search: none/state.new: cannot open\n")
     assert run(built, "own_search", "none", "1", "1", cwd=shop) == Done(4, "", "own_search: none: cannot open\n")
+    got = run(built, "ig_temperature", "none", "1", "1", cwd=shop)
+    assert got == Done(4, "", "ig_temperature: none: cannot read\n")
     assert run(built, "audit_orders", "none", "x", cwd=shop) == Done(4, "", "audit_orders: none: cannot open\n")
     assert run(built, "audit_orders", "shop", "none", cwd=shop) == Done(4, "", "audit_orders: none: cannot open\n")
 
 
 @pytest.mark.parametrize("words", [["timed_search", "shop", "state", "7", "0"], ["neh_ties", "5", "2", "1"],
-                                   ["own_search", "shop", "3", "7"], ["audit_orders", "shop", "shop"]])
+                                   ["own_search", "shop", "3", "7"], ["ig_temperature", "shop", "7", "0"],
+                                   ["audit_orders", "shop", "shop"]])
 def test_a_full_device_is_reported(built: pathlib.Path, shop: pathlib.Path, words: list[str]) -> None:
     with open("/dev/full", "wb") as full:
         done = subprocess.run([built / words[0], *words[1:]], cwd=shop, stdout=full, stderr=subprocess.PIPE, text=True)

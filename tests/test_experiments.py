@@ -22,6 +22,7 @@ from support.terminals import Terminal
 from support.tools import Done, csv_rows, output_of, run_tool, wait_until, with_path, write_script
 from support.warm import Warm
 
+EXPERIMENTS = pathlib.Path(__file__).resolve().parent.parent / "python" / "src" / "pfs" / "experiments"
 # A replacement of pfs, which notes its arguments, and in these cases does something else, unless the file `fixed`
 # exists.
 REPLACEMENT = """#!/bin/sh
@@ -56,7 +57,8 @@ def assert_refused(got: Done, *said: str) -> None:
 
 def printed_by(top: pathlib.Path, code: str, *words: str | pathlib.Path) -> str:
     """What Python prints of this code, which imports modules of the experiments."""
-    return output_of(["/usr/bin/python3", "-B", "-c", code, *words], top / "experiments")
+    return output_of(["/usr/bin/python3", "-B", "-c", code, *words], EXPERIMENTS,
+                     env=dict(os.environ, PYTHONPATH=str(EXPERIMENTS.parents[1])))
 
 
 # Plans
@@ -111,7 +113,7 @@ INVALID = {
 
 @pytest.mark.parametrize(("text", "named"), INVALID.values(), ids=INVALID)
 def test_an_invalid_plan_is_rejected_with_its_fault(text: str, named: str, experiment: Experiment) -> None:
-    assert_refused(experiment.plan(text).run(), "experiments/run: ", named)
+    assert_refused(experiment.plan(text).run(), "pfs-experiments run: ", named)
     assert sorted(os.listdir(experiment.folder)) == ["plan.toml", "shops"]
 
 
@@ -194,7 +196,7 @@ def test_a_full_disk_is_reported(kib: int, experiment: Experiment) -> None:
     assert done.returncode == 0, done.stderr
     got = (experiment.folder / "report").read_text()
     status = int((experiment.folder / "status").read_text())
-    refused = re.fullmatch("experiments/run: [^\n]*: No space left on device\n", got)
+    refused = re.fullmatch("pfs-experiments run: [^\n]*: No space left on device\n", got)
     assert status == 0 or (status == 2 and refused), got
     assert status == 2 or kib >= 128, "room for all"
     assert (experiment.folder / "halves").read_text() == "", "what is left of files that had no room"
@@ -247,7 +249,7 @@ def test_a_damaged_list_is_reported_on_one_line(name: str, data: bytes, made: Ex
     (made.runs / name).write_bytes(data)
     got = made.plan(PLAN + "repetitions = 2\n").run()
     assert (got.status, got.stdout) == (2, "")
-    assert re.fullmatch("experiments/run: [^\n]*out\\.csv[^\n]*\n", got.stderr), got.stderr[-500:]
+    assert re.fullmatch("pfs-experiments run: [^\n]*out\\.csv[^\n]*\n", got.stderr), got.stderr[-500:]
     assert (made.folder / "out.csv").read_text() == before
 
 
@@ -288,7 +290,7 @@ def test_names_that_are_not_utf8_are_reported_on_one_line(experiment: Experiment
     name = os.fsdecode(b"shops/\xff")
     shutil.copy(experiment.folder / "shops" / "b", experiment.folder / name)
     got = experiment.run()
-    assert got == Done(2, "", "experiments/run: plan.toml: the name b'shops/\\xff' is not UTF-8\n")
+    assert got == Done(2, "", "pfs-experiments run: plan.toml: the name b'shops/\\xff' is not UTF-8\n")
     (experiment.folder / name).rename(experiment.folder / os.fsdecode(b"plan\xff"))
     for words in (["plan\udcff", "out.csv"], ["plan.toml", "\udcff.csv"]):
         assert_refused(experiment.script("run", *words))
@@ -447,7 +449,7 @@ def test_check_audits_the_orders_again(made: Experiment) -> None:
 def test_check_rejects_a_csv_without_orders(experiment: Experiment) -> None:
     (experiment.folder / "old.csv").write_text(f"{OLD_HEAD}\na,20,5,0,4,0,1,1,110,100,10.0000,1000,0.001000,ok\n")
     got = experiment.script("check", "old.csv")
-    assert got == Done(2, "", "experiments/check: old.csv: no column order\n")
+    assert got == Done(2, "", "pfs-experiments check: old.csv: no column order\n")
 
 
 def test_the_csv_has_the_reference_of_the_plan(made: Experiment) -> None:
@@ -566,7 +568,7 @@ def test_a_plan_has_rounds_and_times(experiment: Experiment, with_library: dict[
     assert experiment.plan(plan + "time_factors = [1]\n").run(env=with_library).status == 0
     assert experiment.columns(*HEAD.split(","))[0] == before
     assert experiment.columns("time_factor") == [("",), ("1",)]
-    got = warm.run_tool([experiment.top / "experiments" / "report", "out.csv", "report"], experiment.folder)
+    got = warm.run_tool([experiment.scripts / "pfs-experiments", "report", "out.csv", "report"], experiment.folder)
     assert (got.status, got.stderr) == (0, "")
     rows = experiment.columns("rounds", "time_factor", "runs", csv_name="report/table.csv")
     assert rows == [("", "1", "1"), ("5", "", "1")]
@@ -593,7 +595,7 @@ def started(*words):
 
 
 def timed_by(top: pathlib.Path, libpfs: Library, folder: pathlib.Path, code: str) -> str:
-    for path in (top / "experiments" / "timed.py", libpfs.path):
+    for path in (EXPERIMENTS / "timed.py", libpfs.path):
         shutil.copy(path, folder / path.name.replace(libpfs.path.name, "libpfs.so.0"))
     return output_of(["/usr/bin/python3", "-c", CLOCK + code], folder)
 
@@ -759,7 +761,7 @@ def test_a_command_cannot_change_the_instance_that_audits_it(experiment: Experim
 def test_the_report_compares_another_program_with_pfs(made: Experiment, warm: Warm) -> None:
     assert with_other(made, OTHER.replace(", 2, 3, 4, 5, 6, 7, 8, 9, 10]", ", 3]")).run("mine.csv").status == 1
     (made.folder / "out.csv").rename(made.folder / "pfs.csv")
-    got = warm.run_tool([made.top / "experiments" / "report", "pfs.csv", "mine.csv", "report"], made.folder)
+    got = warm.run_tool([made.scripts / "pfs-experiments", "report", "pfs.csv", "mine.csv", "report"], made.folder)
     assert (got.status, got.stderr) == (0, "")
     rows = made.columns("method", "other_method", "instances", csv_name="report/comparison.csv")
     assert {row for row in rows if row[0] != row[1]} == {("mine", "pfs", "1")}
@@ -857,7 +859,7 @@ def test_the_csv_has_a_failed_run_with_its_status(experiment: Experiment, warm: 
     before = (experiment.folder / "out.csv").read_text()
     assert experiment.run(program=program).status == 1
     assert (experiment.folder / "out.csv").read_text() == before
-    warm.run_tool([experiment.top / "experiments" / "report", "out.csv", "report"], experiment.folder)
+    warm.run_tool([experiment.scripts / "pfs-experiments", "report", "out.csv", "report"], experiment.folder)
     assert experiment.columns("runs", "failed", csv_name="report/table.csv") == [("1", "4")] * 4
 
 
@@ -1229,7 +1231,7 @@ def test_the_last_array_says_how_a_run_ended(top: pathlib.Path, folder: pathlib.
     for age, name in enumerate(("9-1.log", "10-1.log")):
         (folder / "slurm" / name).write_bytes(b"\xff\nrun 1\nslurmstepd: error: %s\n" % name.encode())
         os.utime(folder / "slurm" / name, (age, age))
-    code = "import pathlib, sys, results; print(results.endings(pathlib.Path(sys.argv[1])))"
+    code = "import pathlib, sys; from pfs.experiments import results; print(results.endings(pathlib.Path(sys.argv[1])))"
     assert printed_by(top, code, folder) == "{'1': 'lost: 10-1.log'}\n"
 
 
@@ -1290,12 +1292,12 @@ def test_a_dry_run_prints_the_line_of_slurm(experiment: Experiment) -> None:
     assert run_tool(["sh", "-c", got.stdout], experiment.folder, env=env).status == 0
     words = (experiment.runs / "submitted").read_text().split()
     stage, = (path.name for path in experiment.runs.glob("pfs-experiment-*"))
-    assert words[-2:] == [str(experiment.top / "experiments" / "task"), stage] and "--time=5" in words
+    assert words[-2:] == [str(EXPERIMENTS / "task"), stage] and "--time=5" in words
 
 
 def test_readme_states_the_usual_number_of_tasks(top: pathlib.Path) -> None:
     got = re.search(r"Each of at most ([\d,]+) tasks \(`--tasks`\)", (top / "experiments" / "README.md").read_text())
-    script = (top / "experiments" / "slurm").read_text()
+    script = (EXPERIMENTS / "slurm.py").read_text()
     most = re.search(r"^MOST_TASKS, LEAST_SECONDS = (\d+), 60$", script, re.MULTILINE)
     assert got and most, "the number of tasks"
     assert got[1] == f"{int(most[1]):,}", "the usual number of tasks in experiments/README.md"
@@ -1311,7 +1313,7 @@ def test_slurm_is_asked_to_wait_for_arrays_of_the_same_csv(asked: Callable[..., 
 
 @pytest.fixture(scope="module")
 def page(top: pathlib.Path) -> str:
-    return (top / "share" / "pfs-experiments.1").read_text()
+    return (top / "python" / "pfs-experiments.1").read_text()
 
 
 def test_the_manual_page_has_the_exit_statuses(page: str, experiment: Experiment) -> None:
@@ -1326,7 +1328,7 @@ def test_the_manual_page_has_the_exit_statuses(page: str, experiment: Experiment
     (experiment.folder / "out.csv").write_text(rows.replace(",ok,out.csv.d", ",ok,no.csv.d"))
     wrong = experiment.script("check", "out.csv")
     rejected = [experiment.plan("x = 1\n").run(), experiment.script("run"), experiment.script("check", "none.csv"),
-                run_tool([experiment.top / "experiments" / "taillard"], experiment.folder)]
+                run_tool([experiment.scripts / "pfs-experiments", "taillard"], experiment.folder)]
     assert got[str(made.status)] == "Done.", "the status of a plan whose runs succeed"
     assert "failed" in got[str(failed.status)], "the status of a plan with runs that fail"
     assert "wrong" in " ".join(got[str(wrong.status)].split()), "the status of an audit that finds a wrong order"
@@ -1342,13 +1344,14 @@ def shortened(plan: str) -> str:
 
 @pytest.mark.seconds(20)
 def test_the_examples_of_the_manual_page_lead_to_a_report(page: str, top: pathlib.Path, pfs: Program,
-                                                          folder: pathlib.Path, matplotlib: None) -> None:
+                                                          folder: pathlib.Path, scripts: pathlib.Path,
+                                                          matplotlib: None) -> None:
     """With the plan of the repository in the place of the installed one, and fewer runs."""
     lines = re.findall(r"^\$ (.*)$", page.partition(".Sh EXAMPLES")[2].partition(".Sh ")[0], re.MULTILINE)
     assert len(lines) == 4 and lines[0].split()[0] == "cp", lines
     name = pathlib.Path(lines[0].split()[1]).name
     (folder / name).write_text(shortened((top / "experiments" / name).read_text()))
-    write_script(folder / "bin" / "pfs-experiments", f"#!/bin/sh\nexec {top}/tools/pfs-experiments \"$@\"\n")
+    shutil.copytree(scripts, folder / "bin")
     shutil.copy(pfs.path, folder / "bin" / "pfs")
     for line in lines[1:]:
         got = run_tool(["sh", "-c", line], folder, env=with_path(folder / "bin"))
@@ -1356,30 +1359,30 @@ def test_the_examples_of_the_manual_page_lead_to_a_report(page: str, top: pathli
     assert (folder / "report" / "table.md").exists(), "the report of the manual page"
 
 
-@pytest.mark.parametrize("script", ["run", "slurm", "check", "report", "taillard"])
-def test_a_script_without_words_prints_its_usage(script: str, top: pathlib.Path, folder: pathlib.Path) -> None:
-    """By the name by which it was called: in the repository, and where it is installed."""
-    shutil.copytree(top / "experiments", folder / "libexec" / "pfs" / "experiments",
-                    ignore=shutil.ignore_patterns("out", "__pycache__"))
-    shutil.copy(top / "python" / "src" / "pfs" / "_atomic.py", folder / "libexec" / "pfs" / "experiments")
-    (folder / "bin").mkdir()
-    shutil.copy(top / "tools" / "pfs-experiments", folder / "bin")
-    assert_refused(run_tool([top / "experiments" / script], folder), f"usage: experiments/{script} ")
-    assert_refused(run_tool([folder / "bin" / "pfs-experiments", script], folder), f"usage: pfs-experiments {script} ")
+@pytest.mark.parametrize("command", ["run", "slurm", "check", "report", "taillard"])
+def test_a_command_without_words_prints_its_usage(command: str, scripts: pathlib.Path, folder: pathlib.Path) -> None:
+    got = run_tool([scripts / "pfs-experiments", command], folder)
+    assert_refused(got, f"usage: pfs-experiments {command} ")
+
+
+def test_no_command_and_an_unknown_one_get_the_usage(scripts: pathlib.Path, folder: pathlib.Path) -> None:
+    for words in ("", "one", "../gantt"):
+        got = run_tool([scripts / "pfs-experiments", *words.split()], folder)
+        assert_refused(got, "usage: pfs-experiments run|slurm|")
 
 
 # The whole way
 
 @pytest.mark.seconds(20)
 def test_the_lines_of_the_way_lead_to_the_reports_plots(top: pathlib.Path, pfs: Program, folder: pathlib.Path,
-                                                        matplotlib: None) -> None:
+                                                        scripts: pathlib.Path, matplotlib: None) -> None:
     """In a copy that has the built program, which is taken as it is, and a plan of fewer runs. The lines are those of
     the block that begins with what has to be installed."""
     shutil.copytree(top / "experiments", folder / "experiments", ignore=shutil.ignore_patterns("out", "__pycache__"))
     plan = folder / "experiments" / "example.toml"
     plan.write_text(shortened(plan.read_text()))
-    (folder / "python" / "src" / "pfs").mkdir(parents=True)
-    for name in ("Makefile", "crates.txt", "python/src/pfs/_atomic.py"):
+    shutil.copytree(top / "python" / "src", folder / "python" / "src")
+    for name in ("Makefile", "crates.txt"):
         shutil.copy(top / name, folder / name)
     (folder / "crates" / "pfs" / "out").mkdir(parents=True)
     shutil.copy(pfs.path, folder / "crates" / "pfs" / "out" / "pfs")
@@ -1387,7 +1390,8 @@ def test_the_lines_of_the_way_lead_to_the_reports_plots(top: pathlib.Path, pfs: 
     block, = re.findall(r"```\n(sudo apt-get install parallel .*?)```", page, re.DOTALL)
     lines = [line.partition("#")[0].strip() for line in block.splitlines()]
     assert len(lines) == 6
+    path = f"{scripts}:{folder}/crates/pfs/out:{os.environ['PATH']}"
     for line in lines[1:]:
-        assert run_tool(line.split(" "), folder).status == 0, line
+        assert run_tool(line.split(" "), folder, env=dict(os.environ, PATH=path)).status == 0, line
     assert sorted(os.listdir(folder / "report")) == REPORT_FILES
     assert sum(int(row["runs"]) for row in csv_rows(folder / "report" / "table.csv")) == 3 * (1 + 2 * 3)

@@ -1,17 +1,14 @@
 """The pages that users read, against the built program. Each example of README.md, of the pages on commands and recipes
 and of the manual page is run, and must print what the page shows. The faults, exit statuses, ranges, defaults and
-limits of share/facts.toml, which the pages have in marked blocks, must be the program's."""
-import os
+limits in the tables of docs/ must be the program's, and those of the manual page must be the same."""
 import pathlib
 import re
 import shutil
 import subprocess
 from collections.abc import Callable
-from typing import Any, NamedTuple
+from typing import NamedTuple
 
 import pytest
-from support.facts import EXITS, FACTS, LIMITS, OPTIONS, RANGES
-from support.facts import FAULTS as STATUS_OF_FAULT
 from support.files import USAGE, generated
 from support.lines import ANSWERS, KINDS, PRINTING
 from support.needs import tool
@@ -46,6 +43,29 @@ def table(text: str, *head: str) -> list[list[str]]:
 def section(title: str) -> str:
     """The source of a section of the manual page."""
     return MANUAL.partition(f"\n.Sh {title}\n")[2].partition("\n.Sh ")[0] + "\n"
+
+
+# The tables of facts
+
+class Range(NamedTuple):
+    least: int
+    most: int
+
+
+def range_of(cell: str) -> Range:
+    """The range that a cell begins with, or the greatest number alone."""
+    found = re.match(r"(?:([\d,]+) to )?([\d,]+)", cell)
+    assert found, cell
+    return Range(*(int((part or "0").replace(",", "")) for part in found.groups()))
+
+
+# Each option with its range and its default, as the page has them.
+OPTIONS = {name.strip("`").split()[0]: (values, default)
+           for name, values, default, _ in table(COMMANDS, "Option", "Range", "Default", "Meaning")}
+RANGES = {name: range_of(values) for name, (values, _) in OPTIONS.items() if values[:1].isdigit()}
+LIMITS = {what: range_of(limit) for what, limit in table(COMMANDS, "What", "Limit")}
+EXITS = table(COMMANDS, "Exit status", "When", "Standard error")
+STATUS_OF_FAULT = {text.strip("`"): int(status) for _, text, status in table(FORMATS, "Fault", "Text", "Status")}
 
 
 # Examples
@@ -86,7 +106,7 @@ EXAMPLES = {page: page_examples(page) for page in ("README.md", "docs/COMMANDS.m
 
 
 @pytest.fixture(scope="module")
-def shown(pfs: Program, tmp_path_factory: pytest.TempPathFactory) -> Callable[[Example], str]:
+def shown(pfs: Program, scripts: pathlib.Path, tmp_path_factory: pytest.TempPathFactory) -> Callable[[Example], str]:
     """What the commands of a page print, run one after the other in a folder that is empty at first, with the programs
     that an installation has."""
     printed: dict[str, dict[Example, str]] = {}
@@ -96,7 +116,7 @@ def shown(pfs: Program, tmp_path_factory: pytest.TempPathFactory) -> Callable[[E
             folder = tmp_path_factory.mktemp("page")
             (folder / ".bin").mkdir()
             shutil.copy(pfs.path, folder / ".bin" / "pfs")
-            (folder / ".bin" / "pfs-gantt").symlink_to(TOP / "tools" / "gantt")
+            (folder / ".bin" / "pfs-gantt").symlink_to(scripts / "pfs-gantt")
             printed[example.page] = {each: run_line(each.command, folder) for each in EXAMPLES[example.page]}
         return printed[example.page][example]
     return run
@@ -121,7 +141,7 @@ def test_an_example_prints_what_the_page_shows(example: Example, shown: Callable
 
 @pytest.mark.parametrize("page", EXAMPLES)
 def test_a_page_has_examples(page: str) -> None:
-    assert len(EXAMPLES[page]) > 5
+    assert len(EXAMPLES[page]) > 3
 
 
 # Commands and links
@@ -157,9 +177,8 @@ def test_readme_is_short() -> None:
 
 
 def test_the_page_on_pictures_shows_the_usage_of_gantt() -> None:
-    usage = (TOP / "docs" / "PICTURES.md").read_text().partition("\n`")[2].partition("`")[0]
-    assert usage.startswith("tools/gantt ")
-    assert f"usage: {usage}\n" in (TOP / "tools" / "gantt").read_text().replace('"""', "\n")
+    usage = (TOP / "docs" / "COOKBOOK.md").read_text().partition("\n`pfs-gantt ")[2].partition("`")[0]
+    assert usage and f"usage: pfs-gantt {usage}\n" in (TOP / "python" / "src" / "pfs" / "_gantt.py").read_text().replace('"""', "\n")
 
 
 SLIPS = [re.findall("`([^`]+)`", typed)[0] for typed, _ in table(TROUBLESHOOTING, "Typed", "Reason")]
@@ -205,6 +224,13 @@ def test_the_page_explains_only_these_faults() -> None:
         == {f"pfs: {fault}" for fault in FILE_SLIPS}
 
 
+def test_the_first_change_quotes_the_sources() -> None:
+    crate = TOP / "crates" / "pfs_audit"
+    sources = "\n".join(path.read_text() for path in crate.rglob("*") if path.suffix in {".rt", ".antt"})
+    blocks = re.findall(r"^```\n((?:pub|--) .*?)^```$", (TOP / "CONTRIBUTING.md").read_text(), re.MULTILINE | re.DOTALL)
+    assert len(blocks) == 3 and [block for block in blocks if block not in sources] == []
+
+
 # Faults and exit statuses
 
 def test_the_faults_are_those_of_the_program() -> None:
@@ -215,19 +241,19 @@ def test_the_faults_are_those_of_the_program() -> None:
 
 def test_the_exit_statuses_name_the_faults_that_are_of_no_file() -> None:
     """Each with its status. Faults of files have status 2, and the usage text is not a single line."""
-    named = {text: it["status"] for it in EXITS for text in it.get("faults", ())}
+    named = {text: int(status) for status, _, error in EXITS for text in re.findall("`(pfs: .*?)`", error)}
     assert named == {text: status for text, status in STATUS_OF_FAULT.items() if status != 2 and text != "pfs: usage"}
 
 
-@pytest.mark.parametrize("exit_of", EXITS, ids=[it["when"][:40] for it in EXITS])
-def test_when_the_program_ends_with_a_status(exit_of: dict[str, Any]) -> None:
-    for answer in (ANSWERS.get(line, KINDS.get(line)) for line in WHEN[exit_of["when"]]):
-        assert answer and answer.status == exit_of["status"], exit_of["when"]
-        assert (answer.stderr == b"") == exit_of.keys().isdisjoint({"faults", "error"}), exit_of["when"]
-        assert (answer.stderr == USAGE) == (exit_of.get("error") == "the usage text"), exit_of["when"]
+@pytest.mark.parametrize(("status", "when", "error"), EXITS, ids=[when[:40] for _, when, _ in EXITS])
+def test_when_the_program_ends_with_a_status(status: str, when: str, error: str) -> None:
+    for answer in (ANSWERS.get(line, KINDS.get(line)) for line in WHEN[when]):
+        assert answer and answer.status == int(status), when
+        assert (answer.stderr == b"") == (error == ""), when
+        assert (answer.stderr == USAGE) == (error == "the usage text"), when
 
 
-# Lines and kinds of results of support/lines.py, by what share/facts.toml says of them.
+# Lines and kinds of results of support/lines.py, by what the page says of them.
 WHEN = {
     "done": ["value --layout taillard three"],
     "`check` or `table` printed `wrong size` or `wrong machines`, or `check` printed `wrong makespan`": [
@@ -258,7 +284,7 @@ def verdicts(text: str) -> set[tuple[str, str]]:
 
 
 def test_these_verdicts_end_with_status_1(pfs: Program, worked: pathlib.Path) -> None:
-    text = " ".join(it["when"] for it in EXITS if it["status"] == 1).replace("`", "")
+    text = " ".join(when for status, when, _ in EXITS if status == "1").replace("`", "")
     ran = {pair: pfs.run(f"{pair[0]} --layout taillard three {order}", worked) for pair, order in VERDICTS.items()}
     wanted = {pair for pair, got in ran.items() if got.status == 1 and got.stdout.startswith(pair[1].encode())}
     assert verdicts(text) == wanted
@@ -266,7 +292,7 @@ def test_these_verdicts_end_with_status_1(pfs: Program, worked: pathlib.Path) ->
 
 # Ranges, defaults and limits
 
-def test_each_option_of_the_usage_text_is_a_fact() -> None:
+def test_each_option_of_the_usage_text_is_in_the_table() -> None:
     assert {option for command in commands().values() for option in command.options} == set(OPTIONS)
 
 
@@ -279,7 +305,7 @@ def test_the_range_of_an_option_is_the_programs(option: str, pfs: Program, folde
 
 @pytest.mark.parametrize("option", RANGES)
 def test_a_default_is_as_without_and_one_more_is_not(option: str, pfs: Program, folder: pathlib.Path) -> None:
-    default = OPTIONS[option]["default"]
+    default = range_of(OPTIONS[option][1]).most
     (folder / "shop").write_bytes(generated(20, 5, 1))
     call = "solve --layout taillard --cells shop" + " --rounds=3" * (option != "--rounds")
     without, same, more = (pfs.run(call + words, folder) for words in
@@ -290,7 +316,7 @@ def test_a_default_is_as_without_and_one_more_is_not(option: str, pfs: Program, 
 
 @pytest.mark.parametrize("option", ["--layout", "--from", "--to"])
 def test_a_layout_is_one_of_these(option: str, pfs: Program, worked: pathlib.Path) -> None:
-    names = OPTIONS[option]["names"]
+    names = re.findall("`(.*?)`", OPTIONS[option][0])
     assert set(names) == LAYOUTS
     lines = {"--layout": "value --layout {} none", "--from": "convert --from {} --to orlib none",
              "--to": "convert --from orlib --to {} none"}
@@ -305,7 +331,7 @@ def test_the_default_take_of_fewer_jobs_is_their_number(pfs: Program, worked: pa
 
 
 def test_the_range_of_a_generators_seed_is_the_programs(pfs: Program, folder: pathlib.Path) -> None:
-    least, most = LIMITS["generator_seed"]
+    least, most = LIMITS["seed of `generate`"]
     assert {seed: pfs.run(f"generate 1 1 {seed}", folder).status for seed in (least - 1, least, most, most + 1)} \
         == {least - 1: 2, least: 0, most: 0, most + 1: 2}
 
@@ -319,7 +345,7 @@ def test_the_sizes_of_generate_are_the_programs(pfs: Program, folder: pathlib.Pa
 
 def test_the_limits_of_an_instance_are_the_programs(pfs: Program, folder: pathlib.Path) -> None:
     """Where a size is within its limit the times are missing."""
-    (few, jobs), (fewer, machines), (least, time) = (LIMITS[name] for name in ("jobs", "machines", "time"))
+    (few, jobs), (fewer, machines), (least, time) = (LIMITS[name] for name in ("jobs", "machines", "times"))
     assert (few, fewer, least) == (1, 1, 0), "least sizes and time"
     wanted = {
         f"{jobs} 1 0 0 0": "truncated after 0 times", f"{jobs + 1} 1 0 0 0": "size line 1 is out of range",
@@ -331,7 +357,7 @@ def test_the_limits_of_an_instance_are_the_programs(pfs: Program, folder: pathli
 
 
 def test_the_limit_of_a_size_lines_notes_is_the_programs(pfs: Program, folder: pathlib.Path) -> None:
-    least, most = LIMITS["note"]
+    least, most = LIMITS["seed and bounds of a size line"]
     notes = [f"1 1 {most} {most} {most}", f"1 1 {most + 1} 0 0", f"1 1 0 {most + 1} 0", f"1 1 0 0 {most + 1}"]
     assert least == 0
     assert [fault_in(shop, pfs, folder) for shop in notes] \
@@ -345,7 +371,7 @@ def fault_in(shop: str, pfs: Program, folder: pathlib.Path) -> str:
 
 
 def test_the_limit_of_the_input_is_the_programs(pfs: Program, folder: pathlib.Path) -> None:
-    most = LIMITS["input"].most
+    most = LIMITS["bytes of an instance file up to the end of the wanted block"].most
     ran = []
     for count in (most, most + 1):
         with open(folder / "shop", "wb") as file:
@@ -388,10 +414,10 @@ def test_the_numerals_of_an_order_files_first_line_are_within_the_limits(limit: 
     assert offsets == [text.index("{") + len(str(most)) - 1, text.index("{")], f"beyond the numerals of {text}"
 
 
-@pytest.mark.parametrize(("numeral", "text"), [("job", "order2 3 2\n{} 1 2\nmakespan 0\n"),
-                                               ("makespan", "order2 3 2\n1 2 3\nmakespan {}\n")])
-def test_a_numeral_has_at_most_these_digits(numeral: str, text: str, pfs: Program, worked: pathlib.Path) -> None:
-    most = FACTS["digits"][numeral]
+@pytest.mark.parametrize(("part", "text"), [("`J1 J2 .. JN`", "order2 3 2\n{} 1 2\nmakespan 0\n"),
+                                            ("`V`", "order2 3 2\n1 2 3\nmakespan {}\n")])
+def test_a_numeral_has_at_most_these_digits(part: str, text: str, pfs: Program, worked: pathlib.Path) -> None:
+    most = 1 + int(re.findall(r"at most (\d+) more digits", dict(table(FORMATS, "Part", "What it is"))[part])[0])
     assert syntax(text.format("9" * most), pfs, worked) is None
     assert syntax(text.format("9" * (most + 1)), pfs, worked) == text.index("{") + most
 
@@ -454,12 +480,26 @@ def shown_section(text: str, title: str) -> str:
     return re.sub("^     ", "", found[1], flags=re.MULTILINE)
 
 
+def test_the_manual_page_has_the_ranges_and_defaults_of_the_options() -> None:
+    for option in RANGES:
+        values, default = OPTIONS[option]
+        told = MANUAL.partition(f"\n.It Fl -{option[2:]} Ar ")[2].partition("\n.It ")[0].replace("\n", " ")
+        assert f", {values}. The default is {default}." in told, option
+
+
+def test_the_manual_page_has_the_statuses_and_faults(manual: str) -> None:
+    told = " ".join(shown_section(manual, "EXIT STATUS").lower().split())
+    for status in {status for status, _, _ in EXITS}:
+        whens = ", or ".join(when.replace("`", "").lower() for number, when, _ in EXITS if number == status)
+        assert f"{status} {whens}." in told
+    assert sorted(re.findall(r'^\.It "(pfs: .*)"$', MANUAL, re.MULTILINE)) == sorted(STATUS_OF_FAULT)
+
+
 def test_the_synopsis_is_the_usage_text(manual: str) -> None:
     assert shown_section(manual, "SYNOPSIS").split("\n")[:-2] == LINES
 
 
-TOOL_PATHS = {name: TOP / folder / f"{name}.1" for name, folder in (
-    ("pfs-gantt", "share"), ("pfs-experiments", "share"), ("pfs-plan", "python"))}
+TOOL_PATHS = {path.stem: path for path in (TOP / "python").glob("*.1")}
 TOOL_PAGES = {name: path.read_text() for name, path in TOOL_PATHS.items()}
 
 
@@ -483,23 +523,24 @@ def test_pages_name_the_library_as_it_is_called() -> None:
 
 
 def test_the_page_of_gantt_has_its_options() -> None:
-    usage = (TOP / "tools" / "gantt").read_text().partition("usage: ")[2].partition('"""')[0]
+    usage = (TOP / "python" / "src" / "pfs" / "_gantt.py").read_text().partition("usage: ")[2].partition('"""')[0]
     options = re.findall(r"--([\w-]+)", usage)
     for macro in ("It", "Op"):
         got = re.findall(rf"^\.{macro} Fl -([\w-]+)", TOOL_PAGES["pfs-gantt"], re.MULTILINE)
         assert sorted(got) == sorted(options), f"the options of .{macro} in pfs-gantt.1"
     lines = re.findall(r"^\.Op Fl -([\w-]+)(?: Ar (\w+))?$", TOOL_PAGES["pfs-gantt"], re.MULTILINE)
     assert " ".join(f"[--{option}{' ' * bool(value)}{value}]" for option, value in lines) \
-        == usage.removeprefix("tools/gantt ").partition(" [TABLE]")[0], "the synopsis of pfs-gantt.1"
+        == usage.removeprefix("pfs-gantt ").partition(" [TABLE]")[0], "the synopsis of pfs-gantt.1"
     listed = re.findall(r"^\.It Fl -([\w-]+)(?: Ar (\w+))?$", TOOL_PAGES["pfs-gantt"], re.MULTILINE)
     assert listed == lines, "the list of the options in pfs-gantt.1"
 
 
 def test_the_page_of_experiments_has_its_scripts() -> None:
-    scripts = {path.name for path in (TOP / "experiments").iterdir() if path.is_file() and os.access(path, os.X_OK)}
+    main = (TOP / "python" / "src" / "pfs" / "experiments" / "__main__.py").read_text()
+    scripts = set(re.findall(r'"(\w+)"', main.partition("COMMANDS = (")[2].partition(")")[0]))
     synopsis, listed = (re.findall(rf"^\.{macro} (\w+)$", TOOL_PAGES["pfs-experiments"], re.MULTILINE)
                         for macro in ("Cm", "It Cm"))
-    assert set(synopsis) >= set(listed) == scripts - {"one"}
+    assert set(synopsis) >= set(listed) == scripts
 
 
 @pytest.mark.parametrize("page", ["pfs", *TOOL_PAGES])

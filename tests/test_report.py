@@ -11,6 +11,7 @@ import time
 from collections.abc import Callable
 
 import pytest
+from pfs.experiments import comparison
 from support.colours import least_difference
 from support.experiments import OLD_HEAD, REPORT_FILES
 from support.pictures import Picture, Scale, value_of
@@ -85,10 +86,10 @@ Reported = Callable[..., Done]
 
 
 @pytest.fixture
-def script(top: pathlib.Path, warm: Warm, folder: pathlib.Path) -> Reported:
+def script(scripts: pathlib.Path, warm: Warm, folder: pathlib.Path) -> Reported:
     """Runs the script with these words."""
     def run(*words: str) -> Done:
-        return warm.run_tool([top / "experiments" / "report", *words], folder)
+        return warm.run_tool([scripts / "pfs-experiments", "report", *words], folder)
     return run
 
 
@@ -106,7 +107,7 @@ Plotted = Callable[..., Picture]
 
 
 @pytest.fixture(scope="module")
-def plotted(top: pathlib.Path, warm: Warm, tmp_path_factory: pytest.TempPathFactory) -> Plotted:
+def plotted(scripts: pathlib.Path, warm: Warm, tmp_path_factory: pytest.TempPathFactory) -> Plotted:
     """Pictures of reports, each of which is made once."""
     folders: dict[tuple[str, ...], pathlib.Path] = {}
 
@@ -114,8 +115,8 @@ def plotted(top: pathlib.Path, warm: Warm, tmp_path_factory: pytest.TempPathFact
         if (text, *options) not in folders:
             folder = folders[text, *options] = tmp_path_factory.mktemp("plotted")
             (folder / "out.csv").write_text(text)
-            script = top / "experiments" / "report"
-            got = warm.run_tool([script, "--format", "svg", *options, "out.csv", "report"], folder)
+            words = ["report", "--format", "svg", *options, "out.csv", "report"]
+            got = warm.run_tool([scripts / "pfs-experiments", *words], folder)
             assert got.status == 0, got
         return Picture(folders[text, *options] / "report" / f"{name}.svg", axes)
     return picture
@@ -142,7 +143,7 @@ def test_a_report_has_its_table_and_its_plots(ending: str, report: Reported, fol
 
 def test_of_runs_that_all_failed_there_is_only_the_table(report: Reported, folder: pathlib.Path) -> None:
     got = report(OLD_HEAD + "\na,20,5,0,4,0,1,1,,,,,,solve: signal 9\n")
-    assert got == Done(1, "", "experiments/report: no run succeeded: nothing to plot\n")
+    assert got == Done(1, "", "pfs-experiments report: no run succeeded: nothing to plot\n")
     assert sorted(os.listdir(folder / "report")) == ["table.csv", "table.md"]
 
 
@@ -155,7 +156,7 @@ def test_pictures_are_png_by_default(report: Reported, folder: pathlib.Path) -> 
 def test_an_invalid_csv_is_rejected_and_nothing_is_left(text: str, report: Reported, folder: pathlib.Path) -> None:
     got = report(text)
     assert (got.status, got.stdout) == (2, "")
-    assert re.fullmatch("experiments/report: out.csv: [^\n]+\n", got.stderr), got.stderr
+    assert re.fullmatch("pfs-experiments report: out.csv: [^\n]+\n", got.stderr), got.stderr
     assert not (folder / "report").exists()
 
 
@@ -314,27 +315,27 @@ def test_each_setting_of_a_method_is_compared_by_means_of_the_instances_that_bot
             for row in compared(folder)] == [("0", "4", "2", "0", "0", "2"), ("100", "4", "2", "1", "1", "0")]
 
 
-def test_a_missing_scipy_is_reported(top: pathlib.Path, matplotlib: None, folder: pathlib.Path) -> None:
+def test_a_missing_scipy_is_reported(scripts: pathlib.Path, matplotlib: None, folder: pathlib.Path) -> None:
     (folder / "scipy").mkdir()
     (folder / "scipy" / "__init__.py").write_text("raise ImportError('none')\n")
     for count, wanted, is_said in ((50, f"{2 / 2 ** 50:.4g}", False), (51, "", True)):
         texts = [FEW + "".join(f"i{at},{1000 + more * at},1,1\n" for at in range(1, count + 1)) for more in (1, 2)]
         for name, text in zip(("first.csv", "second.csv"), texts):
             (folder / name).write_text(text)
-        got = run_tool([top / "experiments" / "report", "first.csv", "second.csv", "report"], folder,
+        got = run_tool([scripts / "pfs-experiments", "report", "first.csv", "second.csv", "report"], folder,
                        env=dict(os.environ, PYTHONPATH=str(folder)))
         assert (got.status, got.stderr, "needs SciPy" in got.stdout) == (0, "", is_said)
         row, = compared(folder)
         assert (row["won"], row["p"]) == (str(count), wanted)
 
 
-def test_a_missing_matplotlib_is_reported(top: pathlib.Path, folder: pathlib.Path) -> None:
+def test_a_missing_matplotlib_is_reported(scripts: pathlib.Path, folder: pathlib.Path) -> None:
     """Before anything is written."""
     (folder / "matplotlib.py").write_text("raise ImportError('no matplotlib')\n")
     (folder / "out.csv").write_text(REPORTED)
-    got = run_tool([top / "experiments" / "report", "out.csv", "report"], folder,
+    got = run_tool([scripts / "pfs-experiments", "report", "out.csv", "report"], folder,
                    env=dict(os.environ, PYTHONPATH=str(folder)))
-    assert got == Done(2, "", "experiments/report: no matplotlib\n")
+    assert got == Done(2, "", "pfs-experiments report: no matplotlib\n")
     assert not (folder / "report").exists(), "what is written before matplotlib is missed"
 
 
@@ -343,7 +344,7 @@ def test_a_missing_matplotlib_is_reported(top: pathlib.Path, folder: pathlib.Pat
 def test_the_columns_that_a_csv_lacks_are_named(text: str, named: str, methods: Reported,
                                                 folder: pathlib.Path) -> None:
     got = methods(REPORTED, text)
-    assert got == Done(2, "", f"experiments/report: second.csv: no column {named}\n")
+    assert got == Done(2, "", f"pfs-experiments report: second.csv: no column {named}\n")
     assert not (folder / "report").exists()
 
 
@@ -375,7 +376,7 @@ def test_instances_without_a_reference_have_no_rpd(methods: Reported, folder: pa
     texts = [head + "".join(f"{name}{at},{1100 + seed},{seed},{reference}\n" for at in range(3) for seed in (1, 2))
              for name, reference in (("i", "1000"), ("I", ""))]
     got = methods(*texts)
-    assert (got.status, got.stderr) == (0, "experiments/report: first and second have no instance in common\n")
+    assert (got.status, got.stderr) == (0, "pfs-experiments report: first and second have no instance in common\n")
     assert percents(folder) == ["10.150", ""]
     assert "\n6 runs of 3 instances have no reference, and no RPD: I0, I1, I2.\n" in got.stdout
     assert compared(folder) == []
@@ -387,7 +388,7 @@ def test_a_reference_has_one_makespan_of_an_instance(report: Reported, folder: p
     """It may be given twice."""
     (folder / "best.csv").write_text("instance,makespan\na,100\nb,50\na,101\n")
     got = report(REPORTED, "--reference", "best.csv")
-    assert (got.status, got.stderr) == (2, "experiments/report: best.csv: a has two makespans\n"), "one is taken"
+    assert (got.status, got.stderr) == (2, "pfs-experiments report: best.csv: a has two makespans\n"), "one is taken"
     (folder / "best.csv").write_text("instance,makespan\na,100\nb,50\na,100\n")
     assert report(REPORTED, "--reference", "best.csv").status == 0
     assert percents(folder)[1] == "75.000"
@@ -472,11 +473,10 @@ def test_holms_correction_is_for_all_pairs(report: Reported, folder: pathlib.Pat
     assert corrected == pytest.approx([6 / 64, 12 / 64, 34 / 64], rel=1e-3), "p with Holm's correction"
 
 
-def test_no_corrected_probability_is_less_than_one_before(top: pathlib.Path) -> None:
+def test_no_corrected_probability_is_less_than_one_before() -> None:
     """Nor is one greater than 1."""
-    code = "import comparison; print([comparison.holm([0.04, None, 0.03, 0.05]), comparison.holm([0.9, 0.5])])"
-    got = run_tool(["/usr/bin/python3", "-B", "-c", code], top / "experiments")
-    assert got == Done(0, "[[0.09, None, 0.09, 0.09], [1.0, 1.0]]\n", "")
+    assert comparison.holm([0.04, None, 0.03, 0.05]) == [0.09, None, 0.09, 0.09]
+    assert comparison.holm([0.9, 0.5]) == [1.0, 1.0]
 
 
 def test_settings_of_one_method_are_compared(report: Reported, folder: pathlib.Path) -> None:
@@ -641,7 +641,7 @@ def test_rounds_have_a_logarithmic_scale(report: Reported, folder: pathlib.Path)
 
 @pytest.mark.seconds(6)
 @pytest.mark.parametrize("ending", ["svg", "pdf"])
-def test_a_report_made_again_has_the_same_bytes(ending: str, top: pathlib.Path, script: Reported,
+def test_a_report_made_again_has_the_same_bytes(ending: str, scripts: pathlib.Path, script: Reported,
                                                 folder: pathlib.Path) -> None:
     """The second report is made more than a second later, as a user does it, by a process whose sets and hashes
     differ."""
@@ -654,7 +654,7 @@ def test_a_report_made_again_has_the_same_bytes(ending: str, top: pathlib.Path, 
 
     first = files_of(script(*words))
     time.sleep(1.1)
-    second = files_of(run_tool([top / "experiments" / "report", *words], folder))
+    second = files_of(run_tool([scripts / "pfs-experiments", "report", *words], folder))
     assert [name for name in first if first[name] != second[name]] == [], "files that differ"
 
 

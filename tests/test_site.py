@@ -103,7 +103,7 @@ def test_each_function_and_macro_of_the_header_is_in_the_site(site: pathlib.Path
 
 
 def test_the_definitions_are_in_the_site(site: pathlib.Path) -> None:
-    assert ">best_place<" in (site / "docs" / "REACHED.html").read_text()
+    assert ">best_place<" in (site / "docs" / "DEFINITIONS.html").read_text()
 
 
 # In the place of Sphinx, which takes long: the pages of a site by their names, and the list of its names.

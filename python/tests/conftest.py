@@ -43,7 +43,7 @@ def pytest_configure(config: pytest.Config) -> None:
     if found and found.origin and pathlib.Path(found.origin).is_relative_to(SOURCES) and built.exists():
         os.environ.setdefault("PFS_LIBRARY", str(built.resolve()))
     try:
-        importlib.import_module("pfs")
+        importlib.import_module("pfs._library")
     except ImportError as error:
         raise pytest.UsageError(f"{error}; `make lib` proves and builds {built}") from None
 

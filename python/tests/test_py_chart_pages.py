@@ -378,7 +378,7 @@ def assert_columns(bars: list[tuple[float, float, str]], made: pfs.Schedule, mac
     """The bars that are drawn of a machine leave no gap in which it is busy for more than two pixels, and each has the
     colour of the operation that starts there."""
     colours = ["#" + "".join(f"{round(255 * part):02x}" for part in colour)
-               for colour in importlib.import_module("pfs._chart")._gantt.colours(range(1, len(made.order) + 1))]
+               for colour in importlib.import_module("pfs._drawing").colours(range(1, len(made.order) + 1))]
     starts, ends = made.starts[:, machine], made.ends[:, machine]
     places = {start: place for place, start in enumerate(starts.tolist()) if ends[place] > start}
     due = [colours[places[round(start)]] if round(start) in places else "none" for start, _, _ in bars]

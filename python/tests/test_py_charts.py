@@ -1,4 +1,4 @@
-"""Charts: pictures by the drawing of tools/gantt, and pages that are looked at in a browser."""
+"""Charts: pictures, and pages that are looked at in a browser."""
 import json
 import os
 import pathlib

@@ -433,11 +433,8 @@ def test_solutions_that_no_file_holds(order: list[int], span: int, why: str) -> 
         pfs.Solution(order, span).to_text()
 
 
-def test_the_copy_of_taillards_seeds(pytestconfig: pytest.Config) -> None:
-    here = pathlib.Path(__file__).resolve().parents[2]
-    listed = here / "experiments" / "taillard.csv"
-    copy = pathlib.Path(pfs.__file__).with_name("taillard.csv")
-    assert copy.read_bytes() == listed.read_bytes()
+def test_taillards_seeds_are_those_of_the_list() -> None:
+    listed = pathlib.Path(pfs.__file__).with_name("taillard.csv")
     rows = [row.split(",") for row in listed.read_text().splitlines()[1:]]
     assert len(rows) == 120
     for number, (name, jobs, machines, seed, lower) in enumerate(rows, 1):
@@ -446,11 +443,8 @@ def test_the_copy_of_taillards_seeds(pytestconfig: pytest.Config) -> None:
                                                                        int(lower))
 
 
-def test_the_copy_of_the_best_known_makespans() -> None:
-    here = pathlib.Path(__file__).resolve().parents[2]
-    listed = here / "experiments" / "best_known.csv"
-    copy = pathlib.Path(pfs.__file__).with_name("best_known.csv")
-    assert copy.read_bytes() == listed.read_bytes()
+def test_upper_bounds_are_the_best_known_makespans() -> None:
+    listed = pathlib.Path(pfs.__file__).with_name("best_known.csv")
     for number, row in enumerate(listed.read_text().splitlines()[1:], 1):
         name, makespan = row.split(",")[:2]
         shop = pfs.taillard(number)

@@ -2,6 +2,7 @@
 import doctest
 import importlib
 import inspect
+import io
 import os
 import pathlib
 import pkgutil
@@ -16,6 +17,7 @@ from pfs import _library, _search
 
 HERE = pathlib.Path(__file__).resolve().parents[1]
 PAGE = HERE / "README.md"
+PLAN = HERE.parent / "docs" / "PLAN.md"
 MODULES = sorted(module.name for module in pkgutil.iter_modules(pfs.__path__) if module.name != "__main__")
 
 
@@ -109,28 +111,37 @@ def test_a_status_that_readme_states_is_the_commands(tmp_path: pathlib.Path, wha
     assert "the order is never lost, and the status is 4" in text
 
 
-def test_the_readme(tmp_path: pathlib.Path, monkeypatch: pytest.MonkeyPatch) -> None:
-    pytest.importorskip("pandas")
+@pytest.fixture
+def files(tmp_path: pathlib.Path, monkeypatch: pytest.MonkeyPatch) -> pathlib.Path:
+    """The folder in which the pages' examples run, with the files that they read."""
     monkeypatch.chdir(tmp_path)
-    assert doctest.testfile(str(PAGE), module_relative=False, encoding="utf-8").failed == 0
-    assert (tmp_path / "chart.svg").exists() and (tmp_path / "chart.html").exists()
+    pfs.taillard(1).write("ta001")
+    table, = re.findall(r"^\$ cat times.csv\n(.*?)^\$ ", PLAN.read_text(), re.MULTILINE | re.DOTALL)
+    (tmp_path / "times.csv").write_text(table)
+    return tmp_path
 
 
-def test_the_readmes_command_lines(tmp_path: pathlib.Path, program: str) -> None:
+@pytest.mark.parametrize("page", [PAGE, PLAN], ids=lambda page: page.name)
+def test_a_page_in_python(page: pathlib.Path, files: pathlib.Path) -> None:
+    pytest.importorskip("pandas")
+    tests = doctest.testfile(str(page), module_relative=False, encoding="utf-8")
+    assert tests.failed == 0 and tests.attempted > 5
+
+
+@pytest.mark.parametrize("page", [PAGE, PLAN], ids=lambda page: page.name)
+def test_the_command_lines_of_a_page(page: pathlib.Path, files: pathlib.Path, program: str) -> None:
     """Each console block prints what the page shows."""
-    pfs.taillard(1).write(tmp_path / "ta001")
-    table = re.search(r'write_text\("""(.*?)"""', PAGE.read_text(), re.DOTALL)
-    assert table
-    (tmp_path / "times.csv").write_text(re.sub(r"^\.\.\. ", "", table[1], flags=re.MULTILINE))
+    for name, words in (("python3", ""), ("pfs-plan", "-m pfs plan")):
+        (files / name).write_text(f'#!/bin/sh\nexec {shlex.quote(sys.executable)} {words} "$@"\n')
+        (files / name).chmod(0o755)
     env = os.environ | {"PYTHONPATH": str(pathlib.Path(pfs.__file__).parents[1]), "PYTHONDONTWRITEBYTECODE": "1",
-                        "PATH": f"{pathlib.Path(program).parent}:{os.environ['PATH']}"}
-    blocks = re.findall(r"```console\n(.*?)```", PAGE.read_text(), re.DOTALL)
-    assert len(blocks) == 3
+                        "PATH": f"{files}:{pathlib.Path(program).parent}:{os.environ['PATH']}"}
+    blocks = re.findall(r"```console\n(.*?)```", page.read_text(), re.DOTALL)
+    assert blocks
     for block in blocks:
-        lines = [line[2:].replace("python3 ", shlex.quote(sys.executable) + " ", 1) for line in block.splitlines()
-                 if line.startswith("$ ")]
+        lines = [line[2:] for line in block.splitlines() if line.startswith("$ ")]
         due = "".join(line + "\n" for line in block.splitlines() if not line.startswith("$ "))
-        done = subprocess.run(["sh", "-e", "-c", "\n".join(lines)], cwd=tmp_path, env=env, text=True,
+        done = subprocess.run(["sh", "-e", "-c", "\n".join(lines)], cwd=files, env=env, text=True,
                               stdout=subprocess.PIPE, stderr=subprocess.STDOUT)
         assert (done.returncode, done.stdout) == (0, due)
 
@@ -155,20 +166,16 @@ def test_compare(tmp_path: pathlib.Path) -> None:
     assert (tmp_path / "out" / "compare.png").read_bytes().startswith(b"\x89PNG")
 
 
-@pytest.mark.seconds(10)
-def test_ruiz_stuetzle(tmp_path: pathlib.Path) -> None:
-    pytest.importorskip("matplotlib")
-    script = HERE / "examples" / "ruiz_stuetzle.py"
-    assert len(script.read_text().splitlines()) <= 80
+@pytest.mark.seconds(5)
+def test_ig_temperature(tmp_path: pathlib.Path) -> None:
+    """Its processor time has that of the start. It finds a best known makespan."""
+    script, shop = HERE / "examples" / "ig_temperature.py", pfs.taillard(1)
+    shop.write(tmp_path / "ta001")
     env = os.environ | {"PYTHONPATH": str(pathlib.Path(pfs.__file__).parents[1]), "PYTHONDONTWRITEBYTECODE": "1"}
-    words = [sys.executable, str(script), "8", "search.png", "1", "31"]
-    done = subprocess.run(words, cwd=tmp_path, env=env, capture_output=True, text=True, timeout=300)
-    assert (done.returncode, done.stderr) == (0, "")
-    lines = re.findall(r"^(ta\d{3}) (with temperature|solve): (\d+), RPD (-?\d+\.\d\d) %$", done.stdout, re.MULTILINE)
-    assert len(lines) == 4 == len(done.stdout.splitlines())
-    for name, method, makespan, rpd in lines:
-        shop = pfs.taillard(int(name[2:]))
-        assert shop.bound() <= int(makespan) <= shop.neh().makespan
-        assert float(rpd) == pytest.approx(100 * (int(makespan) / shop.upper - 1), abs=0.006)
-    assert {name for name, *_ in lines} == {"ta001", "ta031"}
-    assert (tmp_path / "search.png").read_bytes().startswith(b"\x89PNG")
+    for words, most in (("ta001", "1", "0"), shop.neh().makespan), (("ta001", "1", "2"), shop.upper):
+        done = subprocess.run([sys.executable, script, *words], cwd=tmp_path, env=env, capture_output=True, timeout=300)
+        assert (done.returncode, done.stderr) == (0, b"")
+        check = shop.check(pfs.read_order(io.BytesIO(done.stdout)))
+        assert check.valid and check.makespan is not None and check.makespan <= most
+    done = subprocess.run([sys.executable, script, "ta001"], env=env, capture_output=True, timeout=300)
+    assert (done.returncode, done.stderr) == (1, b"usage: ig_temperature.py INSTANCE SEED SECONDS\n")

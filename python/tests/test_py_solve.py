@@ -645,18 +645,19 @@ def test_an_event_of_another_thread_ends_searches_soon() -> None:
     timer.join()
 
 
-def test_a_search_by_time_continues_with_the_next_seed(monkeypatch: pytest.MonkeyPatch) -> None:
-    """After round 1,000,000 with round 0 of the next seed, from the order that it has come to."""
+def test_a_search_by_time_continues_with_another_seed(monkeypatch: pytest.MonkeyPatch) -> None:
+    """After round 1,000,000 with round 0 of the seed that the plans of experiments continue with."""
     shop = pfs.generate(6, 3, 1)
     Clock(1 / 1024).patch(monkeypatch)
     got: list[int] = []
     words: dict[str, Any] = {"start": range(6), "take": 2, "target": 0, "history": True}
     found = shop.solve(time_limit=300 / 1024, first=999_900, seed=2**64 - 1, progress=lambda made, _: got.append(made),
                        **words)
-    assert (found.seed, found.rounds) == (0, got[-1] - 100) and got == sorted(set(got)) and got[-1] > 250
+    next_seed = 11400714819323198485 - 1
+    assert (found.seed, found.rounds) == (next_seed, got[-1] - 100) and got == sorted(set(got)) and got[-1] > 250
     before = shop.solve(100, first=999_900, seed=2**64 - 1, start=range(6), take=2)
     assert (before.seed, before.rounds) == (2**64 - 1, 1_000_000)
-    after = shop.solve(got[-1] - 100, start=before, seed=0, take=2)
+    after = shop.solve(got[-1] - 100, start=before, seed=next_seed, take=2)
     assert (found.order.tolist(), found.cells) == (after.order.tolist(), before.cells + after.cells)
     assert found.history[0].round == 999_900
     # A number of rounds doesn't go beyond the last one of its seed.

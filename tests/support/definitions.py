@@ -138,11 +138,12 @@ def reached(crates: pathlib.Path) -> set[Definition]:
 
 # The page
 
-HEADING = """# What the contracts rest on
+HEADING = """# Definitions
 
-Each definition that the contracts of public functions cite, and each that these are written with, down to std and \
-the kit's crates, with its comment in the source. [DEFINITIONS.md](DEFINITIONS.md) has those that are cited in plain \
-words, and is the page to begin with. `tests/support/definitions.py` makes this page of the sources.
+A proof is worth as much as the definitions in its statement. This is what a reader has to believe: in bold each \
+definition that the contract of a public function cites, and below them each that these are written with, down to std \
+and the kit's crates. The comments are those of the sources, `crates/CRATE/specs/FILE.antt`. Jobs, machines, rows and \
+places count from 0; only the places in an order file's faults count from 1, as blocks and lines of files do.
 """
 
 
@@ -160,13 +161,15 @@ def comments_of(path: pathlib.Path) -> dict[str, str]:
 
 def page(crates: pathlib.Path) -> str:
     lines = [HEADING]
-    found = sorted(reached(crates))
+    found, first = sorted(reached(crates)), cited(crates)
     for crate in sorted({each.crate for each in found}):
         lines += [f"\n## {crate}\n\n| File | Name | What it says |\n|---|---|---|\n"]
         for file in sorted({each.file for each in found if each.crate == crate}):
             comments = comments_of(crates / crate / "specs" / f"{file.replace('.', '/')}.antt")
-            names = [each.name for each in found if (each.crate, each.file) == (crate, file)]
-            lines += [f"| {file} | `{name}` | {comments.get(name, '')} |\n" for name in names]
+            here = [each for each in found if (each.crate, each.file) == (crate, file)]
+            for each in sorted(here, key=lambda each: (each not in first, each.name)):
+                name = f"**`{each.name}`**" if each in first else f"`{each.name}`"
+                lines.append(f"| {file} | {name} | {comments.get(each.name, '')} |\n")
     return "".join(lines)
 
 

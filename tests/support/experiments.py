@@ -57,7 +57,7 @@ class Row(NamedTuple):
 
 class Experiment(NamedTuple):
     """A folder with shops and a plan, and the program that its runs are made with."""
-    top: pathlib.Path
+    scripts: pathlib.Path
     folder: pathlib.Path
     pfs: Program
 
@@ -71,7 +71,7 @@ class Experiment(NamedTuple):
         return run_tool(self.words(name, *words, program=program), self.folder, **how)
 
     def words(self, name: str, *words: str, program: pathlib.Path | None = None) -> list[str | pathlib.Path]:
-        return [self.top / "experiments" / name, "--pfs", program or self.pfs.path, *words]
+        return [self.scripts / "pfs-experiments", name, "--pfs", program or self.pfs.path, *words]
 
     def run(self, csv_name: str = "out.csv", *words: str, program: pathlib.Path | None = None, **how: Any) -> Done:
         """Makes the runs of the plan by GNU parallel."""
@@ -182,13 +182,13 @@ class Gate:
 
 
 @pytest.fixture
-def experiment(top: pathlib.Path, pfs: Program, folder: pathlib.Path) -> Experiment:
+def experiment(scripts: pathlib.Path, pfs: Program, folder: pathlib.Path) -> Experiment:
     """The shops and the plan, in a new folder."""
-    return planned(top, pfs, folder)
+    return planned(scripts, pfs, folder)
 
 
-def planned(top: pathlib.Path, pfs: Program, folder: pathlib.Path, text: str = PLAN) -> Experiment:
-    made = Experiment(top, folder, pfs)
+def planned(scripts: pathlib.Path, pfs: Program, folder: pathlib.Path, text: str = PLAN) -> Experiment:
+    made = Experiment(scripts, folder, pfs)
     (folder / "shops").mkdir()
     for name, size in SHOPS.items():
         (folder / "shops" / name).write_text(made.printed("generate", *map(str, size)))
@@ -199,7 +199,7 @@ Finished = Callable[[str], pathlib.Path]
 
 
 @pytest.fixture(scope="session")
-def finished(top: pathlib.Path, pfs: Program, pytestconfig: pytest.Config,
+def finished(scripts: pathlib.Path, pfs: Program, pytestconfig: pytest.Config,
              tmp_path_factory: pytest.TempPathFactory) -> Finished:
     """Makes the runs of a plan with this text once for all processes of a run of pytest (-n), and returns the
     folder."""
@@ -213,7 +213,7 @@ def finished(top: pathlib.Path, pfs: Program, pytestconfig: pytest.Config,
             if not place.exists():
                 # It gets its name when all is made.
                 folder = tmp_path_factory.mktemp("finished")
-                done = planned(top, pfs, folder, text).run()
+                done = planned(scripts, pfs, folder, text).run()
                 assert (done.status, done.stdout) == (0, ""), done
                 folder.rename(place)
         return place

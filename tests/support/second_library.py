@@ -7,8 +7,8 @@ from collections.abc import Callable, Iterator, Sequence
 
 from support import second_program
 from support.library import Answer, Memory, Number, read32, u32s, u64s
-from support.second_program import (MOST_JOBS, MOST_MACHINES, MOST_SEED, MOST_TIME, Instance, Pcg32, Stop, ends_of,
-                                    makespan)
+from support.second_program import (LONGEST_TIME, MOST_GENERATOR_SEED, MOST_JOBS, MOST_MACHINES, Instance, Pcg32, Stop,
+                                    ends_of, makespan)
 
 OK, SIZE, LENGTH, TIME, JOB, REPEATED, TAKE, PASSES, ROUNDS, SEED, LAYOUT, BLOCK, MAKESPAN, ROOM = 0, *range(2, 15)
 MOST_ROUNDS = 1_000_000
@@ -61,7 +61,7 @@ def instance_of(times: bytearray, length: int, jobs: int, machines: int, lengths
     expect_sizes(jobs, machines)
     expect(length == jobs * machines and lengths_fit, LENGTH)
     numbers = read32(times)[:length]
-    expect(max(numbers) <= MOST_TIME, TIME)
+    expect(max(numbers) <= LONGEST_TIME, TIME)
     shop = Instance(jobs, machines, [0, 0, 0])
     shop.times = [numbers[machine::machines] for machine in range(machines)]
     return shop
@@ -236,7 +236,7 @@ def pfs_random(seed: int, first: int, words: bytearray, length: int) -> None:
 
 def pfs_generate(jobs: int, machines: int, seed: int, times: bytearray, length: int) -> None:
     expect_sizes(jobs, machines)
-    expect(1 <= seed <= MOST_SEED, SEED)
+    expect(1 <= seed <= MOST_GENERATOR_SEED, SEED)
     expect(length == jobs * machines, LENGTH)
     put32(times, by_job(second_program.generated(jobs, machines, seed)))
 

@@ -7,14 +7,14 @@ import re
 from collections.abc import Callable, Iterable, Iterator, Mapping, Sequence
 from typing import Any
 
-MOST_BYTES = 67_108_864
-MOST_ORDER_BYTES = 65_536
+LONGEST_INPUT = 67_108_864
+LONGEST_ORDER_FILE = 65_536
 MOST_JOBS = 5_000
 MOST_MACHINES = 200
-MOST_TIME = 1_000_000_000
+LONGEST_TIME = 1_000_000_000
 MOST_NOTE = 4_294_967_295
 # The greatest seed of Taillard's generator.
-MOST_SEED = 2_147_483_646
+MOST_GENERATOR_SEED = 2_147_483_646
 
 USAGE = b"""pfs: usage
 pfs value --layout L [--block K] FILE
@@ -183,7 +183,7 @@ class Body:
         if self.layout == b"orlib" and self.count % 2 == 0:
             if value != machine:
                 raise refused(b"wrong machine number at %d", offset)
-        elif value > MOST_TIME:
+        elif value > LONGEST_TIME:
             raise refused(b"time out of range at %d", offset)
         else:
             self.shop.times[machine][job] = value
@@ -210,8 +210,8 @@ def read_instance(text: Contents, layout: bytes, wanted: int) -> Instance:
     """The instance of the wanted block, whose bytes end within the limit."""
     if text is None:
         raise Stop(b"pfs: read failed\n", 4)
-    head = text[:MOST_BYTES]
-    cut = len(text) > MOST_BYTES
+    head = text[:LONGEST_INPUT]
+    cut = len(text) > LONGEST_INPUT
     body: Body | None = None
     found = 0
     for number, (offset, line) in enumerate(lines_of(head), 1):
@@ -263,7 +263,7 @@ def read_order(text: Contents) -> tuple[list[int], int | None, int]:
     """The jobs of an order file, counted from 1, the machines, if it states them, and the makespan that it states."""
     if text is None:
         raise Stop(b"pfs: order file read failed\n", 4)
-    if len(text) > MOST_ORDER_BYTES:
+    if len(text) > LONGEST_ORDER_FILE:
         raise refused(b"order file too long")
     parts = text.split(b"\n")
     if len(parts) != 4 or not can_be_completed(text):
@@ -439,7 +439,7 @@ class Pcg32:
 
 
 def generated(jobs: int, machines: int, seed: int) -> Instance:
-    if not 1 <= seed <= MOST_SEED:
+    if not 1 <= seed <= MOST_GENERATOR_SEED:
         raise refused(b"seed out of range")
     shop = Instance(jobs, machines, [seed, 0, 0])
     for machine in range(machines):

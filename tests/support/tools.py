@@ -1,4 +1,4 @@
-"""Runs of the scripts in tools/ and experiments/, and what they need."""
+"""Runs of scripts, and what they need."""
 import csv
 import importlib.machinery
 import importlib.util
@@ -7,12 +7,14 @@ import pathlib
 import subprocess
 import sys
 import time
+import tomllib
 from collections.abc import Callable, Sequence
 from typing import Any, NamedTuple
 
 import pytest
 from support.needs import not_installed
 
+TOP = pathlib.Path(__file__).resolve().parent.parent.parent
 # A script that takes longer hangs.
 MOST_SECONDS = 120.0
 
@@ -88,6 +90,25 @@ def stop(process: subprocess.Popen[Any]) -> None:
 def with_path(folder: pathlib.Path) -> dict[str, str]:
     """The environment with this folder first in PATH."""
     return dict(os.environ, PATH=f"{folder}:{os.environ['PATH']}")
+
+
+LAUNCHER = """#!/usr/bin/python3 -B
+import sys
+sys.path.insert(0, "{sources}")
+from {module} import {function}
+sys.exit({function}())
+"""
+
+
+@pytest.fixture(scope="session")
+def scripts(tmp_path_factory: pytest.TempPathFactory) -> pathlib.Path:
+    """A folder with the console scripts of the package, as pip makes them."""
+    folder = tmp_path_factory.mktemp("scripts")
+    settings = tomllib.loads((TOP / "python" / "pyproject.toml").read_text())
+    for name, entry in settings["project"]["scripts"].items():
+        module, function = entry.split(":")
+        write_script(folder / name, LAUNCHER.format(sources=TOP / "python" / "src", module=module, function=function))
+    return folder
 
 
 @pytest.fixture(scope="session")

@@ -13,18 +13,38 @@ Jobs, machines and places count from 0, as arrays do; in files jobs count from 1
 
 The library ``libpfs`` does the computing. Its results are proved correct for every input.
 """
-from pfs._all import solve_all
-from pfs._calendar import Calendar
-from pfs._faults import Fault, FileFault, Interrupted, InterruptedAll, OrderFault, TableFault
-from pfs._files import from_frame, generate, parse_order, read, read_all, read_order, taillard
-from pfs._instance import Instance, Place, Sequence
-from pfs._schedule import Schedule
-from pfs._solution import Improvement, Solution
-from pfs._tables import read_csv
 from pfs._version import VERSION as __version__
 
+# Not the one of typing: `__main__` has to be run before any other module is imported.
+TYPE_CHECKING = False
+if TYPE_CHECKING:
+    from pfs._all import solve_all
+    from pfs._audit import Audited, audit
+    from pfs._calendar import Calendar
+    from pfs._faults import Fault, FileFault, Interrupted, InterruptedAll, OrderFault, TableFault
+    from pfs._files import from_frame, generate, parse_order, read, read_all, read_order, taillard
+    from pfs._instance import Check, Instance, Place, Sequence
+    from pfs._schedule import Schedule
+    from pfs._solution import Improvement, Solution
+    from pfs._tables import read_csv
+else:
+    def __getattr__(name: str) -> object:
+        """Import a name of the package at its first use: `pfs-gantt` and `pfs.experiments` need no library."""
+        import importlib
+        if name in __all__:
+            for module in ("_all", "_audit", "_calendar", "_faults", "_files", "_instance", "_schedule", "_solution",
+                           "_tables"):
+                found = vars(importlib.import_module(f"pfs.{module}"))
+                if name in found:
+                    return globals().setdefault(name, found[name])
+        raise AttributeError(f"module 'pfs' has no attribute {name!r}")
+
 __all__ = [
-    "Calendar", "Fault", "FileFault", "Improvement", "Instance", "Interrupted", "InterruptedAll", "OrderFault", "Place",
-    "Schedule", "Sequence", "Solution", "TableFault", "__version__", "from_frame", "generate", "parse_order", "read",
-    "read_all", "read_csv", "read_order", "solve_all", "taillard",
+    "Audited", "Calendar", "Check", "Fault", "FileFault", "Improvement", "Instance", "Interrupted", "InterruptedAll",
+    "OrderFault", "Place", "Schedule", "Sequence", "Solution", "TableFault", "__version__", "audit", "from_frame",
+    "generate", "parse_order", "read", "read_all", "read_csv", "read_order", "solve_all", "taillard",
 ]
+
+
+def __dir__() -> list[str]:
+    return sorted({*globals(), *__all__})

@@ -4,14 +4,14 @@ from __future__ import annotations
 import math
 import re
 from bisect import bisect_left, bisect_right
-from collections.abc import Iterable, Iterator
-from datetime import datetime, timedelta
-from itertools import accumulate
-from typing import TYPE_CHECKING
+from collections.abc import Collection, Iterable, Iterator
+from datetime import date, datetime, timedelta
+from itertools import accumulate, chain, islice, pairwise
+from typing import TYPE_CHECKING, NamedTuple
 
 import numpy as np
 
-from pfs._names import UNITS_OF_TIME
+from pfs._names import seconds_in
 
 if TYPE_CHECKING:
     from pfs._validate import Order
@@ -26,6 +26,11 @@ DAYS = ("mon", "tue", "wed", "thu", "fri", "sat", "sun")
 STEPS = [step * unit for unit in (1, 60) for step in (1, 2, 5, 10, 15, 30)] + [3_600 * 2**at for at in range(20)]
 BEGIN = re.compile(r"([0-9]{4}-[0-9]{2}-[0-9]{2})[T ]([0-9]{2}:[0-9]{2}(?::[0-9]{2})?)", re.ASCII)
 SHIFT = re.compile(r"([0-9]{1,2}):([0-9]{2})-([0-9]{1,2}):([0-9]{2})", re.ASCII)
+# Shifts after the days or dates on which they start.
+NAMED = re.compile(r"\s*(?:([a-z][^:]*)|([0-9]{4}-[^:]*)):(.*)", re.ASCII | re.IGNORECASE)
+DATE = re.compile(r"[0-9]{4}-[0-9]{2}-[0-9]{2}", re.ASCII)
+# How far after the begin dates may have shifts of their own or be closed, and how many breaks a chart may have.
+MOST_DAYS, MOST_BREAKS = 3_660, 400
 UNIT_NEEDED = "write min, h, s or d in brackets into the first cell of the table, as in 'job [min]', or set `unit`"
 
 # From when to when there is work, in microseconds.
@@ -33,7 +38,7 @@ Span = tuple[int, int]
 
 
 class Calendar:
-    """When there is work: from a date and time on, in shifts, on some days of the week.
+    """When there is work: from a date and time on, in shifts, on some days of the week, but for closed days.
 
     The times of a schedule are working time. A calendar maps them to dates and times of day. All machines stop at the
     end of a shift and continue at the start of the next one, in the middle of an operation too; the order and its
@@ -48,82 +53,101 @@ class Calendar:
         When the work begins, such as ``2026-11-30T06:00``. Outside a shift, it begins with the next one.
     shifts : str or iterable of str
         The shifts of a working day, such as ``"06:00-14:00"``; several in a list or with commas. A shift may cross
-        midnight; it then belongs to the day on which it starts. By default there is work around the clock.
+        midnight; it then belongs to the day on which it starts. By default there is work around the clock. Days of the
+        week or dates before the shifts have these only: ``"fri:06:00-12:00"``, ``"2026-12-05:06:00-12:00"``.
     days : str or iterable of str
-        The days on which shifts start, such as ``"mon-fri"`` or ``"mon,wed,fri"``. By default all days.
+        The days on which other shifts start, such as ``"mon-fri"`` or ``"mon,wed,fri"``. By default all days.
+    closed : str or iterable of str
+        Dates on which no shift starts, unless a shift names the date: ``"2026-12-24..2027-01-01"`` or
+        ``"2026-05-01,2026-10-03"``.
 
     Attributes
     ----------
     begin : datetime.datetime
         When the work begins.
     spans : list of (int, int)
-        From when to when there is work in a week, in microseconds from Monday, 0:00.
+        From when to when there is work, in microseconds from Monday, 1970-01-05. The spans from the index `loop` on
+        are there in each later week again.
+    loop : int
+        The index of the first span that is there each week.
 
     Raises
     ------
     ValueError
-        A text has another form, shifts overlap, or a day is named twice.
+        A text has another form, shifts overlap, a day is named twice, or a date is more than ten years after the begin.
     TypeError
         An argument is of another kind.
 
     Examples
     --------
     >>> import pfs
-    >>> calendar = pfs.Calendar("2026-11-27T12:00", shifts="06:00-14:00", days="mon-fri")
+    >>> calendar = pfs.Calendar("2026-11-27T12:00", shifts="06:00-14:00", days="mon-fri", closed="2026-11-30")
     >>> shop = pfs.Instance([[3, 2], [1, 4]], job_names=["table", "chair"], unit="h")
     >>> print(shop.schedule([0, 1]).to_csv(calendar=calendar), end="")
     job,machine,start,end
-    table,0,2026-11-27 12:00,2026-11-30 07:00
-    table,1,2026-11-30 07:00,2026-11-30 09:00
-    chair,0,2026-11-30 07:00,2026-11-30 08:00
-    chair,1,2026-11-30 09:00,2026-11-30 13:00
+    table,0,2026-11-27 12:00,2026-12-01 07:00
+    table,1,2026-12-01 07:00,2026-12-01 09:00
+    chair,0,2026-12-01 07:00,2026-12-01 08:00
+    chair,1,2026-12-01 09:00,2026-12-01 13:00
     """
 
-    __slots__ = ("begin", "spans", "_befores")
+    __slots__ = ("begin", "spans", "loop", "_befores")
 
-    def __init__(self, begin: str | datetime, shifts: str | Iterable[str] = (),
-                 days: str | Iterable[str] = ()) -> None:
+    def __init__(self, begin: str | datetime, shifts: str | Iterable[str] = (), days: str | Iterable[str] = (),
+                 closed: str | Iterable[str] = ()) -> None:
         self.begin = begin_of(begin)
-        self.spans = spans_of(shifts_of(shifts) or [(0, DAY)], days_of(days) or range(7))
-        # How much work of a week there is before each span, and in the whole week.
+        self.spans, self.loop = spans_from(self.begin, shifts_of(shifts), days_of(days), dates_of(closed))
+        # How much work there is before each span, and up to the end of the last one.
         self._befores = [0, *accumulate(end - start for start, end in self.spans)]
-
-    @property
-    def week(self) -> int:
-        """The work of a week, in microseconds."""
-        return self._befores[-1]
 
     @property
     def is_always(self) -> bool:
         """Whether there is work around the clock."""
-        return self.week == WEEK
+        return all(end == start for (_, end), (start, _) in pairwise([*self.spans, self._at(len(self.spans))]))
 
-    def worked(self, moment: datetime) -> int:
-        """The working time from the Monday to a moment."""
-        past: int = (moment - MONDAY) // timedelta(microseconds=1)
-        weeks, rest = past // WEEK, past % WEEK
-        return weeks * self.week + sum(min(rest, end) - start for start, end in self.spans if start < rest)
+    def _at(self, number: int) -> Span:
+        """The span of this number, counted on in later weeks."""
+        weeks, rest = divmod(max(0, number - self.loop), len(self.spans) - self.loop)
+        start, end = self.spans[self.loop + rest if number >= self.loop else number]
+        return start + weeks * WEEK, end + weeks * WEEK
+
+    def _within(self, worked: int, is_over: bool) -> datetime:
+        """When this working time is over; at a break its end, or its start if the work is over."""
+        first, week = self._befores[self.loop], self._befores[-1] - self._befores[self.loop]
+        weeks = max(0, (worked - first - is_over) // week)
+        rest = worked - weeks * week
+        at = max(0, (bisect_left if is_over else bisect_right)(self._befores, rest) - 1)
+        return moment_at(weeks * WEEK + self.spans[at][0] + rest - self._befores[at])
 
     def start(self, worked: int) -> datetime:
         """When work continues after this working time."""
-        weeks, rest = divmod(worked, self.week)
-        at = bisect_right(self._befores, rest) - 1
-        return moment_at(weeks * WEEK + self.spans[at][0] + rest - self._befores[at])
+        return self._within(worked, False)
 
     def end(self, worked: int) -> datetime:
         """When this working time is over: after a shift its end, and not the start of the next one."""
-        weeks, rest = divmod(worked, self.week)
-        if rest == 0:
-            weeks, rest = weeks - 1, self.week
-        at = bisect_left(self._befores, rest) - 1
-        return moment_at(weeks * WEEK + self.spans[at][0] + rest - self._befores[at])
+        return self._within(worked, True)
+
+    def breaks(self, end: int) -> Iterator[tuple[int, str]]:
+        """Return the working times before `end` at which a shift or a day begins, each with the day if it is the first
+        of its date: `Mon 2026-11-30`."""
+        worked, number, before = 0, 0, ""
+        while worked < end:
+            start, stop = self._at(number)
+            for moment in chain([start], range((start // DAY + 1) * DAY, stop, DAY)):
+                at = worked + moment - start
+                if at >= end:
+                    return
+                day = day_of(moment_at(moment))
+                yield at, day if day != before else ""
+                before = day
+            worked, number = worked + stop - start, number + 1
 
 
 class Clock:
     """The moments of an instance's times. Raises a `ValueError` if its unit isn't one of time."""
 
     def __init__(self, calendar: Calendar, shop: Instance) -> None:
-        seconds = UNITS_OF_TIME.get(shop.unit.casefold())
+        seconds = seconds_in(shop.unit)
         if seconds is None:
             what = f"{shop.unit!r} is not a unit of time" if shop.unit else "the times have no unit"
             raise ValueError(f"{what}, which dates need: {UNIT_NEEDED}")
@@ -132,7 +156,6 @@ class Clock:
         self.calendar = calendar
         self.scale: int = 10**shop.decimals
         self.tick = seconds * SECOND
-        self.begun = calendar.worked(calendar.begin)
 
     def ratio(self) -> tuple[int, int]:
         """How many times of the schedule are as long as how many microseconds."""
@@ -140,16 +163,22 @@ class Clock:
         return self.scale // common, self.tick // common
 
     def worked(self, time: int) -> int:
-        """The working time from the Monday to a time of the schedule, to the nearest microsecond."""
-        return self.begun + (2 * time * self.tick + self.scale) // (2 * self.scale)
+        """The working time up to a time of the schedule, to the nearest microsecond."""
+        return (2 * time * self.tick + self.scale) // (2 * self.scale)
 
     def span(self, start: int, end: int) -> tuple[datetime, datetime]:
         """When an operation starts and ends. What takes no time is done when the work before it is."""
         first, last = self.worked(start), self.worked(end)
         if first < last:
             return self.calendar.start(first), self.calendar.end(last)
-        moment = self.calendar.start(first) if first == self.begun else self.calendar.end(first)
+        moment = self.calendar.end(first) if first else self.calendar.start(0)
         return moment, moment
+
+    def breaks(self, end: int) -> list[tuple[float, str]]:
+        """The times up to `end` at which a shift or a day begins, with the day; none if there are too many for a
+        chart."""
+        found = list(islice(self.calendar.breaks(self.worked(end)), MOST_BREAKS + 1))
+        return [] if len(found) > MOST_BREAKS else [(at * self.scale / self.tick, day) for at, day in found]
 
     def steps(self) -> list[float]:
         """The lengths of time, in those of the schedule, that may be between two marks of a scale."""
@@ -163,9 +192,10 @@ class Clock:
         found: list[tuple[float, str]] = []
         before = ""
         for at in range(int(end // step) + 1):
-            date, _, clock = text_of(self.calendar.start(self.worked(round(at * step))), digits).partition(" ")
-            found.append((at * step, f"{clock}\n{date}" if date != before else clock))
-            before = date
+            moment = self.calendar.start(self.worked(round(at * step)))
+            clock, day = text_of(moment, digits).partition(" ")[2], day_of(moment)
+            found.append((at * step, f"{clock}\n{day}" if day != before else clock))
+            before = day
         return found
 
     def digits(self, *times: Order) -> int:
@@ -187,6 +217,17 @@ def text_of(moment: datetime, digits: int) -> str:
     """
     text = moment.isoformat(" ", "microseconds")
     return text[:20 + digits] if digits > 0 else text[:19 if digits == 0 else 16]
+
+
+def day_of(moment: datetime) -> str:
+    """Return the day of the week and the date.
+
+    Examples
+    --------
+    >>> day_of(datetime(2026, 11, 30, 6))
+    'Mon 2026-11-30'
+    """
+    return f"{DAYS[moment.weekday()].title()} {moment.date()}"
 
 
 def moment_at(microseconds: int) -> datetime:
@@ -222,24 +263,49 @@ def words_of(given: str | Iterable[str], what: str) -> Iterator[str]:
         yield from (word.strip() for word in text.split(","))
 
 
-def shifts_of(shifts: str | Iterable[str]) -> list[Span]:
-    """The shifts of a day in their order, from their starts to their ends, which may be on the next day."""
-    found = []
-    for word in words_of(shifts, "shifts"):
-        match = SHIFT.fullmatch(word)
-        if match is None:
-            raise ValueError(f"{word!r} is not a shift such as 06:00-14:00")
-        start, end = (time_of_day(word, *match.group(at, at + 1)) for at in (1, 3))
-        if start == DAY:
-            raise ValueError(f"the shift {word!r} starts at 24:00: write 00:00")
-        if start == end:
-            raise ValueError(f"the shift {word!r} has no length: a whole day is 00:00-24:00")
-        found.append((start, end if end > start else end + DAY))
-    found.sort()
-    for (start, end), (other, _) in zip(found, [*found[1:], *((start + DAY, 0) for start, _ in found[:1])]):
-        if other < end:
-            raise ValueError(f"shifts overlap at {clock_of(other)}")
+class Shifts(NamedTuple):
+    """The shifts of a day, from their starts to their ends, which may be on the next day: those of dates, counted from
+    the Monday, those of days of the week, and those of all other days."""
+
+    of_dates: dict[int, list[Span]]
+    of_days: dict[int, list[Span]]
+    others: list[Span]
+
+    def starting(self, day: int, days: Collection[int], closed: Collection[int]) -> list[Span]:
+        """The shifts that start on a day, in their order."""
+        if day in self.of_dates:
+            return sorted(self.of_dates[day])
+        if day in closed:
+            return []
+        return sorted(self.of_days.get(day % 7, self.others if day % 7 in days else []))
+
+
+def shifts_of(shifts: str | Iterable[str]) -> Shifts:
+    """Parse the shifts. By default there is work around the clock on the days that have none of their own."""
+    found = Shifts({}, {}, [])
+    for text in [shifts] if isinstance(shifts, str) else shifts:
+        named = NAMED.fullmatch(text) if isinstance(text, str) else None
+        spans = [span_of(word) for word in words_of([named[3] if named else text], "shifts")]
+        if named is None:
+            found.others.extend(spans)
+        for day in days_of(named[1]) if named and named[1] else []:
+            found.of_days.setdefault(day, []).extend(spans)
+        for date in dates_of(named[2]) if named and named[2] else []:
+            found.of_dates.setdefault(date, []).extend(spans)
     return found
+
+
+def span_of(word: str) -> Span:
+    """Parse a shift, from its start to its end on the same or the next day."""
+    match = SHIFT.fullmatch(word)
+    if match is None:
+        raise ValueError(f"{word!r} is not a shift such as 06:00-14:00")
+    start, end = (time_of_day(word, *match.group(at, at + 1)) for at in (1, 3))
+    if start == DAY:
+        raise ValueError(f"the shift {word!r} starts at 24:00: write 00:00")
+    if start == end:
+        raise ValueError(f"the shift {word!r} has no length: a whole day is 00:00-24:00")
+    return start, end if end > start else end + DAY
 
 
 def time_of_day(shift: str, hours: str, minutes: str) -> int:
@@ -247,11 +313,6 @@ def time_of_day(shift: str, hours: str, minutes: str) -> int:
     if int(minutes) > 59 or 60 * int(hours) + int(minutes) > 1_440:
         raise ValueError(f"{shift!r} is not a shift such as 06:00-14:00: {hours}:{minutes} is not a time of day")
     return (60 * int(hours) + int(minutes)) * MINUTE
-
-
-def clock_of(time: int) -> str:
-    """A time of day as it is written."""
-    return f"{time % DAY // MINUTE // 60:02}:{time % DAY // MINUTE % 60:02}"
 
 
 def days_of(days: str | Iterable[str]) -> list[int]:
@@ -271,19 +332,40 @@ def days_of(days: str | Iterable[str]) -> list[int]:
     return found
 
 
-def spans_of(shifts: Iterable[Span], days: Iterable[int]) -> list[Span]:
-    """When there is work in a week. What follows without a break is one span; a shift that begins on Sunday may have a
-    part at the beginning of the week."""
-    found: list[Span] = []
-    for start, end in sorted((day * DAY + start, day * DAY + end) for day in days for start, end in shifts):
-        if found and found[-1][1] == start:
-            found[-1] = (found[-1][0], end)
-        else:
-            found.append((start, end))
-    start, end = found[-1]
-    if end > WEEK:
-        found[-1] = (start, WEEK)
-        found = [(0, end - WEEK), *found]
-        if len(found) > 1 and found[1][0] == found[0][1]:
-            found[:2] = [(0, found[1][1])]
+def dates_of(dates: str | Iterable[str]) -> list[int]:
+    """The numbers of dates, counted from the Monday."""
+    found: list[int] = []
+    for word in words_of(dates, "dates"):
+        try:
+            # Python takes 20261224 as a date too.
+            ends = [date.fromisoformat(end if DATE.fullmatch(end) else "") for end in word.split("..")]
+            first, last = ends[0] - MONDAY.date(), ends[-1] - MONDAY.date()
+        except ValueError:
+            raise ValueError(f"{word!r} is not a date such as 2026-12-24, or dates such as "
+                             "2026-12-24..2027-01-01") from None
+        if len(ends) > 2 or last < first:
+            raise ValueError(f"{word!r} is not a first and a last date, as 2026-12-24..2027-01-01 is")
+        found += range(first.days, last.days + 1)
     return found
+
+
+def spans_from(begin: datetime, shifts: Shifts, days: Collection[int],
+               closed: Collection[int]) -> tuple[list[Span], int]:
+    """When there is work from the begin on, up to a week after the last date that is closed or has shifts of its own,
+    and the index of the first span of that week."""
+    if not shifts.others and (days or not shifts.of_days):
+        shifts = shifts._replace(others=[(0, DAY)])
+    closed, since = set(closed), begin - MONDAY
+    last = max([since.days, *shifts.of_dates, *closed])
+    if last > since.days + MOST_DAYS:
+        raise ValueError(f"{(MONDAY + timedelta(days=last)).date()} is more than ten years after the begin")
+    found = [(day * DAY + start, day * DAY + end) for day in range(since.days - 1, last + 8)
+             for start, end in shifts.starting(day, days or range(7), closed)]
+    past = since // timedelta(microseconds=1)
+    loop = sum(past < end and start < (last + 1) * DAY for start, end in found)
+    spans = [(max(start, past), end) for start, end in found if end > past]
+    for (_, end), (start, _) in pairwise([*spans, (spans[loop][0] + WEEK, 0)]):
+        if start < end:
+            moment = MONDAY + timedelta(microseconds=start)
+            raise ValueError(f"shifts overlap on {day_of(moment)} at {moment:%H:%M}")
+    return spans, loop

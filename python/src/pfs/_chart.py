@@ -1,53 +1,31 @@
-"""Charts of schedules: pictures, drawn with the code of tools/gantt, and HTML pages."""
+"""Charts of schedules: pictures and HTML pages."""
 from __future__ import annotations
 
 import base64
 import hashlib
 import html
 import importlib.resources
-import importlib.util
 import json
 import logging
 import os
-import pathlib
 import re
-import sys
 from typing import TYPE_CHECKING, Any, NamedTuple
 
+from pfs import _drawing
 from pfs._atomic import atomic_write
-from pfs._calendar import Calendar, Clock
-from pfs._names import amount, shown
+from pfs._calendar import Calendar, Clock, day_of, text_of
+from pfs._names import CLOCK, shown
 from pfs._validate import checked_int
 
 if TYPE_CHECKING:
     from pfs._schedule import Schedule
 
-
-def _drawing() -> Any:
-    """Import the drawing code of tools/gantt. A wheel has it as a module of the package, a checkout in tools/."""
-    try:
-        return importlib.import_module("pfs._gantt")
-    except ModuleNotFoundError:
-        path = pathlib.Path(__file__).resolve().parents[3] / "tools" / "chart.py"
-        spec = importlib.util.spec_from_file_location("pfs._gantt", path)
-        if spec is None or spec.loader is None or not path.exists():
-            raise
-        sys.modules[spec.name] = module = importlib.util.module_from_spec(spec)
-        spec.loader.exec_module(module)
-        return module
-
-
-if TYPE_CHECKING:
-    import chart as _gantt
-else:
-    _gantt = _drawing()
-
 ENDINGS = ("svg", "png", "pdf", "html")
 UNIT = "units of the instance"
-
-
-# The greatest number of operations that Jupyter shows.
-MOST_SHOWN = 2_000
+# The greatest numbers of operations that Jupyter shows, and that a page lists as text.
+MOST_SHOWN, MOST_LISTED = 2_000, 100_000
+# Minutes between the marks of a scale of hours and minutes.
+MINUTES = [1, 2, 5, 10, 15, 30, *(60 * 2**at for at in range(30))]
 
 
 class Frame(NamedTuple):
@@ -78,7 +56,7 @@ def svg_of(schedule: Schedule) -> str | None:
         figure = plot(schedule, None, True, True, None)
     except ImportError:
         return None
-    picture: bytes = _gantt.picture_of(figure, "svg", _gantt.Look())
+    picture: bytes = _drawing.picture_of(figure, "svg", _drawing.Look())
     return picture.decode("utf-8")
 
 
@@ -91,19 +69,26 @@ def plot(schedule: Schedule, path: str | os.PathLike[str] | None, critical: bool
     frame = frame.checked()
     if ending == "html" and frame.ax is not None:
         raise ValueError("ax is for pictures: a page has no axes")
-    look = _gantt.Look(critical=critical, bound=shop.bound() if bound else None,
+    look = _drawing.Look(critical=critical, bound=shop.bound() if bound else None,
                        unit=shown(unit or shop.unit or UNIT), decimals=shop.decimals, width=float(frame.width),
                        dpi=frame.dpi, title=frame.title is True,
                        key=shop.job_names is not None and frame.ax is None)
     if clock is not None:
-        look = look._replace(scale=scale_of(clock), marks=clock.marks(schedule.makespan, most_marks(look.width)))
+        look = look._replace(scale=scale_of(clock), marks=clock.marks(schedule.makespan, most_marks(look.width)),
+                             breaks=clock.breaks(schedule.makespan), end=end_of(clock, schedule))
+    elif look.unit == CLOCK:
+        step = next((step for step in MINUTES if step * most_marks(look.width) >= schedule.makespan), MINUTES[-1])
+        look = look._replace(scale=f"time ({CLOCK})", marks=[(time, look.formatted(time)) for time in
+                                                            range(0, schedule.makespan + 1, step)])
     jobs, machines = ([shown(name) for name in names or counted(count)]
                       for names, count in ((shop.job_names, shop.jobs), (shop.machine_names, shop.machines)))
-    table = _gantt.Table([job + 1 for job in schedule.order.tolist()], schedule.starts, schedule.ends, jobs, machines)
+    table = _drawing.Table([job + 1 for job in schedule.order.tolist()], schedule.starts, schedule.ends, jobs, machines)
     if ending == "html":
         assert path is not None
-        more = {"named": shop.job_names is not None, "dates": None if clock is None else dates_of(clock, schedule)}
-        atomic_write(path, page_of(table, look, shown(shop.name), more).encode("utf-8"))
+        more = {"named": shop.job_names is not None, "dates": None if clock is None else dates_of(clock, schedule),
+                "steps": MINUTES if look.unit == CLOCK else [] if clock is None else clock.steps()}
+        page = page_of(table, look, shown(shop.name), more, lists_of(table, look, schedule, clock))
+        atomic_write(path, page.encode("utf-8"))
         return None
     return drawn(table, look, path, ending, frame)
 
@@ -130,7 +115,7 @@ def require_matplotlib() -> Any:
     return matplotlib
 
 
-def drawn(table: _gantt.Table, look: _gantt.Look, path: str | os.PathLike[str] | None, ending: str | None,
+def drawn(table: _drawing.Table, look: _drawing.Look, path: str | os.PathLike[str] | None, ending: str | None,
           frame: Frame) -> Any:
     """Draw the figure, and save it if there is a path. The settings of matplotlib don't change."""
     matplotlib = require_matplotlib()
@@ -138,16 +123,16 @@ def drawn(table: _gantt.Table, look: _gantt.Look, path: str | os.PathLike[str] |
     level = logger.level
     try:
         with matplotlib.rc_context():
-            figure = _gantt.new_figure(table, look)
+            figure = _drawing.new_figure(table, look)
             if frame.ax is not None:
                 figure = frame.ax.figure
-                look = look._replace(width=frame.ax.get_window_extent().width / figure.dpi + _gantt.BESIDE)
-            _gantt.draw(SingleAxes(frame.ax) if frame.ax is not None else figure, table, look)
+                look = look._replace(width=frame.ax.get_window_extent().width / figure.dpi + _drawing.BESIDE)
+            _drawing.draw(SingleAxes(frame.ax) if frame.ax is not None else figure, table, look)
             if isinstance(frame.title, str):
                 axes = frame.ax or figure.axes[0]
                 axes.set_title(shown(frame.title), parse_math=False)
             if path is not None:
-                atomic_write(path, _gantt.picture_of(figure, str(ending), look))
+                atomic_write(path, _drawing.picture_of(figure, str(ending), look))
             return figure
     finally:
         logger.setLevel(level)
@@ -170,40 +155,77 @@ def scale_of(clock: Clock) -> str:
 
 def most_marks(width: float) -> int:
     """How many dates a scale of this width has room for."""
-    return max(1, int((width - _gantt.BESIDE) / 1.1))
+    return max(1, int((width - _drawing.BESIDE) / 1.1))
 
 
 def dates_of(clock: Clock, schedule: Schedule) -> dict[str, Any]:
     """What the page computes dates of."""
     times, microseconds = clock.ratio()
-    return {"spans": clock.calendar.spans, "begun": clock.begun, "times": times, "microseconds": microseconds,
-            "digits": clock.digits(schedule.starts, schedule.ends), "steps": clock.steps(), "scale": scale_of(clock)}
+    return {"spans": clock.calendar.spans, "loop": clock.calendar.loop, "times": times, "microseconds": microseconds,
+            "digits": clock.digits(schedule.starts, schedule.ends), "scale": scale_of(clock)}
 
 
-def page_of(table: _gantt.Table, look: _gantt.Look, name: str, more: dict[str, Any]) -> str:
+def end_of(clock: Clock, schedule: Schedule) -> str:
+    """The day and the time of day of the end."""
+    end = clock.span(0, schedule.makespan)[1]
+    return f"{day_of(end)} {text_of(end, clock.digits(schedule.starts, schedule.ends)).partition(' ')[2]}"
+
+
+def lists_of(table: _drawing.Table, look: _drawing.Look, schedule: Schedule, clock: Clock | None) -> str:
+    """A list of each machine as HTML: the jobs that it has work for, and below each day when they start and end."""
+    if schedule.starts.size > MOST_LISTED:
+        return ""
+    digits = 0 if clock is None else clock.digits(schedule.starts, schedule.ends)
+
+    def times_of(start: int, end: int) -> tuple[str, str, str]:
+        if clock is None:
+            return "", look.formatted(start), look.formatted(end)
+        first, last = clock.span(start, end)
+        (_, begun), (_, done) = (text_of(moment, digits).split(" ") for moment in (first, last))
+        return day_of(first), begun, done if day_of(first) == day_of(last) else f"{day_of(last)[:3]} {done}"
+
+    lines: list[str] = []
+    for machine, name in enumerate(table.machine_names):
+        lines.append(f"<table><caption>Machine {html.escape(name)}</caption><thead><tr><th scope=col class=number>place"
+                     "<th scope=col>job<th scope=col class=number>start<th scope=col class=number>end</thead><tbody>")
+        before = ""
+        for place, (start, end) in enumerate(zip(table.starts[:, machine].tolist(), table.ends[:, machine].tolist())):
+            if start < end:
+                day, begun, done = times_of(start, end)
+                lines += [f"<tr><th scope=rowgroup colspan=4>{day}"] if day != before else []
+                lines.append(f"<tr><td class=number>{place + 1}<td>{html.escape(table.label(table.order[place]))}"
+                             f"<td class=number>{begun}<td class=number>{done}")
+                before = day
+        lines.append("</tbody></table>")
+    return "\n".join(lines)
+
+
+def page_of(table: _drawing.Table, look: _drawing.Look, name: str, more: dict[str, Any], lists: str) -> str:
     """The page: one file, that asks for nothing else. Its data has more than a picture needs."""
-    title = f"{table.jobs} jobs on {table.machines} machines: makespan {amount(table.makespan, look.decimals)}"
-    title += f" {look.unit}" if look.unit != UNIT else ""
-    title += f", bound {amount(look.bound, look.decimals)} (dashed)" if look.bound is not None else ""
+    title = f"{table.jobs} jobs on {table.machines} machines: makespan {look.formatted(table.makespan)}"
+    title += f" {look.unit}" if look.unit not in (UNIT, CLOCK) else ""
+    title += f", end {look.end}" if look.end else ""
+    title += f", bound {look.formatted(look.bound)} (dashed)" if look.bound is not None else ""
     title += ", critical path outlined" if look.critical else ""
-    fills = _gantt.colours(table.order)
+    fills = _drawing.colours(table.order)
     data = {
         "jobs": [table.label(job) for job in table.order],
         "machines": list(table.machine_names),
         "starts": table.starts.T.tolist(),
         "ends": table.ends.T.tolist(),
         "fills": ["#" + "".join(f"{round(255 * part):02x}" for part in fill) for fill in fills],
-        "inks": [_gantt.ink(fill) for fill in fills],
-        "idle": _gantt.IDLE,
+        "inks": [_drawing.ink(fill) for fill in fills],
+        "idle": _drawing.IDLE,
         "makespan": table.makespan,
         "bound": look.bound,
-        "critical": _gantt.critical_path(table) if look.critical else [],
+        "critical": _drawing.critical_path(table.starts, table.ends) if look.critical else [],
         "decimals": look.decimals,
         "unit": look.unit,
+        "breaks": look.breaks,
         **more,
     }
     text = json.dumps(data, ensure_ascii=False, separators=(",", ":")).replace("<", "\\u003c")
-    return filled({"title": html.escape(f"{name}: {title}" if name else title), "data": text})
+    return filled({"title": html.escape(f"{name}: {title}" if name else title), "data": text, "lists": lists})
 
 
 def filled(values: dict[str, str]) -> str:

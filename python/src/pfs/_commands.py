@@ -14,25 +14,30 @@ from functools import partial
 from typing import Any, NoReturn, TextIO
 
 from pfs import _library as c
-from pfs._calendar import Calendar, Clock, begin_of, days_of, shifts_of, text_of as date_text
+from pfs._calendar import Calendar, Clock, begin_of, dates_of, days_of, shifts_of, text_of as date_text
 from pfs._chart import ending_of, require_matplotlib
 from pfs._faults import Fault, TableFault
 from pfs._files import read, read_order
+from pfs._held import HeldSearch, by_total, insert_after
 from pfs._instance import Instance
-from pfs._names import amount, shown
-from pfs._orders import order_in
+from pfs._names import CLOCK, amount, shown
+from pfs._orders import FoundOrder, numbers_by_name, order_in
 from pfs._search import ROUNDS, Pace, Search, limit_of
 from pfs._solution import Solution
 from pfs._state import State, StateFault
 from pfs._tables import described, table_of
 from pfs._version import VERSION
+from pfs._workbooks import openpyxl_for
 
 # Exit statuses, the same as those of the program.
 REFUSED, USAGE, SYSTEM = 2, 3, 4
 SIGNALS = (signal.SIGINT, signal.SIGTERM)
 DECIMAL_SIGNS = {"point": ".", "comma": ","}
+# The endings of schedules.
+SCHEDULES = ("", ".csv", ".tsv", ".txt", ".xlsx")
 # The options for the arguments that messages about tables name, and the beginnings of messages about other options.
-OPTIONS = {"decimal": "--decimal point or --decimal comma", "allow_totals": "--allow-totals", "unit": "--unit"}
+OPTIONS = {"decimal": "--decimal point or --decimal comma", "allow_totals": "--allow-totals", "unit": "--unit",
+           "machines": "--machines"}
 ARGUMENT = re.compile(f"`({'|'.join(OPTIONS)})`")
 NUMBER_OPTION = re.compile("^(?=(?:rounds|take|passes|seed) must |start has )")
 VERSION_OPTION: dict[str, Any] = {"action": "version", "version": f"pfs {VERSION}"}
@@ -83,7 +88,7 @@ class ProgressLine:
         self.first = rounds if self.first < 0 else self.first
         made, seconds = rounds - self.first, time.monotonic() - self.begun
         left = min(self.pace.left(), (self.rounds - rounds) * seconds / made if made else float("inf"))
-        spans = [amount(span, self.shop.decimals) for span in (makespan, self.bound)]
+        spans = [amount(span, self.shop.decimals, self.shop.unit) for span in (makespan, self.bound)]
         line = f"round {rounds:,} of {self.rounds:,}, makespan {spans[0]}, bound {spans[1]}"
         line += f", {clock(left)} left" if left < 10**7 else ""
         self.show(line)
@@ -157,23 +162,52 @@ def plan_command(given: argparse.Namespace) -> int:
     """Find an order for a table with names, and print it. It is printed before all other output, so an error doesn't
     lose it."""
     calendar = calendar_of(given)
-    check_outputs(given.schedule, given.chart)
+    check_outputs([given.table, given.order], given.schedule, given.chart)
+    machines = None if given.machines is None else given.machines.split(",")
     shop, delimiter, has_mark = table_of(given.table, given.unit, DECIMAL_SIGNS.get(given.decimal),
-                                         given.allow_totals)
+                                         given.allow_totals, machines)
     clock = None if calendar is None else Clock(calendar, shop)
     written(sys.stderr, f"{shown(described(shop))}\n")
-    start = None if given.order is None else order_in(given.order, shop)
-    search = Search(shop, start, 0, given.take, given.passes, given.seed)
+    search = plan_search(given, shop)
     with Stop() as stop:
         best, fault = searched(search, given.rounds, given.seconds, stop, lambda _: None)
         outputs: list[Callable[[], object]] = [lambda: printed(listed(shop, best, clock))]
-        if given.schedule is not None:
+        if given.schedule is not None and given.schedule.lower().endswith(".xlsx"):
+            outputs.append(lambda: shop.schedule(best).to_xlsx(given.schedule, calendar=calendar))
+        elif given.schedule is not None:
             mark = has_mark or delimiter == ";"
             outputs.append(lambda: shop.schedule(best).to_csv(given.schedule, delimiter, mark=mark, calendar=calendar))
         outputs += [partial(draw, shop, best, chart, calendar) for chart in given.chart]
         faults = [fault, *(failure_of(output) for output in outputs)]
     statuses = [report(line_of(each), SYSTEM) for each in faults if each is not None]
     return statuses[0] if statuses else stop.status()
+
+
+def plan_search(given: argparse.Namespace, shop: Instance) -> Search:
+    """The search of a plan. It begins with the order of a file, from which jobs that are gone are left out and into
+    which new ones are inserted. It moves no job that is held."""
+    if given.order is None and (given.hold or given.keep):
+        raise ValueError(f"{'--hold' if given.hold else '--keep'} needs --order, which says where the jobs are")
+    numbers = numbers_by_name(shop)
+    unknown = next((name for name in given.first if name not in numbers), None)
+    if unknown is not None:
+        raise ValueError(f"--first: {unknown!r} isn't the name of a job of the table")
+    found = FoundOrder([], []) if given.order is None else order_in(given.order, shop)
+    held = list(dict.fromkeys([*map(numbers.__getitem__, given.first), *found.jobs[:given.hold]]))
+    order = list(dict.fromkeys([*held, *found.jobs]))
+    new = by_total(shop, [job for job in range(shop.jobs) if job not in order])
+    if given.order is not None:
+        tell(given.order, "left out, as the table has no such jobs", found.gone)
+        tell(given.order, "new, and inserted at their best places", [shop.job_name(job) for job in new])
+        insert_after(shop, order, len(held), new)
+    options = shop, order if given.order is not None else None, 0, given.take, given.passes, given.seed
+    return HeldSearch(*options, held, new if given.keep else None) if held or given.keep else Search(*options)
+
+
+def tell(path: str, what: str, names: Sequence[str]) -> None:
+    """Say on standard error which jobs of an order are treated like this."""
+    if names:
+        written(sys.stderr, f"{shown(path)}: {what}: {shown(', '.join(names))}\n")
 
 
 def draw(shop: Instance, best: Solution, chart: str, calendar: Calendar | None) -> None:
@@ -184,18 +218,26 @@ def draw(shop: Instance, best: Solution, chart: str, calendar: Calendar | None) 
 def calendar_of(given: argparse.Namespace) -> Calendar | None:
     """The calendar that a plan names, if it does."""
     if given.begin is not None:
-        return Calendar(given.begin, given.shift, given.days)
-    option = "--shift" if given.shift else "--days" if given.days else ""
-    if option:
-        raise ValueError(f"{option} needs --begin, which says when the work begins")
+        return Calendar(given.begin, given.shift, given.days, given.closed)
+    option = next((option for option in ("shift", "days", "closed") if getattr(given, option)), None)
+    if option is not None:
+        raise ValueError(f"--{option} needs --begin, which says when the work begins")
     return None
 
 
-def check_outputs(schedule: str | None, charts: Sequence[str]) -> None:
-    """Raise an error before the search if an output would fail after it: for an unknown ending of a chart's name, a
-    missing folder, or no matplotlib."""
+def check_outputs(inputs: Sequence[str | None], schedule: str | None, charts: Sequence[str]) -> None:
+    """Raise an error before the search if an output would fail after it, or replace an input: for an ending that it
+    isn't written with, a file that is read, a missing folder, or no matplotlib."""
     endings = {ending_of(chart) for chart in charts}
+    ending = os.path.splitext(schedule or "")[1].lower()
+    if ending not in SCHEDULES:
+        raise ValueError(f"{schedule}: the name of a schedule ends with .csv or .xlsx")
+    if ending == ".xlsx":
+        openpyxl_for("writing a workbook")
+    read = {os.path.realpath(path) for path in inputs if path is not None and os.path.isfile(path)}
     for path in filter(None, [schedule, *charts]):
+        if os.path.realpath(path) in read:
+            raise ValueError(f"{path} is read, and writing would replace it: name another file")
         if not os.path.isdir(os.path.dirname(path) or "."):
             raise FileNotFoundError(errno.ENOENT, os.strerror(errno.ENOENT), path)
     if endings - {"html"}:
@@ -205,9 +247,9 @@ def check_outputs(schedule: str | None, charts: Sequence[str]) -> None:
 def listed(shop: Instance, best: Solution, clock: Clock | None = None) -> str:
     """The text of a plan."""
     bound = shop.bound()
-    unit = f" {shown(shop.unit)}" if shop.unit else ""
+    unit = "" if not shop.unit else " h" if shop.unit == CLOCK else f" {shown(shop.unit)}"
     spans = {"makespan": best.makespan, "bound": bound}
-    lines = [f"{name} {amount(span, shop.decimals)}{unit}" for name, span in spans.items()]
+    lines = [f"{name} {amount(span, shop.decimals, shop.unit)}{unit}" for name, span in spans.items()]
     lines += ["optimal"] if best.makespan == bound else []
     lines += [] if clock is None else ended(shop, best, clock)
     lines += [f"{place} {shown(shop.job_name(job))}" for place, job in enumerate(best.order.tolist(), 1)]
@@ -289,26 +331,43 @@ def search_words() -> CommandLine:
 def add_plan_words(plan: argparse.ArgumentParser) -> None:
     """Add the arguments of `plan`."""
     plan.add_argument("--version", **VERSION_OPTION)
-    plan.add_argument("table", metavar="TIMES.csv", help="a row for each job, a column for each machine, with names")
+    plan.add_argument("table", metavar="TIMES.csv", help="a row for each job, a column for each machine, with names; "
+                      "also a workbook .xlsx")
     plan.add_argument("--unit", default="", help="of the times; else what stands in brackets in the first cell")
     plan.add_argument("--decimal", choices=tuple(DECIMAL_SIGNS),
                       help="the decimal sign of the times; the other sign may then group thousands; else the sign that "
                       "the table uses, if that is clear")
+    plan.add_argument("--machines", metavar="NAMES",
+                      help="the columns that are machines, by their names and with commas between them, in the order of "
+                      "the machines; other columns are skipped")
     plan.add_argument("--allow-totals", action="store_true",
-                      help="take a last row or column with the sums of the others as a job or a machine")
+                      help="take rows and columns with the names of sums, means or quantities, and a last one with the "
+                      "sums of the others, as jobs and machines")
     plan.add_argument("--order", metavar="FILE",
-                      help="an order to begin with, which is evaluated if neither --rounds nor --seconds is there: the "
-                      "names of the jobs, one in a line, or what plan printed, or its schedule")
+                      help="an order to begin with: the names of the jobs, one in a line, or what plan printed, or its "
+                      "schedule. Jobs that the table lacks are left out, and jobs that the order lacks are inserted at "
+                      "their best places. It is only evaluated if neither --rounds, --seconds nor an option that holds "
+                      "jobs is there")
+    plan.add_argument("--first", metavar="NAME", action="append", default=[],
+                      help="a job that has the first place; given more than once, these jobs come first in this order")
+    plan.add_argument("--hold", type=number(1, c.MOST_JOBS), default=0, metavar="K",
+                      help="the first K jobs of --order that the table has keep the first places")
+    plan.add_argument("--keep", action="store_true",
+                      help="the jobs of --order keep their order; only new ones are moved")
     plan.add_argument("--begin", type=checked(begin_of), metavar="DATETIME",
                       help="when the work begins, such as 2026-11-30T06:00; the schedule and the chart then have local "
                       "dates and times of day, for which times need the unit min, h, s or d")
     plan.add_argument("--shift", type=checked(shifts_of), action="append", default=[], metavar="FROM-TO",
                       help="when there is work, such as 06:00-14:00, also across midnight; several with commas, or "
-                      "the option more than once; by default around the clock. Operations stop at the end of a shift "
+                      "the option more than once; by default around the clock. A day of the week or a date has other "
+                      "shifts by fri:06:00-12:00 or 2026-12-05:06:00-12:00. Operations stop at the end of a shift "
                       "and continue with the next one; this changes neither the order nor the makespan")
     plan.add_argument("--days", type=checked(days_of), action="append", default=[], metavar="DAYS",
-                      help="the days on which shifts start, such as mon-fri or mon,wed,fri; by default all days")
-    plan.add_argument("--schedule", metavar="OUT.csv", help="when each operation starts and ends")
+                      help="the days on which the other shifts start, such as mon-fri or mon,wed,fri; by default all")
+    plan.add_argument("--closed", type=checked(dates_of), action="append", default=[], metavar="DATES",
+                      help="dates on which no shift starts, such as 2026-12-24..2027-01-01; several with commas, or the "
+                      "option more than once")
+    plan.add_argument("--schedule", metavar="OUT.csv", help="when each operation starts and ends, as .csv or .xlsx")
     plan.add_argument("--chart", metavar="OUT.svg", action="append", default=[],
                       help="the chart, as .svg, .png, .pdf or a page .html; may be given more than once")
     plan.set_defaults(run=plan_command)
@@ -357,10 +416,12 @@ def main(line: list[str], parser: argparse.ArgumentParser | None = None) -> int:
             raise OSError("standard output is closed")
         status: Any = given.run(given)
         return int(status)
+    except (TableFault, StateFault) as fault:
+        return report("
+".join(map(line_of, str(fault).split("
+"))), REFUSED)
     except Fault as fault:
         return report(fault.text, REFUSED)
-    except (TableFault, StateFault) as fault:
-        return report(line_of(fault), REFUSED)
     except ValueError as fault:
         return report(line_of(fault), USAGE)
     except (OSError, MemoryError, ImportError) as fault:
@@ -373,10 +434,10 @@ def rounds_of(given: argparse.Namespace) -> int:
     """Return the default number of rounds of a command."""
     if given.run is not plan_command or given.seconds is not None:
         return c.MOST_ROUNDS
-    return ROUNDS if given.order is None else 0
+    return ROUNDS if given.order is None or given.first or given.hold or given.keep else 0
 
 
-def line_of(fault: Exception) -> str:
+def line_of(fault: Exception | str) -> str:
     """Return what is printed for an error. Arguments of the package for Python are named as options."""
     if isinstance(fault, MemoryError):
         return "pfs: no memory"

@@ -7,7 +7,6 @@ if TYPE_CHECKING:
     from pfs._solution import Solution
 
 # The name and the text of each fault by its number. `{}` is the place.
-# facts: python instance
 INSTANCE_FAULTS = {
     20: ("no block", "no block, found {}"),
     21: ("size count", "size line {} has a wrong count"),
@@ -19,15 +18,12 @@ INSTANCE_FAULTS = {
     27: ("truncated", "truncated after {} times"),
     28: ("input too long", "input too long"),
 }
-# end of facts
-# facts: python order
 ORDER_FAULTS = {
     30: ("syntax", "order file syntax at {}"),
     31: ("job range", "order file job out of range at place {}"),
     32: ("job repeated", "order file job repeated at place {}"),
     33: ("order file too long", "order file too long"),
 }
-# end of facts
 
 
 class Fault(ValueError):
@@ -88,28 +84,64 @@ class OrderFault(Fault):
     """A file isn't an order file, or its order isn't an order of all jobs."""
 
 
-class TableFault(ValueError):
-    """A table of times (:func:`pfs.read_csv`) is invalid.
+# Of more faults of a table than this, the rest is counted.
+MOST_FAULTS = 20
+
+
+class TableFault(Fault):
+    """A table (:func:`pfs.read_csv`, :func:`pfs.audit`) or a file of the layout ``matrix`` is invalid. The message has
+    all faults of the table, each on a line. Its ``name`` is ``"table"``, its ``number`` 0 and its ``place`` the line.
 
     Attributes
     ----------
     path : str
         The file.
     line, column : int
-        The position of the fault, counted from 1. The column counts cells, and is 0 for the whole line.
+        The position of the first fault, counted from 1, as spreadsheets count. The column is 0 for the whole row.
     text : str
         What is wrong, and what to do.
+    head : str
+        The name of the column, or an empty text.
+    others : tuple of TableFault
+        The other faults of the table.
     """
 
-    def __init__(self, path: str, line: int, column: int, text: str) -> None:
-        self.path = path
+    def __init__(self, path: str, line: int, column: int, text: str, head: str = "",
+                 others: tuple[TableFault, ...] = ()) -> None:
+        self.path, self.name, self.number, self.place = path, "table", 0, line
         self.line = line
         self.column = column
         self.text = text
-        super().__init__(f"{path}: line {line}, " + (f"column {column}: " if column else "") + text)
+        self.head = head
+        self.others = others
+        ValueError.__init__(self, "\n".join(
+            [self.message, *(other.message for other in others[:MOST_FAULTS])]
+            + [f"{path}: and {len(others) - MOST_FAULTS} more"] * (len(others) > MOST_FAULTS)))
 
-    def __reduce__(self) -> tuple[type[TableFault], tuple[str, int, int, str]]:
-        return type(self), (self.path, self.line, self.column, self.text)
+    @property
+    def message(self) -> str:
+        """The line that says where the first fault is and what it is."""
+        place = f"line {self.line}, " if not self.column else f"cell {cell_name(self.line, self.column)}"
+        place += f", column {self.head!r}: " if self.head else ": " if self.column else ""
+        return f"{self.path}: {place}{self.text}"
+
+    def __reduce__(self) -> tuple[type[TableFault], tuple[Any, ...]]:
+        return type(self), (self.path, self.line, self.column, self.text, self.head, self.others)
+
+
+def cell_name(line: int, column: int) -> str:
+    """Return the name of a cell in a spreadsheet.
+
+    Examples
+    --------
+    >>> cell_name(3, 4), cell_name(1, 28)
+    ('D3', 'AB1')
+    """
+    letters = ""
+    while column:
+        column, letter = divmod(column - 1, 26)
+        letters = chr(ord("A") + letter) + letters
+    return f"{letters}{line}"
 
 
 class Interrupted(KeyboardInterrupt):

@@ -2,10 +2,6 @@
 from __future__ import annotations
 
 import contextlib
-import csv
-import functools
-import importlib.resources
-import io
 import os
 import re
 from collections.abc import Callable
@@ -15,6 +11,7 @@ from typing import IO, Any, TypeAlias
 import numpy as np
 
 from pfs import _library as c
+from pfs._benchmarks import best_known, taillard_rows
 from pfs._faults import INSTANCE_FAULTS, ORDER_FAULTS, FileFault, OrderFault
 from pfs._hints import EXTRA_NUMBER, MACHINE_NUMBER, NUMBER_LINE, TRUNCATED, hint_of, where
 from pfs._instance import Instance
@@ -407,25 +404,6 @@ def generate(jobs: int, machines: int, seed: int) -> Instance:
     times = np.empty((jobs, machines), dtype=np.uint32)
     c.done(c.library.pfs_generate(jobs, machines, seed, times.ctypes.data, times.size))
     return Instance(times, seed=seed)
-
-
-@functools.cache
-def taillard_rows() -> tuple[tuple[str, int, int, int, int], ...]:
-    """Return the name, jobs, machines, seed and published lower bound of each of Taillard's instances."""
-    return tuple((name, int(jobs), int(machines), int(seed), int(lower))
-                 for name, jobs, machines, seed, lower in rows_in("taillard.csv"))
-
-
-@functools.cache
-def best_known() -> dict[str, int]:
-    """Return the best known makespan of each of Taillard's instances."""
-    return {name: int(makespan) for name, makespan, _ in rows_in("best_known.csv")}
-
-
-def rows_in(name: str) -> list[list[str]]:
-    """Return the rows of a table in the package, without its header."""
-    text = importlib.resources.files("pfs").joinpath(name).read_text("utf-8")
-    return list(csv.reader(io.StringIO(text)))[1:]
 
 
 def taillard(number: int) -> Instance:

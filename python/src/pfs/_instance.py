@@ -14,6 +14,7 @@ from pfs import _search
 from pfs._atomic import atomic_write
 from pfs._bounds import bound_by_pairs
 from pfs._faults import Interrupted
+from pfs._held import HeldSearch
 from pfs._library import LENGTHS, SHORT, library
 from pfs._names import frame_names, is_frame, names_of
 from pfs._schedule import Schedule
@@ -52,6 +53,27 @@ class Sequence(NamedTuple):
 
     jobs: Order
     makespan: int
+
+
+class Check(NamedTuple):
+    """The verdict on an order.
+
+    Attributes
+    ----------
+    valid : bool
+        Whether it is an order of all jobs, with the stated makespan.
+    makespan : int or None
+        Its makespan, or None if it isn't an order of all jobs.
+    bound : int
+        The lower bound of the instance. An order with this makespan is optimal.
+    fault : str
+        What is wrong, or an empty text.
+    """
+
+    valid: bool
+    makespan: int | None
+    bound: int
+    fault: str
 
 
 class Instance:
@@ -193,6 +215,47 @@ class Instance:
         _free.append(found)
         return makespan
 
+    def check(self, order: Jobs, stated: int | None = None) -> Check:
+        """Return the verdict on an order and its stated makespan, as ``pfs check`` does.
+
+        Parameters
+        ----------
+        order : array_like or Solution
+            Jobs, by number from 0 or by name.
+        stated : int, optional
+            The makespan to check. By default it is that of a `Solution` or `Sequence`, and otherwise only the order is
+            checked.
+
+        Returns
+        -------
+        Check
+
+        Raises
+        ------
+        TypeError, ValueError
+            If the order isn't a list of numbers or names, or the makespan isn't an integer or is out of range.
+
+        Examples
+        --------
+        >>> import pfs
+        >>> shop = pfs.Instance([[3, 2], [2, 5], [4, 1]])
+        >>> shop.check([1, 0, 2], 10)
+        Check(valid=True, makespan=10, bound=10, fault='')
+        >>> shop.check([1, 0, 2], 9).fault, shop.check([1, 0], 10).fault
+        ('states 9, takes 10', 'order has 2 jobs, but the instance has 3')
+        """
+        if stated is None and isinstance(order, (Solution, Sequence)):
+            stated = order.makespan
+        own = None if stated is None else checked_int(stated, "stated", 0, 2**64 - 1)
+        bound = self.bound()
+        try:
+            jobs = checked_order(as_order(order, self), self.jobs, "order", self.job_names)
+            makespan = self.makespan(np.frombuffer(jobs, dtype=np.uint32))
+        except ValueError as error:
+            return Check(False, None, bound, str(error))
+        valid = own in (None, makespan)
+        return Check(valid, makespan, bound, "" if valid else f"states {own}, takes {makespan}")
+
     def bound(self, method: str = "machines") -> int:
         """Return a lower bound on the makespan of all orders.
 
@@ -232,12 +295,12 @@ class Instance:
         c.done(library.pfs_bound(*self._arguments, byref(bound)))
         return max(bound.value, bound_by_pairs(self._times)) if method == "pairs" else bound.value
 
-    def rpd(self, makespan: int | Solution, reference: int | None = None) -> float:
+    def rpd(self, makespan: int | Solution | Sequence, reference: int | None = None) -> float:
         """Return the relative percentage deviation of a makespan from a reference.
 
         Parameters
         ----------
-        makespan : int or Solution
+        makespan : int, Solution or Sequence
             0 or more.
         reference : int, optional
             A makespan of 1 or more. The default is ``upper``, which is the best known makespan of an instance of
@@ -262,7 +325,7 @@ class Instance:
         >>> round(shop.rpd(shop.neh()), 2)
         0.63
         """
-        own = checked_int(makespan.makespan if isinstance(makespan, Solution) else makespan, "makespan", 0, 2**64 - 1)
+        own = checked_int(getattr(makespan, "makespan", makespan), "makespan", 0, 2**64 - 1)
         if reference is None and self.upper == 0:
             raise ValueError("rpd needs a reference, since `upper` of the instance is 0")
         base = self.upper if reference is None else checked_int(reference, "reference", 1, 2**64 - 1)
@@ -579,7 +642,7 @@ class Instance:
     def solve(self, rounds: int | None = None, *, take: int | None = None, passes: int = 0, seed: int = 0,
               start: Jobs | None = None, first: int = 0, progress: Progress | None = None,
               time_limit: float | None = None, target: int | None = None, stop: Stop | None = None,
-              history: bool = False) -> Solution:
+              history: bool = False, hold: Jobs = (), move: Jobs | None = None) -> Solution:
         """Improve an order by iterated greedy (Ruiz and Stützle 2007).
 
         A round removes ``take`` jobs, inserts each at its best place, and makes ``passes`` passes. In a pass each job
@@ -591,7 +654,8 @@ class Instance:
         rounds : int, optional
             The number of rounds. ``first + rounds`` is at most 1,000,000. The default is 1,000; with a time limit the
             search runs until its end. Without ``rounds``, the search continues after round 1,000,000 of a seed with
-            round 0 of the next seed, which is then the ``seed`` of the solution.
+            round 0 of a seed that is greater by 11400714819323198485 (modulo 2^64), which is then the ``seed`` of the
+            solution.
         take : int, optional
             The destruction size, 1 to the number of jobs. The default is 4, or the number of jobs if that is less.
         passes : int
@@ -617,6 +681,12 @@ class Instance:
             Record the round, the seconds and the makespan of each improvement in ``history`` of the solution, the start
             order first. To find the exact round of an improvement some rounds are repeated, so the search may take up
             to twice as long while it improves often. The seconds are interpolated.
+        hold : array_like
+            Jobs, by numbers or names, that have the first places in this order. The search moves none of them. The
+            other jobs begin in the order of ``start``, or where they are best.
+        move : array_like, optional
+            The only jobs, by numbers or names, that rounds and passes move. The others keep their order. With ``hold``
+            or ``move`` the rounds are run in Python, and take ten times as long or more; ``cells`` is then 0.
 
         Returns
         -------
@@ -647,8 +717,12 @@ class Instance:
         >>> found = shop.solve(1000, target=1278, history=True)
         >>> found.rounds < 1000, found.history[-1].makespan
         (True, 1278)
+        >>> shop.solve(100, hold=[7, 3]).order[:2]
+        array([7, 3])
         """
-        search = Search(self, start, first, take, passes, seed)
+        options = self, start, first, take, passes, seed
+        is_held = move is not None or not isinstance(hold, tuple) or hold
+        search = HeldSearch(*options, hold, move) if is_held else Search(*options)
         if type(history) not in BOOLS:
             raise TypeError(f"history must be True or False, not {history!r}")
         try:

@@ -20,6 +20,9 @@ MOST_JOBS: Final = 5_000
 MOST_MACHINES: Final = 200
 LONGEST_TIME: Final = 1_000_000_000
 MOST_ROUNDS: Final = 1_000_000
+# A search by time that has made all rounds of a seed continues with a seed that is greater by this number, modulo 2^64,
+# so that searches with the seeds 1, 2, 3 share no random numbers.
+SEED_STEP: Final = 0x9E3779B97F4A7C15
 MOST_PASSES: Final = 100
 MOST_BLOCKS: Final = 1_000
 LONGEST_INPUT: Final = 67_108_864

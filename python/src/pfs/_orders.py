@@ -5,6 +5,7 @@ import os
 import re
 from collections.abc import Iterator
 from itertools import chain, islice
+from typing import NamedTuple
 
 from pfs import _library as c
 from pfs._atomic import text_cell
@@ -12,47 +13,57 @@ from pfs._faults import TableFault
 from pfs._files import read_up_to
 from pfs._instance import Instance
 from pfs._names import shown
-from pfs._tables import counted, lines_of, records, text_of
+from pfs._tables import lines_of, records, text_of
 
 SCHEDULE = re.compile(r"job([;,\t])machine\1start\1end")
 # The lines of a plan before its jobs, and a job after its place.
 HEAD = re.compile(r"(makespan|bound) \S.*")
 AFTER = (re.compile("optimal"), re.compile(r"end [0-9]{4}-[0-9]{2}-[0-9]{2} [0-9:.]+"))
-PLACED = re.compile(r"[0-9]+[.):]?\s+(.+)")
+PLACED = re.compile(r"[0-9]+(?:[.):;,]\s*|\s+)(.+)")
 
 
-def order_in(path: str | os.PathLike[str], shop: Instance) -> list[int]:
-    """Return the order of all jobs in a file.
+class FoundOrder(NamedTuple):
+    """An order that was read: the jobs that the table has, and the names that it lacks."""
+
+    jobs: list[int]
+    gone: list[str]
+
+
+def order_in(path: str | os.PathLike[str], shop: Instance) -> FoundOrder:
+    """Return the order in a file.
 
     The file is the output of `plan`, its schedule as a table, or a list of the names of the jobs, one per line, with or
-    without a place before it. A `TableFault` says which name is unknown or occurs twice, or which jobs are missing."""
+    without a place before it. A `TableFault` says which name occurs twice, or that no name is one of the table's."""
     path = os.fspath(path)
     with open(path, "rb") as file:
         content = read_up_to(file.read, c.LONGEST_INPUT + 1)
     if len(content) > c.LONGEST_INPUT:
         raise TableFault(path, 1, 0, f"the file has more than {c.LONGEST_INPUT:,} bytes")
-    names = [shop.job_name(job) for job in range(shop.jobs)]
-    # As a plan and its schedule have them.
-    numbers = {text: job for texts in ([*map(shown, names)], [*map(text_cell, names)], names)
-               for job, text in enumerate(texts)}
-    seen: dict[int, int] = {}
+    numbers = numbers_by_name(shop)
+    # The line of each job of the table, and of each other name.
+    seen: dict[int | str, int] = {}
     for line, name in named_jobs(text_of(content, path), path, numbers):
-        if name not in numbers:
-            raise TableFault(path, line, 0, f"{name!r} isn't the name of a job")
-        job = numbers[name]
+        job = numbers.get(name, name)
         if job in seen:
             raise TableFault(path, line, 0, f"the job {name!r} is in line {seen[job]} too")
         seen[job] = line
-    missing = [name for job, name in enumerate(names) if job not in seen]
-    if missing:
-        some = ", ".join(map(repr, missing[:5])) + (", .." if len(missing) > 5 else "")
-        raise TableFault(path, 1, 0, f"{len(missing)} of {counted(shop.jobs, 'job')} missing: {some}")
-    return list(seen)
+    found = FoundOrder([job for job in seen if isinstance(job, int)], [job for job in seen if isinstance(job, str)])
+    if not found.jobs:
+        raise TableFault(path, 1, 0, "no job of the table is named: write the names of the jobs, one in a line")
+    return found
+
+
+def numbers_by_name(shop: Instance) -> dict[str, int]:
+    """Return the number of each job by its name, also as plans and schedules have it."""
+    names = [shop.job_name(job) for job in range(shop.jobs)]
+    return {text: job for texts in ([*map(shown, names)], [*map(text_cell, names)], names)
+            for job, text in enumerate(texts)}
 
 
 def named_jobs(text: str, path: str, numbers: dict[str, int]) -> Iterator[tuple[int, str]]:
     """Return the names of the jobs with their lines. A schedule has each job several times; the first is used."""
-    filled = ((line, cell) for line, row in enumerate(lines_of(text), 1) if (cell := row.strip()))
+    filled = ((line, cell) for line, row in enumerate(lines_of(text), 1)
+              if (cell := row.strip()) and not re.fullmatch("sep=.", cell))
     lines = list(islice(filled, 4))
     schedule = SCHEDULE.fullmatch(lines[0][1]) if lines else None
     if schedule:
@@ -67,6 +78,8 @@ def named_jobs(text: str, path: str, numbers: dict[str, int]) -> Iterator[tuple[
         lines = lines[2:]
         for after in AFTER:
             lines = lines[1:] if lines and after.fullmatch(lines[0][1]) else lines
-    for line, name in chain(lines, filled):
-        placed = PLACED.fullmatch(name)
-        yield line, placed[1] if placed and (is_plan or name not in numbers) else name
+    for line, row in chain(lines, filled):
+        placed = PLACED.fullmatch(row)
+        name = placed[1] if placed and (is_plan or row not in numbers) else row
+        # A row of a table has other cells after the name.
+        yield line, name if name in numbers else re.split("[;\t]", name)[0].strip().strip('"')

@@ -4,14 +4,17 @@ from __future__ import annotations
 import csv
 import os
 from collections.abc import Callable, Iterator
+from datetime import timedelta
 from typing import TYPE_CHECKING, Any
 
 import numpy as np
 
 from pfs._atomic import atomic_write, text_cell
 from pfs._calendar import Calendar, Clock, text_of
-from pfs._names import amount
+from pfs._drawing import critical_path
+from pfs._names import CLOCK, amount
 from pfs._validate import Order
+from pfs._workbooks import write_workbook
 
 if TYPE_CHECKING:
     from pfs._instance import Instance
@@ -101,15 +104,7 @@ class Schedule:
         >>> schedule.critical_path()
         [(0, 0), (0, 1), (1, 1), (2, 1)]
         """
-        place, machine = (size - 1 for size in self.starts.shape)
-        path = [(place, machine)]
-        while place or machine:
-            if place and (not machine or self.ends[place - 1, machine] == self.starts[place, machine]):
-                place -= 1
-            else:
-                machine -= 1
-            path.append((place, machine))
-        return path[::-1]
+        return critical_path(self.starts, self.ends)
 
     def idle(self) -> Order:
         """Return the idle time of each machine before each operation.
@@ -216,9 +211,37 @@ class Schedule:
         atomic_write(path, text.encode("utf-8-sig" if mark else "utf-8"))
         return None
 
+    def to_xlsx(self, path: str | os.PathLike[str], *, calendar: Calendar | None = None) -> None:
+        """Write the operations as a workbook, with numbers, or with dates and times of day.
+
+        Parameters
+        ----------
+        path : str or os.PathLike
+            The file. An existing file is replaced atomically.
+        calendar : Calendar, optional
+            Write dates and times of day instead of times.
+
+        Raises
+        ------
+        ImportError
+            If openpyxl isn't installed.
+        ValueError
+            As by :meth:`to_csv`.
+        """
+        shop = self.instance
+        clock = None if calendar is None else Clock(calendar, shop)
+
+        def value(time: int) -> int | float | timedelta:
+            return timedelta(minutes=time) if shop.unit == CLOCK else time / 10**shop.decimals if shop.decimals else time
+
+        write_workbook(path, [("job", "machine", "start", "end"), *(
+            (shop.job_name(job), shop.machine_name(machine), *(clock.span(start, end) if clock else map(value, (start, end))))
+            for job, machine, start, end in self._operations())])
+
     def _numbers(self, start: int, end: int) -> tuple[str, str]:
         """The times of an operation as they are written."""
-        return amount(start, self.instance.decimals), amount(end, self.instance.decimals)
+        shop = self.instance
+        return amount(start, shop.decimals, shop.unit), amount(end, shop.decimals, shop.unit)
 
     def _dates(self, calendar: Calendar) -> Callable[[int, int], tuple[str, str]]:
         """What writes the times of an operation as dates and times of day."""

@@ -96,7 +96,7 @@ class Search:
         self.solution()
 
     def run_rounds(self, count: int) -> None:
-        """Run the next `count` rounds. After the last round of a seed, those of the next seed follow."""
+        """Run the next `count` rounds. After the last round of a seed, those of another one follow."""
         before = self.finished()
         part = self.part_after(before, count)
         self.running = part
@@ -108,7 +108,7 @@ class Search:
         """Return a part for the next `count` rounds, which aren't run yet."""
         rounds, seed = before.rounds, before.seed
         if rounds == c.MOST_ROUNDS and count:
-            rounds, seed = 0, (seed + 1) % 2**64
+            rounds, seed = 0, (seed + c.SEED_STEP) % 2**64
         return Part(before.order.tobytes(), rounds + count, before.cells_before + before.cells.value, seed,
                     before.total + count)
 
@@ -135,7 +135,7 @@ class Search:
         self.solution()
 
     def left_of_seed(self) -> int:
-        """Return the number of rounds that the seed has left, or those of the next seed if it has none."""
+        """Return the number of rounds that the seed has left, or those of the seed after it if it has none."""
         return c.MOST_ROUNDS - self.finished().rounds or c.MOST_ROUNDS
 
     def finished(self) -> Part:

@@ -42,7 +42,7 @@ class Solution:
         The number of the search's next round. To continue the search, call
         ``solve(.., start=solution, first=solution.rounds, seed=solution.seed)``.
     seed : int
-        The seed of that round. A search that has only a time limit uses the next seed after 1,000,000 rounds.
+        The seed of that round. A search that has only a time limit uses another seed after 1,000,000 rounds.
     history : tuple of Improvement
         The round, the seconds and the makespan of each improvement, if ``solve`` was called with ``history=True``, else
         empty. Comparisons ignore it.

@@ -4,18 +4,19 @@ from __future__ import annotations
 import csv
 import os
 import re
-from collections.abc import Iterable, Iterator, Sequence
+from collections.abc import Callable, Iterable, Iterator, Sequence
 from itertools import islice
 from typing import NamedTuple
 
 import numpy as np
 
 from pfs import _library as c
-from pfs._faults import TableFault
+from pfs._faults import TableFault, cell_name
 from pfs._files import read_up_to
 from pfs._instance import Instance
-from pfs._names import UNITS_OF_TIME
+from pfs._names import CLOCK, seconds_in
 from pfs._validate import Order
+from pfs._workbooks import csv_of
 
 # The most cells of a row, as in spreadsheets, and the most rows, with titles.
 MOST_CELLS, MOST_ROWS = 16_384, 10_000
@@ -23,22 +24,35 @@ LINE = re.compile(r"[^\r\n]*(?:\r\n?|\n)|[^\r\n]+")
 # A unit in brackets at the end of a name.
 UNIT = re.compile(r"[\[(]([^\[\]()]+)[\])]\Z")
 NUMBER = re.compile(r"([0-9]{1,20})(?:([.,])([0-9]{1,20}))?\Z", re.ASCII)
-CLOCK = re.compile(r"([0-9]{1,6}):([0-5][0-9])\Z", re.ASCII)
-CLOCK_UNITS = ("", "h:mm", "hh:mm")
+HOURS = re.compile(r"([0-9]{1,6}):([0-5][0-9])(?::00)?\Z", re.ASCII)
+ZERO = re.compile(r"0(?:[.,]0+)?\Z")
+MISSING = "the time is missing: write 0 where a job skips a machine (it still waits there for its turn)"
+NO_MACHINE = "leave the column out if it is no machine, or say which columns are machines (`machines`)"
 # What isn't a time, and what to write instead.
 HINTS = (
     (re.compile(r"[0-9]+:[0-9]{2}:[0-9]{2}"), "write hours and minutes, as 1:30, or a number"),
+    (re.compile(r"[0-9]+\s*h\s*[0-9]{2}"), "write hours and minutes as 1:30"),
     (re.compile(r"[0-9]{1,3}(?:['\u2019\u02bc\s][0-9]{3})+(?:[.,][0-9]+)?"), "leave out thousands separators"),
+    (re.compile(r"[0-9]{1,3}(?:\.[0-9]{3})+,[0-9]+|[0-9]{1,3}(?:,[0-9]{3})+\.[0-9]+"),
+     "leave out thousands separators, or say which decimal sign the table has (`decimal`)"),
     (re.compile(r"[0-9]+(?:[.,][0-9]+)?\s*[^\W\d]+\.?"), "write the unit in brackets into the first cell of the table"),
+    (re.compile(r"\D+|\d+([./-])\d+\1(?:\d+(?:\s.*)?)?|.*[^\W\d]{3}.*"), NO_MACHINE),
 )
 # A number with thousands separators, which could also be one with three decimals. A number doesn't begin with the group
 # "0", so 0.125 has decimals.
 GROUPED = re.compile(r"(?!0[.,])[0-9]{1,3}(?:([.,])[0-9]{3})(?:\1[0-9]{3})*\Z", re.ASCII)
-TOTAL = re.compile(r"(sums?|totals?|summe|gesamt|somme|suma|totale|totaal|Σ)\b", re.IGNORECASE)
+# Names of rows and columns that have no times of their own: of sums and means, and of columns with quantities.
+TOTALS = (r"(?:sub|grand |zwischen|gesamt)?(?:sums?|totals?|summen?|gesamt\w*|somme|suma|totale|totaal|\u03a3"
+          r"|means?|average|avg|durchschnitt|mittel(?:wert)?|moyenne|media|promedio|gemiddelde|\u00f8)")
+QUANTITIES = r"|menge|anzahl|st(?:\u00fc|ue)ck(?:zahl)?|stk|quantity|qty|pieces|pcs|quantit\u00e9|qt\u00e9|cantidad|aantal"
+NO_JOB = re.compile(rf"(?:{TOTALS})(?!\w)", re.IGNORECASE)
+NO_TIMES = re.compile(rf"(?:{TOTALS}{QUANTITIES})(?!\w)", re.IGNORECASE)
 # The first cell of a table in which the names may be numbers.
-SAYS_JOB = re.compile(r"(jobs?)?\Z", re.IGNORECASE)
+SAYS_JOB = re.compile(r"(?:(?:jobs?|orders?|auftr(?:ag|\u00e4ge)s?|fa|of|ordres?|commandes?|pedidos?|ordin[ei]|parts?|lots?|los"
+                      r"|teile?|artikel|items?|pos(?:ition)?|id|nr|no|number|nummer|num\u00e9ro)[\s.#\u00b0_:-]*)*\Z",
+                      re.IGNORECASE)
 # The first bytes of spreadsheets in their own formats, which are archives or compound documents.
-SPREADSHEETS = (b"PK\x03\x04", b"\xd0\xcf\x11\xe0")
+ARCHIVE, COMPOUND = b"PK\x03\x04", b"\xd0\xcf\x11\xe0"
 TIMES_AS_NAMES = ("the names of the {what}s are numbers, as if the {part} of names were missing: add it, or write "
                   "`job` into the first cell of the table")
 SAVE_AS = "save it as CSV UTF-8 (Excel), or as CSV with the character set Unicode (UTF-8) (LibreOffice)"
@@ -55,45 +69,83 @@ class Table(NamedTuple):
 
 
 class Cell(NamedTuple):
-    """A cell, with its position, counted from 1."""
+    """A cell, with its row and its column as spreadsheets count them."""
 
     line: int
     column: int
     text: str
 
+    @property
+    def name(self) -> str:
+        return cell_name(self.line, self.column)
 
-class Rows(NamedTuple):
-    """A table: its rows that aren't empty, without titles and without empty columns at the right."""
 
-    path: str
-    text: str
-    delimiter: str
-    # The names of the machines, after the cell above the jobs, and those of the jobs.
-    head: list[Cell]
-    jobs: list[Cell]
-    # The number of columns that aren't empty.
-    width: int
+class Rows:
+    """A table: its rows that aren't empty, without titles and without empty columns, and its faults so far."""
+
+    def __init__(self, path: str, text: str, delimiter: str, faults: list[TableFault]) -> None:
+        self.path = path
+        self.text = text
+        self.delimiter = delimiter
+        self.faults = faults
+        # The cell above the jobs, the names of the machines, and those of the jobs.
+        self.corner = Cell(1, 1, "")
+        self.machines: list[Cell] = []
+        self.jobs: list[Cell] = []
+        # The first cell of each column that isn't a time, and how many there are, for each cause.
+        self.wrong: dict[tuple[int, str], tuple[TableFault, int]] = {}
 
     def fault(self, cell: Cell, text: str) -> TableFault:
-        return TableFault(self.path, cell.line, cell.column, text)
+        heads = {head.column: head.text for head in self.machines if head.line < cell.line}
+        return TableFault(self.path, cell.line, cell.column, text, heads.get(cell.column, ""))
+
+    def report(self, cell: Cell, text: str) -> None:
+        self.faults.append(self.fault(cell, text))
 
     def times(self) -> Iterator[list[Cell]]:
         """Read the times again, row by row: all of their cells would take a hundred times the memory of the text."""
+        lines, columns = {job.line for job in self.jobs}, [head.column for head in self.machines]
         for line, row in records(self.text, self.path, self.delimiter):
-            if line > self.head[0].line:
-                yield [Cell(line, column, text) for column, text in enumerate(row[1:self.width], 2)]
+            if line in lines:
+                yield [Cell(line, column, row[column - 1] if column <= len(row) else "") for column in columns]
+
+    def read_times(self, read: Callable[[Cell], int]) -> Order:
+        """Read each time. Of each column the first cell that isn't one is noted for each cause."""
+        times = np.zeros((len(self.jobs), len(self.machines)), dtype=np.int64)
+        for at, row in enumerate(self.times()):
+            for machine, cell in enumerate(row):
+                try:
+                    times[at, machine] = read(cell)
+                except TableFault as fault:
+                    cause = cell.column, fault.text.replace(repr(cell.text), "")
+                    first, count = self.wrong.get(cause, (fault, 0))
+                    self.wrong[cause] = first, count + 1
+        return times
+
+    def check(self) -> None:
+        """Raise the faults that were found, if there are any, in the order of their cells."""
+        faults = list(self.faults)
+        others = {column for column, cause in self.wrong if NO_MACHINE in cause}
+        for (column, cause), (fault, count) in self.wrong.items():
+            if column not in others or NO_MACHINE in cause:
+                more = f" (and {counted(count - 1, 'more cell')} of the column)" if count > 1 else ""
+                faults.append(TableFault(self.path, fault.line, column, fault.text + more, fault.head))
+        if faults:
+            first, *rest = sorted(faults, key=lambda fault: (fault.line, fault.column))
+            raise TableFault(self.path, first.line, first.column, first.text, first.head, tuple(rest))
 
 
 def read_csv(source: str | os.PathLike[str], unit: str = "", *, decimal: str | None = None,
-             allow_totals: bool = False) -> Instance:
-    """Read a table of times from a CSV file: a row for each job, a column for each machine.
+             allow_totals: bool = False, machines: Iterable[str] | None = None) -> Instance:
+    """Read a table of times from a CSV file or a workbook: a row for each job, a column for each machine.
 
     Parameters
     ----------
     source : str or os.PathLike
         The file, in UTF-8 or in UTF-16 with a byte order mark, of at most 64 MiB. The first row names the machines and
         the first column the jobs. Semicolons, tabs or commas separate the columns. Titles above the first row, empty
-        rows and empty columns at the right are skipped.
+        rows and empty columns are skipped. Of a workbook (``.xlsx``), which needs openpyxl, the sheet is read that it
+        opens with.
     unit : str
         The unit of all times. The table can name it in its first cell, in brackets: ``job [min]``, or at each machine.
         Two different units of time are rejected.
@@ -102,22 +154,29 @@ def read_csv(source: str | os.PathLike[str], unit: str = "", *, decimal: str | N
         point where commas separate the columns. Elsewhere it is the one that the table uses, and a number such as
         ``1.000``, which may be 1 or 1000, is rejected.
     allow_totals : bool
-        Whether the last row may be the sum of the rows above, and the last column the sum of the columns before it. By
-        default such a table is rejected, since its totals would be planned as a job or a machine.
+        Whether rows and columns may have names of sums, means or quantities, the last row may be the sum of the rows
+        above, and the last column the sum of the columns before it. By default such a table is rejected, since they
+        would be planned as jobs or machines.
+    machines : iterable of str, optional
+        The names of the columns that are machines, in the order of the machines. Other columns, and rows above the one
+        that has these names, are skipped. By default all columns but the first one.
 
     Returns
     -------
     Instance
         The instance, with names. Its ``times`` are the times of the table, times 10 to the power of ``decimals``, the
-        number of decimals in the table. Hours and minutes, such as ``1:30``, are read as minutes.
+        number of decimals in the table. Hours and minutes, such as ``1:30``, are read as minutes; the unit is then
+        ``h:mm``.
 
     Raises
     ------
     TableFault
-        If a cell isn't a time or is ambiguous, a row has too many or too few cells, a name is missing or occurs twice,
-        all names are numbers as if they were times, units differ, or there are totals.
+        If a cell isn't a time or is ambiguous, a name is missing or occurs twice, all names are numbers as if they were
+        times, units differ, or there are totals. It has all faults of the table.
     ValueError
         If ``decimal`` is another text.
+    ImportError
+        If the file is a workbook, and openpyxl isn't installed.
 
     Examples
     --------
@@ -136,11 +195,11 @@ def read_csv(source: str | os.PathLike[str], unit: str = "", *, decimal: str | N
     table,saw,2.0,5.0
     table,drill,7.0,9.5
     """
-    return table_of(source, unit, decimal, allow_totals).shop
+    return table_of(source, unit, decimal, allow_totals, machines).shop
 
 
-def table_of(source: str | os.PathLike[str], unit: str, decimal: str | None = None,
-             allow_totals: bool = False) -> Table:
+def table_of(source: str | os.PathLike[str], unit: str, decimal: str | None = None, allow_totals: bool = False,
+             machines: Iterable[str] | None = None) -> Table:
     """Read a table. The parameters are those of `read_csv`."""
     if decimal not in (None, ".", ","):
         raise ValueError(f"decimal must be '.' or ',', not {decimal!r}")
@@ -149,34 +208,39 @@ def table_of(source: str | os.PathLike[str], unit: str, decimal: str | None = No
         content = read_up_to(file.read, c.LONGEST_INPUT + 1)
     if len(content) > c.LONGEST_INPUT:
         raise TableFault(path, 1, 0, f"the table has more than {c.LONGEST_INPUT:,} bytes")
-    table = rows_of(text_of(content, path), path)
-    names, found = without_units(table, table.head[1:], unit)
-    machines = names_in(path, names, "machine")
-    jobs = names_in(path, table.jobs, "job")
-    if not 1 <= len(machines) <= c.MOST_MACHINES:
-        raise TableFault(path, table.head[0].line, 0, f"{len(machines)} machines: there may be 1 to {c.MOST_MACHINES}")
-    if not 1 <= len(jobs) <= c.MOST_JOBS:
-        last = (table.head + table.jobs)[-1].line
-        raise TableFault(path, last, 0, f"{len(jobs)} jobs: there may be 1 to {c.MOST_JOBS:,}")
-    reject_times_as_names(table, machines, jobs)
-    times, decimals, found = times_of(table, decimal, found)
+    faults: list[TableFault] = []
+    table = rows_of(text_of(content, path, faults), path, list(machines or ()), faults)
     if not allow_totals:
-        reject_totals(table, times)
-    shop = Instance(times, name=os.path.basename(path), job_names=jobs, machine_names=machines, unit=found,
+        leave_out_totals(table, machines is not None)
+    heads, found = without_units(table, unit)
+    check_sizes(table)
+    job_names, machine_names = names_in(table, table.jobs, "job"), names_in(table, heads, "machine")
+    reject_times_as_names(table, machine_names, job_names)
+    times, decimals, found = times_of(table, decimal, found)
+    table.check()
+    if not allow_totals:
+        reject_sums(table, times)
+    shop = Instance(times, name=os.path.basename(path), job_names=job_names, machine_names=machine_names, unit=found,
                     decimals=decimals)
     return Table(shop, table.delimiter, content.startswith((b"\xef\xbb\xbf", b"\xff\xfe", b"\xfe\xff")))
 
 
-def text_of(content: bytes, path: str) -> str:
-    """Return the text of a file."""
-    if content.startswith(SPREADSHEETS):
-        raise TableFault(path, 1, 0, f"is a spreadsheet's own file: {SAVE_AS}")
+def text_of(content: bytes, path: str, faults: list[TableFault] | None = None) -> str:
+    """Return the text of a file; that of a workbook as CSV. Another encoding is added to the faults, or raised."""
+    if content.startswith(ARCHIVE):
+        return csv_of(content, path)
+    if content.startswith(COMPOUND):
+        raise TableFault(path, 1, 0, f"is a spreadsheet's own file: {SAVE_AS}, or as .xlsx")
     encoding = "utf-16" if content.startswith((b"\xff\xfe", b"\xfe\xff")) else "utf-8-sig"
     try:
         return content.decode(encoding)
     except UnicodeDecodeError as error:
         line = content[:error.start].count(b"\n") + 1
-        raise TableFault(path, line, 0, f"isn't text in UTF-8: {SAVE_AS}") from None
+        fault = TableFault(path, line, 0, f"isn't text in UTF-8: {SAVE_AS}")
+    if faults is None or encoding == "utf-16":
+        raise fault
+    faults.append(fault)
+    return content.decode("cp1252", "replace")
 
 
 def lines_of(text: str) -> Iterator[str]:
@@ -199,8 +263,8 @@ def delimiter_of(text: str) -> str:
 
 
 def records(text: str, path: str, delimiter: str) -> Iterator[tuple[int, list[str]]]:
-    """Return the rows that aren't empty, with their lines, without one that names the separator."""
-    signs, line, is_first = 0, 1, True
+    """Return the rows that aren't empty, with their numbers, without one that names the separator."""
+    signs, line, number = 0, 1, 0
 
     def lines() -> Iterator[str]:
         nonlocal signs
@@ -213,56 +277,114 @@ def records(text: str, path: str, delimiter: str) -> Iterator[tuple[int, list[st
     reader = csv.reader(lines(), delimiter=delimiter, strict=True, skipinitialspace=delimiter != "\t")
     try:
         for row in reader:
-            if any(row) and any(cells := [cell.strip() for cell in row]):
-                if not (is_first and cells[0] == "sep="):
-                    yield line, cells
-                is_first = False
+            number += row[:1] != ["sep="] or number > 0
+            if any(row) and any(cells := [cell.strip() for cell in row]) and number:
+                yield number, cells
             signs, line = 0, reader.line_num + 1
     except csv.Error as error:
         raise TableFault(path, reader.line_num, 0, f"isn't a row of a table: {error}") from None
 
 
-def rows_of(text: str, path: str) -> Rows:
-    """Return the table: the rows from the first one on that has more than a first cell. Those above it are titles."""
-    delimiter = delimiter_of(text)
+def rows_of(text: str, path: str, machines: list[str], faults: list[TableFault]) -> Rows:
+    """Return the table: the rows from the first one on that has more than a first cell, or that names these machines.
+    Those above it are titles."""
+    table = Rows(path, text, delimiter_of(text), faults)
     head: list[str] = []
-    firsts: list[Cell] = []
-    at = width = 0
-    for line, row in records(text, path, delimiter):
-        if len(firsts) == MOST_ROWS:
+    titles: list[Cell] = []
+    used: set[int] = set()
+    for line, row in records(text, path, table.delimiter):
+        if len(titles) + len(table.jobs) == MOST_ROWS:
             raise TableFault(path, line, 0, f"the table has more than {MOST_ROWS:,} rows")
-        if not firsts or (not any(head[1:]) and any(row[1:])):
-            head, at = row, len(firsts)
-        firsts.append(Cell(line, 1, row[0]))
-        width = max(width, *(column for column, cell in enumerate(row, 1) if cell))
-    if not firsts:
+        if not table.jobs and is_head(row, head if used else None, machines):
+            head, table.corner, used = row, Cell(line, 1, row[0]), {1}
+        elif used:
+            table.jobs.append(Cell(line, 1, row[0]))
+        else:
+            titles.append(Cell(line, 1, row[0]))
+        if used:
+            used.update(column for column, cell in enumerate(row, 1) if cell)
+    if not titles and not used:
         raise TableFault(path, 1, 0, "the table is empty")
-    check_titles(path, firsts[:at], head, firsts[at].line)
-    cells = [Cell(firsts[at].line, column, text) for column, text in enumerate(head[:width], 1)]
-    return Rows(path, text, delimiter, cells, firsts[at + 1:], width)
+    if not used:
+        reject_columns(path, titles, machines, text, table.delimiter)
+    line = table.corner.line
+    columns = [column_of(head, name) for name in machines] or sorted(used)[1:]
+    table.machines = [Cell(line, column, head[column - 1] if column <= len(head) else "") for column in columns]
+    if not machines:
+        check_titles(table, titles)
+    return table
 
 
-def check_titles(path: str, titles: Sequence[Cell], head: Sequence[str], line: int) -> None:
+def is_head(row: Sequence[str], above: Sequence[str] | None, machines: list[str]) -> bool:
+    """Whether a row names these machines, or else is the first one with more than a first cell. If the row above it was
+    taken for that, it was a title if it names fewer machines and this row has names only."""
+    if above is None:
+        return all(column_of(row, name) for name in machines) if machines else any(row[1:])
+    names, others = ([name for name in each[1:] if name] for each in (row, above))
+    return not machines and len(names) > len(others) and not any(map(is_time, names)) and is_above_names(row[0] or "?")
+
+
+def column_of(head: Sequence[str], name: str) -> int:
+    """Return the column after the first one that has this name, with or without its unit; 0 if none has."""
+    wanted = name.strip().casefold()
+    return next((column for column, text in enumerate(head[1:], 2)
+                 if wanted and wanted in (text.casefold(), UNIT.sub("", text).rstrip().casefold())), 0)
+
+
+def reject_columns(path: str, titles: Sequence[Cell], machines: list[str], text: str, delimiter: str) -> None:
+    """No row has names of machines, or not the given ones: say what the row with the most of them lacks."""
+    if not machines:
+        raise TableFault(path, titles[0].line, 0, f"0 machines: there may be 1 to {c.MOST_MACHINES}")
+    line, row = max(records(text, path, delimiter), key=lambda each: sum(bool(column_of(each[1], name))
+                                                                         for name in machines))
+    missing = next(name for name in machines if not column_of(row, name))
+    others = ", ".join(filter(None, row[1:]))
+    raise TableFault(path, line, 0, f"no column is named {missing!r}: this row has {others or 'no other names'} "
+                                    "(`machines`)")
+
+
+def check_titles(table: Rows, titles: Sequence[Cell]) -> None:
     """If the names of the machines are missing, that row looks like a title and the first job like the names, which
-    would lose the job: a `TableFault`."""
+    would lose the job: a fault."""
     for title in titles:
         if title.text and is_above_names(title.text):
-            raise TableFault(path, title.line, 2, "the machine has no name")
-    if titles and all(is_time(name) for name in head[1:] if name) and not is_above_names(head[0]):
-        raise TableFault(path, line, 2, TIMES_AS_NAMES.format(what="machine", part="row"))
+            raise table.fault(Cell(title.line, 2, ""), "the machine has no name")
+    names = [head.text for head in table.machines if head.text]
+    if titles and all(map(is_time, names)) and not is_above_names(table.corner.text):
+        raise table.fault(table.machines[0], TIMES_AS_NAMES.format(what="machine", part="row"))
 
 
-def names_in(path: str, cells: Iterable[Cell], what: str) -> list[str]:
-    """Return the names in these cells, which must be distinct."""
+def leave_out_totals(table: Rows, is_chosen: bool) -> None:
+    """Report rows and columns that are named as sums, means or quantities. Columns may be if they were chosen."""
+    for cells, pattern, what in (
+            (table.jobs, NO_JOB, "the row {!r} looks like a sum or a mean"),
+            ([] if is_chosen else table.machines, NO_TIMES, "the column {!r} looks like a sum, a mean or a quantity")):
+        for cell in [cell for cell in cells if pattern.match(cell.text)]:
+            table.faults.append(TableFault(table.path, cell.line, cell.column, f"{what.format(cell.text)}: leave it "
+                                           "out, or allow totals (`allow_totals`)"))
+            cells.remove(cell)
+
+
+def check_sizes(table: Rows) -> None:
+    """Raise the faults so far if there are too many or too few jobs or machines."""
+    for cells, what, most in ((table.machines, "machine", c.MOST_MACHINES), (table.jobs, "job", c.MOST_JOBS)):
+        if not 1 <= len(cells) <= most:
+            line = (cells or [table.corner])[-1].line
+            table.faults.append(TableFault(table.path, line, 0, f"{len(cells)} {what}s: there may be 1 to {most:,}"))
+            table.check()
+
+
+def names_in(table: Rows, cells: Iterable[Cell], what: str) -> list[str]:
+    """Return the names in these cells. Missing and repeated ones are reported."""
     seen: dict[str, Cell] = {}
     for cell in cells:
+        title = ": name it, or if the row is a title, leave out all but its first cell" if what == "machine" else ""
         if not cell.text:
-            raise TableFault(path, cell.line, cell.column, f"the {what} has no name")
-        if cell.text in seen:
-            other = seen[cell.text]
-            raise TableFault(path, cell.line, cell.column, f"the {what} {cell.text!r} is in line {other.line}, column "
-                                                           f"{other.column} too")
-        seen[cell.text] = cell
+            table.faults.append(TableFault(table.path, cell.line, cell.column, f"the {what} has no name{title}"))
+        elif cell.text in seen:
+            table.faults.append(TableFault(table.path, cell.line, cell.column,
+                                           f"the {what} {cell.text!r} is in {seen[cell.text].name} too"))
+        seen.setdefault(cell.text, cell)
     return list(seen)
 
 
@@ -274,97 +396,96 @@ def unit_in(text: str) -> str:
 
 def is_same_unit(one: str, other: str) -> bool:
     """Whether two units are the same, perhaps in two languages."""
-    first, second = one.casefold(), other.casefold()
-    return first == second or UNITS_OF_TIME.get(first, 0) == UNITS_OF_TIME.get(second, 1)
+    seconds = seconds_in(one)
+    is_clock = (seconds is not None) and is_clock_unit(one) != is_clock_unit(other)
+    return one.casefold() == other.casefold() or (seconds is not None and seconds == seconds_in(other) and not is_clock)
 
 
-def without_units(table: Rows, heads: Sequence[Cell], unit: str) -> tuple[list[Cell], str]:
+def is_clock_unit(unit: str) -> bool:
+    """Whether times in this unit are hours and minutes, such as 1:30."""
+    return unit.casefold() in (CLOCK, "hh:mm")
+
+
+def without_units(table: Rows, unit: str) -> tuple[list[Cell], str]:
     """The names of the machines without a unit that they all have, and the unit of the table."""
-    line, first = table.head[0].line, unit_in(table.head[0].text)
-    if unit and first.casefold() in UNITS_OF_TIME and not is_same_unit(unit, first):
-        raise TableFault(table.path, line, 1, f"the times are in {first}, and `unit` is {unit}: use one unit")
+    first = unit_in(table.corner.text)
+    if unit and seconds_in(first) and not is_same_unit(unit, first):
+        table.report(table.corner, f"the times are in {first}, and `unit` is {unit}: use one unit")
     named = unit or first
-    units = [own if (own := unit_in(head.text)).casefold() in UNITS_OF_TIME else "" for head in heads]
+    units = [own if seconds_in(own := unit_in(head.text)) else "" for head in table.machines]
     if not any(units):
-        return list(heads), named
+        return table.machines, named
     expected = named or next(filter(None, units))
-    for head, own in zip(heads, units):
+    for head, own in zip(table.machines, units):
         if not is_same_unit(own, expected) and (own or not named):
             others = "`unit` is" if unit else "others are in"
-            raise table.fault(head, f"the times of the machine are in {own or 'no unit'}, and {others} {expected}: "
-                                    "use one unit")
+            table.report(head, f"the times of {UNIT.sub('', head.text).rstrip()!r} are in {own or 'no unit'}, and {others} "
+                               f"{expected}: use one unit")
     return [head._replace(text=UNIT.sub("", head.text).rstrip() if own else head.text)
-            for head, own in zip(heads, units)], expected
+            for head, own in zip(table.machines, units)], expected
 
 
 def is_above_names(first: str) -> bool:
     """Whether the first cell of a row says that names follow to the right and below: it is `job`, empty, or has a unit
     of time."""
-    return bool(SAYS_JOB.match(UNIT.sub("", first).rstrip())) or unit_in(first).casefold() in UNITS_OF_TIME
+    return bool(SAYS_JOB.match(UNIT.sub("", first).rstrip())) or seconds_in(unit_in(first)) is not None
 
 
 def is_time(text: str) -> bool:
-    return NUMBER.match(text) is not None or CLOCK.match(text) is not None
+    return NUMBER.match(text) is not None or HOURS.match(text) is not None
 
 
 def reject_times_as_names(table: Rows, machines: Sequence[str], jobs: Sequence[str]) -> None:
     """Names that are all numbers are probably times: the row or the column of names is missing. The first cell of the
     table may say that they are names."""
-    if is_above_names(table.head[0].text):
+    if is_above_names(table.corner.text):
         return
-    for names, what, part, line, column in ((machines, "machine", "row", table.head[0].line, 2),
-                                            (jobs, "job", "column", table.jobs[0].line, 1)):
-        if all(is_time(name) for name in names):
-            raise TableFault(table.path, line, column, TIMES_AS_NAMES.format(what=what, part=part))
+    for names, what, part, cell in ((machines, "machine", "row", table.machines[0]),
+                                    (jobs, "job", "column", table.jobs[0])):
+        if all(map(is_time, names)):
+            table.report(cell, TIMES_AS_NAMES.format(what=what, part=part))
 
 
 def times_of(table: Rows, decimal: str | None, unit: str) -> tuple[Order, int, str]:
-    """Return the times, the number of their decimals, and their unit."""
-    machines, is_clock = len(table.head) - 1, False
-    for job, row in zip(table.jobs, table.times()):
-        if len(row) != machines:
-            raise TableFault(table.path, job.line, 0, f"{counted(len(row), 'time')} for {counted(machines, 'machine')}")
+    """Return the times, the number of their decimals, and their unit. They are hours and minutes if most cells are."""
+    kinds = [0, 0]
+    for row in table.times():
         for cell in row:
-            is_clock = is_clock or CLOCK.match(cell.text) is not None
-            if not cell.text:
-                raise table.fault(cell, "the time is missing: write 0 where a job skips a machine "
-                                        "(it still waits there for its turn)")
-    if is_clock:
-        return minutes_of(table, unit), 0, "min"
-    sign, decimals = DecimalSign(table, decimal), 0
+            kinds[0] += NUMBER.match(cell.text) is not None and not ZERO.match(cell.text)
+            kinds[1] += HOURS.match(cell.text) is not None
+    if kinds[1] and kinds[1] >= kinds[0]:
+        return minutes_of(table, unit), 0, CLOCK
+    sign = DecimalSign(table, decimal)
     # In billionths. What is too long for them is too long for a time.
-    billionths = np.zeros((len(table.jobs), machines), dtype=np.int64)
-    for at, row in enumerate(table.times()):
-        parts = [sign.parts_of(cell) for cell in row]
-        decimals = max(decimals, *(len(part) for _, part in parts))
-        billionths[at] = [min(int(number + part.ljust(9, "0")), 2**62) for number, part in parts]
-    times = billionths // 10**(9 - decimals)
-    reject_long_times(table, times, f", counted in {counted(decimals, 'decimal')}" if decimals else "")
-    return times, decimals, unit
+    times = table.read_times(sign.billionths_of) // 10**(9 - sign.decimals)
+    reject_long_times(table, times, f", counted in {counted(sign.decimals, 'decimal')}" if sign.decimals else "")
+    return times, sign.decimals, unit
 
 
 def minutes_of(table: Rows, unit: str) -> Order:
     """Return times in minutes that are all written as hours and minutes."""
-    if is_same_unit(unit, "min"):
-        raise TableFault(table.path, table.head[0].line, 1, "times such as 1:30 may be hours and minutes, or minutes "
-                                                            f"and seconds: write [h:mm] instead of {unit}, or numbers")
-    if unit.casefold() not in CLOCK_UNITS and not is_same_unit(unit, "h"):
-        raise TableFault(table.path, table.head[0].line, 1, f"times such as 1:30 are hours and minutes, not {unit}")
-    times = np.zeros((len(table.jobs), len(table.head) - 1), dtype=np.int64)
-    for at, row in enumerate(table.times()):
-        found = [CLOCK.match(cell.text) for cell in row]
-        for cell, match in zip(row, found):
-            if match is None:
-                hint = ": leave out the seconds" if HINTS[0][0].fullmatch(cell.text) else ""
-                raise table.fault(cell, f"{cell.text!r} isn't hours and minutes, as other times of the table are{hint}")
-        times[at] = [60 * int(match[1]) + int(match[2]) for match in found if match]
+    if unit and not is_clock_unit(unit) and not is_same_unit(unit, "h"):
+        table.report(table.corner, "times such as 1:30 may be hours and minutes, or minutes and seconds: write [h:mm] "
+                                   f"instead of {unit}, or numbers" if is_same_unit(unit, "min") else
+                                   f"times such as 1:30 are hours and minutes, not {unit}")
+
+    def minutes_in(cell: Cell) -> int:
+        match = HOURS.match(cell.text)
+        if match is None and not ZERO.match(cell.text):
+            hint = ": leave out the seconds" if HINTS[0][0].fullmatch(cell.text) else ""
+            raise table.fault(cell, f"{cell.text!r} isn't hours and minutes, as other times of the table are{hint}"
+                              if cell.text else MISSING)
+        return 60 * int(match[1]) + int(match[2]) if match else 0
+
+    times = table.read_times(minutes_in)
     reject_long_times(table, times, " minutes")
     return times
 
 
 def reject_long_times(table: Rows, times: Order, note: str) -> None:
     for job, machine in np.argwhere(times > c.LONGEST_TIME)[:1].tolist():
-        raise TableFault(table.path, table.jobs[job].line, machine + 2, f"the time is above {c.LONGEST_TIME:,}{note}")
+        table.report(Cell(table.jobs[job].line, table.machines[machine].column, ""),
+                     f"the time is above {c.LONGEST_TIME:,}{note}")
 
 
 class DecimalSign:
@@ -375,15 +496,19 @@ class DecimalSign:
         self.given = decimal
         self.sign = decimal or ("." if table.delimiter == "," else None)
         self.first: Cell | None = None
+        # The most decimals of a time so far.
+        self.decimals = 0
         if self.sign is None:
             found = ((cell, NUMBER.match(cell.text)) for row in table.times() for cell in row
                      if not GROUPED.match(cell.text))
             clear = ((cell, match[2]) for cell, match in found if match and match[2])
             self.first, self.sign = next(clear, (None, None))
 
-    def parts_of(self, cell: Cell) -> tuple[str, str]:
-        """Return the digits before and after the decimal sign of a time, without trailing zeros."""
+    def billionths_of(self, cell: Cell) -> int:
+        """Return a time in billionths, at most 2^62."""
         text = self.without_groups(cell.text) if self.given else cell.text
+        if not text:
+            raise self.table.fault(cell, MISSING)
         if self.sign is None and GROUPED.match(text):
             digits = re.sub("[.,]", "", text)
             raise self.table.fault(cell, f"{text!r} may be {digits}, or have decimals: leave out thousands separators, "
@@ -393,12 +518,13 @@ class DecimalSign:
             hint = next((f": {hint}" for wrong, hint in HINTS if wrong.fullmatch(cell.text)), "")
             raise self.table.fault(cell, f"{cell.text!r} isn't a time{hint}")
         if match[2] not in (None, self.sign) and self.first is not None:
-            raise self.table.fault(cell, f"{cell.text!r} has another decimal sign than {self.first.text!r} in line "
-                                         f"{self.first.line}, column {self.first.column}")
+            raise self.table.fault(cell, f"{cell.text!r} has another decimal sign than {self.first.text!r} in "
+                                         f"{self.first.name}")
         part = (match[3] or "").rstrip("0")
         if len(part) > 9:
             raise self.table.fault(cell, f"{cell.text!r} has more than 9 decimals")
-        return match[1], part
+        self.decimals = max(self.decimals, len(part))
+        return min(int(match[1] + part.ljust(9, "0")), 2**62)
 
     def without_groups(self, text: str) -> str:
         """Return a number without its thousands separators."""
@@ -407,16 +533,15 @@ class DecimalSign:
         return text.replace(other, "") if re.match(grouped, text, re.ASCII) else text
 
 
-def reject_totals(table: Rows, times: Order) -> None:
+def reject_sums(table: Rows, times: Order) -> None:
     """Reject a table whose last row or column is the sum of the others. A single equal number may be a coincidence, so
-    at least two rows and two columns must be summed, unless the name says that it is a total."""
-    for last, own, column, others in ((table.jobs[-1], times, 0, "row {!r} has the sums of the rows above"),
-                                      (table.head[-1], times.T, len(table.head),
-                                       "column {!r} has the sums of the columns before")):
-        total, enough = own[:-1].sum(axis=0), 2 if TOTAL.match(last.text) else 3
-        if len(own) >= enough and (len(total) > 1 or enough == 2) and total.any() and (total == own[-1]).all():
-            raise TableFault(table.path, last.line, column, f"the {others.format(last.text)}: leave it out, or allow "
-                                                            "totals (`allow_totals`)")
+    at least two rows and two columns must be summed."""
+    for last, own, others in ((table.jobs[-1], times, "row {!r} has the sums of the rows above"),
+                              (table.machines[-1], times.T, "column {!r} has the sums of the columns before")):
+        total = own[:-1].sum(axis=0)
+        if min(own.shape[0] - 1, len(total)) > 1 and total.any() and (total == own[-1]).all():
+            raise TableFault(table.path, last.line, last.column, f"the {others.format(last.text)}: leave it out, or "
+                                                                 "allow totals (`allow_totals`)")
 
 
 def counted(number: int, what: str) -> str:
@@ -435,9 +560,11 @@ def described(shop: Instance) -> str:
 
     Examples
     --------
-    >>> described(Instance([[35, 20]], unit="min", decimals=1))
-    '1 job, 2 machines, times in min with 1 decimal'
+    >>> described(Instance([[35, 20]], machine_names=["saw", "drill"], unit="min", decimals=1))
+    '1 job, 2 machines (saw, drill), times in min with 1 decimal'
     """
+    names = [shop.machine_name(machine) for machine in range(shop.machines)]
     decimals = f" with {counted(shop.decimals, 'decimal')}" if shop.decimals else ""
     unit = f"times in {shop.unit}" if shop.unit else "times without a unit"
-    return f"{counted(shop.jobs, 'job')}, {counted(shop.machines, 'machine')}, {unit}{decimals}"
+    some = ", ".join(names[:12]) + (", .." if len(names) > 12 else "")
+    return f"{counted(shop.jobs, 'job')}, {counted(shop.machines, 'machine')} ({some}), {unit}{decimals}"

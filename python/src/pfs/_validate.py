@@ -12,10 +12,11 @@ import numpy.typing as npt
 from pfs import _library as c
 
 if TYPE_CHECKING:
+    from pfs._instance import Sequence
     from pfs._solution import Solution
 
 # An order, or a sequence of some of the jobs, counted from 0.
-Jobs: TypeAlias = "npt.ArrayLike | Solution"
+Jobs: TypeAlias = "npt.ArrayLike | Solution | Sequence"
 # Processing times: a row for each job and a column for each machine.
 Times: TypeAlias = "npt.NDArray[np.uint32]"
 Order: TypeAlias = "npt.NDArray[np.int64]"
@@ -165,7 +166,9 @@ def jobs_by_name(given: Any, what: str, names: tuple[str, ...] | None) -> list[i
 
 def checked_jobs(given: Any, what: str) -> npt.NDArray[np.uint32]:
     """Return a copy of a list of jobs."""
-    own = array_copy(getattr(given, "order", given) if not isinstance(given, np.ndarray) else given, what)
+    if not isinstance(given, np.ndarray):  # a Solution has an order, and a Sequence has jobs
+        given = getattr(given, "order", getattr(given, "jobs", given))
+    own = array_copy(given, what)
     if own.ndim != 1:
         raise ValueError(f"{what} must be a list of jobs, not of the shape {own.shape}")
     if own.dtype.kind == "b":

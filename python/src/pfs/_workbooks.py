@@ -1,0 +1,84 @@
+"""Workbooks (.xlsx), which are read and written with openpyxl."""
+from __future__ import annotations
+
+import csv
+import datetime
+import io
+import os
+import zipfile
+from collections.abc import Iterable, Sequence
+from typing import Any
+
+from pfs import _library as c
+from pfs._atomic import atomic_write
+from pfs._faults import TableFault
+from pfs._names import shown
+
+# Days count from here in workbooks.
+FIRST_DAY = datetime.datetime(1899, 12, 30)
+# The most rows and cells of a row that are read; a table has fewer.
+MOST_ROWS, MOST_CELLS = 20_000, 16_384
+
+
+def openpyxl_for(what: str) -> Any:
+    """Import openpyxl, or raise an error that says how to install it."""
+    try:
+        import openpyxl
+    except ImportError:
+        raise ImportError(f"{what} needs openpyxl (Debian: python3-openpyxl), or use CSV instead") from None
+    return openpyxl
+
+
+def csv_of(content: bytes, path: str) -> str:
+    """Return the sheet with which a workbook opens as CSV with commas and decimal points."""
+    openpyxl = openpyxl_for(f"{path}: reading a workbook")
+    try:
+        with zipfile.ZipFile(io.BytesIO(content)) as archive:
+            size = sum(part.file_size for part in archive.infolist())
+        if size > 4 * c.LONGEST_INPUT:
+            raise ValueError("its parts are too large")
+        book = openpyxl.load_workbook(io.BytesIO(content), read_only=True, data_only=True)
+        text = io.StringIO("sep=,\n")
+        text.seek(0, os.SEEK_END)
+        rows = csv.writer(text, lineterminator="\n")
+        # The sizes that a workbook states may be wrong.
+        book.active.reset_dimensions()
+        for row in book.active.iter_rows(max_row=MOST_ROWS, max_col=MOST_CELLS, values_only=True):
+            rows.writerow([text_in(value) for value in row])
+    except MemoryError:
+        raise
+    except Exception as error:
+        raise TableFault(path, 1, 0, f"isn't a workbook that openpyxl reads ({shown(str(error))}): save it as CSV "
+                                     "UTF-8") from None
+    return text.getvalue()
+
+
+def text_in(value: Any) -> str:
+    """Return the text of a cell: a time of day and a length of time as hours and minutes, such as 1:30."""
+    if isinstance(value, float):
+        return f"{value:.9f}".rstrip("0").rstrip(".")
+    if isinstance(value, datetime.datetime) and value.year <= 1900:
+        value -= FIRST_DAY
+    if isinstance(value, datetime.time):
+        value = datetime.datetime.combine(FIRST_DAY, value) - FIRST_DAY
+    if isinstance(value, datetime.timedelta):
+        seconds = round(value.total_seconds())
+        return f"{seconds // 3600}:{seconds // 60 % 60:02}" + (f":{seconds % 60:02}" if seconds % 60 else "")
+    return "" if value is None else str(value)
+
+
+def write_workbook(path: str | os.PathLike[str], rows: Iterable[Sequence[Any]]) -> None:
+    """Write rows of texts, numbers and dates as a workbook. A text is never a formula."""
+    openpyxl = openpyxl_for("writing a workbook")
+    book = openpyxl.Workbook()
+    sheet = book.active
+    for line, row in enumerate(rows, 1):
+        for column, value in enumerate(row, 1):
+            cell = sheet.cell(line, column, shown(value) if isinstance(value, str) else value)
+            if isinstance(value, str):
+                cell.data_type = "s"
+            elif isinstance(value, (datetime.datetime, datetime.timedelta)):
+                cell.number_format = "yyyy-mm-dd hh:mm" if isinstance(value, datetime.datetime) else "[h]:mm"
+    content = io.BytesIO()
+    book.save(content)
+    atomic_write(path, content.getvalue())

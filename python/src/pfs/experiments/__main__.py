@@ -1,0 +1,117 @@
+"""The command line `pfs-experiments`."""
+from __future__ import annotations
+
+import argparse
+import importlib
+import io
+import os
+import pathlib
+import re
+import shutil
+import signal
+import sys
+from collections.abc import Callable
+from typing import NoReturn
+
+from pfs.experiments import ExperimentError, plain
+
+# Where the program is searched for: on the path, and beside pfs-experiments.
+PROGRAMS = f"{os.environ.get('PATH', os.defpath)}:{os.path.dirname(os.path.abspath(sys.argv[0]))}"
+
+
+class CommandLine(argparse.ArgumentParser):
+    """A parser of command lines. Errors are reported on one line."""
+
+    def error(self, message: str) -> NoReturn:
+        self.exit(2, f"{self.prog}: {plain(message)} ({' '.join(self.format_usage().split())})\n")
+
+
+def number(form: str, least: float, most: float, what: str) -> Callable[[str], float]:
+    """Returns a parser of numbers of this form and in this range."""
+    def read(text: str) -> float:
+        if not re.fullmatch(form, text, re.ASCII) or not least <= float(text) <= most:
+            raise argparse.ArgumentTypeError(f"{text!r} is not {what}")
+        return float(text)
+    return read
+
+
+def command_line() -> CommandLine:
+    """Returns the parser of the command line. Each command is a module with a function of its name."""
+    parser = CommandLine("pfs-experiments", description="Many searches, audited, in one CSV, and reports of it.")
+    commands = parser.add_subparsers(dest="command", required=True, metavar="COMMAND")
+
+    def add(name: str, text: str, module: str = "", **how: bool) -> argparse.ArgumentParser:
+        made = commands.add_parser(name, help=text, description=text, **how)  # type: ignore[arg-type]
+        made.set_defaults(module=module or name)
+        if name not in ("audit", "report"):
+            made.add_argument("--pfs", metavar="PROGRAM", default=shutil.which("pfs", path=PROGRAMS),
+                              help="the program pfs")
+        return made
+
+    taillard = add("taillard", "Writes the 120 instances of Taillard into a folder.", "stage")
+    taillard.add_argument("folder", metavar="FOLDER", type=pathlib.Path)
+    run = add("run", "Makes the runs of a plan with GNU parallel, which gets the further options.", allow_abbrev=False)
+    slurm = add("slurm", "Makes the runs of a plan on a Slurm cluster, as one array job; sbatch gets the further options.",
+                allow_abbrev=False)
+    for starter in (run, slurm):
+        starter.add_argument("--retry", action="store_true", help="repeat the runs that failed")
+        starter.add_argument("plan", metavar="PLAN")
+        starter.add_argument("csv", metavar="CSV")
+    run.add_argument("--sshloginfile", metavar="FILE", help="a file with the machines for GNU parallel")
+    slurm.add_argument("--tasks", metavar="N", type=number("[0-9]{1,9}", 1, 10 ** 9, "a whole number from 1"),
+                       help="the most tasks of the array")
+    slurm.add_argument("--dry-run", action="store_true", help="print the call of sbatch")
+    check = add("check", "Audits the orders of a CSV again.", "run")
+    check.add_argument("csv", metavar="CSV")
+    audit = add("audit", "Audits a table of published orders.")
+    audit.add_argument("table", metavar="TABLE", help="a CSV with the columns instance, makespan and order")
+    audit.add_argument("--instances", metavar="FOLDER", type=pathlib.Path, help="the folder of the instance files")
+    audit.add_argument("--layout", choices=("taillard", "orlib", "matrix"), help="the layout of all files")
+    audit.add_argument("--first", type=int, choices=(0, 1), help="the number of the first job in all orders")
+    audit.add_argument("--csv", metavar="CSV", help="write the verdict on each order")
+    report = add("report", "Writes tables and plots of CSVs into a folder. Each CSV is a method.")
+    report.add_argument("--format", choices=("png", "svg", "pdf"), default="png", help="the format of the plots")
+    report.add_argument("--reference", metavar="CSV", help="a CSV with instance, makespan and source")
+    report.add_argument("--width", metavar="INCHES", help="the width of the plots, in inches",
+                        type=number(r"[0-9]{1,2}(?:\.[0-9]{1,4})?", 2, 50, "a number of inches from 2 to 50"))
+    report.add_argument("--dpi", metavar="DPI", help="dots per inch", default=130,
+                        type=number("[0-9]{2,4}", 20, 1200, "a number from 20 to 1200"))
+    report.add_argument("--no-title", action="store_true", help="draw no titles")
+    report.add_argument("csv", metavar="CSV", nargs="+")
+    report.add_argument("folder", metavar="FOLDER", type=pathlib.Path)
+    return parser
+
+
+def text_of(error: Exception) -> str:
+    """Returns what is printed for an error, on one line."""
+    file = (error.filename2 or error.filename) if isinstance(error, OSError) else None
+    path = f"{os.fsdecode(file)}: " if isinstance(file, (str, bytes)) else ""
+    line = f"{path}{error.strerror}" if isinstance(error, OSError) and error.strerror else str(error)
+    return plain(" ".join(line.split()))
+
+
+def main() -> int:
+    """Runs a command, and returns its exit status. An interruption of the start prints no traceback, and printed file
+    names may contain bytes that are not UTF-8."""
+    signal.signal(signal.SIGINT, signal.SIG_DFL)
+    for stream in (sys.stdout, sys.stderr):
+        if isinstance(stream, io.TextIOWrapper):
+            stream.reconfigure(errors="backslashreplace")
+    name = "pfs-experiments"
+    try:
+        parser = command_line()
+        args, options = parser.parse_known_args()
+        args.options = options
+        name += f" {args.command}"
+        if args.options and args.command not in ("run", "slurm"):
+            parser.error(f"unrecognized arguments: {' '.join(args.options)}")
+        command: Callable[[argparse.Namespace], int] = vars(
+            importlib.import_module(f"pfs.experiments.{args.module}"))[args.command]
+        return command(args)
+    except (ExperimentError, OSError, ImportError) as error:
+        print(f"{name}: {text_of(error)}", file=sys.stderr)
+        return 2
+
+
+if __name__ == "__main__":
+    sys.exit(main())

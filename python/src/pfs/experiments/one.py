@@ -1,0 +1,316 @@
+#!/usr/bin/env python3
+"""One run of an experiment, in the folder of copies, which may be on another machine: needs Python alone. Searches with
+the program `pfs`, audits the order, and prints the order file, and then one line of CSV: the run's number, makespan,
+bound, cells, processor seconds of the search, `ok` or an error, the rounds of a search by time, and how many processes
+a command has left. Without an order it prints only this line. The exit status is 0 even if the search or the audit
+fails. ROUNDS is `time-FACTOR-SECONDS` for a search by time, with the library. If the folder has the file
+`command.json`, its command is the search.
+
+usage: one NUMBER FILE LAYOUT BLOCK ROUNDS TAKE PASSES SEED"""
+from __future__ import annotations
+
+import contextlib
+import csv
+import ctypes
+import functools
+import io
+import json
+import math
+import os
+import re
+import resource
+import shutil
+import signal
+import subprocess
+import sys
+import tempfile
+import time
+from collections.abc import Iterable
+from types import FrameType
+from typing import NamedTuple
+
+HERE = os.path.dirname(os.path.abspath(__file__))
+LIBRARY = "libpfs.so.0"
+# A seed has this number of rounds. A longer search continues with rounds of the next seed, which is greater by STEP.
+MOST_ROUNDS, STEP = 1_000_000, 0x9E3779B97F4A7C15
+# About how many seconds a part of a search takes, and the greatest ratio of its rounds to those of the part before it.
+PART, MOST_INCREASE = 0.05, 4
+# A command, and each of its processes, may use this multiple of its processor time, in whole seconds. In real time it
+# may take ten times as long, and this number of seconds more.
+TIMES, PATIENCE = 1.5, 10.0
+# The most bytes that a command may print.
+MOST_BYTES = 1_048_576
+PR_SET_PDEATHSIG, PR_SET_CHILD_SUBREAPER = 1, 36
+ENDINGS = (signal.SIGTERM, signal.SIGINT, signal.SIGHUP)
+
+
+class Failed(Exception):
+    """A run failed. The message says how."""
+
+
+class Found(NamedTuple):
+    """The order file of a search, its cells and seconds, the rounds if it was by time, and how many processes a command
+    has left."""
+    order: str
+    cells: str
+    seconds: float
+    rounds: str = ""
+    left: int = 0
+
+
+def run_pfs(*words: str) -> subprocess.CompletedProcess[bytes]:
+    """Runs pfs. Its exit status may be any."""
+    done = subprocess.run(["./pfs", *words], cwd=HERE, stdin=subprocess.DEVNULL, capture_output=True)
+    if done.returncode < 0:
+        raise Failed(f"{words[0]}: signal {-done.returncode}")
+    return done
+
+
+def pfs(*words: str) -> str:
+    """Returns what pfs prints."""
+    done = run_pfs(*words)
+    if done.returncode != 0:
+        output = (done.stderr or done.stdout).decode(errors="replace").splitlines() or [""]
+        raise Failed(f"{words[0]}: exit {done.returncode}, {output[0]}")
+    return done.stdout.decode(errors="replace")
+
+
+def child_seconds() -> float:
+    spent = resource.getrusage(resource.RUSAGE_CHILDREN)
+    return spent.ru_utime + spent.ru_stime
+
+
+def order_file(jobs: Iterable[object], makespan: int, first: str) -> str:
+    return f"{first}\n{' '.join(map(str, jobs))}\nmakespan {makespan}\n"
+
+
+def by_rounds(instance: list[str], rounds: str, take: str, passes: str, seed: str) -> Found:
+    options = ["--rounds", rounds, "--passes", passes, "--seed", seed, "--cells"]
+    options += [] if take == "-" else ["--take", take]
+    before = child_seconds()
+    text = pfs("solve", *options, *instance)
+    found = re.fullmatch("(.*\n)cells ([0-9]{1,20})\n", text, re.ASCII | re.DOTALL)
+    if not found:
+        raise Failed("solve: no cells printed")
+    return Found(found[1], found[2], child_seconds() - before)
+
+
+def check(instance: list[str], order: str) -> subprocess.CompletedProcess[bytes]:
+    with tempfile.NamedTemporaryFile("w", encoding="utf-8", errors="replace") as file:
+        file.write(order)
+        file.flush()
+        return run_pfs("check", *instance, file.name)
+
+
+def audit(instance: list[str], order: str) -> tuple[str, str]:
+    """Audits an order file, which must be valid. Returns its makespan and its bound."""
+    done = check(instance, order)
+    lines = (done.stderr or done.stdout).decode(errors="replace").splitlines() or ["no verdict"]
+    found = re.match("valid\nmakespan ([0-9]{1,18})\nbound ([0-9]{1,18})(?:\n|$)", "\n".join(lines), re.ASCII)
+    if done.returncode != 0 or not found:
+        raise Failed(f"check: {f'exit {done.returncode}, ' if done.returncode else ''}{lines[0]}")
+    return found[1], found[2]
+
+
+# Searches by time, in parts of rounds
+
+class Search:
+    """Iterated greedy from NEH's order, with the library for C. The processing times are listed job by job."""
+
+    def __init__(self, times: list[int], jobs: int, machines: int, take: int, passes: int, seed: int) -> None:
+        self.library = ctypes.CDLL(os.path.join(HERE, LIBRARY))
+        self.take, self.passes, self.seed = take, passes, seed
+        self.order = (ctypes.c_uint32 * jobs)()
+        sizes = [ctypes.c_size_t(size) for size in (len(times), jobs, machines)]
+        self.shop = [(ctypes.c_uint32 * len(times))(*times), *sizes, self.order, ctypes.c_size_t(jobs)]
+        self.makespan, self.cells, self.rounds = ctypes.c_uint64(), 0, 0
+
+    def call(self, function: str, *arguments: object) -> None:
+        """Calls a function of the library, and counts the cells that it computed."""
+        cells = ctypes.c_uint64()
+        number = getattr(self.library, function)(*self.shop, *arguments, ctypes.byref(self.makespan),
+                                                 ctypes.byref(cells))
+        if number != 0:
+            raise Failed("solve: exit 4, pfs: no memory" if number == 1 else f"libpfs: {function} returns {number}")
+        self.cells += cells.value
+
+    def neh(self) -> None:
+        self.call("pfs_neh")
+
+    def run_rounds(self, count: int) -> int:
+        """Runs rounds of one seed, at most this number, and returns how many."""
+        first, seed = self.rounds % MOST_ROUNDS, self.seed + self.rounds // MOST_ROUNDS * STEP
+        count = min(count, MOST_ROUNDS - first)
+        self.call("pfs_rounds", ctypes.c_uint32(first), ctypes.c_uint32(count), ctypes.c_size_t(self.take),
+                  ctypes.c_uint32(self.passes), ctypes.c_uint64(seed % 2 ** 64))
+        self.rounds += count
+        return count
+
+
+def search(running: Search, seconds: float) -> float:
+    """Searches for this processor time, and returns the time spent. A part is only started if it is expected to end in
+    time, as estimated from the part before it."""
+    start = time.process_time()
+    running.neh()
+    count, before = 1, time.process_time()
+    while count > 0 and before - start < seconds:
+        made = running.run_rounds(count)
+        now = time.process_time()
+        each, before = max(now - before, 1e-7) / made, now
+        count = min(MOST_INCREASE * count, int(min(PART, seconds - (now - start)) / each))
+    return time.process_time() - start
+
+
+def by_time(instance: list[str], seconds: str, take: str, passes: str, seed: str) -> Found:
+    _, layout, *block, file = instance
+    jobs, machines, *pairs = map(int, pfs("convert", "--from", layout, "--to", "orlib", *block, file).split()[3:])
+    try:
+        running = Search(pairs[1::2], jobs, machines, int(take), int(passes), int(seed))
+        spent = search(running, float(seconds))
+    except (OSError, AttributeError) as error:
+        raise Failed(f"libpfs: {error}") from None
+    order = order_file([job + 1 for job in running.order], running.makespan.value, f"order2 {jobs} {machines}")
+    return Found(order, str(running.cells), spent, str(running.rounds))
+
+
+# Other programs
+
+def by_command(words: list[str], instance: list[str], seconds: str, seed: str) -> Found:
+    """Searches with another program, which gets its own copy of the instance. If it prints only job numbers, the
+    audit computes the makespan."""
+    values = {"block": instance[3], "seed": seed, "seconds": seconds}
+    try:
+        with tempfile.TemporaryDirectory() as own:
+            values["instance"] = shutil.copyfile(os.path.join(HERE, instance[-1]), os.path.join(own, "instance"))
+            os.chmod(values["instance"], 0o444)
+            words = [re.sub(r"\{(\w+)\}", lambda name: values[str(name[1])], word) for word in words]
+            text, spent, left = run_command(words, os.path.join(HERE, "files"), float(seconds) if seconds else None)
+        order, jobs = order_of(text)
+    except Failed as failure:
+        raise Failed(f"command: {failure}") from None
+    if jobs:
+        first = f"order {len(jobs)}"
+        verdict = check(instance, order_file(jobs, 0, first)).stdout.decode(errors="replace")
+        computed = re.search("^computed ([0-9]{1,18})$", verdict, re.MULTILINE)
+        order = order_file(jobs, int(computed[1]) if computed else 0, first)
+    return Found(order, "", spent, "", left)
+
+
+def order_of(text: str) -> tuple[str, list[str]]:
+    """Returns the order file that a program printed, or the job numbers of its only line."""
+    lines = [line for line in text.splitlines() if line.strip()]
+    if not lines:
+        raise Failed("nothing printed")
+    if re.match("order2? ", lines[0]):
+        return text if text.endswith("\n") else f"{text}\n", []
+    jobs = re.split(r"[\s,]+", lines[0].strip(" \t,"))
+    if len(lines) > 1 or not all(re.fullmatch("[0-9]{1,9}", job, re.ASCII) for job in jobs):
+        raise Failed(f"no order printed: {lines[0][:40]!r}")
+    return "", [str(int(job)) for job in jobs]
+
+
+def run_command(words: list[str], folder: str, seconds: float | None) -> tuple[str, float, int]:
+    """Returns what a program prints on standard output, its processor seconds with those of all processes that it has
+    started, and how many of them it has left. These are killed when it ends. A program that takes too long, prints too
+    much or fails is killed with all of them."""
+    before, end = child_seconds(), math.inf if seconds is None else time.monotonic() + 10 * TIMES * seconds + PATIENCE
+    set_process(PR_SET_CHILD_SUBREAPER, 1)
+    for number in ENDINGS:
+        signal.signal(number, stop)
+    with tempfile.TemporaryFile() as out, tempfile.TemporaryFile() as errors:
+        try:
+            child = subprocess.Popen(words, cwd=folder, stdin=subprocess.DEVNULL, stdout=out, stderr=errors,
+                                     start_new_session=True, preexec_fn=functools.partial(limit, seconds))
+            while child.poll() is None and os.fstat(out.fileno()).st_size <= MOST_BYTES and time.monotonic() < end:
+                with contextlib.suppress(subprocess.TimeoutExpired):
+                    child.wait(0.05)
+            ended = child.poll() is not None
+        except (OSError, ValueError) as error:
+            raise Failed(getattr(error, "strerror", None) or str(error)) from None
+        finally:
+            left = kill_descendants()
+        out.seek(0)
+        text = out.read(MOST_BYTES + 1)
+        errors.seek(max(0, errors.seek(0, os.SEEK_END) - 1000))
+        said = errors.read().decode(errors="replace").splitlines() or [""]
+    spent = child_seconds() - before
+    if len(text) > MOST_BYTES:
+        raise Failed(f"more than {MOST_BYTES:,} bytes printed")
+    if seconds is not None and spent > TIMES * seconds:
+        raise Failed(f"took too long: {spent:.2f} s of processor time instead of {seconds:g} s")
+    if not ended:
+        raise Failed(f"still running, and used {spent:.2f} s of processor time of {seconds:g} s")
+    if child.returncode < 0:
+        raise Failed(f"signal {-child.returncode}")
+    if child.returncode > 0:
+        raise Failed(f"exit {child.returncode}, {' '.join(said[-1].split())[:200]}")
+    return text.decode(errors="replace"), spent, left
+
+
+def stop(number: int, _frame: FrameType | None) -> None:
+    """Ends this program after its cleanup, which further signals don't interrupt."""
+    for each in ENDINGS:
+        signal.signal(each, signal.SIG_IGN)
+    sys.exit(128 + number)
+
+
+def set_process(what: int, value: int) -> None:
+    ctypes.CDLL(None).prctl(what, value)
+
+
+def limit(seconds: float | None) -> None:
+    """Limits the processor time of each process of a program, and has it killed when this process ends."""
+    set_process(PR_SET_PDEATHSIG, signal.SIGKILL)
+    if seconds is not None:
+        resource.setrlimit(resource.RLIMIT_CPU, (math.ceil(TIMES * seconds),) * 2)
+
+
+def kill_descendants() -> int:
+    """Kills all processes that this one and its descendants have started, waits for them, and returns how many were
+    killed. Those whose parent has ended must be adopted."""
+    killed = 0
+    with contextlib.suppress(ChildProcessError):
+        while True:
+            pid, status = os.waitpid(-1, os.WNOHANG)
+            killed += pid != 0 and os.WIFSIGNALED(status) and os.WTERMSIG(status) == signal.SIGKILL
+            if pid == 0:
+                with open(f"/proc/self/task/{os.getpid()}/children", encoding="ascii") as children:
+                    for child in map(int, children.read().split()):
+                        os.kill(child, signal.SIGKILL)
+                time.sleep(0.005)
+    return killed
+
+
+# The run
+
+def find(instance: list[str], rounds: str, take: str, passes: str, seed: str) -> Found:
+    """Searches with the command, by time, or by rounds."""
+    seconds = rounds.rpartition("-")[2] if rounds.startswith("time-") else ""
+    command = os.path.join(HERE, "command.json")
+    if os.path.exists(command):
+        with open(command, encoding="utf-8") as file:
+            return by_command(json.load(file), instance, seconds, seed)
+    if seconds:
+        return by_time(instance, seconds, take, passes, seed)
+    return by_rounds(instance, rounds, take, passes, seed)
+
+
+def main() -> None:
+    number, file, layout, block, *settings = sys.argv[1:]
+    instance, order = ["--layout", layout, "--block", block, file], ""
+    try:
+        made = find(instance, *settings)
+        order = made.order
+        row = [number, *audit(instance, order), made.cells, f"{made.seconds:.6f}", "ok"]
+        row += [made.rounds, str(made.left)] if made.rounds or made.left else []
+    except Failed as failure:
+        row = [number, "", "", "", "", str(failure)]
+    except OSError as error:
+        row = [number, "", "", "", "", f"lost: {error.strerror}"]
+    line = io.StringIO()
+    csv.writer(line, lineterminator="\n").writerow(row)
+    sys.stdout.buffer.write((order + line.getvalue()).encode(errors="replace"))
+
+
+if __name__ == "__main__":
+    main()

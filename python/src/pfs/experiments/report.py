@@ -1,0 +1,245 @@
+"""The report of CSVs of experiments or of other programs: its tables, and the relative percentage deviations (RPD) that
+it is of. Runs that failed are only counted."""
+from __future__ import annotations
+
+import argparse
+import csv
+import importlib
+import io
+import itertools
+import logging
+import os
+import pathlib
+import re
+import sys
+from typing import TYPE_CHECKING, Any, NamedTuple
+
+from pfs._atomic import text_cell
+from pfs.experiments import ExperimentError, plain
+from pfs.experiments.plan import MOST_MAKESPAN, reference_for, reference_of, rows_of
+from pfs.experiments.stage import PACKAGE, write_text
+
+if TYPE_CHECKING:
+    import pandas as pd
+
+GROUP = ["method", "jobs", "machines", "rounds", "take", "passes", "time_factor"]
+SETTING = ["method", "rounds", "take", "passes", "time_factor"]
+# The least and the greatest value of each column of numbers.
+WHOLE = {"jobs": 10 ** 6, "machines": 10 ** 6, "rounds": 10 ** 9, "take": 10 ** 6, "passes": 10 ** 6,
+         "makespan": MOST_MAKESPAN, "reference": MOST_MAKESPAN, "cells": 2 ** 64 - 1}
+RANGES = {"gap_percent": (-100, 1e20), "seconds": (0, 1e12), "time_factor": (0, 1e12),
+          **{column: (0, most) for column, most in WHOLE.items()}}
+NUMBER = r" *-?[0-9]+(?:\.[0-9]*)?(?:[eE][+-]?[0-9]{1,3})? *"
+# How the values of a setting are named, where a method's settings differ in them.
+FORMS = {"rounds": "{:,.0f} rounds", "take": "take {:,.0f}", "passes": "passes {:.0f}", "time_factor": "time factor {:g}"}
+# The decimals of the columns of tables.
+DECIMALS = {"mean_seconds": "{:.4f}", "time_factor": "{:g}", "p": "{:.4g}", "p_holm": "{:.4g}"}
+LATEX = {"\\": r"\textbackslash{}", "~": r"\textasciitilde{}", "^": r"\textasciicircum{}", "×": r"$\times$",
+         **{sign: f"\\{sign}" for sign in "&%$#_{}"}}
+# The most instances without a reference that a note lists, and the most pairs of methods without a common instance.
+MOST_NAMES, MOST_UNRELATED = 10, 5
+
+
+class Reported(NamedTuple):
+    """The runs, and a note on the reference of their RPD. Unknown values of a setting are -1, other ones NaN."""
+    runs: pd.DataFrame
+    note: str
+
+
+def report(args: argparse.Namespace) -> int:
+    """Writes the tables and the plots."""
+    logging.getLogger("matplotlib").setLevel(logging.ERROR)
+    for name in ("matplotlib", "pandas", "scipy"):
+        try:
+            importlib.import_module(name)
+        except ImportError as error:
+            raise ImportError(f"{error}: a report needs {name} (Debian: python3-{name}; "
+                              "pip install 'pfs[charts]')") from None
+    from pfs.experiments import plots, statistics
+    reported = read(args.csv, args.reference)
+    done = reported.runs.dropna(subset=["makespan"])
+    compared = statistics.compared(done)
+    args.folder.mkdir(parents=True, exist_ok=True)
+    shown = [write_table(args.folder / "table", table_of(reported.runs), reported.note)]
+    if done.empty:
+        print("pfs-experiments report: no run succeeded: nothing to plot", file=sys.stderr)
+        return 1
+    if len(compared):
+        shown.append(write_table(args.folder / "comparison", compared, statistics.NOTE))
+    if done["rpd"].notna().any():
+        write_sizes(done, args.folder)
+    plots.plot(done, args.folder, args.format, args.width, args.dpi, not args.no_title)
+    instances = done.groupby("method")["instance"].agg(set)
+    unrelated = [pair for pair in itertools.combinations(instances.index, 2)
+                 if not instances[pair[0]] & instances[pair[1]]]
+    for one, other in unrelated[:MOST_UNRELATED]:
+        print(plain(f"pfs-experiments report: {one} and {other} have no instance in common"), file=sys.stderr)
+    print("".join(shown), end="")
+    return 0
+
+
+# Reading
+
+def read(paths: list[str], reference_path: str | None) -> Reported:
+    """Reads the runs of all CSVs and computes their RPD. The size of an instance may come from any of the CSVs."""
+    import pandas as pd
+    stems = [pathlib.Path(path).stem for path in paths]
+    runs = pd.concat([read_one(path, path if stems.count(stem) > 1 else stem) for path, stem in zip(paths, stems)],
+                     ignore_index=True)
+    lasts = runs["instance"].map(os.path.basename)
+    if len(paths) > 1 and runs["instance"].groupby([runs["method"], lasts]).nunique().max() == 1:
+        runs["instance"] = lasts
+    sizes = runs.groupby("instance")[["jobs", "machines"]].transform("first")
+    runs[["jobs", "machines"]] = runs[["jobs", "machines"]].fillna(sizes)
+    runs["reference"], basis = references(runs, reference_path)
+    runs["rpd"] = 100 * (runs["makespan"] - runs["reference"]) / runs["reference"]
+    runs.loc[runs["reference"] == 0, "rpd"] = (runs["makespan"] * float("inf")).where(runs["makespan"] > 0, 0)
+    runs["rpd"] = runs["rpd"].where(runs["rpd"] < float("inf"))
+    lost = runs[runs["makespan"].notna() & runs["reference"].isna()]
+    names = list(dict.fromkeys(lost["instance"]))
+    note = markdown(basis).replace(r"\`", "`")
+    if names:
+        shown = ", ".join(map(markdown, names[:MOST_NAMES])) + (", .." if len(names) > MOST_NAMES else "")
+        note += f"\n{len(lost)} runs of {len(names)} instances have no reference, and no RPD: {shown}."
+    return Reported(runs.fillna(dict.fromkeys(GROUP[1:], -1)), note)
+
+
+def read_one(path: str, name: str) -> pd.DataFrame:
+    """Reads the runs of a CSV. The results of a run that failed are unknown."""
+    import pandas as pd
+    rows = rows_of(path, ["instance", "makespan"])
+    if not rows:
+        raise ExperimentError(f"{path}: no rows")
+    read = pd.DataFrame(rows)
+    failed = read.get("status", pd.Series("ok", read.index)).ne("ok") | read["makespan"].eq("")
+    runs = pd.DataFrame({"method": read.get("method", pd.Series("", read.index)).replace("", name),
+                         "instance": read["instance"], "seed": read.get("seed", pd.Series("", read.index))})
+    for column, (least, most) in RANGES.items():
+        texts = read.get(column, pd.Series("", read.index))
+        if column in ("makespan", "cells", "gap_percent", "seconds"):
+            texts = texts.mask(failed, "")
+        given = texts[texts != ""]
+        values = pd.to_numeric(given.where(given.str.fullmatch(NUMBER), "nan")).astype(float)
+        wrong = given[~values.between(least, most) | ((column in WHOLE) & (values % 1 != 0))]
+        if len(wrong):
+            text = wrong.iloc[0]
+            raise ExperimentError(f"{path}: {text[:40]!r} is not a number of the column {column}, from {least:g} to "
+                                  f"{most:g}")
+        runs[column] = values.reindex(read.index)
+    runs.loc[runs["time_factor"].notna(), "rounds"] = float("nan")
+    return runs
+
+
+def references(runs: pd.DataFrame, path: str | None) -> tuple[pd.Series, str]:
+    """Returns the reference of each run, and a sentence that says which it is. If no instance has a reference, the best
+    makespan of its runs is the reference. If any has one, the others have none: the best of few runs would make these
+    look good."""
+    done = runs[runs["makespan"].notna()]
+    stated = reference_of(path) if path else {}
+    sizes = {row["instance"]: (float(row["jobs"]), float(row["machines"]))
+             for row in rows_of(PACKAGE / "taillard.csv", ["instance", "jobs", "machines"])}
+    best = {name: best for name, (best, _) in reference_of(PACKAGE / "best_known.csv").items()}
+    names = done["instance"].map(os.path.basename)
+    fits = [name in sizes and all(one != one or one == other for one, other in zip(size, sizes[name]))
+            for name, *size in zip(names, done["jobs"], done["machines"])]
+    kinds = {
+        f"the makespan in {path}": done["instance"].map({name: found[0] for name in done["instance"].unique()
+                                                         for found in [reference_for(stated, name)] if found}),
+        "the makespan in the column `reference`": done.groupby("instance")["reference"].transform("first"),
+        "the best known makespan of Taillard's instance": names.where(fits).map(best)}
+    found, used = done["reference"] * float("nan"), [name for name in kinds if path and path in name][:1]
+    for name, values in kinds.items():
+        if (found.isna() & values.notna()).any():
+            used += [] if name in used else [name]
+            found = found.fillna(values)
+    if not used:
+        best_of_runs = done.groupby("instance")["makespan"].transform("min")
+        return best_of_runs.reindex(runs.index), "RPD: relative to the best makespan of any of these runs."
+    return found.reindex(runs.index), f"RPD: relative to {', or else '.join(used)}."
+
+
+# Tables
+
+def table_of(runs: pd.DataFrame) -> pd.DataFrame:
+    """Returns the table by method, size and setting. It has a column of time factors if any run has one."""
+    keys = GROUP if (runs["time_factor"] >= 0).any() else GROUP[:-1]
+    table = runs.groupby(keys).agg(
+        runs=("makespan", "count"), failed=("makespan", lambda spans: spans.isna().sum()),
+        mean_rpd_percent=("rpd", "mean"), greatest_rpd_percent=("rpd", "max"), mean_gap_percent=("gap_percent", "mean"),
+        greatest_gap_percent=("gap_percent", "max"), mean_seconds=("seconds", "mean"))
+    return table.reset_index()
+
+
+def write_sizes(done: pd.DataFrame, folder: pathlib.Path) -> None:
+    """Writes the mean RPD with a row for each size and a column for each setting, and the means of the columns. A
+    column that lacks a size has no mean."""
+    known = done[done["rpd"].notna()]
+    means = known.pivot_table(index=["jobs", "machines"], columns=SETTING, values="rpd")
+    rows = [[size_name(size), *(cell("rpd", value) for value in row)] for size, row in zip(means.index, means.to_numpy())]
+    rows.append(["mean", *(cell("rpd", value) for value in means.mean(skipna=False))])
+    heads = ["jobs×machines", *setting_names(list(means.columns))]
+    write_text(folder / "sizes.csv", csv_of([heads, *rows]))
+    write_text(folder / "sizes.md", markdown_of([heads, *rows], "Mean RPD, %."))
+    lines = [" & ".join("".join(LATEX.get(sign, sign) for sign in plain(each)) for each in row) + r" \\"
+             for row in [heads, *rows]]
+    write_text(folder / "sizes.tex", "\n".join([
+        r"% \usepackage{booktabs}", rf"\begin{{tabular}}{{l{'r' * (len(heads) - 1)}}}", r"\toprule", lines[0],
+        r"\midrule", *lines[1:-1], r"\midrule", lines[-1], r"\bottomrule", r"\end{tabular}", ""]))
+
+
+def write_table(path: pathlib.Path, table: pd.DataFrame, note: str) -> str:
+    """Writes a table as CSV and as Markdown, and returns the latter. There the names of the columns are words."""
+    table = table.drop(columns=[column for column in table if column.endswith("time_factor") and
+                                (table[column] == -1).all()])
+    rows = [[cell(column, value) for column, value in row.items()] for row in table.to_dict("records")]
+    write_text(path.with_suffix(".csv"), csv_of([list(table.columns), *rows]))
+    heads = [column.replace("_percent", ", %").replace("mean_seconds", "mean time, s").replace("_", " ")
+             for column in table.columns]
+    text = markdown_of([heads, *rows], note)
+    write_text(path.with_suffix(".md"), text)
+    return text
+
+
+def cell(column: str, value: Any) -> str:
+    if isinstance(value, str):
+        return value
+    if value is None or value != value or (value == -1 and column.removeprefix("other_") in GROUP):
+        return ""
+    usual = "{:.3f}" if "percent" in column or column in ("rpd", "vargha_delaney_a") else "{:.0f}"
+    return DECIMALS.get(column.removeprefix("other_"), usual).format(value + 0.0)
+
+
+def csv_of(rows: list[list[str]]) -> str:
+    text = io.StringIO()
+    csv.writer(text, lineterminator="\n").writerows(
+        [each if re.fullmatch(r"-?[0-9.]+(?:e[+-]?[0-9]+)?", each, re.ASCII) else text_cell(each) for each in row]
+        for row in rows)
+    return text.getvalue()
+
+
+def markdown(text: str) -> str:
+    """Returns a text on one line, escaped for Markdown."""
+    text = re.sub(r"([\\`*\[\]<>|~&])", r"\\\1", plain(text))
+    return re.sub(r"(?<![^\W_])_|_(?![^\W_])", r"\\_", text)
+
+
+def markdown_of(rows: list[list[str]], note: str) -> str:
+    """Returns a table with a note below it."""
+    lines = [f"| {' | '.join(map(markdown, row))} |\n" for row in rows]
+    lines.insert(1, f"| {' | '.join(['---:'] * len(rows[0]))} |\n")
+    return "".join(lines) + f"\n{note}\n"
+
+
+def size_name(size: tuple[float, ...]) -> str:
+    return "unknown" if -1 in size else "{:.0f}×{:.0f}".format(*size)
+
+
+def setting_names(settings: list[tuple[Any, ...]]) -> list[str]:
+    """Returns a short name of each setting: the method, and the values in which the method's settings differ."""
+    names = []
+    for method, *values in settings:
+        others = [other[1:] for other in settings if other[0] == method]
+        parts = [form.format(value) for at, (value, form) in enumerate(zip(values, FORMS.values()))
+                 if value != -1 and len({other[at] for other in others}) > 1]
+        names.append(", ".join([method, *parts]))
+    return names

@@ -1,0 +1,255 @@
+"""Runs with GNU parallel, here and over ssh; their results and the CSV; and audits of it."""
+from __future__ import annotations
+
+import argparse
+import contextlib
+import csv
+import functools
+import io
+import os
+import pathlib
+import re
+import signal
+import subprocess
+import sys
+from types import FrameType
+
+from pfs._atomic import FORMULA, text_cell
+from pfs.experiments import ExperimentError, one, plain, stage
+from pfs.experiments.plan import Row, reference_for, rows_of
+from pfs.experiments.stage import Experiment, prepare, require_program, stage_of, time_of, write_text
+
+COLUMNS = ["instance", "jobs", "machines", "rounds", "take", "passes", "seed", "repetition",
+           "makespan", "bound", "gap_percent", "cells", "seconds", "status", "order", "reference", "source"]
+# The last line that `one` prints of a run, or its first six. Only a run by time has rounds there.
+RESULT = ["number", "makespan", "bound", "cells", "seconds", "status", "rounds", "left"]
+# The end of a run whose program was killed, or whose allocation failed: the next start repeats it.
+KILLED = re.compile("(?:solve|check): (?:signal [0-9]+|exit 4, pfs: no memory)|lost: .*")
+# A line of GNU parallel's log, with the exit status, the signal, and the number of the run in the command.
+LOGGED = re.compile(r"[0-9]+\t[^\t\n]*(?:\t *[0-9.-]+){4}\t([0-9]+)\t([0-9]+)\t\S+/one ([0-9]+) [^\n]*", re.ASCII)
+# The most kinds of errors that are reported, and the columns that describe the first run of each.
+MOST_KINDS = 10
+DISTINCT = ["rounds", "time_factor", "take", "passes", "seed"]
+# The columns of a CSV that identify a run, and all that `check` needs.
+SAME = ["instance", "rounds", "take", "passes", "seed", "repetition"]
+NEEDED = [*SAME, "makespan", "bound", "status", "order"]
+
+
+def run(args: argparse.Namespace) -> int:
+    """Makes the runs that are left with GNU parallel, by default one per core at a time, and writes the CSV."""
+    require_program("parallel", "parallel")
+    experiment = prepare(args.plan, args.csv, args.pfs)
+    machines = args.sshloginfile
+    if machines and os.path.isfile(machines):
+        machines = os.path.abspath(machines)
+    list_left(experiment, args.retry)
+    words = ["parallel", "--plain", "--will-cite", "--arg-file", "left.tsv", "--colsep", "\t", "--joblog", "joblog",
+             "--results", "results/{1}"]
+    words += ["--bar"] if sys.stderr.isatty() else []
+    words += ["--sshloginfile", machines, "--basefile", experiment.stage] if machines else []
+    parallel(experiment.folder, [*words, *args.options, f"{experiment.stage}/one", *(f"{{{at}}}" for at in range(1, 9))])
+    failed, left = gather(experiment, args.csv)
+    if machines and left == 0:
+        subprocess.run(["parallel", "--plain", "--will-cite", "--sshloginfile", machines, "--nonall",
+                        f"rm -rf ~/{experiment.stage}"], stdin=subprocess.DEVNULL)
+    return 1 if failed or left else 0
+
+
+def parallel(folder: pathlib.Path, words: list[str]) -> None:
+    """Runs GNU parallel, which handles SIGINT itself, and kills what it leaves. SIGTERM is passed to it as SIGINT. It
+    gets SIGINT too when this process is killed."""
+    one.set_process(one.PR_SET_CHILD_SUBREAPER, 1)
+    process = subprocess.Popen(words, cwd=folder, stdin=subprocess.DEVNULL, stdout=subprocess.DEVNULL,
+                               env=dict(os.environ, PARALLEL_SHELL="/bin/sh"),
+                               preexec_fn=functools.partial(one.set_process, one.PR_SET_PDEATHSIG, signal.SIGINT))
+
+    def interrupt(_number: int, _frame: FrameType | None) -> None:
+        process.send_signal(signal.SIGINT)
+
+    signal.signal(signal.SIGINT, signal.SIG_IGN)
+    signal.signal(signal.SIGTERM, interrupt)
+    process.wait()
+    one.kill_descendants()
+
+
+# Results
+
+def list_left(experiment: Experiment, retry: bool) -> list[Row]:
+    """Lists the runs that are not done, and removes what there is of their results, so that processes of an earlier
+    start write into no file of a later one."""
+    left = [run for run in experiment.runs if not is_done(experiment.folder, run["number"], retry)]
+    for run in left:
+        (experiment.folder / "results" / run["number"]).unlink(missing_ok=True)
+    write_text(experiment.folder / "left.tsv", stage.table_of(left))
+    (experiment.folder / "joblog").unlink(missing_ok=True)
+    return left
+
+
+def is_done(folder: pathlib.Path, number: str, retry: bool) -> bool:
+    result = result_of(folder, number)
+    return result is not None and not KILLED.fullmatch(result["status"]) and (result["status"] == "ok" or not retry)
+
+
+def result_of(folder: pathlib.Path, number: str) -> Row | None:
+    """Returns the result of a run, with its order file; None if it is incomplete."""
+    try:
+        text = (folder / "results" / number).read_bytes().decode()
+        order, _, last = f"\n{text}".removesuffix("\n").rpartition("\n")
+        row: list[str] = next(csv.reader(io.StringIO(last)), [])
+    except (FileNotFoundError, UnicodeDecodeError, csv.Error):
+        return None
+    if not text.endswith("\n") or not 6 <= len(row) <= len(RESULT) or row[0] != number:
+        return None
+    result = {**dict(zip(RESULT, row)), "order": f"{order[1:]}\n" if order else ""}
+    numbers = ",".join(row[1:3] + row[4:5])
+    is_whole = re.fullmatch(r"[0-9]{1,18},[0-9]{1,18},[0-9]{1,12}\.[0-9]{6}", numbers, re.ASCII) and result["order"]
+    return result if result["status"] != "ok" or is_whole else None
+
+
+def endings(folder: pathlib.Path) -> Row:
+    """Returns the errors of runs without a result, by their numbers, from the logs of GNU parallel and Slurm."""
+    found: Row = {}
+    with contextlib.suppress(FileNotFoundError):
+        for line in (folder / "joblog").read_bytes().decode(errors="replace").split("\n"):
+            if logged := LOGGED.fullmatch(line):
+                found[logged[3]] = f"lost: exit {logged[1]}, signal {logged[2]}"
+    for log in sorted((folder / "slurm").glob("*.log"), key=lambda path: path.stat().st_mtime_ns):
+        text = log.read_bytes().decode(errors="replace")
+        last = re.findall(r"^run ([0-9]+)$", text, re.MULTILINE | re.ASCII)
+        errors = re.findall(r"^slurmstepd: error: (.*)", text, re.MULTILINE)
+        if last and errors:
+            found[last[-1]] = f"lost: {errors[0]}"
+    return found
+
+
+# The CSV
+
+def path_cell(path: str) -> str:
+    """Returns an equivalent path that a spreadsheet shows as text."""
+    return f"./{path}" if FORMULA.match(path) else path
+
+
+def identity(run: Row) -> Row:
+    """Returns the columns of a row that are known before the run. Unknown values are empty."""
+    known = {column: value for column, value in run.items() if value != "-" or column == "instance"}
+    by_time = time_of(run)
+    times = {"rounds": "", "time_factor": by_time[0]} if by_time else {"time_factor": ""}
+    return known | times | {"instance": path_cell(run["instance"])}
+
+
+def gather(experiment: Experiment, csv_path: str) -> tuple[int, int]:
+    """Writes the order files and the CSV of the runs that have ended. Reports and returns the numbers of runs that
+    failed and that are missing."""
+    folder, ended, rows, killed = experiment.folder, endings(experiment.folder), [], 0
+    for run in experiment.runs:
+        result = result_of(folder, run["number"]) or {"status": ended.get(run["number"], "")}
+        if not result["status"]:
+            continue
+        row = {**identity(run), **result, "status": text_cell(result["status"])}
+        if result.get("order"):
+            name = order_name(row, run["number"])
+            keep_order(folder / "orders" / name, result["order"])
+            row["order"] = path_cell(f"{folder.name}/orders/{name}")
+        if result["status"] == "ok":
+            makespan, bound = int(result["makespan"]), int(result["bound"])
+            row["gap_percent"] = f"{100 * (makespan - bound) / bound:.4f}" if bound else "0.0000"
+        known = reference_for(experiment.reference, run["instance"])
+        row |= {"reference": str(known[0]), "source": text_cell(known[1])} if known else {}
+        rows.append(row | {"method": text_cell(experiment.plan.get("method", ""))})
+        killed += int(result.get("left") or 0)
+    text = io.StringIO()
+    more = [column for column, key in (("time_factor", "time_factors"), ("method", "method")) if key in experiment.plan]
+    writer = csv.DictWriter(text, [*COLUMNS, *more], lineterminator="\n", extrasaction="ignore")
+    writer.writeheader()
+    writer.writerows(rows)
+    write_text(csv_path, text.getvalue())
+    failed, left = sum(row["status"] != "ok" for row in rows), len(experiment.runs) - len(rows)
+    report_errors(rows)
+    if killed:
+        print(f"processes that commands left when they ended, and that were killed: {killed}", file=sys.stderr)
+    print(f"{csv_path}: {len(rows)} runs, {failed} of them failed, {left} still to run", file=sys.stderr)
+    return failed, left
+
+
+def report_errors(rows: list[Row]) -> None:
+    """Reports the first error of each kind, with its run. Errors of the same kind differ only in numbers."""
+    kinds: dict[str, list[Row]] = {}
+    for row in rows:
+        if row["status"] != "ok":
+            kinds.setdefault(re.sub("[0-9]+", "0", row["status"]), []).append(row)
+    for failed in list(kinds.values())[:MOST_KINDS]:
+        first = ", ".join(f"{column.replace('_', ' ')} {failed[0][column]}" for column in DISTINCT
+                          if failed[0].get(column))
+        more = f" and {len(failed) - 1} more" if len(failed) > 1 else ""
+        print(plain(f"{failed[0]['instance']} ({first}){more} failed: {failed[0]['status']}"), file=sys.stderr)
+    if len(kinds) > MOST_KINDS:
+        print(f"{len(kinds) - MOST_KINDS} more kinds of errors", file=sys.stderr)
+
+
+def order_name(row: Row, number: str) -> str:
+    """Returns the name of a run's order file. It has the number of the run, as instances in several folders may have
+    the same name."""
+    file = os.path.basename(row["instance"]).encode()[:100].decode(errors="ignore").replace(":", "-block-")
+    known = {**row, "time": row["time_factor"], "rounds": "" if row["time_factor"] else row.get("rounds", "")}
+    parts = [f"{column}-{known[column]}" for column in ("rounds", "time", "take", "passes", "seed", "repetition")
+             if known.get(column)]
+    return "-".join([file, *parts, "run", number])
+
+
+def keep_order(path: pathlib.Path, text: str) -> None:
+    """Writes an order file, unless it exists with this text. It is not synced, as the result contains the order too,
+    and the next start compares them."""
+    with contextlib.suppress(FileNotFoundError):
+        if path.read_bytes() == text.encode():
+            return
+    path.parent.mkdir(exist_ok=True)
+    new = path.with_name("order.new")
+    new.unlink(missing_ok=True)
+    try:
+        with open(new, "xb") as file:
+            file.write(text.encode())
+        os.replace(new, path)
+    except OSError as error:
+        new.unlink(missing_ok=True)
+        raise ExperimentError(f"{path}: {error.strerror}") from None
+
+
+# Audits
+
+def check(args: argparse.Namespace) -> int:
+    """Audits each order of a CSV again, with the copies of the instances next to it, and compares the output with the
+    CSV. Prints each wrong row, and the number of orders."""
+    rows = [row for row in rows_of(args.csv, NEEDED) if row["status"] == "ok"]
+    folder = pathlib.Path(os.path.abspath(args.csv) + ".d")
+    if not (folder / "plan.json").exists():
+        raise ExperimentError(f"{args.csv}.d, the folder of the instances and the orders, is missing")
+    program = stage.find_pfs(args.pfs)
+    listed = {same(identity(run)): run for run in stage.runs_of(folder)}
+    faults = [(row, wrong(row, program, folder, listed.get(same(row)))) for row in rows]
+    for row, fault in faults:
+        if fault:
+            print(plain(", ".join(f"{column} {row[column]}" for column in SAME) + f": {fault}"))
+    count = sum(fault != "" for _, fault in faults)
+    print(f"{args.csv}: {len(rows)} orders audited, {count} of them wrong")
+    return 1 if count else 0
+
+
+def same(row: Row) -> tuple[str, ...]:
+    """Returns what identifies a run. Runs by time have other rounds in the CSV than in the list of runs."""
+    factor = row.get("time_factor", "")
+    return (factor, *("" if factor and column == "rounds" else row.get(column, "") for column in SAME))
+
+
+def wrong(row: Row, program: str, folder: pathlib.Path, run: Row | None) -> str:
+    """Returns what is wrong with a row, or an empty text."""
+    if run is None:
+        return f"the run is not in {folder.name}"
+    if not row["order"]:
+        return "the run has no order file"
+    words = [program, "check", "--layout", run["layout"], "--block", run["block"], run["file"],
+             str(folder.parent / row["order"])]
+    done = subprocess.run(words, cwd=folder / stage_of(folder), stdin=subprocess.DEVNULL, capture_output=True,
+                          text=True, errors="replace")
+    printed = " ".join((done.stdout + done.stderr).split()).removesuffix(" optimal")
+    expected = f"valid makespan {row['makespan']} bound {row['bound']}"
+    return "" if printed == expected else f"{row['order']}: {printed or 'no output'}, but the CSV has {expected}"

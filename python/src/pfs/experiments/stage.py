@@ -1,0 +1,306 @@
+"""The folder of a plan's runs, next to its CSV: the list of the runs, and the stage, a folder with copies of all files
+that they read. And Taillard's instances."""
+from __future__ import annotations
+
+import argparse
+import contextlib
+import fcntl
+import itertools
+import json
+import os
+import pathlib
+import re
+import secrets
+import shutil
+import subprocess
+import sys
+from collections.abc import Iterator
+from typing import Any, NamedTuple
+
+from pfs._atomic import atomic_write
+from pfs.experiments import ExperimentError, one, provenance
+from pfs.experiments.plan import Row, read_plan, reference_of, rows_of
+
+PACKAGE = pathlib.Path(__file__).resolve().parent.parent
+# A line of the list of runs, with tabs between the columns. An unknown value is a hyphen. The number is that of the
+# line. Rounds of a run by time are `time-FACTOR-SECONDS`.
+RUN = ["number", "file", "layout", "block", "rounds", "take", "passes", "seed", "repetition", "jobs", "machines",
+       "instance"]
+# The columns that identify a run.
+KEY = ["file", "block", "rounds", "take", "passes", "seed", "repetition"]
+# Those that don't change a search of 0 rounds.
+OF_ROUNDS = ["take", "passes", "seed"]
+# What `pfs generate 1 1 1` prints.
+ONE_JOB = b"1 1 1 0 0\nprocessing times :\n1\n"
+# Seconds after which a program that is no pfs is killed.
+PATIENCE = 20
+
+
+class Experiment(NamedTuple):
+    """A plan, the folder of its runs, the runs in the order of the CSV, and the reference."""
+    plan: dict[str, Any]
+    folder: pathlib.Path
+    runs: list[Row]
+    reference: dict[str, tuple[int, str]]
+
+    @property
+    def stage(self) -> str:
+        return stage_of(self.folder)
+
+
+def write_text(path: str | os.PathLike[str], text: str) -> None:
+    """Replaces the content of a file atomically."""
+    atomic_write(path, text.encode(errors="backslashreplace"))
+
+
+def damaged(path: pathlib.Path, why: object) -> ExperimentError:
+    return ExperimentError(f"{path} is damaged ({why}): delete the folder {path.parent.name} to start again")
+
+
+def require_program(program: str, package: str) -> None:
+    """Raises an error with the name of the package if a program is not installed."""
+    if shutil.which(program) is None:
+        raise ExperimentError(f"{program} is not installed (Debian: {package})")
+
+
+def find_pfs(program: str | None) -> str:
+    """Returns the absolute path of the program, which must be pfs. At most 1,000 bytes of its output are read."""
+    if program is None:
+        raise ExperimentError("pfs is not on the path: pass it with --pfs")
+    if not os.access(program, os.X_OK) or os.path.isdir(program):
+        raise ExperimentError(f"{program} is not a program")
+    line = f'timeout -s KILL {PATIENCE} "$0" generate 1 1 1 < /dev/null 2> /dev/null | head -c 1000'
+    if not subprocess.run(["sh", "-c", line, os.path.abspath(program)], capture_output=True).stdout.endswith(ONE_JOB):
+        raise ExperimentError(f"{program} is not pfs: `{program} generate 1 1 1` must print an instance")
+    return os.path.abspath(program)
+
+
+def taillard(args: argparse.Namespace) -> int:
+    """Writes Taillard's 120 instances into a folder, as files ta001 to ta120."""
+    pfs = find_pfs(args.pfs)
+    args.folder.mkdir(parents=True, exist_ok=True)
+    for row in rows_of(PACKAGE / "taillard.csv", ["instance", "jobs", "machines", "time_seed"]):
+        words = [pfs, "generate", row["jobs"], row["machines"], row["time_seed"]]
+        done = subprocess.run(words, stdin=subprocess.DEVNULL, capture_output=True)
+        if done.returncode != 0:
+            raise ExperimentError(f"{' '.join(words)} failed: exit {done.returncode}")
+        atomic_write(args.folder / row["instance"], done.stdout)
+    return 0
+
+
+def prepare(plan_path: str, csv_path: str, program: str | None) -> Experiment:
+    """Prepares the folder of a plan's runs. If it exists, the experiment continues with its program, its instances and
+    its runs, and new runs of the plan are added. The folder is complete if it has the file plan.json."""
+    plan, top = read_plan(plan_path), os.path.dirname(os.path.abspath(plan_path))
+    reference = reference_of(os.path.join(top, plan["reference"])) if plan["reference"] else {}
+    if os.path.isdir(csv_path):
+        raise ExperimentError(f"{csv_path}: Is a directory")
+    folder = pathlib.Path(os.path.abspath(csv_path) + ".d")
+    if not folder.name.isprintable():
+        raise ExperimentError(f"{csv_path}: the name of a CSV must be UTF-8 without control characters")
+    pfs = "" if (folder / "plan.json").exists() else find_pfs(program)
+    folder.mkdir(parents=True, exist_ok=True)
+    lock(folder, csv_path)
+    try:
+        if not (folder / "plan.json").exists():
+            begin(folder, pfs or find_pfs(program))
+        stored = stored_plan(folder)
+        for key in ("command", "layout"):
+            if stored and stored.get(key) != plan.get(key):
+                raise ExperimentError(f"{csv_path} was started with another {key}: use another CSV")
+        copy_inputs(plan, top, folder / stage_of(folder))
+        places = stored.get("places", {})
+        experiment = Experiment(plan, folder, add_runs(plan, places, top, folder, csv_path), reference)
+        inputs = inputs_of(plan, places, top, folder / experiment.stage)
+        provenance.note_start(folder, plan, inputs)
+        if changed := provenance.changed(inputs):
+            print(f"{csv_path}: changed since they were copied for its runs: {', '.join(changed)}. The copies are used: "
+                  f"to begin anew, name another CSV or delete {csv_path}.d", file=sys.stderr, flush=True)
+        return experiment
+    except BaseException:
+        if not (folder / "plan.json").exists():
+            shutil.rmtree(folder, ignore_errors=True)
+        raise
+
+
+def lock(folder: pathlib.Path, csv_path: str) -> None:
+    """Waits for the lock of the folder, which names the process that has it. Child processes don't inherit it, so it is
+    free when this process ends."""
+    file = os.open(folder / "lock", os.O_RDWR | os.O_CREAT | os.O_NOFOLLOW | os.O_CLOEXEC, 0o666)
+    try:
+        fcntl.flock(file, fcntl.LOCK_EX | fcntl.LOCK_NB)
+    except BlockingIOError:
+        print(f"waiting for process {os.read(file, 100).decode()}, which is already running {csv_path}",
+              file=sys.stderr, flush=True)
+        fcntl.flock(file, fcntl.LOCK_EX)
+    with contextlib.suppress(OSError):  # a full disk
+        os.ftruncate(file, 0)
+        os.pwrite(file, f"{os.getpid()} on {os.uname().nodename}".encode(), 0)
+
+
+def begin(folder: pathlib.Path, pfs: str) -> None:
+    """Makes the stage, after removing what a start has left that was killed."""
+    for half_done in folder.glob("pfs-experiment-*"):
+        shutil.rmtree(half_done)
+    (folder / "runs.tsv").unlink(missing_ok=True)
+    stage = folder / f"pfs-experiment-{secrets.token_hex(6)}"
+    (stage / "instances").mkdir(parents=True)
+    (folder / "results").mkdir(exist_ok=True)
+    for source, name in ((pfs, "pfs"), (one.__file__, "one")):
+        copy(source, stage / name)
+        (stage / name).chmod(0o755)
+
+
+def copy(source: str, to: pathlib.Path) -> None:
+    """Copies a file, unless the copy exists. A copy is always complete."""
+    if not to.exists():
+        new = to.with_name(f"{to.name}.new")
+        new.unlink(missing_ok=True)
+        to.parent.mkdir(parents=True, exist_ok=True)
+        shutil.copy(source, new)
+        os.replace(new, to)
+
+
+def copy_inputs(plan: dict[str, Any], top: str, stage: pathlib.Path) -> None:
+    """Copies what the runs need besides the instances: the command with its files, or the library for searches by
+    time."""
+    if "command" in plan:
+        (stage / "files").mkdir(exist_ok=True)
+        for name in plan["files"]:
+            copy(os.path.join(top, name), stage / "files" / name)
+        if not (stage / "command.json").exists():
+            write_text(stage / "command.json", json.dumps(plan["command"]))
+    elif "time_factors" in plan:
+        copy(library(), stage / one.LIBRARY)
+
+
+def inputs_of(plan: dict[str, Any], places: dict[str, int], top: str, stage: pathlib.Path) -> provenance.Inputs:
+    """Returns the program, the library, the files of a command and the instances, with the copies of them. Where the
+    first two are is left out: every version of them finds the same orders."""
+    inputs = [("pfs", "", stage / "pfs"), (one.LIBRARY, "", stage / one.LIBRARY)]
+    inputs += [(name, os.path.join(top, name), stage / "files" / name) for name in plan.get("files", [])]
+    inputs += [(name, os.path.join(top, name), stage / "instances" / str(places[name])) for name in plan["instances"]]
+    return [each for each in inputs if each[2].exists()]
+
+
+def library() -> str:
+    """Returns the path of the library for C that the package loads, which may be known by its name only."""
+    from pfs import _library
+    loaded = re.search(rf"/.*{re.escape(_library.FILE)}$", pathlib.Path("/proc/self/maps").read_text(), re.MULTILINE)
+    return _library.PATH if "/" in _library.PATH or loaded is None else loaded[0]
+
+
+# The runs
+
+def add_runs(plan: dict[str, Any], places: dict[str, int], top: str, folder: pathlib.Path, csv_path: str) -> list[Row]:
+    """Adds the plan's new instances and runs to the folder, and returns all runs in the order of the plan. A run keeps
+    its number."""
+    listed = runs_of(folder)
+    known, runs = {key_of(run): run for run in listed}, dict[tuple[str, ...], Row]()
+    for name in plan["instances"]:
+        place = places.setdefault(name, len(places) + 1)
+        copy(os.path.join(top, name), folder / stage_of(folder) / "instances" / str(place))
+    for run in planned_runs(plan, folder, places, {(run["file"], run["block"]): run for run in listed}):
+        key = key_of(run)
+        kept = {column: known[key][column] for column in ("number", *OF_ROUNDS)} if key in known else {}
+        if key not in runs:
+            runs[key] = run | (kept or {"number": str(len(listed) + 1)})
+            listed += [] if kept else [runs[key]]
+    gone = known.keys() - runs.keys()
+    if gone:
+        what = ", ".join(f"{column} {value}" for column, value in zip(KEY[1:], min(gone)[1:]))
+        raise ExperimentError(f"{csv_path} was started with another plan, which has {what}: use another CSV, or delete "
+                              f"{folder}")
+    write_text(folder / "runs.tsv", table_of(listed))
+    write_text(folder / "plan.json", json.dumps({**plan, "places": places}))
+    return list(runs.values())
+
+
+def table_of(runs: list[Row]) -> str:
+    return "".join("\t".join(run[column] for column in RUN) + "\n" for run in runs)
+
+
+def key_of(run: Row) -> tuple[str, ...]:
+    return tuple("" if run["rounds"] == "0" and column in OF_ROUNDS else run[column] for column in KEY)
+
+
+def planned_runs(plan: dict[str, Any], folder: pathlib.Path, places: dict[str, int],
+                 listed: dict[tuple[str, str], Row]) -> Iterator[Row]:
+    """Yields the runs of a plan, but for their numbers, in the order of the CSV, instance by instance."""
+    is_pfs = "command" not in plan
+    for name, block in itertools.product(plan["instances"], plan["blocks"]):
+        file = f"instances/{places[name]}"
+        known = listed.get((file, str(block)))
+        jobs, machines = (known["jobs"], known["machines"]) if known else size_of(
+            folder / stage_of(folder), "--from", plan["layout"], "--block", str(block), file)
+        label = name if plan["blocks"] == [1] else f"{name}:{block}"
+        usual = "-" if jobs == "-" or not is_pfs else str(min(4, int(jobs)))
+        budgets = [*map(str, plan["rounds"]), *(by_time(each, jobs, machines) for each in plan.get("time_factors", []))]
+        for rounds, take, passes, seed, repetition in itertools.product(
+                budgets or ["-"], map(str, plan["takes"] or [usual]), plan["passes"] if is_pfs else ["-"],
+                plan["seeds"], range(1, plan["repetitions"] + 1)):
+            if "-" not in (jobs, take) and int(take) > int(jobs):
+                raise ExperimentError(f"takes has {take}, but {label} has only {jobs} jobs")
+            values = ("", file, plan["layout"], block, rounds, take, passes, seed, repetition, jobs, machines, label)
+            yield dict(zip(RUN, map(str, values)))
+
+
+def by_time(factor: float, jobs: str, machines: str) -> str:
+    """Returns the rounds of a run by time. Its milliseconds are jobs times half the machines times the factor."""
+    seconds = 0.0 if jobs == "-" else int(jobs) * int(machines) / 2 * factor / 1000
+    return "-".join(["time", *(f"{number:.9f}".rstrip("0").rstrip(".") for number in (factor, seconds))])
+
+
+def time_of(run: Row) -> tuple[str, float] | None:
+    """Returns the time factor and the seconds of a run by time."""
+    _, factor, seconds = run["rounds"].split("-") if run["rounds"].startswith("time-") else ("", "", "0")
+    return (factor, float(seconds)) if factor else None
+
+
+def size_of(stage: pathlib.Path, *words: str) -> tuple[str, str]:
+    """Returns the jobs and machines of an instance; hyphens if pfs rejects it."""
+    done = subprocess.run(["./pfs", "convert", "--to", "orlib", *words], cwd=stage, stdin=subprocess.DEVNULL,
+                          capture_output=True, text=True, errors="replace")
+    size = re.match("flow shop instance\n([0-9]{1,4}) ([0-9]{1,3})\n", done.stdout, re.ASCII)
+    return (size[1], size[2]) if size and done.returncode == 0 else ("-", "-")
+
+
+# The content of a folder
+
+def stored_plan(folder: pathlib.Path) -> dict[str, Any]:
+    """Returns the stored plan, with the places of the instances. It is empty in a new folder."""
+    path = folder / "plan.json"
+    try:
+        stored = json.loads(path.read_bytes().decode())
+    except FileNotFoundError:
+        return {}
+    except (ValueError, RecursionError) as error:
+        raise damaged(path, error) from None
+    if not isinstance(stored, dict) or not isinstance(stored.get("places"), dict):
+        raise damaged(path, "it is not a plan")
+    return stored
+
+
+def stage_of(folder: pathlib.Path) -> str:
+    """Returns the name of the stage."""
+    for stage in folder.glob("pfs-experiment-*"):
+        return stage.name
+    raise ExperimentError(f"{folder} has no copy of the program: delete it to start again")
+
+
+def runs_of(folder: pathlib.Path) -> list[Row]:
+    """Returns the listed runs, in the order of their numbers."""
+    path = folder / "runs.tsv"
+    try:
+        lines = path.read_bytes().decode().split("\n")
+    except FileNotFoundError:
+        return []
+    except UnicodeDecodeError as error:
+        raise damaged(path, error) from None
+    runs = [dict(zip(RUN, line.split("\t"))) for line in lines[:-1]]
+    for number, (run, line) in enumerate(zip(runs, lines), 1):
+        if line.count("\t") != len(RUN) - 1 or run["number"] != str(number):
+            raise damaged(path, f"line {number}")
+    if lines[-1]:
+        raise damaged(path, "its last line has no line end")
+    return runs

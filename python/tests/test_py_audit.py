@@ -1,0 +1,326 @@
+"""Audits of published tables. Expected makespans are those of the second program of the tests."""
+import csv
+import pathlib
+import random
+import re
+import time
+from collections.abc import Callable, Sequence
+from typing import Any, NamedTuple
+
+import numpy as np
+import pandas
+import pfs
+import plainly
+import pytest
+from pfs.experiments import ExperimentError
+from pfs.experiments.__main__ import command_line
+from pfs.experiments.audit import audit
+
+# The sizes of the orlib files, each with four instances; and the first instance and the blocks of Taillard's files.
+SIZES = [(jobs, machines) for jobs in (10, 20, 30, 40, 50, 60) for machines in (5, 10, 15, 20)]
+SIZES += [(jobs, machines) for jobs in (100, 200, 300, 400, 500, 600, 700, 800) for machines in (20, 40, 60)]
+BLOCKS = {"tai20_5": (1, 10), "tai50_20": (51, 10), "tai100_10": (71, 10), "tai100_20": (81, 10), "tai20_10": (11, 8)}
+# How each method writes an order: the number of its first job, and the text.
+METHODS: dict[str, tuple[int, Callable[[Sequence[int]], str]]] = {
+    "IG": (1, lambda order: " ".join(map(str, order))),
+    "HGA": (1, lambda order: ",".join(map(str, order))),
+    "TSM": (0, lambda order: f"[{', '.join(map(str, order))}]"),
+    "ILS": (0, lambda order: " ".join(f"J{job}" for job in order)),
+}
+
+
+class Line(NamedTuple):
+    """A row of a table, with the order counted from 0 and its makespan."""
+
+    name: str
+    method: str
+    stated: int
+    order: list[int]
+    shop: pfs.Instance
+
+
+def makespan(shop: pfs.Instance, order: Sequence[int]) -> int:
+    return plainly.makespan(shop.times.tolist(), order)
+
+
+def run(words: str) -> int:
+    """Run the command, and return its status."""
+    return audit(command_line().parse_args(["audit", *words.split()]))
+
+
+def write_instances(folder: pathlib.Path) -> dict[str, pfs.Instance]:
+    """Write files of both layouts, with other endings and letters than the names in the table."""
+    shops = {}
+    for at, (jobs, machines) in enumerate(SIZES):
+        for number in range(1, 5):
+            shop = pfs.generate(jobs, machines, 1_000 + 10 * at + number)
+            shops[f"VFR{jobs}_{machines}_{number}_Gap"] = shop
+            path = folder / str(machines) / f"vfr{jobs}_{machines}_{number}_gap.TXT"
+            path.parent.mkdir(exist_ok=True)
+            shop.write(path, "orlib")
+    for name, (first, count) in BLOCKS.items():
+        blocks = {f"ta{number:03}": pfs.taillard(number) for number in range(first, first + count)}
+        (folder / f"{name}.txt").write_text("".join(shop.to_text() for shop in blocks.values()))
+        shops |= blocks
+    (folder / "README").write_text("Instances of two benchmarks.\n")
+    return shops
+
+
+def lines_for(shops: dict[str, pfs.Instance]) -> list[Line]:
+    chance, lines = random.Random(5), []
+    for at, (name, shop) in enumerate(shops.items()):
+        order = chance.sample(range(shop.jobs), shop.jobs)
+        lines.append(Line(name, list(METHODS)[at % 4], makespan(shop, order), order, shop))
+    return lines
+
+
+class Planted(NamedTuple):
+    """An error: the text of the order, the stated makespan, and the verdict with its reason."""
+
+    text: str
+    stated: int
+    verdict: str
+    why: str
+
+
+def with_errors(lines: list[Line]) -> dict[int, Planted]:
+    """Return twelve errors by row. Rows 0, 4, 8.. are of IG, 1, 5, 9.. of HGA, 2, 6, 10.. of TSM."""
+    def change(row: int, verdict: str, why: str, numbers: list[int] | None = None, stated: int | None = None) -> None:
+        line, (first, write) = lines[row], METHODS[lines[row].method]
+        text = write([job + first for job in line.order] if numbers is None else numbers)
+        planted[row] = Planted(text, line.stated if stated is None else stated, verdict, why)
+
+    def numbers_of(row: int) -> list[int]:
+        return [job + METHODS[lines[row].method][0] for job in lines[row].order]
+
+    planted: dict[int, Planted] = {}
+    less = lines[0].stated - 100
+    change(0, "wrong makespan", f"states {less}, takes {lines[0].stated}", stated=less)
+    change(191, "wrong makespan", f"states {lines[191].stated + 1}, takes {lines[191].stated}",
+           stated=lines[191].stated + 1)
+    twice = numbers_of(84)
+    change(84, "job twice", f"job {twice[2]} at places 3 and 8; job {twice[7]} is missing", [*twice[:7], twice[2],
+                                                                                          *twice[8:]])
+    from_0 = numbers_of(20)
+    change(20, "job out of range", f"job 0 at place 5: the jobs are 1 to 20; job {from_0[4]} is missing",
+           [*from_0[:4], 0, *from_0[5:]])
+    other = lines[44]
+    change(40, "wrong makespan", f"the order takes {other.stated} on {other.name}", numbers_of(44), other.stated)
+    change(105, "job missing", f"job {numbers_of(105)[-1]} is missing", numbers_of(105)[:-1])
+    change(57, "wrong makespan", f"the reversed order takes {lines[57].stated}", numbers_of(57)[::-1])
+    swapped = numbers_of(61)
+    swapped[0], swapped[-1] = swapped[-1], swapped[0]
+    order = [job - 1 for job in swapped]
+    change(61, "wrong makespan", f"states {lines[61].stated}, takes {makespan(lines[61].shop, order)}", swapped)
+    change(204, "wrong makespan", f"{lines[208].name} is stated to take {lines[208].stated}", stated=lines[208].stated)
+    change(218, "job out of range", f"job 100 at place 1: the jobs are 0 to 99; job {lines[218].order[0]} is missing",
+           [100, *lines[218].order[1:]])
+    change(36, "counted from 0", f"others count from 1; counted from 0, it takes {lines[36].stated}", lines[36].order)
+    other = lines[33]
+    change(48, "wrong size", f"30 jobs, but the instance has 40; the order takes {other.stated} on {other.name}",
+           [job + 1 for job in other.order], other.stated)
+    return planted
+
+
+@pytest.mark.seconds(5)
+def test_a_table_with_twelve_errors(tmp_path: pathlib.Path, monkeypatch: pytest.MonkeyPatch,
+                                    capsys: pytest.CaptureFixture[str]) -> None:
+    (tmp_path / "instances").mkdir()
+    shops = write_instances(tmp_path / "instances")
+    lines = lines_for(shops)
+    planted = with_errors(lines)
+    assert (len(lines), len(planted)) == (240, 12)
+    with open(tmp_path / "supplement.csv", "w", newline="") as file:
+        writer = csv.writer(file, delimiter=";")
+        writer.writerow(["SEQUENCE", "Algorithm", "C_max", "seconds", "Instance"])
+        for row, line in enumerate(lines):
+            first, write = METHODS[line.method]
+            text, stated = planted[row][:2] if row in planted else (write([job + first for job in line.order]),
+                                                                    line.stated)
+            writer.writerow([text, line.method, stated, "", line.name])
+    found = pfs.audit(tmp_path / "supplement.csv", tmp_path / "instances")
+    assert [each.row for each in found] == list(range(2, len(lines) + 2))
+    wrong = {each.row - 2: each for each in found if not each.valid}
+    assert sorted(wrong) == sorted(planted)
+    for row, (_, _, verdict, why) in planted.items():
+        assert (wrong[row].verdict, why in wrong[row].why) == (verdict, True), wrong[row]
+    for line, each in zip(lines, found):
+        if each.valid:
+            assert (each.instance, each.method, each.stated) == line[:3] and each.makespan == line.stated
+            assert each.bound == line.shop.bound() and each.why == ""
+    # The command prints and writes the same.
+    monkeypatch.chdir(tmp_path)
+    assert run("supplement.csv --instances instances --csv audited.csv") == 1
+    *printed, last = capsys.readouterr().out.splitlines()
+    assert printed == [f"line {each.row}, {each.instance} {each.method}: {each.verdict}: {each.why}"
+                       for each in found if not each.valid]
+    assert last.startswith("supplement.csv: 240 orders audited, 228 valid (") and last.endswith(" optimal), 12 wrong")
+    rows = list(csv.reader(open("audited.csv")))
+    assert rows == [["line", *pfs.Audited._fields[1:]], *([str(cell) if cell is not None else "" for cell in each]
+                                                          for each in found)]
+
+
+# Other tables
+
+SMALL = pfs.Instance([[3, 2], [2, 5], [4, 1]], name="small.txt")
+
+
+def rows_of(*orders: Any, makespan: Any = 10) -> list[dict[str, Any]]:
+    return [{"instance": "small", "makespan": makespan, "order": order} for order in orders]
+
+
+@pytest.mark.parametrize("order", ["2 1 3", "2,1,3", "2; 1; 3", "[2, 1, 3]", "(2 1 3)", "J2 J1 J3", "job_2,job_1,job_3",
+                                   "[2 1\n 3]", [2, 1, 3], (2, 1, 3), np.array([2, 1, 3])])
+def test_spellings(order: Any) -> None:
+    [found] = pfs.audit(rows_of(order), [SMALL])
+    assert found == (0, "small", "", 10, 10, 10, True, "valid and optimal", "")
+
+
+@pytest.mark.parametrize(("order", "verdict", "why"), [
+    ("", "not an order", "'' isn't a list of jobs"), (None, "not an order", "there is no order"),
+    (float("nan"), "not an order", "there is no order"), ("2 x 3", "not an order", "'x' at place 2"),
+    ("2 1.0 3", "not an order", "'1.0' at place 2"), ("2 -1 3", "not an order", "'-1' at place 2"),
+    ("J2 M1 J3", "not an order", "'M1' at place 2"), ("2,,3", "not an order", "'' at place 2"),
+    ("2 1 3 (optimal)", "not an order", "'2 1 3 (optimal)' isn't a list of jobs"),
+    ("2 1 99999999999", "not an order", "'99999999999' at place 3"),
+    ("2 1 999999999", "job out of range", "job 999999999 at place 3: the jobs are 1 to 3; job 3 is missing"),
+    ("2 1 2", "job twice", "job 2 at places 1 and 3; job 3 is missing"), ("2 1", "job missing", "job 3 is missing"),
+    ("3 1 2 3", "job twice", "job 3 at places 1 and 4"), ("1", "wrong size", "1 jobs, but the instance has 3"),
+    ("2 0 3", "job out of range", "job 0 at place 2")])
+def test_orders_that_are_wrong(order: Any, verdict: str, why: str) -> None:
+    [found, other] = pfs.audit(rows_of(order, "1 2 3", makespan=11), [SMALL])
+    assert (found.valid, found.makespan, found.verdict, why in found.why) == (False, None, verdict, True), found
+    assert other.valid and other.makespan == 11
+
+
+def test_the_first_job_is_that_of_most_orders_of_a_method() -> None:
+    rows = [{"Problem": "small", "CMAX": 11, "Permutation": order, "method": method}
+            for method, order in (("a", "0 1 2"), ("b", "1 2 3"), ("b", "1 2 3"), ("b", "0 1 2"), ("a", [2, 2, 0]))]
+    found = pfs.audit(rows, {"small": SMALL})
+    assert [each.verdict for each in found] == ["valid", "valid", "valid", "counted from 0", "job twice"]
+    assert found[3].why == "others count from 1; counted from 0, it takes 11"
+    with pytest.raises(ValueError, match="row 0: 1 orders of b count jobs from 0 and as many from 1: state"):
+        pfs.audit(rows[2:], [SMALL])
+    stated = pfs.audit(rows[2:], [SMALL], first=0)
+    assert [each.verdict for each in stated] == ["counted from 1", "valid", "job twice"]
+
+
+@pytest.mark.parametrize(("change", "said"), [
+    ({"makespan": "1,278"}, "row 1, column 'makespan': '1,278' isn't a makespan"),
+    ({"makespan": "10.5"}, "'10.5' isn't a makespan"), ({"makespan": float("nan")}, "'nan' isn't a makespan"),
+    ({"makespan": True}, "'True' isn't"), ({"makespan": -10}, "'-10' isn't"), ({"makespan": "٣"}, "isn't a makespan"),
+    ({"instance": "smal"}, "row 1, column 'instance': no instance 'smal'"),
+    ({"instance": "ta121"}, "no instance 'ta121'"), ({"instance": ""}, "no instance ''"),
+    ({"block": 2}, "no instance 'small:2'"), ({"Cmax": 10}, "row 0: the columns 'makespan' and 'Cmax' both say the"),
+])
+def test_tables_that_are_unclear(change: dict[str, Any], said: str) -> None:
+    first, other = rows_of("2 1 3", "2 1 3")
+    with pytest.raises(ValueError, match=re.escape(said)):
+        pfs.audit([first, {**other, **change}], [SMALL])
+
+
+@pytest.mark.parametrize(("text", "line", "said"), [
+    ("instance,makespan,order\nsmall,10,2,1,3\n", 2, "5 cells for 3 columns: quote an order"),
+    ("instance makespan order\n", 1, "the first line must name the columns instance, makespan, order"), ("", 1, "must"),
+    ("instance;makespan\nsmall;10\n", 1, "must name"), ("instance,makespan,order\n\nsmall,x,1 2 3", 3, "'x' isn't"),
+    ("instance,makespan,order\nsmall,10,\"2 1 3\n", 2, "unexpected end"),
+    ("instance,makespan,order\nta001,10,1\nother,10,1\n", 3, "no instance 'other'")])
+def test_files_that_are_unclear(text: str, line: int, said: str, tmp_path: pathlib.Path) -> None:
+    (tmp_path / "table").write_text(text)
+    with pytest.raises(pfs.TableFault, match=re.escape(said)) as fault:
+        pfs.audit(tmp_path / "table", [SMALL])
+    assert fault.value.line == line
+
+
+def test_a_frame() -> None:
+    frame = pandas.DataFrame(rows_of("2 1 3", "1 2 3"), index=["x", "y"]).assign(makespan=[10.0, 11.0])
+    audited = pandas.DataFrame(pfs.audit(frame, [SMALL]))
+    assert audited[["makespan", "valid"]].to_numpy().tolist() == [[10, True], [11, True]]
+    with pytest.raises(TypeError, match="a DataFrame, the path of a CSV, or a list of dicts"):
+        pfs.audit([1, 2], [SMALL])
+
+
+def test_names(tmp_path: pathlib.Path) -> None:
+    """An instance is found by a title, by the number of a block, and by Taillard's seed; a damaged one isn't."""
+    other = pfs.Instance([[1, 1], [1, 1], [1, 1]])
+    (tmp_path / "two.txt").write_text(f"instance Car1\n{SMALL.to_text('orlib')}{other.to_text('orlib')}")
+    (tmp_path / "best.mat").write_text("3 2\n3 2\n2 5\n4 1\n")
+    (tmp_path / "a").mkdir()
+    damaged = pfs.taillard(2).times.copy()
+    damaged[0, 0] += 1
+    blocks = [pfs.taillard(1), pfs.Instance(damaged, seed=pfs.taillard(2).seed)]
+    (tmp_path / "a" / "tai20_5").write_text("".join(shop.to_text() for shop in blocks))
+    rows = [{**rows_of("2 1 3")[0], "instance": name, "block": block}
+            for name, block in (("CAR1", ""), ("two:1", ""), ("best", ""), ("x/two.TXT", 1))]
+    order = list(range(1, 21))
+    rows += [{"instance": name, "makespan": makespan(shop, range(20)), "order": order, "block": ""} for name, shop in
+             (("ta001", blocks[0]), ("tai20_5:2", blocks[1]), ("ta002", pfs.taillard(2)))]
+    assert [each.valid for each in pfs.audit(rows, tmp_path)] == [True] * 7
+    for name, said in (("two", "its file has 2 blocks, so write two:1"), ("two:3", "no instance 'two:3'")):
+        with pytest.raises(ValueError, match=said):
+            pfs.audit([{**rows[0], "instance": name}], tmp_path)
+    with pytest.raises(ValueError, match="no instance 'best': .*size line 1 has a wrong count"):
+        pfs.audit(rows[2:3], tmp_path, layout="taillard")
+    (tmp_path / "best.txt").write_text("3 2\n3 2\n2 5\n4 2\n")
+    with pytest.raises(ValueError, match="'best' is the name of 2 different instances"):
+        pfs.audit(rows[2:3], tmp_path)
+
+
+def test_the_command(tmp_path: pathlib.Path, monkeypatch: pytest.MonkeyPatch,
+                     capsys: pytest.CaptureFixture[str]) -> None:
+    monkeypatch.chdir(tmp_path)
+    pathlib.Path("one.csv").write_text(f'instance,Cmax,order,method\nta001,1448,"{[*range(20)]}",=IG\n')
+    assert run("one.csv --csv out.csv") == 0
+    assert capsys.readouterr().out == "one.csv: 1 orders audited, 1 valid (0 optimal), 0 wrong\n"
+    assert pathlib.Path("out.csv").read_text().splitlines()[1] == "2,ta001,'=IG,1448,1448,1232,True,valid,"
+    assert run("one.csv --first 1") == 1
+    assert capsys.readouterr().out.startswith("line 2, ta001 =IG: counted from 0: others count from 1; counted from ")
+    for words, said in (("", "required: TABLE"), ("one.csv --layout x", "argument --layout"),
+                        ("one.csv --first 2", "argument --first")):
+        with pytest.raises(SystemExit):
+            run(words)
+        assert said in capsys.readouterr().err
+    with pytest.raises(ExperimentError, match="none is not a folder"):
+        run("one.csv --instances none")
+    pathlib.Path("one.csv").write_text("instance,Cmax,order\nta1,1,1\n")
+    with pytest.raises(ExperimentError, match="one.csv: line 2, column 1: no instance 'ta1'"):
+        run("one.csv")
+
+
+def test_below_the_reference() -> None:
+    shop = pfs.Instance(SMALL.times, name="small", upper=12)
+    longer = pfs.Instance([[3, 2], [2, 5], [4, 2]], name="longer", upper=13)
+    found = pfs.audit([*rows_of("1 2 3", makespan=11), {"instance": "longer", "makespan": 12, "order": "1 2 3"}],
+                      [shop, longer])
+    assert [(each.valid, each.verdict, each.why) for each in found] == [
+        (True, "valid and below the reference", "the reference is 12"),
+        (True, "valid and below the reference", "the reference is 13")]
+
+
+@pytest.mark.seconds(3)
+def test_ten_thousand_orders() -> None:
+    shop = pfs.taillard(81)
+    orders = np.random.default_rng(1).permuted(np.tile(np.arange(100, dtype=np.uint32), (10_000, 1)), axis=1)
+    spans = shop.makespans(orders).tolist()
+    rows = [{"instance": "ta081", "makespan": span, "order": " ".join(map(str, order))}
+            for order, span in zip((orders + 1).tolist(), spans)]
+    begun = time.process_time()
+    assert all(each.valid for each in pfs.audit(rows))
+    assert time.process_time() - begun < 10
+
+
+def test_check() -> None:
+    best = SMALL.neh()
+    assert SMALL.check(best) == (True, 10, 10, "") and SMALL.check([0, 1, 2]) == (True, 11, 10, "")
+    assert SMALL.check(best, 11) == (False, 10, 10, "states 11, takes 10")
+    faults: list[tuple[Any, str]] = [
+        ([0, 1], "order has 2 jobs, but the instance has 3"), ([], "order has 0 jobs"),
+        ([0, 1, 3], "3 at place 2 isn't a job"), ([0, 1, 0], "job 0 occurs twice, at places 0 and 2"),
+        ("210", "must be a list of jobs"), ([0.5, 1, 2], "0.5 at place 0 isn't a whole number"),
+        (pfs.Solution([0, 1, 2], 11, machines=3), "an order for 3 machines, but the instance has 2")]
+    for order, fault in faults:
+        found = SMALL.check(order)
+        assert found[:3] == (False, None, 10) and fault in found.fault
+    for wrong in (10.5, "10", True):
+        with pytest.raises(TypeError, match="stated must be an integer"):
+            SMALL.check(best, wrong)  # type: ignore[arg-type]
