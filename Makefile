@@ -25,7 +25,7 @@ LIB = lib
 ZSH = share/zsh/site-functions
 PROGRAM = crates/pfs/out/pfs
 LIBRARY = lib/out/libpfs.so.0
-PLANS = example.toml quality.toml
+PLANS = $(notdir $(wildcard experiments/*.toml))
 PACKAGE = PYTHONPATH=python/src /usr/bin/python3 -B -m
 
 define newline
@@ -37,7 +37,8 @@ define PROGRAM_FILES
 $(PROGRAM) bin/pfs
 share/pfs.1 share/man/man1/pfs.1
 share/pfs.bash $(ZSH)/_pfs
-$(foreach name,pfs pfs-plan pfs-gantt pfs-experiments,share/pfs.bash share/bash-completion/completions/$(name)$(newline))
+$(foreach name,pfs pfs-plan pfs-gantt pfs-experiments,\
+    share/pfs.bash share/bash-completion/completions/$(name)$(newline))
 $(foreach name,$(PAGES),$(name) share/doc/pfs/$(name)$(newline))
 $(foreach name,$(PLANS),experiments/$(name) share/doc/pfs/examples/$(name)$(newline))
 endef

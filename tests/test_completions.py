@@ -19,7 +19,8 @@ FILES = {"best", "three", "two words"}
 # What is offered where each line ends, for the program and for the package's programs.
 OFFERED = {
     "pfs ": set(commands()), "pfs so": {"solve"}, "pfs nothing --": set[str](),
-    "pfs value --layout orlib ": FILES, "pfs check --layout orlib three b": {"best"}, "pfs convert --to=t": {"taillard"},
+    "pfs value --layout orlib ": FILES, "pfs check --layout orlib three b": {"best"},
+    "pfs convert --to=t": {"taillard"},
     **{f"pfs {command} --": set(options) for command, (options, _) in commands().items()},
     **{f"pfs {command} {option}{sign}": LAYOUTS for command, (options, _) in commands().items()
        for option, value in options.items() if value == "L" for sign in " ="},

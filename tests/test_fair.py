@@ -2,7 +2,7 @@
 from collections.abc import Iterable
 
 import pytest
-from pfs.experiments.fair import Made, common, note_of
+from pfs.experiments.fair import Made, common
 
 SEEDS = (1, 2)
 
@@ -35,9 +35,3 @@ def test_what_all_settings_have(others: list[Made], kept: list[Made], lacking: d
     masks, found = common(runs)
     assert [run for run, is_kept in zip(runs, masks) if is_kept] == kept
     assert found == lacking
-    assert (note_of(found) == "") == (lacking == {})
-
-
-def test_the_note() -> None:
-    assert note_of({"b": ["i", "j"], "c": list("efghij")}) == (
-        "Compared are the instances and seeds that all have: b lacks runs of i, j; c lacks runs of e, f, g, h, i, ...")

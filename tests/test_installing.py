@@ -7,8 +7,9 @@ import pathlib
 import re
 
 import pytest
-from support.installed import (LIBRARY, NEW, OLD, PLACES, PROGRAM, VERSION, VERSIONED, Copy, assert_completions_are_found,
-                               assert_runs, assert_same_files, assert_usual_modes, files_below)
+from support.installed import (LIBRARY, NEW, OLD, PLACES, PROGRAM, SHARED, VERSION, VERSIONED, Copy,
+                               assert_completions_are_found, assert_runs, assert_same_files, assert_usual_modes,
+                               files_below)
 from support.needs import tool
 from support.program import Program
 from support.tools import output_of, run_tool, write_script
@@ -45,7 +46,7 @@ def test_what_is_installed_runs_and_is_removed(prefix: str, goal: str, copy: Cop
     assert f'(PACKAGE_VERSION "{VERSION}")\n' in version
     wanted = LIBRARY | (PLACES if goal == "install" else {})
     assert_same_files(found, {name: (copy.top / file).read_bytes() for name, file in wanted.items()})
-    assert os.readlink(place / "lib" / "libpfs.so") == "libpfs.so.0"
+    assert os.readlink(place / "lib" / "libpfs.so") == SHARED
     assert_usual_modes(place)
     if goal == "install":
         assert_runs(place / "bin" / "pfs", folder)
@@ -146,7 +147,7 @@ def test_a_program_is_built_by_cmake(wanted: str, prefix: pathlib.Path, folder: 
     ("share/pfs.1", False), ("README.md", False), ("crates/pfs_tests/src/lib.rt", False)])
 def test_a_newer_source_has_the_program_built(name: str, is_built: bool, copy: Copy, folder: pathlib.Path) -> None:
     """Other files have nothing built."""
-    path, library = copy.top / name, copy.top / "lib" / "out" / "libpfs.so.0"
+    path, library = copy.top / name, copy.top / "lib" / "out" / SHARED
     copy.built()
     try:
         os.utime(library, (NEW + 2, NEW + 2))

@@ -1,16 +1,14 @@
-"""The tarball, the Debian packages and the wheel are made twice, compared, unpacked and installed into empty folders, and
-the programs run there. All of it happens in a copy of the repository (support/installed.py)."""
+"""The tarball, the Debian packages and the wheel are made twice, compared, unpacked and installed into empty folders,
+and the programs run there. All of it happens in a copy of the repository (support/installed.py)."""
 import datetime
 import email
 import gzip
 import hashlib
-import io
 import json
 import os
 import pathlib
 import re
 import shutil
-import subprocess
 import sys
 import tarfile
 import tomllib
@@ -18,24 +16,17 @@ import zipfile
 from typing import Any, NamedTuple
 
 import pytest
-from support.installed import (LIBRARY, PLACES, PROGRAM, TOP, VERSION, VERSIONED, Copy, assert_completions_are_found,
-                               assert_runs, assert_same_files, assert_usual_modes, files_below)
+from support.installed import (LIBRARY, PLACES, PROGRAM, SHARED, TOP, VERSION, VERSIONED, Copy,
+                               assert_completions_are_found, assert_runs, assert_same_files, assert_usual_modes,
+                               files_below)
 from support.library import Library
-from support.needs import missing, require_module, tool
-from support.program import Program
+from support.needs import require_module, tool
 from support.tools import imported, output_of, run_tool
 
 # so that the copy and the packages are made once
 pytestmark = [pytest.mark.xdist_group("packages"), pytest.mark.seconds(60)]
-# What of each package's fields no other one has, or not the same.
-FIELDS = {
-    "pfs": {"Depends": "libc6 (>= 2.34)", "Suggests": "python3-pfs", "Section": "science", "Architecture": "amd64"},
-    "libpfs0": {"Section": "libs", "Architecture": "amd64", "Multi-Arch": "same"},
-    "libpfs-dev": {"Depends": "libpfs0 (= {version}-1)", "Section": "libdevel", "Architecture": "amd64",
-                   "Multi-Arch": "same"},
-    "python3-pfs": {"Recommends": "parallel, pfs, python3-matplotlib, python3-pandas, python3-scipy",
-                    "Suggests": "openssh-client, python3-tqdm, rsync, slurm-client", "Section": "python",
-                    "Architecture": "all", **dict.fromkeys(("Breaks", "Provides", "Replaces"), "pfs-tools")}}
+LIBPFS = SHARED.replace(".so.", "")
+PACKAGES = ["pfs", LIBPFS, "libpfs-dev", "python3-pfs"]
 DEBIAN_PAGES = {"copyright", "changelog.gz", "changelog.Debian.gz"}
 LIBRARIES = "usr/lib/x86_64-linux-gnu"
 MODULES = "usr/lib/python3/dist-packages"
@@ -89,7 +80,7 @@ def unpacked(made: Made, tmp_path_factory: pytest.TempPathFactory) -> pathlib.Pa
 def extracted(made: Made, tmp_path_factory: pytest.TempPathFactory) -> pathlib.Path:
     """A root with the content of all packages."""
     folder = tmp_path_factory.mktemp("extracted")
-    for package in FIELDS:
+    for package in PACKAGES:
         output_of(["dpkg-deb", "--extract", made.path(f"/{package}_"), "."], folder)
     return folder
 
@@ -126,8 +117,8 @@ def test_the_sums_are_signed_by_gnupg(top: pathlib.Path, folder: pathlib.Path, m
     (folder / "home").mkdir(mode=0o700)
     (folder / "SHA256SUMS").write_text("0123  a file\n")
     try:
-        output_of([tool("gpg"), "--batch", "--quiet", "--passphrase", "", "--quick-generate-key", "A Tester", "ed25519"],
-                  folder)
+        words = [tool("gpg"), "--batch", "--quiet", "--passphrase", "", "--quick-generate-key", "A Tester", "ed25519"]
+        output_of(words, folder)
         assert imported(top / "tools" / "dist").sign(folder / "SHA256SUMS") == [folder / "SHA256SUMS.asc"]
         line = line_of_install("^gpg --verify .*$")
         output_of(["bash", "-c", line], folder)
@@ -173,7 +164,8 @@ def test_a_release_is_its_tagged_commit_without_changes(copy: Copy, folder: path
             (copy.top / made).unlink(missing_ok=True)
 
 
-def test_the_maintainer_is_named(copy: Copy, monkeypatch: pytest.MonkeyPatch, capsys: pytest.CaptureFixture[str]) -> None:
+def test_the_maintainer_is_named(copy: Copy, monkeypatch: pytest.MonkeyPatch,
+                                 capsys: pytest.CaptureFixture[str]) -> None:
     """A message says where an address takes no mail."""
     assert source(copy, copy.top, monkeypatch).maintainer == "A Tester <tester@example.org>"
     assert "MAINTAINER=" not in capsys.readouterr().err
@@ -198,7 +190,7 @@ def test_a_source_tree_without_git_or_a_library(copy: Copy, folder: pathlib.Path
     assert got.status == 1 and "clone the repository" in got.stderr and not (folder / "made").exists()
     shutil.rmtree(folder / "tree" / "lib" / "out")
     got = run_tool(["tools/dist", "wheel", folder / "made"], folder / "tree", env=copy.env)
-    assert got.status == 1 and "lib/out/libpfs.so.0 is missing: run `make run lib`" in got.stderr
+    assert got.status == 1 and f"lib/out/{SHARED} is missing: run `make run lib`" in got.stderr
 
 
 # What is made
@@ -215,7 +207,7 @@ def test_the_spdx_file_lists_what_is_installed_and_what_is_built_in(made: Made) 
         **dict.fromkeys({"clap"} | crates, f"port in {kit}")}
     assert made.copy.git("rev-parse", "HEAD") in bill["packages"][0]["sourceInfo"]
     wheel = made.path(".whl")
-    files = [made.copy.top / name for name in (PROGRAM, "lib/out/libpfs.so.0", "lib/out/libpfs.a")] + [wheel]
+    files = [made.copy.top / name for name in (PROGRAM, f"lib/out/{SHARED}", "lib/out/libpfs.a")] + [wheel]
     assert [(each["fileName"], [it["checksumValue"] for it in each["checksums"]]) for each in bill["files"]] \
         == [(f"./{path.name}", [hashlib.new(name, path.read_bytes()).hexdigest() for name in ("sha1", "sha256")])
             for path in files]
@@ -224,26 +216,18 @@ def test_the_spdx_file_lists_what_is_installed_and_what_is_built_in(made: Made) 
     assert len(names) == 13 and all(re.fullmatch("SPDXRef-[A-Za-z0-9.-]+", each) for each in names)
     links = {(names[each["spdxElementId"]], each["relationshipType"], names[each["relatedSpdxElement"]])
              for each in bill["relationships"]}
-    libraries = ("libpfs.so.0", "libpfs.a")
+    libraries = (SHARED, "libpfs.a")
     assert links == {("document", "DESCRIBES", "pfs"), ("rattle-kit", "BUILD_TOOL_OF", "pfs"),
-                     (wheel.name, "CONTAINS", "libpfs.so.0"), ("pfs", "STATIC_LINK", "clap"),
+                     (wheel.name, "CONTAINS", SHARED), ("pfs", "STATIC_LINK", "clap"),
                      *((each, "GENERATED_FROM", "pfs") for each in ("pfs", *libraries, wheel.name)),
-                     *((each, "DYNAMIC_LINK", "libc6") for each in ("pfs", "libpfs.so.0")),
+                     *((each, "DYNAMIC_LINK", "libc6") for each in ("pfs", SHARED)),
                      *((each, "STATIC_LINK", crate) for each in ("pfs", *libraries) for crate in crates)}
 
 
-@pytest.mark.parametrize("ending", [".tar.gz", *(f"/{name}_" for name in FIELDS)])
-def test_all_is_roots_at_the_commits_time(ending: str, made: Made) -> None:
-    packed = made.path(ending).read_bytes()
-    if ending != ".tar.gz":
-        words = ["dpkg-deb", "--fsys-tarfile", str(made.path(ending))]
-        packed = subprocess.run(words, capture_output=True, check=True).stdout
-    with tarfile.open(fileobj=io.BytesIO(packed)) as tar:
-        assert {(it.uid, it.gid, it.mtime) for it in tar.getmembers()} == {(0, 0, made.time())}
-
-
 def test_the_tarball_has_the_installed_files_and_runs(unpacked: pathlib.Path, made: Made, folder: pathlib.Path) -> None:
-    """With its notices, its sums, and the commit and the kit."""
+    """With its notices, its sums, and the commit and the kit. All is root's, as old as the commit."""
+    with tarfile.open(made.path(".tar.gz")) as tar:
+        assert {(it.uid, it.gid, it.mtime) for it in tar.getmembers()} == {(0, 0, made.time())}
     assert_usual_modes(unpacked)
     assert_runs(unpacked / "bin" / "pfs", folder)
     found = files_below(unpacked)
@@ -252,7 +236,7 @@ def test_the_tarball_has_the_installed_files_and_runs(unpacked: pathlib.Path, ma
     assert found.pop("share/doc/pfs/PROVED").decode() == (
         f"pfs {made.version()}\nproved at the commit {made.copy.git('rev-parse', 'HEAD')}\n"
         f"with the kit {made.copy.env['RT_VERSION']}\n")
-    assert found.pop("share/doc/pfs/NOTICES") == (TOP / "debian" / "copyright").read_bytes()
+    assert found.pop("share/doc/pfs/NOTICES") == (made.copy.top / "debian" / "copyright").read_bytes()
     assert found.pop(VERSIONED[0]).decode().startswith("prefix=${pcfiledir}/../..\n") and found.pop(VERSIONED[1])
     assert_same_files(found, {place: (made.copy.top / file).read_bytes() for place, file in (PLACES | LIBRARY).items()})
 
@@ -286,11 +270,11 @@ def test_the_packages_have_their_files_where_debian_looks(extracted: pathlib.Pat
     for folder, to in (("python/src/pfs", f"{MODULES}/pfs"), ("python/examples", f"{pages}/examples")):
         places |= {f"{to}/{name}": f"{folder}/{name}" for name in files_below(made.copy.top / folder)}
     found = files_below(extracted)
-    for package in FIELDS:
+    for package in PACKAGES:
         held = {name: found.pop(f"usr/share/doc/{package}/{name}") for name in DEBIAN_PAGES}
-        assert gzip.decompress(held["changelog.gz"]) == (TOP / "CHANGELOG.md").read_bytes()
+        assert gzip.decompress(held["changelog.gz"]) == (made.copy.top / "CHANGELOG.md").read_bytes()
         assert gzip.decompress(held["changelog.Debian.gz"]).decode().startswith(f"pfs ({made.version()}-1) unstable;")
-        assert held["copyright"] == (TOP / "debian" / "copyright").read_bytes()
+        assert held["copyright"] == (made.copy.top / "debian" / "copyright").read_bytes()
     for path in [path for path in found if "/man/" in path]:
         found[path.removesuffix(".gz")] = gzip.decompress(found.pop(path))
     for path in ("usr/share/doc/pfs/PROVED", *(f"{LIBRARIES}/{name.removeprefix('lib/')}" for name in VERSIONED),
@@ -309,18 +293,19 @@ def test_debians_tools_accept_the_packages(made: Made, folder: pathlib.Path) -> 
     closes no bug of Debian. Other packages depend on the library as it says."""
     got = run_tool([tool("lintian"), "--allow-root", "--fail-on", "error,warning", "--suppress-tags",
                     "initial-upload-closes-no-bugs,script-not-executable,unstripped-binary-or-object,"
-                    "unstripped-static-library", *(made.path(f"/{package}_") for package in FIELDS)], made.folder)
+                    "unstripped-static-library", *(made.path(f"/{package}_") for package in PACKAGES)], made.folder)
     assert (got.status, got.stdout) == (0, "")
-    for package, due in FIELDS.items():
-        lines = output_of(["dpkg-deb", "--field", made.path(f"/{package}_")], folder).splitlines()
-        fields = dict(line.split(": ", 1) for line in lines if not line.startswith(" "))
-        due = {name: value.format(version=made.version()) for name, value in due.items()}
-        assert {name: fields[name] for name in due} == due
-        assert (fields["Version"], fields["Maintainer"]) == (f"{made.version()}-1", "A Tester <tester@example.org>")
-    depends = output_of(["dpkg-deb", "--field", made.path("/python3-pfs_"), "Depends"], folder)
-    assert {f"libpfs0 (>= {VERSION}~)", "python3-numpy", "python3:any (>= 3.10~)"} <= set(depends.strip().split(", "))
-    output_of(["dpkg-deb", "--control", made.path("/libpfs0_"), "library"], folder)
-    assert (folder / "library" / "shlibs").read_text() == f"libpfs 0 libpfs0 (>= {VERSION}~)\n"
+    number = f"{made.version()}-1"
+    needs = {"pfs": {"libc6 (>= 2.34)"}, LIBPFS: set[str](), "libpfs-dev": {f"{LIBPFS} (= {number})"},
+             "python3-pfs": {f"{LIBPFS} (>= {VERSION}~)", "python3-numpy", "python3:any (>= 3.10~)"}}
+    for package, needed in needs.items():
+        version, maintainer, depends = (
+            output_of(["dpkg-deb", "--field", made.path(f"/{package}_"), field], folder).strip()
+            for field in ("Version", "Maintainer", "Depends"))
+        assert (version, maintainer) == (number, "A Tester <tester@example.org>")
+        assert needed <= set(depends.split(", "))
+    output_of(["dpkg-deb", "--control", made.path(f"/{LIBPFS}_"), "library"], folder)
+    assert (folder / "library" / "shlibs").read_text() == f"libpfs {LIBPFS[6:]} {LIBPFS} (>= {VERSION}~)\n"
     assert "activate-noawait ldconfig\n" in (folder / "library" / "triggers").read_text()
     output_of(["dpkg-deb", "--control", made.path("/python3-pfs_"), "python"], folder)
     assert "py3clean -p python3-pfs" in (folder / "python" / "prerm").read_text()
@@ -347,21 +332,6 @@ def test_the_programs_of_the_packages_run(extracted: pathlib.Path, made: Made, f
         assert [name for name in named if not (page.parent / name).exists()] == [], page.name
 
 
-def test_the_package_is_installed_into_an_empty_root_and_leaves_nothing(made: Made, folder: pathlib.Path) -> None:
-    if os.geteuid() != 0:
-        missing("only root installs a package")
-    root = folder / "root"
-    for name in ("info", "updates", "triggers"):
-        (root / "var" / "lib" / "dpkg" / name).mkdir(parents=True)
-    # in which nothing is installed but the C library
-    (root / "var" / "lib" / "dpkg" / "status").write_text(output_of(["dpkg-query", "--status", "libc6"], folder))
-    dpkg: list[str | pathlib.Path] = ["dpkg", f"--root={root}", f"--log={folder / 'log'}"]
-    output_of([*dpkg, "--install", made.path("/pfs_")], folder)
-    assert_runs(root / "usr" / "bin" / "pfs", folder)
-    output_of([*dpkg, "--purge", "pfs"], folder)
-    assert not (root / "usr").exists()
-
-
 # The wheel
 
 @pytest.fixture(scope="module")
@@ -377,29 +347,30 @@ def wheel(made: Made) -> dict[str, bytes]:
 def test_a_wheel_holds_the_package_and_the_library(wheel: dict[str, bytes], made: Made) -> None:
     found = {name: text for name, text in wheel.items() if not name.startswith("dist-info/")}
     wanted = {f"pfs/{name}": text for name, text in files_below(made.copy.top / "python" / "src" / "pfs").items()}
-    wanted |= {"pfs/libpfs.so.0": (made.copy.top / "lib/out/libpfs.so.0").read_bytes(),
+    wanted |= {f"pfs/{SHARED}": (made.copy.top / f"lib/out/{SHARED}").read_bytes(),
                "pfs/_version.py": wanted["pfs/_version.py"].replace(VERSION.encode(), made.version().encode())}
-    wanted |= {f"data/data/share/man/man1/{name}.1": (TOP / "python" / f"{name}.1").read_bytes() for name in PROGRAMS}
+    wanted |= {f"data/data/share/man/man1/{name}.1": (made.copy.top / "python" / f"{name}.1").read_bytes()
+               for name in PROGRAMS}
     assert_same_files(found, wanted)
 
 
 def test_what_a_wheel_says_of_itself(wheel: dict[str, bytes], made: Made) -> None:
     """It needs what the settings and README say, and has the licences of what is built into its library."""
     fields = email.message_from_string(wheel["dist-info/METADATA"].decode())
-    project = tomllib.loads((TOP / "python" / "pyproject.toml").read_text())["project"]
+    project = tomllib.loads((made.copy.top / "python" / "pyproject.toml").read_text())["project"]
     numbers = [list(map(int, re.findall(r"\d+", version))) for version in (fields["Version"], made.version())]
     assert (fields["Name"], numbers[0]) == ("pfs", numbers[1])
     needed, due = ([re.sub("[ ()'\"]", "", str(each)) for each in lines] for lines in
                    (fields.get_all("Requires-Dist") or [], project["dependencies"]))
     assert [each for each in needed if "extra" not in each] == due and "numpy>=1.24" in due
-    readme = (TOP / "python" / "README.md").read_text()
+    readme = (made.copy.top / "python" / "README.md").read_text()
     assert str(fields.get_payload()).strip() == readme.strip()
     pythons = re.findall(r"needs Python ([\d.]+) or newer and NumPy", readme)
     assert [f">={python}" for python in pythons] == [fields["Requires-Python"]] == [project["requires-python"]]
     licences = {"LICENSE-APACHE": "LICENSE-APACHE", "LICENSE-MIT": "LICENSE-MIT", "NOTICES": "debian/copyright"}
     assert fields.get_all("License-File") == list(licences)
     assert {name: wheel[f"dist-info/{name}"] for name in licences} \
-        == {name: (TOP / file).read_bytes() for name, file in licences.items()}
+        == {name: (made.copy.top / file).read_bytes() for name, file in licences.items()}
 
 
 def test_pip_replaces_a_wheel_by_one_of_a_later_commit(made: Made, folder: pathlib.Path, libpfs: Library) -> None:
@@ -412,8 +383,8 @@ def test_pip_replaces_a_wheel_by_one_of_a_later_commit(made: Made, folder: pathl
     assert made.copy.make("wheel", f"DIST={folder}", SOURCE_DATE_EPOCH="1000000000").status == 0
     [older] = folder.glob("*.whl")
     for wheel, version in ((older, f"{VERSION}+20010909.014640"), (made.path(".whl"), made.version())):
-        output_of(["clean/bin/python3", "-m", "pip", "--disable-pip-version-check", "install", "-q", "--no-index", wheel],
-                  folder, env=env)
+        words = ["clean/bin/python3", "-m", "pip", "--disable-pip-version-check", "install", "-q", "--no-index"]
+        output_of([*words, wheel], folder, env=env)
         assert output_of(["clean/bin/pfs-plan", "--version"], folder, env=env) == f"pfs {version}\n"
     (folder / "times.csv").write_text("job [min],saw,drill\nchair,3,2\ntable,2,5\n")
     got = output_of(["clean/bin/pfs-plan", "times.csv"], folder, env=env)
@@ -430,8 +401,3 @@ def test_the_notices_name_what_is_built_in(top: pathlib.Path) -> None:
     assert {crate for crate in crates if crate not in text} == set()
     licence = (top / "LICENSE-MIT").read_text().split("\n\n", 1)[1]
     assert "".join(f" {line or '.'}\n" for line in licence.splitlines()) in text
-
-
-def test_this_kit_has_built_the_program(pfs: Program, folder: pathlib.Path) -> None:
-    logic = output_of([tool("rt"), "version"], folder).split()[-1]
-    assert f"rattle logic={logic}".encode() in pfs.path.read_bytes()

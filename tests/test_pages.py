@@ -1,6 +1,7 @@
 """The pages that users read, against the built program. Each example of README.md, of the pages on commands and recipes
 and of the manual page is run, and must print what the page shows. The faults, exit statuses, ranges, defaults and
 limits in the tables of docs/ must be the program's, and those of the manual page must be the same."""
+import os
 import pathlib
 import re
 import shutil
@@ -10,10 +11,11 @@ from typing import NamedTuple
 
 import pytest
 from support.files import USAGE, generated
+from support.library import Library
 from support.lines import ANSWERS, KINDS, PRINTING
 from support.needs import tool
 from support.program import Program, Ran
-from support.tools import Done, run_tool, with_path
+from support.tools import Done, run_tool, with_path, write_script
 from support.usage import LAYOUTS, LINES, commands, ends_taken
 
 TOP = pathlib.Path(__file__).resolve().parent.parent
@@ -106,7 +108,7 @@ EXAMPLES = {page: page_examples(page) for page in ("README.md", "docs/COMMANDS.m
 
 
 @pytest.fixture(scope="module")
-def shown(pfs: Program, scripts: pathlib.Path, tmp_path_factory: pytest.TempPathFactory) -> Callable[[Example], str]:
+def shown(pfs: Program, libpfs: Library, scripts: pathlib.Path, tmp_path_factory: pytest.TempPathFactory) -> Callable[[Example], str]:
     """What the commands of a page print, run one after the other in a folder that is empty at first, with the programs
     that an installation has."""
     printed: dict[str, dict[Example, str]] = {}
@@ -117,6 +119,8 @@ def shown(pfs: Program, scripts: pathlib.Path, tmp_path_factory: pytest.TempPath
             (folder / ".bin").mkdir()
             shutil.copy(pfs.path, folder / ".bin" / "pfs")
             (folder / ".bin" / "pfs-gantt").symlink_to(scripts / "pfs-gantt")
+            line = f'PFS_LIBRARY={libpfs.path} exec {scripts / "pfs-experiments"} "$@"'
+            write_script(folder / ".bin" / "pfs-experiments", f"#!/bin/sh\n{line}\n")
             printed[example.page] = {each: run_line(each.command, folder) for each in EXAMPLES[example.page]}
         return printed[example.page][example]
     return run
@@ -142,6 +146,26 @@ def test_an_example_prints_what_the_page_shows(example: Example, shown: Callable
 @pytest.mark.parametrize("page", EXAMPLES)
 def test_a_page_has_examples(page: str) -> None:
     assert len(EXAMPLES[page]) > 3
+
+
+@pytest.mark.seconds(40)
+def test_the_comparison_is_made_as_the_page_says(pfs: Program, libpfs: Library, scripts: pathlib.Path, scipy: None,
+                                                 folder: pathlib.Path) -> None:
+    """All of its blocks are one script. Its last lines are the table, whose numbers depend on the machine."""
+    page = (TOP / "docs" / "COMPARE.md").read_text()
+    *blocks, (_, shown) = re.findall(r"^```(sh)?\n(.*?)^```$", page, re.MULTILINE | re.DOTALL)
+    script = "".join(block for _, block in blocks)
+    tool("parallel")
+    (folder / "bin").mkdir()
+    shutil.copy(pfs.path, folder / "bin" / "pfs")
+    env = os.environ | {"PATH": f"{folder}/bin:{scripts}:{os.environ['PATH']}", "PFS_LIBRARY": str(libpfs.path)}
+    done = run_tool(["bash", "-e", "-c", script], folder, env=env)
+    assert done.status == 0, done.stderr
+    printed = done.stdout[done.stdout.rindex("| jobs×machines |"):]
+    numbers = re.compile(r"\d+\.\d{3}")
+    assert numbers.sub("", printed).startswith(numbers.sub("", shown))
+    mine, ours = numbers.findall(printed)[-2:]
+    assert float(mine) > float(ours) >= 0
 
 
 # Commands and links
@@ -178,7 +202,8 @@ def test_readme_is_short() -> None:
 
 def test_the_page_on_pictures_shows_the_usage_of_gantt() -> None:
     usage = (TOP / "docs" / "COOKBOOK.md").read_text().partition("\n`pfs-gantt ")[2].partition("`")[0]
-    assert usage and f"usage: pfs-gantt {usage}\n" in (TOP / "python" / "src" / "pfs" / "_gantt.py").read_text().replace('"""', "\n")
+    text = (TOP / "python" / "src" / "pfs" / "_gantt.py").read_text().replace('"""', "\n")
+    assert usage and f"usage: pfs-gantt {usage}\n" in text
 
 
 SLIPS = [re.findall("`([^`]+)`", typed)[0] for typed, _ in table(TROUBLESHOOTING, "Typed", "Reason")]
@@ -537,7 +562,7 @@ def test_the_page_of_gantt_has_its_options() -> None:
 
 def test_the_page_of_experiments_has_its_scripts() -> None:
     main = (TOP / "python" / "src" / "pfs" / "experiments" / "__main__.py").read_text()
-    scripts = set(re.findall(r'"(\w+)"', main.partition("COMMANDS = (")[2].partition(")")[0]))
+    scripts = set(re.findall(r'\badd\("(\w+)"', main))
     synopsis, listed = (re.findall(rf"^\.{macro} (\w+)$", TOOL_PAGES["pfs-experiments"], re.MULTILINE)
                         for macro in ("Cm", "It Cm"))
     assert set(synopsis) >= set(listed) == scripts

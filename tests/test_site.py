@@ -1,13 +1,15 @@
 """The site that `make docs` makes: it has each page, each public name of the package for Python and each function of
 the library's header, no link leads nowhere, and nothing of it is loaded from the network."""
+import os
 import pathlib
 import re
+import shutil
 from html.parser import HTMLParser
 from urllib.parse import unquote, urlsplit
 
 import pytest
 from support.needs import tool
-from support.tools import output_of, require_debian_module, run_tool, with_path, write_script
+from support.tools import output_of, require_debian_module, run_tool
 
 TOP = pathlib.Path(__file__).resolve().parent.parent
 PAGES = sorted(str(page.relative_to(TOP).with_suffix("")) for pattern in ("*.md", "*/*.md", "docs/*/*.md")
@@ -61,7 +63,7 @@ def broken(folder: pathlib.Path) -> list[str]:
 @pytest.fixture(scope="module")
 def site(top: pathlib.Path, tmp_path_factory: pytest.TempPathFactory) -> pathlib.Path:
     """The site, which is made without a built library, and of which no warning is printed."""
-    tool("doxygen")
+    tool("mandoc")
     for module in ("sphinx", "numpydoc", "myst_parser", "numpy"):
         require_debian_module(module)
     folder = tmp_path_factory.mktemp("site") / "made"
@@ -92,14 +94,23 @@ def test_each_name_of_the_package_is_in_the_reference(site: pathlib.Path) -> Non
     assert len(names) > 10 and {f"pfs.{name}" for name in names} <= Page(site / "reference.html").ids
 
 
-def test_each_function_and_macro_of_the_header_is_in_the_site(site: pathlib.Path) -> None:
+def test_each_name_of_the_header_is_in_the_reference_and_found_by_a_search(site: pathlib.Path) -> None:
     header = (TOP / "lib" / "pfs.h").read_text()
-    names = {*re.findall(r"^[a-z].*\b(pfs_\w+)\(", header, re.MULTILINE),
-             *re.findall(r"^#define (PFS_\w+) ", header, re.MULTILINE)}
-    text = (site / "c" / "pfs_8h.html").read_text()
-    assert len(names) > 30 and {name for name in names if not re.search(rf">{name}</a>", text)} == set()
-    for heading in ("Limits of what is accepted.", "Faults of order files"):
-        assert heading in text
+    names = {name for pattern in (r"[a-z].*\b(pfs_\w+)\(", r"struct (\w+) {", r"#define (PFS_\w+) ")
+             for name in re.findall(f"^{pattern}", header, re.MULTILINE)}
+    index = (site / "searchindex.js").read_text()
+    assert len(names) > 30 and {f"c.{name}" for name in names} <= Page(site / "reference_c.html").ids
+    assert [name for name in names if f'"c.{name}"' not in index] == []
+
+
+def test_a_comment_with_other_parameters_is_an_error(top: pathlib.Path, folder: pathlib.Path) -> None:
+    for name in ("tools/site", "lib"):
+        (folder / name).mkdir(parents=True)
+    shutil.copy(top / "tools" / "site" / "header", folder / "tools" / "site")
+    (folder / "lib" / "pfs.h").write_text(re.sub(r"param\[in\] machines ", "param[in] machine ",
+                                                 (top / "lib" / "pfs.h").read_text(), count=1))
+    got = run_tool([folder / "tools" / "site" / "header"], folder)
+    assert (got.status, got.stdout) == (1, "") and got.stderr.startswith("site/header: int pfs_")
 
 
 def test_the_definitions_are_in_the_site(site: pathlib.Path) -> None:
@@ -116,11 +127,10 @@ for page in sorted(pages.glob("*.md")):
 
 
 def test_the_site_is_made_again_and_replaces_nothing_else(top: pathlib.Path, folder: pathlib.Path) -> None:
-    for name in ("bin", "other", "made"):
+    for name in ("other", "made"):
         (folder / name).mkdir()
     (folder / "sphinx.py").write_text(SPHINX)
-    write_script(folder / "bin" / "doxygen", "#!/bin/sh\n")
-    env = with_path(folder / "bin") | {"PYTHONPATH": str(folder)}
+    env = os.environ | {"PYTHONPATH": str(folder)}
     (folder / "other" / "kept").write_text("mine\n")
     got = run_tool([top / "tools" / "site" / "build", folder / "other"], top, env=env)
     assert (got.status, got.stderr) == (1, f"site/build: {folder}/other holds something else than a site\n")

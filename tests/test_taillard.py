@@ -1,6 +1,6 @@
 """The 120 instances that `make taillard` writes are Taillard's: their times are those of the generator's recurrence,
-and `pfs check` prints the published bound of each. The quality of orders in docs/SEARCH.md is what searches find on some of
-them."""
+and `pfs check` prints the published bound of each. The quality of orders in docs/SEARCH.md is what searches find on
+some of them."""
 import fnmatch
 import os
 import pathlib

@@ -1,6 +1,5 @@
 """Dates and times of day for the times of a schedule: by hand, against a walk minute by minute, in files and charts."""
 import datetime
-import json
 import pathlib
 import re
 from collections.abc import Iterator
@@ -20,6 +19,8 @@ DAYS = ["mon", "tue", "wed", "thu", "fri", "sat", "sun"]
 EARLY = {"shifts": "06:00-14:00", "days": "mon-fri"}
 NIGHT = {"shifts": "22:00-06:00", "days": "mon-fri"}
 BREAK = {"shifts": ["06:00-09:00", "09:30-14:00"], "days": "mon-fri"}
+SHORT = {"shifts": ["mon-thu:06:00-14:00", "fri:06:00-10:00,12:00-14:00"]}
+EXTRA = EARLY | {"shifts": ["06:00-14:00", "2026-12-05:07:00-12:00"]}
 ALWAYS: dict[str, Any] = {}
 # A calendar, the times of an operation in minutes, and when it starts and ends. 2026-11-30 is a Monday.
 BY_HAND: dict[str, tuple[str, dict[str, Any], int, int, str, str]] = {
@@ -56,6 +57,25 @@ BY_HAND: dict[str, tuple[str, dict[str, Any], int, int, str, str]] = {
                           "2026-03-29 06:00"),
     "the year ends": ("2027-12-31T23:30", ALWAYS, 0, 60, "2027-12-31 23:30", "2028-01-01 00:30"),
     "a leap day": ("2028-02-28T23:00", ALWAYS, 60, 1500, "2028-02-29 00:00", "2028-03-01 00:00"),
+    "a short Friday": ("2026-12-03T06:00", SHORT, 830, 850, "2026-12-04 13:50", "2026-12-07 06:10"),
+    "a closed day": ("2026-12-03T06:00", SHORT | {"closed": "2026-12-04"}, 480, 481, "2026-12-07 06:00",
+                     "2026-12-07 06:01"),
+    "closed over the new year": ("2026-12-23T06:00", EARLY | {"closed": ["2026-12-24..2027-01-01", "2027-01-05"]}, 470,
+                                 970, "2026-12-23 13:50", "2027-01-06 06:10"),
+    "a begin on a closed day": ("2026-12-24T06:00", EARLY | {"closed": "2026-12-24,2026-12-25"}, 0, 1,
+                                "2026-12-28 06:00", "2026-12-28 06:01"),
+    "an extra Saturday": ("2026-12-04T06:00", EXTRA, 480, 780, "2026-12-05 07:00", "2026-12-05 12:00"),
+    "after an extra Saturday": ("2026-12-04T06:00", EXTRA, 780, 781, "2026-12-07 06:00", "2026-12-07 06:01"),
+    "work on a closed day": ("2026-12-04T06:00", EXTRA | {"closed": "2026-12-05..2026-12-08"}, 479, 781,
+                             "2026-12-04 13:59", "2026-12-09 06:01"),
+    "a night before a closed day": ("2026-12-23T22:00", NIGHT | {"closed": "2026-12-24..2026-12-27"}, 470, 490,
+                                    "2026-12-24 05:50", "2026-12-28 22:10"),
+    "a short Sunday beside others": ("2026-12-05T08:00", {"shifts": ["8:00-9:00", "sun:10:00-10:30"]}, 60, 91,
+                                     "2026-12-06 10:00", "2026-12-07 08:01"),
+    "other dates around the clock": ("2026-12-04T23:00", {"shifts": "2026-12-05:06:00-07:00"}, 60, 121,
+                                     "2026-12-05 06:00", "2026-12-06 00:01"),
+    "closed around the clock": ("2026-12-04T23:00", {"closed": "2026-12-05"}, 60, 61, "2026-12-06 00:00",
+                                "2026-12-06 00:01"),
     "before 1970": ("1969-12-31T23:00", ALWAYS, 0, 120, "1969-12-31 23:00", "1970-01-01 01:00"),
     "no time at the begin": ("2026-11-30T05:00", EARLY, 0, 0, "2026-11-30 06:00", "2026-11-30 06:00"),
     "no time at the end of a shift": ("2026-11-30T06:00", EARLY, 480, 480, "2026-11-30 14:00", "2026-11-30 14:00"),
@@ -96,15 +116,24 @@ def test_seconds_have_as_many_decimals_as_they_need(decimals: int) -> None:
     assert [clock.digits(each) for each in times] == [min(decimals, 6), 0, -1]
 
 
-def work_minutes(begin: datetime.datetime, shifts: list[tuple[int, int]], days: list[int],
-                 count: int) -> list[datetime.datetime]:
+# What is drawn of a calendar: a begin, shifts with their lengths that don't overlap, days, dates that are closed, and a
+# date with one shift of its own.
+Drawn = tuple[datetime.datetime, list[tuple[int, int]], list[int], list[datetime.date], datetime.date]
+
+
+def work_minutes(drawn: Drawn, count: int) -> list[datetime.datetime]:
     """The first minutes with work from the begin on, found by looking at one after the other. A shift from its start on
     has a length, and may reach into the next day."""
+    begin, shifts, days, closed, extra = drawn
+
+    def starting(date: datetime.date) -> list[tuple[int, int]]:
+        own = shifts if date.weekday() in days and date not in closed else []
+        return shifts[:1] if date == extra else own
+
     def is_work(moment: datetime.datetime) -> bool:
-        minute = 60 * moment.hour + moment.minute
-        return any(moment.weekday() in days and start <= minute < start + length
-                   or (moment.weekday() - 1) % 7 in days and start <= minute + 1440 < start + length
-                   for start, length in shifts)
+        minute, date = 60 * moment.hour + moment.minute, moment.date()
+        return any(start <= minute < start + length for start, length in starting(date)) or any(
+            start <= minute + 1440 < start + length for start, length in starting(date - datetime.timedelta(days=1)))
 
     def walk() -> Iterator[datetime.datetime]:
         moment = begin
@@ -117,8 +146,7 @@ def work_minutes(begin: datetime.datetime, shifts: list[tuple[int, int]], days: 
 
 
 @st.composite
-def calendars(draw: st.DrawFn) -> tuple[datetime.datetime, list[tuple[int, int]], list[int]]:
-    """A begin, shifts with their lengths that don't overlap, and days."""
+def calendars(draw: st.DrawFn) -> Drawn:
     begin = draw(st.datetimes(datetime.datetime(1960, 1, 1), datetime.datetime(2090, 1, 1)))
     cuts = sorted(draw(st.sets(st.integers(0, 1439), min_size=2, max_size=6)))
     cuts = cuts[:len(cuts) // 2 * 2]
@@ -126,44 +154,57 @@ def calendars(draw: st.DrawFn) -> tuple[datetime.datetime, list[tuple[int, int]]
         # The last shift crosses midnight.
         cuts = [*cuts[1:], cuts[0] + 1440]
     shifts = [(start, end - start) for start, end in zip(cuts[::2], cuts[1::2])]
-    return begin.replace(second=0, microsecond=0), shifts, sorted(draw(st.sets(st.integers(0, 6), min_size=1)))
+    closed = [begin.date() + datetime.timedelta(days=day) for day in draw(st.sets(st.integers(-3, 12)))]
+    extra = begin.date() + datetime.timedelta(days=draw(st.integers(-2, 14)))
+    days = sorted(draw(st.sets(st.integers(0, 6), min_size=1)))
+    return begin.replace(second=0, microsecond=0), shifts, days, closed, extra
 
 
 def written(minute: int) -> str:
     return f"{minute % 1440 // 60:02}:{minute % 60:02}"
 
 
-def calendar_of(begin: datetime.datetime, shifts: list[tuple[int, int]], days: list[int]) -> pfs.Calendar:
+def calendar_of(drawn: Drawn) -> pfs.Calendar:
+    begin, shifts, days, closed, extra = drawn
     words = [f"{written(start)}-{written(start + length)}" for start, length in shifts]
-    return pfs.Calendar(begin, words, [DAYS[day] for day in days])
+    return pfs.Calendar(begin, [*words, f"{extra}:{words[0]}"], [DAYS[day] for day in days], map(str, closed))
 
 
 @given(calendars(), st.integers(1, 400))
-def test_calendars_are_those_of_a_walk(drawn: tuple[datetime.datetime, list[tuple[int, int]], list[int]],
-                                       count: int) -> None:
+def test_calendars_are_those_of_a_walk(drawn: Drawn, count: int) -> None:
     """Operations of a minute each take one minute with work after the other."""
-    clock = Clock(calendar_of(*drawn), pfs.Instance([[1]], unit="min"))
+    clock = Clock(calendar_of(drawn), pfs.Instance([[1]], unit="min"))
     minute = datetime.timedelta(minutes=1)
-    due = work_minutes(*drawn, count)
+    due = work_minutes(drawn, count)
     assert [clock.span(time, time + 1) for time in range(count)] == [(moment, moment + minute) for moment in due]
     assert clock.span(0, count) == (due[0], due[-1] + minute)
+    at, days = 0, []
+    for time, moment in enumerate(due):
+        if moment.date() != due[at].date() or time == 0:
+            at = time
+            days.append((time, moment.strftime("%a %Y-%m-%d")))
+    breaks = clock.breaks(count)
+    assert [each for each in breaks if each[1]] == days
+    gaps = [time for time in range(count) if time == 0 or due[time] - due[time - 1] > minute]
+    assert set(gaps) <= {time for time, _ in breaks}, "each shift that begins after a break is marked"
 
 
 @given(calendars(), st.lists(st.integers(0, 10**6), min_size=2, max_size=20), st.sampled_from(["s", "min", "h"]))
-def test_dates_increase_and_lead_back_to_the_times(drawn: tuple[datetime.datetime, list[tuple[int, int]], list[int]],
-                                                   times: list[int], unit: str) -> None:
-    calendar = calendar_of(*drawn)
+def test_dates_increase_and_lead_back_to_the_times(drawn: Drawn, times: list[int], unit: str) -> None:
+    calendar = calendar_of(drawn)
     clock = Clock(calendar, pfs.Instance([[1]], unit=unit))
     times = sorted(set(times))
     moments = [moment for time in times for moment in clock.span(time, time + 1)]
     assume(len(times) > 1)
     assert moments == sorted(moments) and all(first < last for first, last in zip(moments[::2], moments[1::2]))
-    begun = calendar.worked(calendar.begin)
-    seconds = {"s": 1, "min": 60, "h": 3600}[unit]
-    for time in times:
-        first, last = clock.span(time, time + 1)
-        worked = [(calendar.worked(moment) - begun) / 10**6 / seconds for moment in (first, last)]
-        assert worked == [time, time + 1], "the working time up to a moment is the time that was mapped to it"
+    spans, loop = calendar.spans, calendar.loop
+    week = sum(end - start for start, end in spans[loop:])
+    for time, last in zip(times, moments[1::2]):
+        past = (last - datetime.datetime(1970, 1, 5)) // datetime.timedelta(microseconds=1)
+        weeks = max(0, (past - spans[loop][0]) // (7 * 86_400 * 10**6))
+        rest = past - weeks * 7 * 86_400 * 10**6
+        worked = weeks * week + sum(min(rest, end) - start for start, end in spans if start < rest)
+        assert worked == (time + 1) * {"s": 1, "min": 60, "h": 3600}[unit] * 10**6, "the working time up to a moment"
 
 
 @pytest.mark.parametrize(("words", "kind", "why"), [
@@ -185,10 +226,23 @@ def test_dates_increase_and_lead_back_to_the_times(drawn: tuple[datetime.datetim
     ({"shifts": "06:00-24:01"}, ValueError, "24:01 is not a time of day"),
     ({"shifts": "06:00-06:00"}, ValueError, "'06:00-06:00' has no length: a whole day is 00:00-24:00"),
     ({"shifts": "24:00-06:00"}, ValueError, "'24:00-06:00' starts at 24:00: write 00:00"),
-    ({"shifts": "06:00-14:00,13:00-20:00"}, ValueError, "shifts overlap at 13:00"),
-    ({"shifts": ["06:00-14:00", "06:00-14:00"]}, ValueError, "shifts overlap at 06:00"),
-    ({"shifts": ["22:00-06:00", "05:00-13:00"]}, ValueError, "shifts overlap at 05:00"),
-    ({"shifts": ["00:00-24:00", "05:00-13:00"]}, ValueError, "shifts overlap at 05:00"),
+    ({"shifts": "06:00-14:00,13:00-20:00"}, ValueError, "shifts overlap on Mon 2026-11-30 at 13:00"),
+    ({"shifts": ["06:00-14:00", "06:00-14:00"]}, ValueError, "shifts overlap on Mon 2026-11-30 at 06:00"),
+    ({"shifts": ["22:00-06:00", "05:00-13:00"]}, ValueError, "shifts overlap on Tue 2026-12-01 at 05:00"),
+    ({"shifts": ["00:00-24:00", "05:00-13:00"]}, ValueError, "shifts overlap on Mon 2026-11-30 at 06:00"),
+    ({"shifts": ["sun:22:00-06:00", "mon:05:00-13:00"]}, ValueError, "shifts overlap on Mon 2026-12-07 at 05:00"),
+    ({"shifts": ["22:00-06:00", "2026-12-05:05:00-13:00"]}, ValueError, "shifts overlap on Sat 2026-12-05 at 05:00"),
+    ({"shifts": ["mon-fri:06:00-14:00", "fri:06:00-12:00"]}, ValueError, "shifts overlap on Fri 2026-12-04 at 06:00"),
+    ({"shifts": "fry:06:00-12:00"}, ValueError, "'fry' is not a day of the week"),
+    ({"shifts": "2026-11-31:06:00-12:00"}, ValueError, "'2026-11-31' is not a date such as 2026-12-24"),
+    ({"shifts": "fri:"}, ValueError, "'' is not a shift"), ({"shifts": "fri"}, ValueError, "'fri' is not a shift"),
+    ({"closed": "24.12.2026"}, ValueError, "'24.12.2026' is not a date such as 2026-12-24, or dates such as "),
+    ({"closed": "20261224"}, ValueError, "is not a date"), ({"closed": ""}, ValueError, "'' is not a date"),
+    ({"closed": "2026-12-24.."}, ValueError, "is not a date"),
+    ({"closed": "2026-12-24..2026-12-23"}, ValueError, "is not a first and a last date, as 2026-12-24..2027-01-01 is"),
+    ({"closed": "2026-12-24..2026-12-25..2026-12-26"}, ValueError, "is not a first and a last date"),
+    ({"closed": "2036-12-08"}, ValueError, "2036-12-08 is more than ten years after the begin"),
+    ({"closed": [24]}, TypeError, "dates must be texts, not 24"),
     ({"shifts": [6]}, TypeError, "shifts must be texts, not 6"),
     ({"days": "mo-fr"}, ValueError, "'mo-fr' is not a day of the week such as mon, or days such as mon-fri"),
     ({"days": "mon-wed-fri"}, ValueError, "is not a day"), ({"days": ""}, ValueError, "'' is not a day"),
@@ -208,10 +262,12 @@ def test_what_is_read_as_the_same_calendar() -> None:
                                              datetime.datetime(2026, 11, 30, 6)]
     for begin in begins:
         other = pfs.Calendar(begin, "14:00-22:00, 6:00-14:00", ["MON", "wed", "tue"])
-        assert (other.begin, other.spans) == (plain.begin, plain.spans)
-    assert len(plain.spans) == 3, "shifts that follow each other are one span of work"
-    three = pfs.Calendar("2026-11-30T06:00", "06:00-14:00,14:00-22:00,22:00-06:00")
-    assert three.spans == pfs.Calendar("2026-11-30T06:00").spans and three.is_always
+        assert (other.begin, other.spans, other.loop) == (plain.begin, plain.spans, plain.loop)
+    for shifts in (["mon-wed:06:00-14:00,14:00-22:00"], ["mon,Tue:06:00-14:00,14:00-22:00", "wed:14:00-22:00,06:00-14:00"]):
+        assert pfs.Calendar("2026-11-30T06:00", shifts).spans == plain.spans
+    assert pfs.Calendar("2026-11-30T06:00", "06:00-14:00,14:00-22:00,22:00-06:00").is_always
+    assert pfs.Calendar("2026-11-30T06:00").is_always and not plain.is_always
+    assert not pfs.Calendar("2026-11-30T06:00", closed="2026-12-24").is_always
 
 
 NEEDED = "which dates need: write min, h, s or d in brackets into the first cell of the table, as in 'job [min]', or " \
@@ -268,15 +324,18 @@ def test_a_picture_has_dates_on_its_scale(tmp_path: pathlib.Path) -> None:
     figure = plan().plot(tmp_path / "chart.svg", calendar=pfs.Calendar("2026-11-30T12:00", **EARLY))
     axis = figure.axes[0]
     marks = [(mark.get_position()[0], mark.get_text()) for mark in axis.get_xticklabels()]
-    assert marks == [(0, "12:00\n2026-11-30"), (240, "08:00\n2026-12-01"), (480, "12:00"), (720, "08:00\n2026-12-02"),
-                     (960, "12:00"), (1200, "08:00\n2026-12-03")]
+    assert marks == [(0, "12:00\nMon 2026-11-30"), (240, "08:00\nTue 2026-12-01"), (480, "12:00"),
+                     (720, "08:00\nWed 2026-12-02"), (960, "12:00"), (1200, "08:00\nThu 2026-12-03")]
+    days, = (lines for lines in axis.collections if lines.get_gid() == "days")
+    assert [segment[0][0] for segment in days.get_segments()] == [120, 600, 1080], "where a day begins"
     assert axis.get_xlabel() == "date and time, in shifts only"
     texts = {text.text for text in ElementTree.parse(tmp_path / "chart.svg").iter("{http://www.w3.org/2000/svg}text")}
-    assert {"2026-11-30", "2026-12-02"} <= texts
+    assert {"Mon 2026-11-30", "Wed 2026-12-02"} <= texts
     always = plan().plot(calendar=pfs.Calendar("2026-11-30T12:00"))
     assert always.axes[0].get_xlabel() == "date and time"
     assert plan().plot().axes[0].get_xlabel() == "time (min)"
-    assert axis.get_title().endswith(" min") and not plan().plot().axes[0].get_title().endswith(" min")
+    assert axis.get_title().endswith(" min, end Thu 2026-12-03 08:50")
+    assert not plan().plot().axes[0].get_title().endswith(" min")
 
 
 # What the page says of each operation that one points at, and what its scale has.
@@ -290,7 +349,7 @@ for (let machine = 0; machine < machines; ++machine) {
   }
   choice.value = machine;
   choice.dispatchEvent(new Event("change"));
-  seen.lists.push([...lists.querySelectorAll("tbody tr")].map(row => [...row.cells].map(cell => cell.textContent)));
+  seen.lists.push([...lists[machine].querySelectorAll("tbody tr")].map(row => [...row.cells].map(cell => cell.textContent)));
 }
 tell(seen);
 """
@@ -299,6 +358,7 @@ PAGES: dict[str, tuple[str, dict[str, Any], str]] = {
     "breaks": ("2026-12-04T08:00:30", BREAK, "min"), "always": ("2026-12-30T12:00", ALWAYS, "h"),
     "seconds": ("1969-12-31T23:59:50", {"shifts": "23:59-00:01"}, "s"),
     "Sunday": ("2026-12-06T23:00", NIGHT | {"days": "sun"}, "min"),
+    "closed": ("2026-12-23T12:00", SHORT | {"closed": "2026-12-24..2027-01-03"}, "min"),
 }
 
 
@@ -314,14 +374,32 @@ def test_a_page_has_the_dates_of_the_schedule(chromium: str, tmp_path: pathlib.P
     assert text is not None
     rows = [line.split(",") for line in text.splitlines()[1:]]
     by_machine = [rows[at::3] for at in range(3)]
-    assert seen["lists"] == [[[str(place), job, start, end] for place, (job, _, start, end) in enumerate(each, 1)]
-                             for each in by_machine]
+    assert seen["lists"] == [listed(each) for each in by_machine]
     due = [f"job {job}\nmachine {machine}\nstart {start}\nend {end}" for each in by_machine
            for job, machine, start, end in each]
     assert [tip for tip in seen["tips"] if tip] == [text for text in due if " 0\n" not in text and not is_empty(text)]
-    dates = [text["text"] for text in seen["scale"] if re.fullmatch(r"\d{4}-\d\d-\d\d", text["text"])]
-    assert dates and dates == sorted(set(dates)), "each date once, from left to right"
-    assert dates[0] == rows[0][2][:10]
+    dates = [text["text"] for text in seen["scale"] if re.fullmatch(r"\w{3} \d{4}-\d\d-\d\d", text["text"])]
+    days = [datetime.date.fromisoformat(text[4:]) for text in dates]
+    assert days and days == sorted(set(days)), "each date once, from left to right"
+    assert dates[0] == with_day(rows[0][2][:10]) and dates == [with_day(str(day)) for day in days]
+
+
+def with_day(date: str) -> str:
+    return datetime.date.fromisoformat(date).strftime("%a %Y-%m-%d")
+
+
+def listed(rows: list[list[str]]) -> list[list[str]]:
+    """The list of a machine: each date once, and no job that skips the machine."""
+    found: list[list[str]] = []
+    days: list[str] = []
+    for place, (job, _, start, end) in enumerate(rows, 1):
+        if start != end:
+            if [start[:10]] != days[-1:]:
+                days.append(start[:10])
+                found.append([with_day(start[:10])])
+            other = "" if end[:10] == start[:10] else with_day(end[:10]) + " "
+            found.append([str(place), job, start[11:], other + end[11:]])
+    return found
 
 
 def is_empty(text: str) -> bool:
@@ -353,8 +431,6 @@ def test_a_plan_on_the_calendar(tmp_path: pathlib.Path, monkeypatch: pytest.Monk
         "job;machine;start;end", "chair;saw;2026-11-30 06:00;2026-11-30 10:40",
         "chair;drill;2026-11-30 10:40;2026-12-01 08:50", "table;saw;2026-11-30 10:40;2026-12-01 07:10",
         "table;drill;2026-12-01 08:50;2026-12-01 13:10"]
-    found = re.search(r'id="data">(.*?)</script>', (tmp_path / "out.html").read_text("utf-8"))
-    assert found and len(json.loads(found[1])["dates"]["spans"]) == 3 * 4
     for order in ("out.csv", "printed"):
         (tmp_path / "printed").write_text(printed)
         assert planned(tmp_path, monkeypatch, *words, "--order", order) == 0
@@ -371,7 +447,10 @@ def test_a_plan_on_the_calendar(tmp_path: pathlib.Path, monkeypatch: pytest.Monk
     (["--shift", "06:00-14:00"], TABLE, "pfs: --shift needs --begin, which says when the work begins\n"),
     (["--days", "mon-fri"], TABLE, "pfs: --days needs --begin, which says when the work begins\n"),
     (["--begin", "2026-11-30T06:00", "--shift", "06:00-14:00", "--shift", "13:00-20:00"], TABLE,
-     "pfs: shifts overlap at 13:00\n"),
+     "pfs: shifts overlap on Mon 2026-11-30 at 13:00\n"),
+    (["--begin", "2026-11-30T06:00", "--closed", "24.12."], TABLE, "argument --closed: '24.12.' is not a date such as "
+     "2026-12-24, or dates such as 2026-12-24..2027-01-01\n"),
+    (["--closed", "2026-12-24"], TABLE, "pfs: --closed needs --begin, which says when the work begins\n"),
     (["--begin", "2026-11-30T06:00", "--days", "mon", "--days", "sun-mon"], TABLE,
      "pfs: the day mon is there twice\n"),
     (["--begin", "2026-11-30T06:00"], TABLE.replace(" [min]", ""),

@@ -121,14 +121,14 @@ def files(tmp_path: pathlib.Path, monkeypatch: pytest.MonkeyPatch) -> pathlib.Pa
     return tmp_path
 
 
-@pytest.mark.parametrize("page", [PAGE, PLAN], ids=lambda page: page.name)
+@pytest.mark.parametrize("page", [PAGE, PLAN], ids=["README.md", "PLAN.md"])
 def test_a_page_in_python(page: pathlib.Path, files: pathlib.Path) -> None:
     pytest.importorskip("pandas")
     tests = doctest.testfile(str(page), module_relative=False, encoding="utf-8")
     assert tests.failed == 0 and tests.attempted > 5
 
 
-@pytest.mark.parametrize("page", [PAGE, PLAN], ids=lambda page: page.name)
+@pytest.mark.parametrize("page", [PAGE, PLAN], ids=["README.md", "PLAN.md"])
 def test_the_command_lines_of_a_page(page: pathlib.Path, files: pathlib.Path, program: str) -> None:
     """Each console block prints what the page shows."""
     for name, words in (("python3", ""), ("pfs-plan", "-m pfs plan")):

@@ -1,18 +1,17 @@
 """Plans of experiments, the CSV that must come of them, and programs in the place of pfs that wait or fail."""
-import csv
-import fcntl
-import hashlib
 import itertools
 import os
 import pathlib
-import shutil
+import signal
+import subprocess
 from collections.abc import Callable, Iterable, Iterator, Sequence
 from contextlib import contextmanager, suppress
-from typing import Any, NamedTuple
+from typing import IO, Any, NamedTuple
 
 import pytest
+from support.needs import tool
 from support.program import Program
-from support.tools import Done, csv_rows, run_tool, write_script
+from support.tools import Done, csv_rows, run_tool, wait_until, with_path, write_script
 
 PLAN = """instances = ["shops/*"]
 rounds = [10, 30]
@@ -21,38 +20,46 @@ seeds = [1, 2, 3]
 # A shorter one.
 HALF = PLAN.replace("[10, 30]", "[10]")
 SHOPS = {"a": (20, 5, 873654221), "b": (3, 2, 7)}
-# The columns of earlier versions, and those of today.
-OLD_HEAD = "instance,jobs,machines,rounds,take,passes,seed,repetition,makespan,bound,gap_percent,cells,seconds,status"
-HEAD = OLD_HEAD + ",order,reference,source"
-# What a report of one method consists of.
-REPORT_FILES = ["gap.png", "means.png", "rpd.png", "seconds.png", "sizes.csv", "sizes.md", "sizes.tex", "table.csv",
-                "table.md", "time.png"]
+HEAD = ("instance,jobs,machines,rounds,take,passes,seed,repetition,makespan,bound,gap_percent,cells,seconds,status,"
+        "order,reference,source")
+# The columns that two starts of a run have in common.
+SAME = [column for column in HEAD.split(",")[:14] if column != "seconds"]
 
-# Notes each search, and then waits at the gate, a pipe, as long as there is one.
-WAITING = """#!/bin/sh
+# A replacement of pfs: it notes its arguments, then waits at the gate, a pipe, as long as there is one, and in these
+# cases does something else, unless the file `fixed` exists.
+REPLACEMENT = """#!/bin/sh
+pfs={pfs}
 case "$1" in solve)
-    echo "$*" >> {notes}
-    if [ -p {gate} ]; then read -r line < {gate}; fi ;;
+    echo "$*" >> {folder}/notes
+    if [ -p {folder}/gate ]; then read -r line < {folder}/gate; fi ;;
 esac
-exec {pfs} "$@"
+test -e {folder}/fixed || case "$*" in
+{cases}
+esac
+exec $pfs "$@"
 """
+Row = tuple[str, ...]
 
 
-class Row(NamedTuple):
-    """A row of the CSV but for the seconds, the order file and the reference."""
-    instance: str
-    jobs: str
-    machines: str
-    rounds: str
-    take: str
-    passes: str
-    seed: str
-    repetition: str
-    makespan: str
-    bound: str
-    gap_percent: str
-    cells: str
-    status: str
+class Started(NamedTuple):
+    """A start of a plan, and the file with the process of GNU parallel, which it has started."""
+    process: subprocess.Popen[Any]
+    parallel: pathlib.Path
+
+    def kill_all(self) -> None:
+        os.killpg(self.process.pid, signal.SIGKILL)
+
+    def interrupt_all(self) -> None:
+        os.killpg(self.process.pid, signal.SIGINT)
+
+    def kill_starter(self) -> None:
+        self.process.kill()
+
+    def kill_parallel(self) -> None:
+        os.kill(int(self.parallel.read_text()), signal.SIGKILL)
+
+    def terminate(self) -> None:
+        self.process.terminate()
 
 
 class Experiment(NamedTuple):
@@ -62,16 +69,15 @@ class Experiment(NamedTuple):
     pfs: Program
 
     def plan(self, text: str) -> "Experiment":
-        """Writes the plan."""
         (self.folder / "plan.toml").write_text(text)
         return self
 
-    def script(self, name: str, *words: str, program: pathlib.Path | None = None, **how: Any) -> Done:
-        """Runs a script of the experiments."""
-        return run_tool(self.words(name, *words, program=program), self.folder, **how)
-
     def words(self, name: str, *words: str, program: pathlib.Path | None = None) -> list[str | pathlib.Path]:
         return [self.scripts / "pfs-experiments", name, "--pfs", program or self.pfs.path, *words]
+
+    def script(self, name: str, *words: str, program: pathlib.Path | None = None, **how: Any) -> Done:
+        """Runs a command of pfs-experiments."""
+        return run_tool(self.words(name, *words, program=program), self.folder, **how)
 
     def run(self, csv_name: str = "out.csv", *words: str, program: pathlib.Path | None = None, **how: Any) -> Done:
         """Makes the runs of the plan by GNU parallel."""
@@ -86,10 +92,9 @@ class Experiment(NamedTuple):
                repetitions: int = 1, shops: Iterable[str] = SHOPS) -> list[Row]:
         """The rows of the plan, each by its own search and audit."""
         each = itertools.product(shops, rounds, takes, seeds, range(1, repetitions + 1))
-        return [self.wanted_row(name, many, take, seed)._replace(repetition=str(again))
-                for name, many, take, seed, again in each]
+        return [self.wanted_row(*values) for values in each]
 
-    def wanted_row(self, name: str, rounds: int, take: int, seed: int) -> Row:
+    def wanted_row(self, name: str, rounds: int, take: int, seed: int, repetition: int) -> Row:
         shop, (jobs, machines, _) = f"shops/{name}", SHOPS[name]
         take = min(take, jobs)
         options = ["--rounds", str(rounds), "--take", str(take), "--seed", str(seed), "--cells"]
@@ -97,21 +102,14 @@ class Experiment(NamedTuple):
         (self.folder / "order").write_text("".join(order))
         verdict = self.printed("check", "--layout", "taillard", shop, "order").splitlines()
         makespan, bound = (int(verdict[line].split()[1]) for line in (1, 2))
-        gap = f"{(makespan / bound - 1) * 100:.4f}"
-        numbers = map(str, (jobs, machines, rounds, take, 0, seed, 1, makespan, bound))
-        return Row._make([shop, *numbers, gap, cells.split()[1], "ok"])
+        numbers = (jobs, machines, rounds, take, 0, seed, repetition, makespan, bound)
+        return (shop, *map(str, numbers), f"{(makespan / bound - 1) * 100:.4f}", cells.split()[1], "ok")
 
     def rows(self, name: str = "out.csv") -> list[Row]:
-        return [row for row, _ in self.rows_and_seconds(name)]
+        """The rows of a CSV, but for the seconds, the order file and the reference."""
+        return self.columns(*SAME, csv_name=name)
 
-    def rows_and_seconds(self, name: str = "out.csv") -> list[tuple[Row, str]]:
-        """The rows of a CSV, the seconds apart."""
-        lines = (self.folder / name).read_text().splitlines()
-        assert lines[:1] == [HEAD], "columns"
-        return [(Row._make(row[:12] + row[13:14]), row[12]) for row in csv.reader(lines[1:])]
-
-    def columns(self, *names: str, csv_name: str = "out.csv") -> list[tuple[str, ...]]:
-        """These columns of a CSV."""
+    def columns(self, *names: str, csv_name: str = "out.csv") -> list[Row]:
         return [tuple(row[name] for name in names) for row in csv_rows(self.folder / csv_name)]
 
     @property
@@ -119,12 +117,11 @@ class Experiment(NamedTuple):
         """The folder of the runs."""
         return self.folder / "out.csv.d"
 
-    # Programs that wait
+    # Programs that wait or fail
 
-    def waiting(self) -> pathlib.Path:
-        """The program that waits at the gate."""
-        text = WAITING.format(notes=self.folder / "notes", gate=self.folder / "gate", pfs=self.pfs.path)
-        return write_script(self.folder / "waiting", text)
+    def replacement(self, cases: str = "") -> pathlib.Path:
+        return write_script(self.folder / "program", REPLACEMENT.format(pfs=self.pfs.path, folder=self.folder,
+                                                                        cases=cases))
 
     @contextmanager
     def gate(self) -> Iterator["Gate"]:
@@ -137,6 +134,36 @@ class Experiment(NamedTuple):
         finally:
             gate.open()
 
+    def start(self, *words: str, name: str = "run", env: dict[str, str] | None = None,
+              stderr: int | IO[bytes] = subprocess.DEVNULL) -> Started:
+        """Starts the plan with the program that waits. A script before GNU parallel notes its process."""
+        noted = self.folder / "parallel"
+        first = write_script(self.folder / "bin" / "parallel",
+                             f"#!/bin/sh\necho $$ > {noted}\nexec {tool('parallel')} \"$@\"\n")
+        line = self.words(name, *words, program=self.replacement())
+        process = subprocess.Popen(line, cwd=self.folder, env=env or with_path(first.parent), stdin=subprocess.DEVNULL,
+                                   stdout=subprocess.DEVNULL, stderr=stderr, start_new_session=True)
+        return Started(process, noted)
+
+    def interrupted(self, most: int, kill: Callable[[Started], None]) -> set[str]:
+        """Starts the plan, lets `most` more runs finish and kills it while two wait; returns the runs that are done by
+        then."""
+        before, started_before = len(self.done()), len(self.started())
+        with self.gate() as gate:
+            begun = self.start("plan.toml", "out.csv", "--jobs", "2")
+            try:
+                gate.let_through(most)
+                wait_until(lambda: len(self.done()) == before + most
+                           and len(self.started()) == started_before + most + 2, f"{most} runs are done, two wait")
+                done = self.done()
+            finally:
+                kill(begun)
+                begun.process.wait(60)
+                if kill != Started.kill_all:
+                    wait_until(lambda: self.left() == [], "what a start has begun ends with it")
+        wait_until(lambda: self.left() == [], "what a start has begun ends")
+        return done
+
     def started(self) -> list[str]:
         """The searches that were started, by their words."""
         notes = self.folder / "notes"
@@ -148,13 +175,10 @@ class Experiment(NamedTuple):
         runs = [line.split("\t") for line in (self.runs / "runs.tsv").read_text().splitlines()]
         return {run[0]: started.count((run[4], run[6], run[7], run[1])) for run in runs}
 
-    def logged(self) -> set[str]:
-        """The numbers of the runs that GNU parallel has logged as done."""
-        try:
-            lines = (self.runs / "joblog").read_text().splitlines()[1:]
-        except FileNotFoundError:
-            return set()
-        return {line.split("\t")[0] for line in lines if line.split("\t")[6:8] == ["0", "0"]}
+    def done(self) -> set[str]:
+        """The numbers of the runs that have a whole result."""
+        results = (self.runs / "results").glob("[0-9]*")
+        return {path.name for path in results if path.name.isdigit() and path.read_text().endswith(",ok\n")}
 
     def left(self) -> list[str]:
         """The processes that starts have left in the folder of the runs."""
@@ -184,54 +208,16 @@ class Gate:
 @pytest.fixture
 def experiment(scripts: pathlib.Path, pfs: Program, folder: pathlib.Path) -> Experiment:
     """The shops and the plan, in a new folder."""
-    return planned(scripts, pfs, folder)
-
-
-def planned(scripts: pathlib.Path, pfs: Program, folder: pathlib.Path, text: str = PLAN) -> Experiment:
     made = Experiment(scripts, folder, pfs)
     (folder / "shops").mkdir()
     for name, size in SHOPS.items():
         (folder / "shops" / name).write_text(made.printed("generate", *map(str, size)))
-    return made.plan(text)
-
-
-Finished = Callable[[str], pathlib.Path]
-
-
-@pytest.fixture(scope="session")
-def finished(scripts: pathlib.Path, pfs: Program, pytestconfig: pytest.Config,
-             tmp_path_factory: pytest.TempPathFactory) -> Finished:
-    """Makes the runs of a plan with this text once for all processes of a run of pytest (-n), and returns the
-    folder."""
-    own = tmp_path_factory.getbasetemp()
-    shared = own.parent if hasattr(pytestconfig, "workerinput") else own
-
-    def finish(text: str) -> pathlib.Path:
-        place = shared / f"finished-{hashlib.sha256(text.encode()).hexdigest()[:8]}"
-        with open(place.with_suffix(".lock"), "w") as lock:
-            fcntl.flock(lock, fcntl.LOCK_EX)
-            if not place.exists():
-                # It gets its name when all is made.
-                folder = tmp_path_factory.mktemp("finished")
-                done = planned(scripts, pfs, folder, text).run()
-                assert (done.status, done.stdout) == (0, ""), done
-                folder.rename(place)
-        return place
-    return finish
+    return made.plan(PLAN)
 
 
 @pytest.fixture
-def made(experiment: Experiment, finished: Finished) -> Experiment:
-    """A copy of the plan whose runs are made."""
-    return copied(experiment, finished(PLAN))
-
-
-@pytest.fixture
-def half_made(experiment: Experiment, finished: Finished) -> Experiment:
-    """A copy of the shorter plan whose runs are made."""
-    return copied(experiment, finished(HALF))
-
-
-def copied(experiment: Experiment, finished: pathlib.Path) -> Experiment:
-    shutil.copytree(finished, experiment.folder, dirs_exist_ok=True)
+def made(experiment: Experiment) -> Experiment:
+    """The shorter plan, whose runs are made."""
+    done = experiment.plan(HALF).run()
+    assert (done.status, done.stdout) == (0, ""), done
     return experiment

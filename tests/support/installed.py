@@ -15,7 +15,7 @@ from support.tools import Done, output_of, run_tool, with_path, write_script
 
 TOP = pathlib.Path(__file__).resolve().parent.parent.parent
 VERSION = (TOP / "VERSION").read_text().strip()
-PROGRAM = "crates/pfs/out/pfs"
+PROGRAM, SHARED = "crates/pfs/out/pfs", "libpfs.so.0"
 # What of a page's table of contents is installed: patterns of files that keep their paths.
 PAGES = ["*.md", "CITATION.cff", "LICENSE-*", "docs/**/*.*", "examples/*", "experiments/README.md", "lib/pfs.h",
          "python/README.md", "python/examples/*.py"]
@@ -32,9 +32,9 @@ PLACES = {
        for page in sorted(str(path.relative_to(TOP)) for path in TOP.glob(pattern) if path.is_file())},
 }
 # What the library's installation has besides two files that name the version.
-LIBRARY = {"lib/libpfs.a": "lib/out/libpfs.a", "lib/libpfs.so.0": "lib/out/libpfs.so.0",
-           "lib/libpfs.so": "lib/out/libpfs.so.0", "include/pfs.h": "lib/pfs.h",
-           "lib/cmake/pfs/pfsConfig.cmake": "lib/pfsConfig.cmake", "share/man/man3/pfs.3": "share/pfs.3"}
+LIBRARY = {"lib/libpfs.a": "lib/out/libpfs.a", **{f"lib/{name}": f"lib/out/{SHARED}" for name in (SHARED, "libpfs.so")},
+           "include/pfs.h": "lib/pfs.h", "lib/cmake/pfs/pfsConfig.cmake": "lib/pfsConfig.cmake",
+           "share/man/man3/pfs.3": "share/pfs.3"}
 VERSIONED = ["lib/pkgconfig/pfs.pc", "lib/cmake/pfs/pfsConfigVersion.cmake"]
 RT = """#!/bin/sh
 case $1 in
@@ -98,7 +98,7 @@ def copy(top: pathlib.Path, pfs: Program, libpfs: Library, tmp_path_factory: pyt
     for path in made.top.rglob("*"):
         path.chmod(path.stat().st_mode & 0o700)
         os.utime(path, (OLD, OLD))
-    for built, place in ((pfs.path, PROGRAM), (libpfs.path, "lib/out/libpfs.so.0"),
+    for built, place in ((pfs.path, PROGRAM), (libpfs.path, f"lib/out/{SHARED}"),
                          (libpfs.path.with_name("libpfs.a"), "lib/out/libpfs.a")):
         (made.top / place).parent.mkdir(exist_ok=True)
         shutil.copy(built, made.top / place)
@@ -117,11 +117,12 @@ def assert_same_files(found: dict[str, bytes], wanted: dict[str, bytes]) -> None
 
 
 def assert_usual_modes(folder: pathlib.Path) -> None:
-    """Programs and scripts are run by all, and all else is read by all."""
+    """Programs are run by all, as may be scripts among the examples, and all else is read by all."""
     wrong = {}
     for path in (path for path in folder.rglob("*") if not path.is_symlink()):
         mode = path.stat().st_mode & 0o7777
-        if mode != (0o755 if path.is_dir() or path.parent.name == "bin" else 0o644):
+        is_example = path.parent.name == "examples" and mode & 0o100 and path.read_bytes().startswith(b"#!")
+        if mode != (0o755 if path.is_dir() or path.parent.name == "bin" or is_example else 0o644):
             wrong[str(path)] = oct(mode)
     assert wrong == {}, "modes that aren't the usual ones"
 

@@ -1,4 +1,4 @@
-"""Imports matplotlib and SciPy, and then runs scripts, each in a copy of this process (a fork). warm.py starts it and
+"""Imports matplotlib, pandas and SciPy, and then runs scripts, each in a copy of this process (a fork). warm.py starts it and
 writes a line for each script: a list of the script and its arguments, its folder, and the files that are its standard
 streams. It prints the exit status of each."""
 import contextlib
@@ -14,7 +14,7 @@ from typing import NoReturn
 
 # The modules of other packages that the scripts import. One that isn't installed is left out.
 MODULES = ["matplotlib.figure", "matplotlib.backends.backend_agg", "matplotlib.backends.backend_pdf",
-           "matplotlib.backends.backend_svg", "scipy.stats"]
+           "matplotlib.backends.backend_svg", "scipy.stats", "pandas"]
 # A script that takes longer hangs, and is killed.
 MOST_SECONDS = 60
 

@@ -12,11 +12,16 @@ sys.path.insert(0, str(TOP / "python" / "src"))
 project = "pfs"
 version = release = (TOP / "VERSION").read_text().strip()
 copyright = "the authors of pfs"
-extensions = ["myst_parser", "sphinx.ext.autodoc", "numpydoc"]
+extensions = ["myst_parser", "sphinx.ext.autodoc", "sphinx.ext.autosummary", "numpydoc"]
+autosummary_generate = False
 root_doc = "index"
 exclude_patterns = ["experiments/out"]
 html_theme = "alabaster"
-html_theme_options = {"description": "Permutation flow shops, proved", "page_width": "1100px", "sidebar_width": "240px"}
+html_theme_options = {"description": "Permutation flow shop scheduling with machine-checked proofs",
+                      "page_width": "1100px", "sidebar_width": "260px", "fixed_sidebar": True}
+html_sidebars = {"**": ["about.html", "searchbox.html", "localtoc.html", "navigation.html"]}
+html_static_path = ["site.css"]
+html_css_files = ["site.css"]
 html_copy_source = False
 html_show_sourcelink = False
 myst_heading_anchors = 4
@@ -34,4 +39,6 @@ def no_library(path: str) -> Any:
 
 importlib.import_module("numpy")  # which loads libraries that it does need
 with patch.object(ctypes, "CDLL", no_library):
-    importlib.import_module("pfs")
+    package = importlib.import_module("pfs")
+    for name in package.__all__:  # which are imported at their first use
+        getattr(package, name)

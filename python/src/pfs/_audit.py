@@ -114,12 +114,10 @@ def audit(table: Table, shops: Shops = (), *, layout: str | None = None, first: 
     --------
     >>> import pfs
     >>> shop = pfs.Instance([[3, 2], [2, 5], [4, 1]], name="small")
-    >>> rows = [{"Instance": "Small", "Cmax": 10, "Sequence": "2 1 3"}, {"Instance": "small", "Cmax": 9,
-    ...                                                                  "Sequence": "2,3,1"}]
-    >>> for row in pfs.audit(rows, [shop]):
-    ...     print(row.verdict, row.makespan, row.why)
-    valid and optimal 10
-    wrong makespan 11 states 9, takes 11
+    >>> table = [{"Instance": "Small", "Cmax": 10, "Sequence": "2 1 3"},
+    ...          {"Instance": "small", "Cmax": 9, "Sequence": "2,3,1"}]
+    >>> [row.verdict for row in pfs.audit(table, [shop])]
+    ['valid and optimal', 'wrong makespan']
     """
     if layout is not None and layout not in LAYOUTS:
         raise ValueError(f"layout must be {', '.join(map(repr, LAYOUTS))}, not {layout!r}")
@@ -197,6 +195,12 @@ class Shelf:
             why = f": {self.unread[key.partition(':')[0]]}" if key.partition(":")[0] in self.unread else why
             raise LookupError(f"no instance {f'{name}:{block}' if block else name!r}{why}")
         return known[0]
+
+    def find(self, name: str) -> Instance | None:
+        """Return the instance of this name, if it is clear."""
+        with contextlib.suppress(LookupError):
+            return self.get(name, "")
+        return None
 
 
 def shops_in(path: pathlib.Path, layouts: Iterable[str]) -> list[Instance]:

@@ -46,6 +46,19 @@ def taillard_number(key: str) -> int:
     return 0
 
 
+def canonical(name: str) -> str:
+    """Return the name by which results of an instance are compared.
+
+    Examples
+    --------
+    >>> canonical("out/Ta001"), canonical("tai20_5.txt:1"), canonical("VRF10_5_1_Gap.txt")
+    ('ta001', 'ta001', 'vfr10_5_1')
+    """
+    key = key_of(name)
+    number = taillard_number(key)
+    return f"ta{number:03}" if number else key
+
+
 @functools.cache
 def taillard_rows() -> tuple[tuple[str, int, int, int, int], ...]:
     """Return the name, jobs, machines, seed and published lower bound of each of Taillard's instances."""

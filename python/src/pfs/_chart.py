@@ -182,11 +182,11 @@ def lists_of(table: _drawing.Table, look: _drawing.Look, schedule: Schedule, clo
             return "", look.formatted(start), look.formatted(end)
         first, last = clock.span(start, end)
         (_, begun), (_, done) = (text_of(moment, digits).split(" ") for moment in (first, last))
-        return day_of(first), begun, done if day_of(first) == day_of(last) else f"{day_of(last)[:3]} {done}"
+        return day_of(first), begun, done if day_of(first) == day_of(last) else f"{day_of(last)} {done}"
 
     lines: list[str] = []
     for machine, name in enumerate(table.machine_names):
-        lines.append(f"<table><caption>Machine {html.escape(name)}</caption><thead><tr><th scope=col class=number>place"
+        lines.append(f"\n<table><caption>Machine {html.escape(name)}</caption><thead><tr><th scope=col class=number>place"
                      "<th scope=col>job<th scope=col class=number>start<th scope=col class=number>end</thead><tbody>")
         before = ""
         for place, (start, end) in enumerate(zip(table.starts[:, machine].tolist(), table.ends[:, machine].tolist())):
@@ -197,7 +197,7 @@ def lists_of(table: _drawing.Table, look: _drawing.Look, schedule: Schedule, clo
                              f"<td class=number>{begun}<td class=number>{done}")
                 before = day
         lines.append("</tbody></table>")
-    return "\n".join(lines)
+    return "".join(lines)
 
 
 def page_of(table: _drawing.Table, look: _drawing.Look, name: str, more: dict[str, Any], lists: str) -> str:

@@ -10,6 +10,7 @@ import signal
 import sys
 import time
 from collections.abc import Callable, Sequence
+from difflib import SequenceMatcher
 from functools import partial
 from typing import Any, NoReturn, TextIO
 
@@ -162,13 +163,14 @@ def plan_command(given: argparse.Namespace) -> int:
     """Find an order for a table with names, and print it. It is printed before all other output, so an error doesn't
     lose it."""
     calendar = calendar_of(given)
-    check_outputs([given.table, given.order], given.schedule, given.chart)
+    check_outputs([given.table, given.order, given.compare], given.schedule, given.chart)
     machines = None if given.machines is None else given.machines.split(",")
     shop, delimiter, has_mark = table_of(given.table, given.unit, DECIMAL_SIGNS.get(given.decimal),
                                          given.allow_totals, machines)
     clock = None if calendar is None else Clock(calendar, shop)
     written(sys.stderr, f"{shown(described(shop))}\n")
     search = plan_search(given, shop)
+    other = FoundOrder([], []) if given.compare is None else order_in(given.compare, shop)
     with Stop() as stop:
         best, fault = searched(search, given.rounds, given.seconds, stop, lambda _: None)
         outputs: list[Callable[[], object]] = [lambda: printed(listed(shop, best, clock))]
@@ -178,6 +180,7 @@ def plan_command(given: argparse.Namespace) -> int:
             mark = has_mark or delimiter == ";"
             outputs.append(lambda: shop.schedule(best).to_csv(given.schedule, delimiter, mark=mark, calendar=calendar))
         outputs += [partial(draw, shop, best, chart, calendar) for chart in given.chart]
+        outputs.append(lambda: compare(given.compare, shop, other, best, clock))
         faults = [fault, *(failure_of(output) for output in outputs)]
     statuses = [report(line_of(each), SYSTEM) for each in faults if each is not None]
     return statuses[0] if statuses else stop.status()
@@ -202,6 +205,23 @@ def plan_search(given: argparse.Namespace, shop: Instance) -> Search:
         insert_after(shop, order, len(held), new)
     options = shop, order if given.order is not None else None, 0, given.take, given.passes, given.seed
     return HeldSearch(*options, held, new if given.keep else None) if held or given.keep else Search(*options)
+
+
+def compare(path: str | None, shop: Instance, other: FoundOrder, best: Solution, clock: Clock | None) -> None:
+    """Say on standard error what differs between another order and the plan: the ends, and the jobs that moved."""
+    if path is None:
+        return
+    order: list[int] = best.order.tolist()
+    blocks = SequenceMatcher(None, other.jobs, order, autojunk=False).get_matching_blocks()
+    stayed = {job for block in blocks for job in order[block.b:block.b + block.size]}
+    if len(other.jobs) == shop.jobs and not other.gone:
+        before = Solution(other.jobs, shop.makespan(other.jobs))
+        ends = [", ".join(ended_at(shop, each, clock)) for each in (before, best)]
+        tell(path, f"{ends[0]}; the plan", [ends[1]])
+    tell(path, "not in the plan", other.gone)
+    tell(path, "new in the plan", [shop.job_name(job) for job in order if job not in other.jobs])
+    tell(path, "moved", [f"{shop.job_name(job)} (place {other.jobs.index(job) + 1} to {order.index(job) + 1})"
+                         for job in order if job in other.jobs and job not in stayed])
 
 
 def tell(path: str, what: str, names: Sequence[str]) -> None:
@@ -247,22 +267,29 @@ def check_outputs(inputs: Sequence[str | None], schedule: str | None, charts: Se
 def listed(shop: Instance, best: Solution, clock: Clock | None = None) -> str:
     """The text of a plan."""
     bound = shop.bound()
-    unit = "" if not shop.unit else " h" if shop.unit == CLOCK else f" {shown(shop.unit)}"
-    spans = {"makespan": best.makespan, "bound": bound}
-    lines = [f"{name} {amount(span, shop.decimals, shop.unit)}{unit}" for name, span in spans.items()]
-    lines += ["optimal"] if best.makespan == bound else []
-    lines += [] if clock is None else ended(shop, best, clock)
+    makespan, *end = ended_at(shop, best, clock)
+    lines = [makespan, f"bound {span_text(shop, bound)}", *(["optimal"] if best.makespan == bound else []), *end]
     lines += [f"{place} {shown(shop.job_name(job))}" for place, job in enumerate(best.order.tolist(), 1)]
     return "\n".join(lines) + "\n"
 
 
-def ended(shop: Instance, best: Solution, clock: Clock) -> list[str]:
-    """The line that says when a plan is finished; none if the calendar ends before."""
+def span_text(shop: Instance, span: int) -> str:
+    """A time with its unit."""
+    unit = "h" if shop.unit == CLOCK else shown(shop.unit)
+    return f"{amount(span, shop.decimals, shop.unit)} {unit}".rstrip()
+
+
+def ended_at(shop: Instance, best: Solution, clock: Clock | None) -> list[str]:
+    """The makespan of a plan, and when it is finished; not if there are no dates, or the calendar ends before."""
+    found = [f"makespan {span_text(shop, best.makespan)}"]
     try:
         schedule = shop.schedule(best)
-        return [f"end {date_text(clock.span(0, best.makespan)[1], clock.digits(schedule.starts, schedule.ends))}"]
+        if clock is not None:
+            end = clock.span(0, best.makespan)[1]
+            found.append(f"end {date_text(end, clock.digits(schedule.starts, schedule.ends))}")
     except ValueError:
-        return []
+        pass
+    return found
 
 
 def failure_of(output: Callable[[], object]) -> Exception | None:
@@ -338,8 +365,8 @@ def add_plan_words(plan: argparse.ArgumentParser) -> None:
                       help="the decimal sign of the times; the other sign may then group thousands; else the sign that "
                       "the table uses, if that is clear")
     plan.add_argument("--machines", metavar="NAMES",
-                      help="the columns that are machines, by their names and with commas between them, in the order of "
-                      "the machines; other columns are skipped")
+                      help="the columns that are machines, by their names, with commas, in the order of the machines; "
+                      "other columns are skipped")
     plan.add_argument("--allow-totals", action="store_true",
                       help="take rows and columns with the names of sums, means or quantities, and a last one with the "
                       "sums of the others, as jobs and machines")
@@ -354,6 +381,8 @@ def add_plan_words(plan: argparse.ArgumentParser) -> None:
                       help="the first K jobs of --order that the table has keep the first places")
     plan.add_argument("--keep", action="store_true",
                       help="the jobs of --order keep their order; only new ones are moved")
+    plan.add_argument("--compare", metavar="FILE",
+                      help="another order, as for --order: standard error says how the plan ends and which jobs moved")
     plan.add_argument("--begin", type=checked(begin_of), metavar="DATETIME",
                       help="when the work begins, such as 2026-11-30T06:00; the schedule and the chart then have local "
                       "dates and times of day, for which times need the unit min, h, s or d")
@@ -365,8 +394,8 @@ def add_plan_words(plan: argparse.ArgumentParser) -> None:
     plan.add_argument("--days", type=checked(days_of), action="append", default=[], metavar="DAYS",
                       help="the days on which the other shifts start, such as mon-fri or mon,wed,fri; by default all")
     plan.add_argument("--closed", type=checked(dates_of), action="append", default=[], metavar="DATES",
-                      help="dates on which no shift starts, such as 2026-12-24..2027-01-01; several with commas, or the "
-                      "option more than once")
+                      help="dates on which no shift starts, such as 2026-12-24..2027-01-01; several with commas, or "
+                      "the option more than once")
     plan.add_argument("--schedule", metavar="OUT.csv", help="when each operation starts and ends, as .csv or .xlsx")
     plan.add_argument("--chart", metavar="OUT.svg", action="append", default=[],
                       help="the chart, as .svg, .png, .pdf or a page .html; may be given more than once")
@@ -417,9 +446,7 @@ def main(line: list[str], parser: argparse.ArgumentParser | None = None) -> int:
         status: Any = given.run(given)
         return int(status)
     except (TableFault, StateFault) as fault:
-        return report("
-".join(map(line_of, str(fault).split("
-"))), REFUSED)
+        return report("\n".join(map(line_of, str(fault).split("\n"))), REFUSED)
     except Fault as fault:
         return report(fault.text, REFUSED)
     except ValueError as fault:

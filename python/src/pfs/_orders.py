@@ -78,8 +78,8 @@ def named_jobs(text: str, path: str, numbers: dict[str, int]) -> Iterator[tuple[
         lines = lines[2:]
         for after in AFTER:
             lines = lines[1:] if lines and after.fullmatch(lines[0][1]) else lines
-    for line, row in chain(lines, filled):
-        placed = PLACED.fullmatch(row)
-        name = placed[1] if placed and (is_plan or row not in numbers) else row
+    for line, text in chain(lines, filled):
+        placed = PLACED.fullmatch(text)
+        name = placed[1] if placed and (is_plan or text not in numbers) else text
         # A row of a table has other cells after the name.
         yield line, name if name in numbers else re.split("[;\t]", name)[0].strip().strip('"')

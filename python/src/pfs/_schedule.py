@@ -231,11 +231,15 @@ class Schedule:
         shop = self.instance
         clock = None if calendar is None else Clock(calendar, shop)
 
-        def value(time: int) -> int | float | timedelta:
-            return timedelta(minutes=time) if shop.unit == CLOCK else time / 10**shop.decimals if shop.decimals else time
+        def values(start: int, end: int) -> tuple[Any, Any]:
+            if clock is not None:
+                return clock.span(start, end)
+            if shop.unit == CLOCK:
+                return timedelta(minutes=start), timedelta(minutes=end)
+            return (start / 10**shop.decimals, end / 10**shop.decimals) if shop.decimals else (start, end)
 
         write_workbook(path, [("job", "machine", "start", "end"), *(
-            (shop.job_name(job), shop.machine_name(machine), *(clock.span(start, end) if clock else map(value, (start, end))))
+            (shop.job_name(job), shop.machine_name(machine), *values(start, end))
             for job, machine, start, end in self._operations())])
 
     def _numbers(self, start: int, end: int) -> tuple[str, str]:

@@ -44,13 +44,14 @@ GROUPED = re.compile(r"(?!0[.,])[0-9]{1,3}(?:([.,])[0-9]{3})(?:\1[0-9]{3})*\Z", 
 # Names of rows and columns that have no times of their own: of sums and means, and of columns with quantities.
 TOTALS = (r"(?:sub|grand |zwischen|gesamt)?(?:sums?|totals?|summen?|gesamt\w*|somme|suma|totale|totaal|\u03a3"
           r"|means?|average|avg|durchschnitt|mittel(?:wert)?|moyenne|media|promedio|gemiddelde|\u00f8)")
-QUANTITIES = r"|menge|anzahl|st(?:\u00fc|ue)ck(?:zahl)?|stk|quantity|qty|pieces|pcs|quantit\u00e9|qt\u00e9|cantidad|aantal"
+QUANTITIES = (r"|menge|anzahl|st(?:\u00fc|ue)ck(?:zahl)?|stk|quantity|qty|pieces|pcs|quantit\u00e9|qt\u00e9|cantidad"
+              r"|aantal")
 NO_JOB = re.compile(rf"(?:{TOTALS})(?!\w)", re.IGNORECASE)
 NO_TIMES = re.compile(rf"(?:{TOTALS}{QUANTITIES})(?!\w)", re.IGNORECASE)
 # The first cell of a table in which the names may be numbers.
-SAYS_JOB = re.compile(r"(?:(?:jobs?|orders?|auftr(?:ag|\u00e4ge)s?|fa|of|ordres?|commandes?|pedidos?|ordin[ei]|parts?|lots?|los"
-                      r"|teile?|artikel|items?|pos(?:ition)?|id|nr|no|number|nummer|num\u00e9ro)[\s.#\u00b0_:-]*)*\Z",
-                      re.IGNORECASE)
+SAYS_JOB = re.compile(r"(?:(?:jobs?|orders?|auftr(?:ag|\u00e4ge)s?|fa|of|ordres?|commandes?|pedidos?|ordin[ei]|parts?"
+                      r"|lots?|los|teile?|artikel|items?|pos(?:ition)?|id|nr|no|number|nummer|num\u00e9ro)"
+                      r"[\s.#\u00b0_:-]*)*\Z", re.IGNORECASE)
 # The first bytes of spreadsheets in their own formats, which are archives or compound documents.
 ARCHIVE, COMPOUND = b"PK\x03\x04", b"\xd0\xcf\x11\xe0"
 TIMES_AS_NAMES = ("the names of the {what}s are numbers, as if the {part} of names were missing: add it, or write "
@@ -419,8 +420,9 @@ def without_units(table: Rows, unit: str) -> tuple[list[Cell], str]:
     for head, own in zip(table.machines, units):
         if not is_same_unit(own, expected) and (own or not named):
             others = "`unit` is" if unit else "others are in"
-            table.report(head, f"the times of {UNIT.sub('', head.text).rstrip()!r} are in {own or 'no unit'}, and {others} "
-                               f"{expected}: use one unit")
+            name = UNIT.sub("", head.text).rstrip()
+            table.report(head, f"the times of {name!r} are in {own or 'no unit'}, and {others} {expected}: use "
+                               "one unit")
     return [head._replace(text=UNIT.sub("", head.text).rstrip() if own else head.text)
             for head, own in zip(table.machines, units)], expected
 

@@ -14,10 +14,10 @@ from pfs._atomic import atomic_write
 from pfs._faults import TableFault
 from pfs._names import shown
 
-# Days count from here in workbooks.
-FIRST_DAY = datetime.datetime(1899, 12, 30)
-# The most rows and cells of a row that are read; a table has fewer.
-MOST_ROWS, MOST_CELLS = 20_000, 16_384
+# Days count from the first date in workbooks, and from the other one up to February 1900, which had 29 days there.
+FIRST_DAY, FIRST_OF_1900 = datetime.datetime(1899, 12, 30), datetime.datetime(1899, 12, 31)
+# The most rows of a sheet in Excel.
+MOST_ROWS = 1_048_576
 
 
 def openpyxl_for(what: str) -> Any:
@@ -43,8 +43,10 @@ def csv_of(content: bytes, path: str) -> str:
         rows = csv.writer(text, lineterminator="\n")
         # The sizes that a workbook states may be wrong.
         book.active.reset_dimensions()
-        for row in book.active.iter_rows(max_row=MOST_ROWS, max_col=MOST_CELLS, values_only=True):
-            rows.writerow([text_in(value) for value in row])
+        for number, row in enumerate(book.active.iter_rows(values_only=True)):
+            if number == MOST_ROWS:
+                raise ValueError("it has too many rows")
+            rows.writerow([text_in(value) for value in row] if any(value is not None for value in row) else [])
     except MemoryError:
         raise
     except Exception as error:
@@ -58,7 +60,7 @@ def text_in(value: Any) -> str:
     if isinstance(value, float):
         return f"{value:.9f}".rstrip("0").rstrip(".")
     if isinstance(value, datetime.datetime) and value.year <= 1900:
-        value -= FIRST_DAY
+        value -= FIRST_OF_1900 if value < datetime.datetime(1900, 3, 1) else FIRST_DAY
     if isinstance(value, datetime.time):
         value = datetime.datetime.combine(FIRST_DAY, value) - FIRST_DAY
     if isinstance(value, datetime.timedelta):

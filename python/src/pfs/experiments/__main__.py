@@ -43,7 +43,7 @@ def command_line() -> CommandLine:
     def add(name: str, text: str, module: str = "", **how: bool) -> argparse.ArgumentParser:
         made = commands.add_parser(name, help=text, description=text, **how)  # type: ignore[arg-type]
         made.set_defaults(module=module or name)
-        if name not in ("audit", "report"):
+        if name not in ("status", "audit", "report"):
             made.add_argument("--pfs", metavar="PROGRAM", default=shutil.which("pfs", path=PROGRAMS),
                               help="the program pfs")
         return made
@@ -61,6 +61,8 @@ def command_line() -> CommandLine:
     slurm.add_argument("--tasks", metavar="N", type=number("[0-9]{1,9}", 1, 10 ** 9, "a whole number from 1"),
                        help="the most tasks of the array")
     slurm.add_argument("--dry-run", action="store_true", help="print the call of sbatch")
+    status = add("status", "Writes the CSV of the runs that have ended so far, while the others go on.", "run")
+    status.add_argument("csv", metavar="CSV")
     check = add("check", "Audits the orders of a CSV again.", "run")
     check.add_argument("csv", metavar="CSV")
     audit = add("audit", "Audits a table of published orders.")

@@ -4,11 +4,18 @@ from __future__ import annotations
 import argparse
 import csv
 import io
+import os
+import pathlib
 
 from pfs._atomic import atomic_write, text_cell
-from pfs._audit import Audited
+from pfs._audit import Audited, Shelf
 from pfs._audit import audit as audited
-from pfs.experiments import ExperimentError, plain
+from pfs._faults import Fault
+from pfs._files import read, read_order
+from pfs._instance import Instance
+from pfs.experiments import ExperimentError, plain, stage
+from pfs.experiments.plan import Row, rows_of
+from pfs.experiments.run import path_cell
 
 
 def audit(args: argparse.Namespace) -> int:
@@ -36,3 +43,53 @@ def csv_of(found: list[Audited]) -> str:
     writer.writerow(["line", *Audited._fields[1:]])
     writer.writerows([text_cell(cell) if isinstance(cell, str) else cell for cell in row] for row in found)
     return text.getvalue()
+
+
+# The CSVs of a report
+
+def shops_of(path: str) -> dict[str, Instance]:
+    """Returns the instances in the folder next to the CSV of an experiment, by their names there."""
+    folder = pathlib.Path(os.path.abspath(path) + ".d")
+    listed = stage.stored_plan(folder).get("runs", [])
+    runs = {path_cell(run["instance"]): run for run in listed if run["jobs"] != "-"}
+    return {name: read(folder / stage.stage_of(folder) / run["file"], run["layout"], int(run["block"]))
+            for name, run in runs.items()}
+
+
+def audits_of(paths: list[str]) -> list[bool]:
+    """Returns which rows of the CSVs have an order whose instance is at hand, next to one of the CSVs or as one of
+    Taillard's. A wrong order is an error."""
+    own = {path: shops_of(path) for path in paths}
+    shelf = Shelf((), None)
+    for shops in own.values():
+        for name, shop in shops.items():
+            shelf.add(shop, name)
+    return [each for path in paths for each in audited_rows(path, rows_of(path, ["instance"]), own[path], shelf)]
+
+
+def audited_rows(path: str, rows: list[Row], own: dict[str, Instance], shelf: Shelf) -> list[bool]:
+    shops = {}
+    table = []
+    for at, row in enumerate(rows):
+        shop = own.get(row["instance"]) or shelf.find(row["instance"])
+        order = order_of(path, row.get("order", ""))
+        if shop and order and row["makespan"] and row.get("status", "ok") == "ok":
+            shops[str(at)] = shop
+            table.append({"instance": str(at), "method": row.get("method", ""), "makespan": row["makespan"],
+                          "order": order})
+    for each in audited(table, shops) if table else []:
+        if not each.valid:
+            at = int(each.instance)
+            raise ExperimentError(f"{path}: line {at + 2}, {rows[at]['instance']}: {each.verdict}: {each.why}")
+    return [str(at) in shops for at in range(len(rows))]
+
+
+def order_of(path: str, cell: str) -> str | list[int]:
+    """Returns an order of a CSV: a list, or that of an order file, which is empty if the file is gone."""
+    file = pathlib.Path(path).parent / cell
+    if "/" not in cell:
+        return cell
+    try:
+        return [job + 1 for job in read_order(file).order.tolist()] if file.exists() else ""
+    except Fault as fault:
+        raise ExperimentError(f"{path}: {fault}") from None

@@ -3,23 +3,32 @@ from __future__ import annotations
 
 from collections import defaultdict
 from collections.abc import Hashable, Sequence
-from typing import NamedTuple
+from typing import TYPE_CHECKING, Any, NamedTuple
 
-# The most instances of a setting that a note lists.
-MOST_NAMES = 5
+if TYPE_CHECKING:
+    import pandas as pd
+
+SETTING = ["method", "rounds", "take", "passes", "time_factor"]
 
 
 class Made(NamedTuple):
     """A run of a setting. One that has no seed, such as NEH's, is for all seeds."""
-    setting: str
+    setting: Any
     instance: str
     seed: Hashable | None
 
 
-def common(runs: Sequence[Made]) -> tuple[list[bool], dict[str, list[str]]]:
+def made_of(runs: pd.DataFrame) -> list[Made]:
+    """Returns the setting, the instance and the seed of each run."""
+    settings = runs[SETTING].itertuples(index=False, name=None)
+    return [Made(setting, instance, seed if seed and setting[1] != 0 else None)
+            for setting, instance, seed in zip(settings, runs["instance"], runs["seed"])]
+
+
+def common(runs: Sequence[Made]) -> tuple[list[bool], dict[Any, list[str]]]:
     """Returns for each run whether all settings have its instance and seed, and the instances of which a setting lacks
     a run that another one has."""
-    made: dict[str, set[tuple[str, Hashable | None]]] = defaultdict(set)
+    made: dict[Any, set[tuple[str, Hashable | None]]] = defaultdict(set)
     for run in runs:
         made[run.setting].add((run.instance, run.seed))
     pairs = {pair for own in made.values() for pair in own}
@@ -30,10 +39,3 @@ def common(runs: Sequence[Made]) -> tuple[list[bool], dict[str, list[str]]]:
     instances = {instance for instance, _ in shared}
     kept = [(run.instance, run.seed) in shared or (run.seed is None and run.instance in instances) for run in runs]
     return kept, {setting: sorted({instance for instance, _ in own}) for setting, own in lacking.items() if own}
-
-
-def note_of(lacking: dict[str, list[str]]) -> str:
-    """Returns what a table says of the settings that lack runs, or an empty text."""
-    parts = [f"{setting} lacks runs of {', '.join(names[:MOST_NAMES])}{', ..' if len(names) > MOST_NAMES else ''}"
-             for setting, names in lacking.items()]
-    return f"Compared are the instances and seeds that all have: {'; '.join(parts)}." if parts else ""

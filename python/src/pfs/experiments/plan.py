@@ -12,6 +12,7 @@ import shlex
 from collections.abc import Iterable
 from typing import Any
 
+from pfs._benchmarks import canonical
 from pfs.experiments import ExperimentError
 
 NUMBERS = {"blocks": [1], "rounds": [0], "takes": None, "passes": [0], "seeds": [0]}
@@ -151,11 +152,14 @@ def rows_of(path: str | os.PathLike[str], needed: Iterable[str]) -> list[Row]:
     missing = [column for column in needed if column not in columns]
     if missing:
         raise ExperimentError(f"{path}: no column {', '.join(missing)}")
+    if not rows or any(None in row for row in rows):
+        raise ExperimentError(f"{path}: {'a row has more cells than the first line' if rows else 'no rows'}")
     return rows
 
 
 def reference_of(path: str | os.PathLike[str]) -> dict[str, tuple[int, str]]:
-    """Returns the reference makespan of each instance in a CSV, and its source."""
+    """Returns the reference makespan of each instance in a CSV, and its source, by its name and, if that is clear, by
+    its canonical name."""
     found: dict[str, tuple[int, str]] = {}
     for row in rows_of(path, ["instance", "makespan"]):
         whole = re.fullmatch(r" *([0-9]{1,18})(?:\.0*)? *", row["makespan"], re.ASCII)
@@ -164,9 +168,14 @@ def reference_of(path: str | os.PathLike[str]) -> dict[str, tuple[int, str]]:
         entry = int(whole[1]), row.get("source", "")
         if found.setdefault(row["instance"], entry) != entry:
             raise ExperimentError(f"{path}: {row['instance']} has two makespans")
-    return found
+    same: dict[str, set[tuple[int, str]]] = {}
+    for name, entry in found.items():
+        same.setdefault(canonical(name), set()).add(entry)
+    return {key: entries.pop() for key, entries in same.items() if len(entries) == 1} | found
 
 
 def reference_for(reference: dict[str, tuple[int, str]], instance: str) -> tuple[int, str] | None:
-    """Returns the reference of an instance, by its full name or by the last part of its path."""
-    return reference.get(instance) or reference.get(instance.rpartition("/")[2])
+    """Returns the reference of an instance, by its full name, by the last part of its path, or by its canonical
+    name."""
+    return (reference.get(instance) or reference.get(instance.rpartition("/")[2])
+            or reference.get(canonical(instance)))

@@ -15,7 +15,8 @@ from matplotlib.ticker import NullLocator
 
 from pfs._atomic import atomic_write
 from pfs.experiments import plain
-from pfs.experiments.report import SETTING, setting_names, size_name
+from pfs.experiments.fair import SETTING
+from pfs.experiments.report import setting_names, size_name
 
 # The same runs give the same bytes on every machine. The fonts of a PDF are TrueType. No name is shown as a formula.
 SETTINGS = {"svg.fonttype": "none", "svg.hashsalt": "pfs", "pdf.fonttype": 42, "axes.grid": True, "grid.alpha": 0.3,
@@ -31,13 +32,15 @@ KIND = ["method", "take", "passes"]
 Axis = Any
 
 
-def plot(done: pd.DataFrame, folder: pathlib.Path, ending: str, width: float | None, dpi: float, titles: bool) -> None:
-    """Draws the plots of the runs that succeeded."""
+def plot(done: pd.DataFrame, shared: pd.DataFrame, folder: pathlib.Path, ending: str, width: float | None, dpi: float,
+         titles: bool) -> None:
+    """Draws the plots of the runs that succeeded, of which those of the RPD are compared on what all settings have."""
     matplotlib.rcParams.update(SETTINGS)
-    done = done.assign(method=done["method"].map(shown))
+    done, shared = (runs.assign(method=runs["method"].map(shown)) for runs in (done, shared))
     figures = {"gap": by_rounds(done, "gap_percent", "gap to the lower bound, %", "Gap to the bound", width),
-               "rpd": by_rounds(done, "rpd", "RPD, %", "Relative percentage deviation", width),
-               "seconds": by_seconds(done, width), "time": cell_times(done, width), "means": means(done, width)}
+               "rpd": by_rounds(shared, "rpd", "RPD, %", "Relative percentage deviation", width),
+               "seconds": by_seconds(shared, width), "time": cell_times(done, width),
+               "means": means(shared, width)}
     for name, figure in figures.items():
         if figure is not None:
             if not titles:
@@ -199,18 +202,21 @@ def cell_times(done: pd.DataFrame, width: float | None) -> Figure | None:
     return figure
 
 
-def means(done: pd.DataFrame, width: float | None) -> Figure | None:
-    """Draws the mean RPD of each setting over all of its instances, with the confidence interval of 95 % by Student's
-    t-distribution. Each instance counts once, by its mean."""
-    groups = done.groupby([*SETTING, "instance"])["rpd"].mean().dropna().groupby(level=[*range(5)]).agg(
-        ["mean", "std", "count"])
-    if groups.empty:
+def means(shared: pd.DataFrame, width: float | None) -> Figure | None:
+    """Draws the mean RPD of each setting, with the confidence interval of 95 % by Student's t-distribution. Each
+    instance counts once, by its mean. The settings are compared on the same instances, so the means of the instances
+    are removed before the interval is computed (Cousineau 2005, Morey 2008)."""
+    if shared.empty:
         return None
-    labels = [label.replace(", ", "\n") for label in setting_names(list(groups.index))]
+    table = shared.pivot_table(index="instance", columns=SETTING, values="rpd")
+    instances, settings = table.shape
+    within = table if settings == 1 else table.sub(table.mean(axis=1), axis=0) * (settings / (settings - 1)) ** 0.5
+    halves = (scipy.stats.t.ppf(0.975, instances - 1) * within.std() / instances ** 0.5).fillna(0)
+    labels = [label.replace(", ", "\n") for label in setting_names(list(table.columns))]
     figure, axis = of_labels(labels, width, "Mean relative percentage deviation, with confidence intervals of 95 %",
                              "RPD, %")
-    halves = scipy.stats.t.ppf(0.975, groups["count"] - 1) * groups["std"] / groups["count"] ** 0.5
-    axis.errorbar(range(1, len(labels) + 1), groups["mean"], halves.fillna(0), fmt="o", markersize=5, capsize=4,
+    axis.errorbar(range(1, settings + 1), table.mean(), halves, fmt="o", markersize=5, capsize=4,
                   color=colour(0.3), ecolor="black", elinewidth=1)
-    axis.set_xlim(0.5, len(labels) + 0.5)
+    axis.set_xlim(0.5, settings + 0.5)
+    axis.set_ylim(bottom=min(0, 1.05 * (table.mean() - halves).min()))
     return figure

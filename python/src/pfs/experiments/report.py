@@ -15,18 +15,19 @@ import sys
 from typing import TYPE_CHECKING, Any, NamedTuple
 
 from pfs._atomic import text_cell
+from pfs._benchmarks import best_known, canonical, taillard_rows
 from pfs.experiments import ExperimentError, plain
+from pfs.experiments.fair import SETTING, common, made_of
 from pfs.experiments.plan import MOST_MAKESPAN, reference_for, reference_of, rows_of
-from pfs.experiments.stage import PACKAGE, write_text
+from pfs.experiments.stage import write_text
 
 if TYPE_CHECKING:
     import pandas as pd
 
 GROUP = ["method", "jobs", "machines", "rounds", "take", "passes", "time_factor"]
-SETTING = ["method", "rounds", "take", "passes", "time_factor"]
 # The least and the greatest value of each column of numbers.
 WHOLE = {"jobs": 10 ** 6, "machines": 10 ** 6, "rounds": 10 ** 9, "take": 10 ** 6, "passes": 10 ** 6,
-         "makespan": MOST_MAKESPAN, "reference": MOST_MAKESPAN, "cells": 2 ** 64 - 1}
+         "makespan": MOST_MAKESPAN, "bound": MOST_MAKESPAN, "reference": MOST_MAKESPAN, "cells": 2 ** 64 - 1}
 RANGES = {"gap_percent": (-100, 1e20), "seconds": (0, 1e12), "time_factor": (0, 1e12),
           **{column: (0, most) for column, most in WHOLE.items()}}
 NUMBER = r" *-?[0-9]+(?:\.[0-9]*)?(?:[eE][+-]?[0-9]{1,3})? *"
@@ -58,6 +59,7 @@ def report(args: argparse.Namespace) -> int:
     from pfs.experiments import plots, statistics
     reported = read(args.csv, args.reference)
     done = reported.runs.dropna(subset=["makespan"])
+    shared, lacking = in_common(done[done["rpd"].notna()])
     compared = statistics.compared(done)
     args.folder.mkdir(parents=True, exist_ok=True)
     shown = [write_table(args.folder / "table", table_of(reported.runs), reported.note)]
@@ -66,9 +68,11 @@ def report(args: argparse.Namespace) -> int:
         return 1
     if len(compared):
         shown.append(write_table(args.folder / "comparison", compared, statistics.NOTE))
-    if done["rpd"].notna().any():
-        write_sizes(done, args.folder)
-    plots.plot(done, args.folder, args.format, args.width, args.dpi, not args.no_title)
+    if len(shared):
+        write_sizes(shared, args.folder, " ".join(filter(None, ["Mean RPD, %.", lacking, unaudited(shared)])))
+    elif lacking:
+        print(f"pfs-experiments report: no table of sizes: {plain(lacking)}", file=sys.stderr)
+    plots.plot(done, shared, args.folder, args.format, args.width, args.dpi, not args.no_title)
     instances = done.groupby("method")["instance"].agg(set)
     unrelated = [pair for pair in itertools.combinations(instances.index, 2)
                  if not instances[pair[0]] & instances[pair[1]]]
@@ -86,12 +90,17 @@ def read(paths: list[str], reference_path: str | None) -> Reported:
     stems = [pathlib.Path(path).stem for path in paths]
     runs = pd.concat([read_one(path, path if stems.count(stem) > 1 else stem) for path, stem in zip(paths, stems)],
                      ignore_index=True)
-    lasts = runs["instance"].map(os.path.basename)
+    runs["audited"] = audits_of(paths)
+    lasts = runs["instance"].map(canonical)
     if len(paths) > 1 and runs["instance"].groupby([runs["method"], lasts]).nunique().max() == 1:
         runs["instance"] = lasts
     sizes = runs.groupby("instance")[["jobs", "machines"]].transform("first")
     runs[["jobs", "machines"]] = runs[["jobs", "machines"]].fillna(sizes)
-    runs["reference"], basis = references(runs, reference_path)
+    taillards = taillards_of(runs)
+    for at, column in enumerate(("jobs", "machines"), 1):
+        runs[column] = runs[column].fillna(taillards.map({row[0]: row[at] for row in taillard_rows()}))
+    check_bounds(runs, taillards)
+    runs["reference"], basis = references(runs, taillards, reference_path)
     runs["rpd"] = 100 * (runs["makespan"] - runs["reference"]) / runs["reference"]
     runs.loc[runs["reference"] == 0, "rpd"] = (runs["makespan"] * float("inf")).where(runs["makespan"] > 0, 0)
     runs["rpd"] = runs["rpd"].where(runs["rpd"] < float("inf"))
@@ -101,15 +110,33 @@ def read(paths: list[str], reference_path: str | None) -> Reported:
     if names:
         shown = ", ".join(map(markdown, names[:MOST_NAMES])) + (", .." if len(names) > MOST_NAMES else "")
         note += f"\n{len(lost)} runs of {len(names)} instances have no reference, and no RPD: {shown}."
+    below = runs[runs["makespan"] < runs["reference"]].groupby("instance")[["makespan", "reference"]].min()
+    if len(below):
+        shown = ", ".join(f"{markdown(name)} {makespan:.0f} ({reference:.0f})"
+                          for name, makespan, reference in below[:MOST_NAMES].itertuples())
+        note += f"\nBelow the reference: {shown}{', ..' if len(below) > MOST_NAMES else ''}."
     return Reported(runs.fillna(dict.fromkeys(GROUP[1:], -1)), note)
+
+
+def audits_of(paths: list[str]) -> list[bool] | bool:
+    """Returns which rows have an order that was audited; none without the library."""
+    try:
+        from pfs.experiments import audit
+    except ImportError:
+        return False
+    return audit.audits_of(paths)
+
+
+def unaudited(runs: pd.DataFrame) -> str:
+    """Returns a sentence on the methods whose makespans are only stated."""
+    names = sorted(set(runs.loc[~runs["audited"], "method"]))
+    return f"Not audited, only stated: {', '.join(names)}." if names else ""
 
 
 def read_one(path: str, name: str) -> pd.DataFrame:
     """Reads the runs of a CSV. The results of a run that failed are unknown."""
     import pandas as pd
     rows = rows_of(path, ["instance", "makespan"])
-    if not rows:
-        raise ExperimentError(f"{path}: no rows")
     read = pd.DataFrame(rows)
     failed = read.get("status", pd.Series("ok", read.index)).ne("ok") | read["makespan"].eq("")
     runs = pd.DataFrame({"method": read.get("method", pd.Series("", read.index)).replace("", name),
@@ -119,7 +146,7 @@ def read_one(path: str, name: str) -> pd.DataFrame:
         if column in ("makespan", "cells", "gap_percent", "seconds"):
             texts = texts.mask(failed, "")
         given = texts[texts != ""]
-        values = pd.to_numeric(given.where(given.str.fullmatch(NUMBER), "nan")).astype(float)
+        values = given.where(given.str.fullmatch(NUMBER)).astype(float)
         wrong = given[~values.between(least, most) | ((column in WHOLE) & (values % 1 != 0))]
         if len(wrong):
             text = wrong.iloc[0]
@@ -130,23 +157,45 @@ def read_one(path: str, name: str) -> pd.DataFrame:
     return runs
 
 
-def references(runs: pd.DataFrame, path: str | None) -> tuple[pd.Series, str]:
+def taillards_of(runs: pd.DataFrame) -> pd.Series:
+    """Returns for each run which of Taillard's instances it is of, by the name and the size, or an empty text."""
+    sizes = {name: (jobs, machines) for name, jobs, machines, *_ in taillard_rows()}
+    names = runs["instance"].map(canonical)
+    fits = [name in sizes and all(one != one or one == other for one, other in zip(size, sizes[name]))
+            for name, *size in zip(names, runs["jobs"], runs["machines"])]
+    return names.where(fits, "")
+
+
+def check_bounds(runs: pd.DataFrame, taillards: pd.Series) -> None:
+    """Rejects a makespan below the bound that a CSV has for its instance, or that of Taillard's instance."""
+    bounds = runs.groupby("instance")["bound"].transform("max").fillna(0)
+    bounds = bounds.combine(taillards.map({row[0]: row[-1] for row in taillard_rows()}).fillna(0), max)
+    for _, run in runs[runs["makespan"] < bounds][:1].iterrows():
+        raise ExperimentError(f"{run['method']}: the makespan {run['makespan']:.0f} of {run['instance']} is below the "
+                              f"bound {bounds[run.name]:.0f}: no order has it")
+
+
+def in_common(done: pd.DataFrame) -> tuple[pd.DataFrame, str]:
+    """Returns the runs of the instances and seeds that all settings have, and a sentence on what settings lack."""
+    kept, lacking = common(made_of(done))
+    settings = list(dict.fromkeys(made.setting for made in made_of(done)))
+    names = dict(zip(settings, setting_names(settings)))
+    parts = [f"{names[setting]} lacks runs of {', '.join(found[:MOST_NAMES])}{', ..' if found[MOST_NAMES:] else ''}"
+             for setting, found in lacking.items()]
+    return done[kept], f"Compared are the instances and seeds that all have: {'; '.join(parts)}." if parts else ""
+
+
+def references(runs: pd.DataFrame, taillards: pd.Series, path: str | None) -> tuple[pd.Series, str]:
     """Returns the reference of each run, and a sentence that says which it is. If no instance has a reference, the best
     makespan of its runs is the reference. If any has one, the others have none: the best of few runs would make these
     look good."""
     done = runs[runs["makespan"].notna()]
     stated = reference_of(path) if path else {}
-    sizes = {row["instance"]: (float(row["jobs"]), float(row["machines"]))
-             for row in rows_of(PACKAGE / "taillard.csv", ["instance", "jobs", "machines"])}
-    best = {name: best for name, (best, _) in reference_of(PACKAGE / "best_known.csv").items()}
-    names = done["instance"].map(os.path.basename)
-    fits = [name in sizes and all(one != one or one == other for one, other in zip(size, sizes[name]))
-            for name, *size in zip(names, done["jobs"], done["machines"])]
     kinds = {
         f"the makespan in {path}": done["instance"].map({name: found[0] for name in done["instance"].unique()
                                                          for found in [reference_for(stated, name)] if found}),
         "the makespan in the column `reference`": done.groupby("instance")["reference"].transform("first"),
-        "the best known makespan of Taillard's instance": names.where(fits).map(best)}
+        "the best known makespan of Taillard's instance": taillards[done.index].map(best_known())}
     found, used = done["reference"] * float("nan"), [name for name in kinds if path and path in name][:1]
     for name, values in kinds.items():
         if (found.isna() & values.notna()).any():
@@ -164,27 +213,25 @@ def table_of(runs: pd.DataFrame) -> pd.DataFrame:
     """Returns the table by method, size and setting. It has a column of time factors if any run has one."""
     keys = GROUP if (runs["time_factor"] >= 0).any() else GROUP[:-1]
     table = runs.groupby(keys).agg(
-        runs=("makespan", "count"), failed=("makespan", lambda spans: spans.isna().sum()),
+        runs=("makespan", "count"), failed=("makespan", lambda spans: spans.isna().sum()), audited=("audited", "sum"),
         mean_rpd_percent=("rpd", "mean"), greatest_rpd_percent=("rpd", "max"), mean_gap_percent=("gap_percent", "mean"),
         greatest_gap_percent=("gap_percent", "max"), mean_seconds=("seconds", "mean"))
     return table.reset_index()
 
 
-def write_sizes(done: pd.DataFrame, folder: pathlib.Path) -> None:
-    """Writes the mean RPD with a row for each size and a column for each setting, and the means of the columns. A
-    column that lacks a size has no mean."""
-    known = done[done["rpd"].notna()]
-    means = known.pivot_table(index=["jobs", "machines"], columns=SETTING, values="rpd")
+def write_sizes(shared: pd.DataFrame, folder: pathlib.Path, note: str) -> None:
+    """Writes the mean RPD with a row for each size and a column for each setting, and the means of the columns."""
+    means = shared.pivot_table(index=["jobs", "machines"], columns=SETTING, values="rpd")
     rows = [[size_name(size), *(cell("rpd", value) for value in row)] for size, row in zip(means.index, means.to_numpy())]
-    rows.append(["mean", *(cell("rpd", value) for value in means.mean(skipna=False))])
+    rows.append(["mean", *(cell("rpd", value) for value in means.mean())])
     heads = ["jobs×machines", *setting_names(list(means.columns))]
     write_text(folder / "sizes.csv", csv_of([heads, *rows]))
-    write_text(folder / "sizes.md", markdown_of([heads, *rows], "Mean RPD, %."))
-    lines = [" & ".join("".join(LATEX.get(sign, sign) for sign in plain(each)) for each in row) + r" \\"
-             for row in [heads, *rows]]
+    write_text(folder / "sizes.md", markdown_of([heads, *rows], markdown(note)))
+    lines = [" & ".join(map(latex, row)) + r" \\" for row in [heads, *rows]]
     write_text(folder / "sizes.tex", "\n".join([
         r"% \usepackage{booktabs}", rf"\begin{{tabular}}{{l{'r' * (len(heads) - 1)}}}", r"\toprule", lines[0],
-        r"\midrule", *lines[1:-1], r"\midrule", lines[-1], r"\bottomrule", r"\end{tabular}", ""]))
+        r"\midrule", *lines[1:-1], r"\midrule", lines[-1], r"\bottomrule", r"\end{tabular}",
+        rf"{{\par\footnotesize {latex(note)}\par}}", ""]))
 
 
 def write_table(path: pathlib.Path, table: pd.DataFrame, note: str) -> str:
@@ -228,6 +275,10 @@ def markdown_of(rows: list[list[str]], note: str) -> str:
     lines = [f"| {' | '.join(map(markdown, row))} |\n" for row in rows]
     lines.insert(1, f"| {' | '.join(['---:'] * len(rows[0]))} |\n")
     return "".join(lines) + f"\n{note}\n"
+
+
+def latex(text: str) -> str:
+    return "".join(LATEX.get(sign, sign) for sign in plain(text))
 
 
 def size_name(size: tuple[float, ...]) -> str:

@@ -4,6 +4,7 @@ from __future__ import annotations
 import argparse
 import contextlib
 import csv
+import fcntl
 import functools
 import io
 import os
@@ -137,10 +138,27 @@ def identity(run: Row) -> Row:
     return known | times | {"instance": path_cell(run["instance"])}
 
 
+def status(args: argparse.Namespace) -> int:
+    """Writes the CSV of the runs that have ended so far, while the others go on."""
+    return 1 if any(gather(stage.started(args.csv), args.csv)) else 0
+
+
 def gather(experiment: Experiment, csv_path: str) -> tuple[int, int]:
+    """Writes the CSV, one process at a time, so that no later one has fewer runs."""
+    held = os.open(experiment.folder / "csv.lock", os.O_RDWR | os.O_CREAT | os.O_NOFOLLOW | os.O_CLOEXEC, 0o666)
+    try:
+        fcntl.flock(held, fcntl.LOCK_EX)
+        return write_csv(experiment, csv_path)
+    finally:
+        os.close(held)
+
+
+def write_csv(experiment: Experiment, csv_path: str) -> tuple[int, int]:
     """Writes the order files and the CSV of the runs that have ended. Reports and returns the numbers of runs that
     failed and that are missing."""
     folder, ended, rows, killed = experiment.folder, endings(experiment.folder), [], 0
+    orders = folder / "orders"
+    orders.mkdir(exist_ok=True)
     for run in experiment.runs:
         result = result_of(folder, run["number"]) or {"status": ended.get(run["number"], "")}
         if not result["status"]:
@@ -148,7 +166,8 @@ def gather(experiment: Experiment, csv_path: str) -> tuple[int, int]:
         row = {**identity(run), **result, "status": text_cell(result["status"])}
         if result.get("order"):
             name = order_name(row, run["number"])
-            keep_order(folder / "orders" / name, result["order"])
+            if not (orders / name).exists() or (orders / name).read_bytes() != result["order"].encode():
+                write_text(orders / name, result["order"])
             row["order"] = path_cell(f"{folder.name}/orders/{name}")
         if result["status"] == "ok":
             makespan, bound = int(result["makespan"]), int(result["bound"])
@@ -196,24 +215,6 @@ def order_name(row: Row, number: str) -> str:
     return "-".join([file, *parts, "run", number])
 
 
-def keep_order(path: pathlib.Path, text: str) -> None:
-    """Writes an order file, unless it exists with this text. It is not synced, as the result contains the order too,
-    and the next start compares them."""
-    with contextlib.suppress(FileNotFoundError):
-        if path.read_bytes() == text.encode():
-            return
-    path.parent.mkdir(exist_ok=True)
-    new = path.with_name("order.new")
-    new.unlink(missing_ok=True)
-    try:
-        with open(new, "xb") as file:
-            file.write(text.encode())
-        os.replace(new, path)
-    except OSError as error:
-        new.unlink(missing_ok=True)
-        raise ExperimentError(f"{path}: {error.strerror}") from None
-
-
 # Audits
 
 def check(args: argparse.Namespace) -> int:
@@ -224,7 +225,7 @@ def check(args: argparse.Namespace) -> int:
     if not (folder / "plan.json").exists():
         raise ExperimentError(f"{args.csv}.d, the folder of the instances and the orders, is missing")
     program = stage.find_pfs(args.pfs)
-    listed = {same(identity(run)): run for run in stage.runs_of(folder)}
+    listed = {same(identity(run)): run for run in stage.stored_plan(folder)["runs"]}
     faults = [(row, wrong(row, program, folder, listed.get(same(row)))) for row in rows]
     for row, fault in faults:
         if fault:

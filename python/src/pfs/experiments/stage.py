@@ -18,12 +18,12 @@ from collections.abc import Iterator
 from typing import Any, NamedTuple
 
 from pfs._atomic import atomic_write
-from pfs.experiments import ExperimentError, one, provenance
-from pfs.experiments.plan import Row, read_plan, reference_of, rows_of
+from pfs.experiments import ExperimentError, one, plain, provenance
+from pfs.experiments.plan import Row, read_plan, reference_for, reference_of, rows_of
 
 PACKAGE = pathlib.Path(__file__).resolve().parent.parent
-# A line of the list of runs, with tabs between the columns. An unknown value is a hyphen. The number is that of the
-# line. Rounds of a run by time are `time-FACTOR-SECONDS`.
+# What plan.json has of a run, and a line of runs.tsv, which is made of it. An unknown value is a hyphen. The number is
+# that of the line. Rounds of a run by time are `time-FACTOR-SECONDS`.
 RUN = ["number", "file", "layout", "block", "rounds", "take", "passes", "seed", "repetition", "jobs", "machines",
        "instance"]
 # The columns that identify a run.
@@ -51,10 +51,6 @@ class Experiment(NamedTuple):
 def write_text(path: str | os.PathLike[str], text: str) -> None:
     """Replaces the content of a file atomically."""
     atomic_write(path, text.encode(errors="backslashreplace"))
-
-
-def damaged(path: pathlib.Path, why: object) -> ExperimentError:
-    return ExperimentError(f"{path} is damaged ({why}): delete the folder {path.parent.name} to start again")
 
 
 def require_program(program: str, package: str) -> None:
@@ -92,7 +88,7 @@ def prepare(plan_path: str, csv_path: str, program: str | None) -> Experiment:
     """Prepares the folder of a plan's runs. If it exists, the experiment continues with its program, its instances and
     its runs, and new runs of the plan are added. The folder is complete if it has the file plan.json."""
     plan, top = read_plan(plan_path), os.path.dirname(os.path.abspath(plan_path))
-    reference = reference_of(os.path.join(top, plan["reference"])) if plan["reference"] else {}
+    reference = checked_reference(plan, top, plan_path) if plan["reference"] else {}
     if os.path.isdir(csv_path):
         raise ExperimentError(f"{csv_path}: Is a directory")
     folder = pathlib.Path(os.path.abspath(csv_path) + ".d")
@@ -109,18 +105,36 @@ def prepare(plan_path: str, csv_path: str, program: str | None) -> Experiment:
             if stored and stored.get(key) != plan.get(key):
                 raise ExperimentError(f"{csv_path} was started with another {key}: use another CSV")
         copy_inputs(plan, top, folder / stage_of(folder))
-        places = stored.get("places", {})
-        experiment = Experiment(plan, folder, add_runs(plan, places, top, folder, csv_path), reference)
-        inputs = inputs_of(plan, places, top, folder / experiment.stage)
+        experiment = Experiment(plan, folder, add_runs(plan, stored, top, folder, csv_path), reference)
+        inputs = inputs_of(plan, stored_plan(folder)["places"], top, folder / experiment.stage)
         provenance.note_start(folder, plan, inputs)
         if changed := provenance.changed(inputs):
-            print(f"{csv_path}: changed since they were copied for its runs: {', '.join(changed)}. The copies are used: "
-                  f"to begin anew, name another CSV or delete {csv_path}.d", file=sys.stderr, flush=True)
+            print(plain(f"{csv_path}: changed since they were copied for its runs: {', '.join(changed)}. The copies are "
+                        f"used: to begin anew, name another CSV or delete {csv_path}.d"), file=sys.stderr, flush=True)
         return experiment
     except BaseException:
         if not (folder / "plan.json").exists():
             shutil.rmtree(folder, ignore_errors=True)
         raise
+
+
+def checked_reference(plan: dict[str, Any], top: str, plan_path: str) -> dict[str, tuple[int, str]]:
+    """Returns the reference of a plan, which must name an instance. Reports the instances that it lacks."""
+    reference = reference_of(os.path.join(top, plan["reference"]))
+    names = [label_of(plan, name, block) for name in plan["instances"] for block in plan["blocks"]]
+    lacking = [name for name in names if reference_for(reference, name) is None]
+    if lacking == names:
+        raise ExperimentError(f"{plan_path}: the reference {plan['reference']} names none of the instances: it has "
+                              f"{next(iter(reference), 'none')}, and the plan {names[0]}")
+    if lacking:
+        print(plain(f"{plan['reference']} lacks {len(lacking)} of {len(names)} instances: {', '.join(lacking[:5])}"
+                    + (", .." if len(lacking) > 5 else "")), file=sys.stderr)
+    return reference
+
+
+def label_of(plan: dict[str, Any], name: str, block: int) -> str:
+    """Returns the name of an instance in the CSV."""
+    return name if plan["blocks"] == [1] else f"{name}:{block}"
 
 
 def lock(folder: pathlib.Path, csv_path: str) -> None:
@@ -142,7 +156,6 @@ def begin(folder: pathlib.Path, pfs: str) -> None:
     """Makes the stage, after removing what a start has left that was killed."""
     for half_done in folder.glob("pfs-experiment-*"):
         shutil.rmtree(half_done)
-    (folder / "runs.tsv").unlink(missing_ok=True)
     stage = folder / f"pfs-experiment-{secrets.token_hex(6)}"
     (stage / "instances").mkdir(parents=True)
     (folder / "results").mkdir(exist_ok=True)
@@ -192,10 +205,10 @@ def library() -> str:
 
 # The runs
 
-def add_runs(plan: dict[str, Any], places: dict[str, int], top: str, folder: pathlib.Path, csv_path: str) -> list[Row]:
+def add_runs(plan: dict[str, Any], stored: dict[str, Any], top: str, folder: pathlib.Path, csv_path: str) -> list[Row]:
     """Adds the plan's new instances and runs to the folder, and returns all runs in the order of the plan. A run keeps
     its number."""
-    listed = runs_of(folder)
+    places, listed = stored.get("places", {}), stored.get("runs", [])
     known, runs = {key_of(run): run for run in listed}, dict[tuple[str, ...], Row]()
     for name in plan["instances"]:
         place = places.setdefault(name, len(places) + 1)
@@ -212,8 +225,21 @@ def add_runs(plan: dict[str, Any], places: dict[str, int], top: str, folder: pat
         raise ExperimentError(f"{csv_path} was started with another plan, which has {what}: use another CSV, or delete "
                               f"{folder}")
     write_text(folder / "runs.tsv", table_of(listed))
-    write_text(folder / "plan.json", json.dumps({**plan, "places": places}))
+    write_text(folder / "plan.json", json.dumps({**plan, "top": top, "places": places, "runs": listed}))
     return list(runs.values())
+
+
+def started(csv_path: str) -> Experiment:
+    """Returns an experiment as it was last started."""
+    folder = pathlib.Path(os.path.abspath(csv_path) + ".d")
+    plan = stored_plan(folder)
+    if not plan:
+        raise ExperimentError(f"{csv_path} was not started: {folder.name} is missing")
+    known = {key_of(run): run for run in plan["runs"]}
+    keys = map(key_of, planned_runs(plan, folder, plan["places"], {(run["file"], run["block"]): run
+                                                                 for run in plan["runs"]}))
+    reference = reference_of(os.path.join(plan["top"], plan["reference"])) if plan["reference"] else {}
+    return Experiment(plan, folder, [known[key] for key in dict.fromkeys(keys)], reference)
 
 
 def table_of(runs: list[Row]) -> str:
@@ -233,7 +259,7 @@ def planned_runs(plan: dict[str, Any], folder: pathlib.Path, places: dict[str, i
         known = listed.get((file, str(block)))
         jobs, machines = (known["jobs"], known["machines"]) if known else size_of(
             folder / stage_of(folder), "--from", plan["layout"], "--block", str(block), file)
-        label = name if plan["blocks"] == [1] else f"{name}:{block}"
+        label = label_of(plan, name, block)
         usual = "-" if jobs == "-" or not is_pfs else str(min(4, int(jobs)))
         budgets = [*map(str, plan["rounds"]), *(by_time(each, jobs, machines) for each in plan.get("time_factors", []))]
         for rounds, take, passes, seed, repetition in itertools.product(
@@ -265,20 +291,20 @@ def size_of(stage: pathlib.Path, *words: str) -> tuple[str, str]:
     return (size[1], size[2]) if size and done.returncode == 0 else ("-", "-")
 
 
-# The content of a folder
-
 def stored_plan(folder: pathlib.Path) -> dict[str, Any]:
-    """Returns the stored plan, with the places of the instances. It is empty in a new folder."""
+    """Returns the stored plan, with the places of the instances and the runs. It is empty in a new folder."""
     path = folder / "plan.json"
     try:
         stored = json.loads(path.read_bytes().decode())
+        for number, run in enumerate(stored["runs"], 1):
+            if (run["number"], [*run]) != (str(number), RUN):
+                raise ValueError(f"run {number}")
+        return dict(stored)
     except FileNotFoundError:
         return {}
-    except (ValueError, RecursionError) as error:
-        raise damaged(path, error) from None
-    if not isinstance(stored, dict) or not isinstance(stored.get("places"), dict):
-        raise damaged(path, "it is not a plan")
-    return stored
+    except (ValueError, RecursionError, LookupError, TypeError) as error:
+        raise ExperimentError(f"{path} is damaged, or of another version ({error}): delete the folder {folder.name} to "
+                              "start again") from None
 
 
 def stage_of(folder: pathlib.Path) -> str:
@@ -286,21 +312,3 @@ def stage_of(folder: pathlib.Path) -> str:
     for stage in folder.glob("pfs-experiment-*"):
         return stage.name
     raise ExperimentError(f"{folder} has no copy of the program: delete it to start again")
-
-
-def runs_of(folder: pathlib.Path) -> list[Row]:
-    """Returns the listed runs, in the order of their numbers."""
-    path = folder / "runs.tsv"
-    try:
-        lines = path.read_bytes().decode().split("\n")
-    except FileNotFoundError:
-        return []
-    except UnicodeDecodeError as error:
-        raise damaged(path, error) from None
-    runs = [dict(zip(RUN, line.split("\t"))) for line in lines[:-1]]
-    for number, (run, line) in enumerate(zip(runs, lines), 1):
-        if line.count("\t") != len(RUN) - 1 or run["number"] != str(number):
-            raise damaged(path, f"line {number}")
-    if lines[-1]:
-        raise damaged(path, "its last line has no line end")
-    return runs

@@ -8,31 +8,45 @@ import numpy as np
 import pandas as pd
 import scipy.stats
 
-SETTING = ["method", "rounds", "take", "passes", "time_factor"]
+from pfs.experiments.fair import SETTING, common, made_of
+
 # The exact test is for at most this number of pairs; for more, SciPy's normal approximation is used.
 MOST_EXACT = 50
-NOTE = ("Won, tied, lost: the numbers of instances on which the first setting's mean makespan is less than, equal to "
-        "or greater than the other's. p: Wilcoxon's signed-rank test, two-sided, of the differences in RPD that are "
-        "not 0, exact up to 50 pairs. p holm: p with Holm's correction for all rows. Median difference: the median of "
-        "the first setting's RPD minus the other's. Vargha-Delaney A: the probability that the first setting's RPD on "
-        "a random instance is less than the other's on a random instance; ties count half.")
+NOTE = ("Compared are settings of the same rounds or time factor, on the instances and seeds that both have. Won, tied, "
+        "lost: the numbers of instances on which the first setting's mean makespan is less than, equal to or greater "
+        "than the other's. p: Wilcoxon's signed-rank test, two-sided, of the differences in RPD that are not 0, exact "
+        "up to 50 pairs. p holm: p with Holm's correction for all rows. Median difference: the median of the first "
+        "setting's RPD minus the other's. Vargha-Delaney A: the probability that a run of the first setting is shorter "
+        "than one of the other on the same instance, as a mean over the instances; ties count half.")
 
 
 def compared(done: pd.DataFrame) -> pd.DataFrame:
-    """Returns a row for each pair of settings that have a common instance: those of two methods, and those of one
-    method with the same rounds or time factor. (More rounds of a search are never worse.) The settings are compared by
-    the means of each instance, and equal means may differ by a rounding."""
-    means = done.groupby([*SETTING, "instance"])[["makespan", "rpd"]].mean().round(9)
+    """Returns a row for each pair of settings that can be compared and have a common instance and seed. They are
+    compared by the means of each instance, and equal means may differ by a rounding."""
     rows = []
-    for one, other in itertools.combinations(means.index.droplevel("instance").unique(), 2):
-        both = means.loc[one].join(means.loc[other], how="inner", rsuffix="_other")
-        if len(both) and (one[0] != other[0] or (one[1], one[4]) == (other[1], other[4])):
+    for (one, first), (other, second) in itertools.combinations(done.groupby(SETTING), 2):
+        if are_comparable(one, other):
+            runs = pd.concat([first, second])
+            runs = runs[common(made_of(runs))[0]]
+            both = by_instance(runs, one).join(by_instance(runs, other), rsuffix="_other")
             names = [*SETTING, *(f"other_{column}" for column in SETTING)]
-            rows.append(dict(zip(names, one + other)) | comparison_of(both))
+            rows += [dict(zip(names, one + other)) | comparison_of(both)] if len(both) else []
     table = pd.DataFrame(rows)
     if rows:
         table.insert(table.columns.get_loc("pairs") + 1, "p_holm", holm(table["p"]))
     return table
+
+
+def are_comparable(one: tuple[Any, ...], other: tuple[Any, ...]) -> bool:
+    """Whether two settings have the same rounds or time factor, or are of two methods of which one has neither."""
+    budgets = [(setting[1], setting[4]) for setting in (one, other)]
+    return budgets[0] == budgets[1] or (one[0] != other[0] and (-1, -1) in budgets)
+
+
+def by_instance(runs: pd.DataFrame, setting: tuple[Any, ...]) -> pd.DataFrame:
+    """Returns the means of a setting and its makespans by instance."""
+    own = runs[(runs[SETTING] == setting).all(axis=1)].groupby("instance")
+    return own.agg(makespan=("makespan", "mean"), rpd=("rpd", "mean"), spans=("makespan", list)).round(9)
 
 
 def comparison_of(both: pd.DataFrame) -> dict[str, Any]:
@@ -40,15 +54,18 @@ def comparison_of(both: pd.DataFrame) -> dict[str, Any]:
     signs = np.sign(both["makespan"] - both["makespan_other"])
     row: dict[str, Any] = {"instances": len(both), "won": (signs < 0).sum(), "tied": (signs == 0).sum(),
                            "lost": (signs > 0).sum(), "p": None, "pairs": 0, "median_difference_percent": None,
-                           "vargha_delaney_a": None}
-    known = both.dropna(subset=["rpd", "rpd_other"])
-    if known.empty:
+                           "vargha_delaney_a": np.mean([*map(superiority, both["spans"], both["spans_other"])])}
+    differences = (both["rpd"] - both["rpd_other"]).dropna().round(9)
+    if differences.empty:
         return row
-    differences = (known["rpd"] - known["rpd_other"]).round(9)
-    ones, others = known["rpd"].to_numpy()[:, None], known["rpd_other"].to_numpy()
     return row | {"p": probability(differences[differences != 0]), "pairs": int((differences != 0).sum()),
-                  "median_difference_percent": differences.median(),
-                  "vargha_delaney_a": (ones < others).mean() + (ones == others).mean() / 2}
+                  "median_difference_percent": differences.median()}
+
+
+def superiority(ones: list[float], others: list[float]) -> float:
+    """Returns Vargha and Delaney's A of the makespans of two settings on an instance. Less is better."""
+    first, second = np.array(ones)[:, None], np.array(others)
+    return float((first < second).mean() + (first == second).mean() / 2)
 
 
 def probability(differences: pd.Series) -> float:
