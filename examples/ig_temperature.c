@@ -10,7 +10,7 @@
 #include <time.h>
 
 #define TEMPERATURE 0.4
-#define SHOP times, jobs * machines, jobs, machines
+#define SHOP times, jobs *machines, jobs, machines
 enum { TAKE = 4 };
 
 static uint8_t bytes[PFS_LONGEST_INPUT + 1];

@@ -1,6 +1,5 @@
 """The examples of the library for C. Each compiles without a warning by the command of their page, with pkg-config and
-a folder like an installed one. It prints what the page shows, and what the program or the second program computes.
-README's lines in C and in Python."""
+a folder like an installed one. It prints what the page shows, and what the program or the second program computes."""
 import os
 import pathlib
 import re
@@ -15,10 +14,9 @@ from support.library import HEADER, Library, compile_quietly
 from support.needs import tool
 from support.program import Program
 from support.second_program import Instance
-from support.tools import Done, require_debian_module, output_of, run_tool, with_path
+from support.tools import Done, csv_rows, require_debian_module, output_of, run_tool, with_path
 
 EXAMPLES = HEADER.parent.parent / "examples"
-README = HEADER.parent.parent / "README.md"
 PAGE = (EXAMPLES / "README.md").read_text()
 SOURCES = [EXAMPLES / name for name in ("audit_orders.c", "gaps.cpp", "ig_temperature.c", "neh_ties.c", "own_search.c",
                                          "timed_search.c")]
@@ -205,6 +203,25 @@ def test_a_search_with_temperature(built: pathlib.Path, pfs: Program, shop: path
     assert run(built, "ig_temperature", "shop", "7", "0", cwd=shop).stdout.endswith(f"makespan {makespans[0]}\n")
 
 
+def test_a_plan_runs_and_audits_the_search_with_temperature(built: pathlib.Path, pfs: Program, libpfs: Library,
+                                                           shop: pathlib.Path, scripts: pathlib.Path) -> None:
+    """The program in C, and the one in Python."""
+    tool("parallel")
+    plan = (EXAMPLES.parent / "experiments" / "ig_temperature.toml").read_text().replace("ta*", "ta001")
+    (shop / "out" / "taillard").mkdir(parents=True)
+    shutil.copy(shop / "shop", shop / "out" / "taillard" / "ta001")
+    shutil.copy(built / "ig_temperature", shop / "out")
+    shutil.copy(EXAMPLES.parent / "python" / "examples" / "ig_temperature.py", shop / "out")
+    env = dict(os.environ, PFS_LIBRARY=str(libpfs.path), PYTHONPATH=str(EXAMPLES.parent / "python" / "src"))
+    for name in ("ig_temperature", "ig_temperature.py"):
+        (shop / "plan.toml").write_text(plan.replace("out/ig_temperature {", f"out/{name} {{"))
+        words = [scripts / "pfs-experiments", "run", "--pfs", pfs.path, "plan.toml", f"{name}.csv"]
+        got = run_tool(words, shop, env=env)
+        assert got == Done(0, "", f"{name}.csv: 1 runs, 0 of them failed, 0 still to run\n")
+        row, = csv_rows(shop / f"{name}.csv")
+        assert (row["instance"], row["makespan"], row["status"]) == ("out/taillard/ta001", "1278", "ok")
+
+
 def test_files_that_cannot_be_opened_or_written(built: pathlib.Path, shop: pathlib.Path) -> None:
     got = run(built, "timed_search", "none", "state", "7", "0", cwd=shop)
     assert got == Done(4, "", "timed_search: none: cannot open\n")
@@ -261,44 +278,6 @@ def test_audits(built: pathlib.Path, folder: pathlib.Path) -> None:
         status = run(built, "audit_orders", "shop", *names, cwd=folder).status
         assert status == 1, f"the status of the files {names}"
     assert run(built, "audit_orders", "shop", "right", "right", "one", cwd=folder).status == 0
-
-
-def block_of_readme(language: str) -> str:
-    found = re.findall(rf"^```{language}\n(.*?)^```$", README.read_text(), re.MULTILINE | re.DOTALL)
-    assert len(found) == 1
-    return str(found[0])
-
-
-PROGRAM = """#include <inttypes.h>
-#include <stdio.h>
-{include}
-int main(void) {{
-{lines}
-    printf("status %d, order %" PRIu32 " %" PRIu32 " %" PRIu32 ", makespan %" PRIu64 "\\n", status, order[0], order[1],
-           order[2], makespan);
-    return 0;
-}}
-"""
-
-
-def test_readmes_lines_in_c(installed: pathlib.Path, folder: pathlib.Path) -> None:
-    """They compile, and leave what the comment says."""
-    include, lines = block_of_readme("c").split("\n", 1)
-    assert "/* order is now 1 0 2, makespan 10 */" in lines
-    (folder / "readme.c").write_text(PROGRAM.format(include=include, lines=lines))
-    compile_quietly([tool("cc"), "-std=c99", "-Wall", "-Wextra", "-Werror", "-o", folder / "readme",
-                     folder / "readme.c", *flags_of(installed)])
-    assert output_of([folder / "readme"], folder) == "status 0, order 1 0 2, makespan 10\n"
-
-
-def test_readmes_lines_in_python(libpfs: Library, folder: pathlib.Path) -> None:
-    require_debian_module("numpy")
-    (folder / "lines").write_text(block_of_readme("python"))
-    env = {"PYTHONPATH": str(README.parent / "python" / "src"), "PFS_LIBRARY": str(libpfs.path),
-           "PATH": "/usr/bin:/bin", "PYTHONDONTWRITEBYTECODE": "1"}
-    script = "import doctest, sys; print(doctest.testfile('lines', module_relative=False))"
-    got = run_tool(["/usr/bin/python3", "-c", script], folder, env=env)
-    assert got == Done(0, "TestResults(failed=0, attempted=3)\n", "")
 
 
 @pytest.mark.parametrize("name", [path.stem for path in SOURCES])

@@ -126,7 +126,7 @@ def test_a_program_is_built_by_pkg_config(prefix: pathlib.Path, folder: pathlib.
 
 @pytest.mark.parametrize("wanted", [VERSION, "99.0"])
 def test_a_program_is_built_by_cmake(wanted: str, prefix: pathlib.Path, folder: pathlib.Path) -> None:
-    """But not where it wants a later library."""
+    """But not where it asks for a later library."""
     (folder / "caller.c").write_text(CALLER)
     (folder / "CMakeLists.txt").write_text(CMAKE.format(wanted=wanted))
     words = [tool("cmake"), "-S", ".", "-B", "made", f"-DCMAKE_PREFIX_PATH={prefix}"]

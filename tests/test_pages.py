@@ -108,7 +108,8 @@ EXAMPLES = {page: page_examples(page) for page in ("README.md", "docs/COMMANDS.m
 
 
 @pytest.fixture(scope="module")
-def shown(pfs: Program, libpfs: Library, scripts: pathlib.Path, tmp_path_factory: pytest.TempPathFactory) -> Callable[[Example], str]:
+def shown(pfs: Program, libpfs: Library, scripts: pathlib.Path,
+          tmp_path_factory: pytest.TempPathFactory) -> Callable[[Example], str]:
     """What the commands of a page print, run one after the other in a folder that is empty at first, with the programs
     that an installation has."""
     printed: dict[str, dict[Example, str]] = {}
@@ -146,6 +147,14 @@ def test_an_example_prints_what_the_page_shows(example: Example, shown: Callable
 @pytest.mark.parametrize("page", EXAMPLES)
 def test_a_page_has_examples(page: str) -> None:
     assert len(EXAMPLES[page]) > 3
+
+
+def test_the_first_files_of_the_page_on_formats_are_of_one_instance(pfs: Program, folder: pathlib.Path) -> None:
+    texts = re.findall(r"^```\n(.*?)^```$", FORMATS, re.MULTILINE | re.DOTALL)
+    for name, text in zip(("taillard", "orlib", "order"), texts):
+        (folder / name).write_text(text)
+    ran = [pfs.run(f"check --layout {name} {name} order", folder) for name in LAYOUTS]
+    assert ran == [Ran(b"valid\nmakespan 10\nbound 10\noptimal\n", b"", 0)] * 2
 
 
 @pytest.mark.seconds(40)

@@ -1,17 +1,23 @@
-"""What an experiment was made with, and what has changed since."""
+"""What an experiment was made with, what has changed since, and what there is of it before its end."""
 import hashlib
 import json
 import os
 import pathlib
+import subprocess
 
 import pytest
 from support.experiments import Experiment
 from support.library import Library
 from support.needs import tool
-from support.tools import Done, write_script
+from support.tools import Done, run_tool, wait_until, write_script
 
 ORDER = "#!/bin/sh\necho {order}\n"
-PLAN = 'instances = ["shops/b"]\nseeds = [{seeds}]\nmethod = "mine"\ncommand = "./mine {{instance}}"\nfiles = ["data"]\n'
+PLAN = """instances = ["shops/b"]
+seeds = [{seeds}]
+method = "mine"
+command = "./mine {{instance}}"
+files = ["data"]
+"""
 
 
 @pytest.fixture(scope="module", autouse=True)
@@ -39,8 +45,8 @@ def test_what_has_changed_is_told_and_the_copies_are_used(mine: Experiment) -> N
         with open(mine.folder / name, "a") as file:
             file.write("# changed\n")
     got = mine.plan(PLAN.format(seeds="1, 2")).run()
-    assert got == Done(0, "", "out.csv: changed since they were copied for its runs: data, mine, shops/b. The copies are "
-                              "used: to begin anew, name another CSV or delete out.csv.d\n"
+    assert got == Done(0, "", "out.csv: changed since they were copied for its runs: data, mine, shops/b. The copies "
+                              "are used: to begin anew, name another CSV or delete out.csv.d\n"
                               "out.csv: 2 runs, 0 of them failed, 0 still to run\n")
     assert mine.columns("makespan") == before * 2
     assert mine.run("new.csv").stderr == "new.csv: 2 runs, 0 of them failed, 0 still to run\n"
@@ -73,3 +79,50 @@ def test_a_search_by_time_has_the_sum_of_the_library(experiment: Experiment, lib
     experiment.plan('instances = ["shops/b"]\ntime_factors = [1]\n').run(env=env)
     stored = json.loads((experiment.runs / "provenance.json").read_text())
     assert stored["sha256"]["libpfs.so.0"] == sum_of(libpfs.path.read_bytes())
+
+
+# The reference of a plan
+
+def test_a_reference_must_name_an_instance(experiment: Experiment) -> None:
+    """By its name in the plan, or without folder, ending and in lower case. What it lacks is reported."""
+    plan = 'instances = ["shops/*"]\nreference = "best.csv"\n'
+    (experiment.folder / "best.csv").write_text("instance,makespan\nc,9\n")
+    assert experiment.plan(plan).run() == Done(2, "", (
+        "pfs-experiments run: plan.toml: the reference best.csv names none of the instances: it has c, and the plan "
+        "shops/a\n"))
+    assert not experiment.runs.exists()
+    (experiment.folder / "best.csv").write_text("instance,makespan\nc,9\nB.txt,7\n")
+    assert experiment.run() == Done(0, "", "best.csv lacks 1 of 2 instances: shops/a\n"
+                                           "out.csv: 2 runs, 0 of them failed, 0 still to run\n")
+    assert experiment.columns("reference") == [("",), ("7",)]
+
+
+# Before the end
+
+def status(experiment: Experiment) -> Done:
+    return run_tool([experiment.scripts / "pfs-experiments", "status", "out.csv"], experiment.folder)
+
+
+def test_status_writes_what_there_is(mine: Experiment) -> None:
+    """The CSV has the order of the plan, and its reference."""
+    assert status(mine) == Done(2, "", "pfs-experiments status: out.csv was not started: out.csv.d is missing\n")
+    os.mkfifo(mine.folder / "gate")
+    write_script(mine.folder / "mine", f"#!/bin/sh\nread -r line < {mine.folder}/gate\necho 1 2 3\n")
+    (mine.folder / "best.csv").write_text("instance,makespan\nb,9\n")
+    mine.plan(PLAN.format(seeds="2, 1") + 'reference = "best.csv"\n')
+    process = subprocess.Popen(mine.words("run", "plan.toml", "out.csv", "--jobs", "1"), cwd=mine.folder,
+                               stderr=subprocess.DEVNULL)
+    gate = os.open(mine.folder / "gate", os.O_RDWR)
+    try:
+        os.write(gate, b"\n")
+        one_of_two = Done(1, "", "out.csv: 1 runs, 0 of them failed, 1 still to run\n")
+        wait_until(lambda: (mine.runs / "plan.json").exists() and status(mine) == one_of_two, "a run has ended")
+        assert mine.columns("instance", "seed", "reference") == [("shops/b", "2", "9")]
+        os.write(gate, b"\n")
+        assert process.wait(60) == 0
+    finally:
+        process.kill()
+        os.close(gate)
+    before = (mine.folder / "out.csv").read_bytes()
+    assert status(mine) == Done(0, "", "out.csv: 2 runs, 0 of them failed, 0 still to run\n")
+    assert (mine.folder / "out.csv").read_bytes() == before and before.count(b"\n") == 3

@@ -13,6 +13,7 @@ from typing import Any
 
 import pytest
 from support.colours import least_difference
+from support.library import Library
 from support.tools import Done, csv_rows, run_tool
 from support.warm import Warm
 
@@ -37,13 +38,13 @@ c,100,10,100,4,0,1,1,200,200,0.0000,1000000,2.000000,ok
 d,100,10,0,4,0,1,1,,,,,,solve: signal 9
 e,,,0,,0,1,1,,,,,,"solve: exit 2, pfs: no block, found 0"
 """
-TABLE = """method,jobs,machines,rounds,take,passes,runs,failed,mean_rpd_percent,greatest_rpd_percent,mean_gap_percent,\
-greatest_gap_percent,mean_seconds
-out,,,0,,0,0,1,,,,,
-out,20,5,0,4,0,2,0,12.708,16.505,15.000,20.000,0.0020
-out,20,5,100,4,0,4,1,1.961,3.960,4.000,7.000,0.5000
-out,100,10,0,4,0,0,1,,,,,
-out,100,10,100,4,0,1,0,0.000,0.000,0.000,0.000,2.0000
+TABLE = """method,jobs,machines,rounds,take,passes,runs,failed,audited,mean_rpd_percent,greatest_rpd_percent,\
+mean_gap_percent,greatest_gap_percent,mean_seconds
+out,,,0,,0,0,1,0,,,,,
+out,20,5,0,4,0,2,0,0,12.708,16.505,15.000,20.000,0.0020
+out,20,5,100,4,0,4,1,0,1.961,3.960,4.000,7.000,0.5000
+out,100,10,0,4,0,0,1,0,,,,,
+out,100,10,100,4,0,1,0,0,0.000,0.000,0.000,0.000,2.0000
 """
 FILES = ["gap.png", "means.png", "rpd.png", "seconds.png", "sizes.csv", "sizes.md", "sizes.tex", "table.csv",
          "table.md", "time.png"]
@@ -175,7 +176,7 @@ def test_names_stay_in_their_cells(script: Reported, folder: pathlib.Path) -> No
     with open(folder / "out.csv", "w", newline="") as file:
         csv.writer(file).writerows([
             ["instance", "makespan", "method", "seconds", "jobs", "machines", "rounds", "take", "passes"],
-            *([f"{name}/i", at, name, "0.5", 3, 2, 1, 1, 0] for at, name in enumerate(NAMES, 10))])
+            *(["a|b/=i", at, name, "0.5", 3, 2, 1, 1, 0] for at, name in enumerate(NAMES, 10))])
     got = script("--format", "svg", "out.csv", "report")
     assert got.status == 0 and "\x1b" not in got.stdout + got.stderr, got.stderr
     for name in ("table.md", "comparison.md", "sizes.md"):
@@ -250,6 +251,42 @@ def test_taillards_instances_are_compared_with_the_best_known_makespans(report: 
     assert column(folder, "mean_rpd_percent") == ["29.100", "", f"{100 * 261 / 26040:.3f}"]
 
 
+@pytest.mark.parametrize("text", ["ta001,1231,,", "x/tai20_5.txt:1,1231,,", "i,99,,\ni,100,100,1", "TA001.txt,1231,,"])
+def test_a_makespan_below_the_bound_is_an_error(text: str, report: Reported) -> None:
+    """Of Taillard's instance, by each of its names, or that of a CSV."""
+    got = report(f"instance,makespan,bound,seed\n{text}\n")
+    name, makespan, *_ = text.split(",")
+    assert got == Done(2, "", f"pfs-experiments report: out: the makespan {makespan} of {name} is below the bound "
+                              f"{int(makespan) + 1}: no order has it\n")
+
+
+def test_a_makespan_below_the_reference_is_told(report: Reported) -> None:
+    got = report("instance,makespan,reference\na,100,\nta001,1232,\nta002,1400,\nb,100,101\nb,99,101\n")
+    assert "\nBelow the reference: b 99 (101), ta001 1232 (1278).\n" in got.stdout
+
+
+def test_orders_are_audited_where_the_instance_is_at_hand(scripts: pathlib.Path, libpfs: Library,
+                                                          folder: pathlib.Path) -> None:
+    """As one of Taillard's, or next to a CSV. The makespan of the order 1 2 3 .. of ta001 is 1448."""
+    order = " ".join(map(str, range(1, 21)))
+    wrong = {order: "wrong makespan: states 1449, takes 1448", order[:-3]: "job missing: job 20 is missing", "3 1 2":
+             "wrong size: 3 jobs, but the instance has 20"}
+
+    def report_of(text: str) -> Done:
+        (folder / "out.csv").write_text(f"instance,seed,makespan,order\n{text}")
+        return run_tool([scripts / "pfs-experiments", "report", "out.csv", "report"], folder,
+                        env=dict(os.environ, PFS_LIBRARY=str(libpfs.path)))
+
+    assert report_of(f"ta001,1,1448,{order}\nta001,2,1300,\ni,1,5,1 2\nta002,1,1400,gone/order\n").status == 0
+    assert column(folder, "audited") == ["0", "1"] and column(folder, "runs") == ["1", "3"]
+    assert "Not audited, only stated: out." in (folder / "report" / "sizes.md").read_text()
+    assert report_of(f"ta001,1,1448,{order}\n").status == 0
+    assert "audited" not in (folder / "report" / "sizes.md").read_text()
+    for text, why in wrong.items():
+        assert report_of(f"ta002,1,1300,\nta001,1,1449,{text}\n") == Done(
+            2, "", f"pfs-experiments report: out.csv: line 3, ta001: {why}\n")
+
+
 # Several methods
 
 def test_each_setting_of_a_method_is_compared_by_means_of_the_instances_that_both_have(
@@ -279,13 +316,13 @@ def test_settings_of_one_method_are_compared(report: Reported, folder: pathlib.P
 
 def test_methods_without_a_common_instance_are_reported(script: Reported, folder: pathlib.Path) -> None:
     """Files of one name are methods by their paths. Where others have a reference, those without have no RPD."""
-    for name, instance, reference in (("x", "i", "1000"), ("y", "I", "")):
+    for name, instance, reference in (("x", "i", "1000"), ("y", "j", "")):
         (folder / name).mkdir()
         (folder / name / "out.csv").write_text("instance,makespan,reference\n" + "".join(
             f"{instance}{at},{1100 + at},{reference}\n" for at in range(12)))
     got = script("x/out.csv", "y/out.csv", "report")
     assert got.stderr == "pfs-experiments report: x/out.csv and y/out.csv have no instance in common\n"
-    assert "\n12 runs of 12 instances have no reference, and no RPD: I0, I1, I2, I3, I4, I5, I6, I7, I8, I9, ...\n" \
+    assert "\n12 runs of 12 instances have no reference, and no RPD: j0, j1, j2, j3, j4, j5, j6, j7, j8, j9, ...\n" \
         in got.stdout
     assert not (folder / "report" / "comparison.csv").exists()
 
@@ -302,9 +339,10 @@ def all_signs(differences: list[float]) -> float:
 
 # The makespans of two methods on instances with these references, and the differences in RPD. In the second case the
 # ranks of the differences in makespan are others. In the first four pairs are tied, and some differences are equal.
-PAIRS = {"ties": ([1000] * 11, [0, 0, 0, 0, 10, 10, 20, 20, 20, 30, 40]),
-         "scales": ([100, 100, 1000, 1000, 10000, 10000, 500], [9, 7, 50, 30, -100, -120, 15]),
-         "all tied": ([100], [0])}
+PAIRS: dict[str, tuple[list[int], list[int]]] = {
+    "ties": ([1000] * 11, [0, 0, 0, 0, 10, 10, 20, 20, 20, 30, 40]),
+    "scales": ([100, 100, 1000, 1000, 10000, 10000, 500], [9, 7, 50, 30, -100, -120, 15]),
+    "all tied": ([100], [0])}
 
 
 @pytest.mark.parametrize(("scales", "differences"), PAIRS.values(), ids=PAIRS)
@@ -322,9 +360,34 @@ def test_two_methods_are_compared_by_plain_definitions(scales: list[int], differ
     assert int(row["pairs"]) == len(changed)
     assert float(row["p"]) == float(row["p_holm"]) == pytest.approx(all_signs(changed) if changed else 1, rel=1e-3)
     assert float(row["median_difference_percent"]) == pytest.approx(statistics.median(rpds), abs=0.0006)
-    ones, others = ([max(0, sign * each) for each in rpds] for sign in (1, -1))
-    wins = sum((one < other) + 0.5 * (one == other) for one in ones for other in others)
-    assert float(row["vargha_delaney_a"]) == pytest.approx(wins / len(ones) ** 2, abs=0.0006)
+    wins = sum((each < 0) + 0.5 * (each == 0) for each in differences)
+    assert float(row["vargha_delaney_a"]) == pytest.approx(wins / len(differences), abs=0.0006)
+
+
+def test_the_effect_size_is_the_mean_over_the_instances(report: Reported, folder: pathlib.Path) -> None:
+    """On the first instance 3 of 4 pairs of runs are won, and on the second, which is longer, 1 and a tie. On the third
+    one method lacks a seed, which has no part."""
+    texts = {name: "instance,seed,makespan\n" + "".join(
+        f"{instance},{seed},{span}\n" for instance, spans in rows.items() for seed, span in enumerate(spans, 1))
+             for name, rows in {"a": {"i": (10, 12), "j": (500, 510), "k": (7,)},
+                                "b": {"i": (11, 13), "j": (500, 505), "k": (8, 1)}}.items()}
+    assert report(**texts).status == 0
+    assert column(folder, "vargha_delaney_a", "comparison") == [f"{(0.75 + 0.375 + 1) / 3:.3f}"]
+    assert column(folder, "lost", "comparison") == ["1"]
+
+
+def test_only_equal_rounds_or_times_are_compared(report: Reported, folder: pathlib.Path) -> None:
+    """And Holm's correction is for these. A method that tells neither is compared with all."""
+    texts = {name: "instance,makespan,reference,rounds,time_factor\n" + "".join(
+        f"i{at},{1000 + at + more},1000,{budget}\n" for at in range(6) for more, budget in enumerate(budgets))
+        for name, budgets in {"a": (",10", ",30"), "b": (",30", ",10", "5,"), "published": (",",)}.items()}
+    assert report(**texts).status == 0
+    rows = csv_rows(folder / "report" / "comparison.csv")
+    pairs = [(row["method"], row["rounds"] + row["time_factor"], row["other_method"],
+              row["other_rounds"] + row["other_time_factor"]) for row in rows]
+    assert sorted(pairs) == [("a", "10", "b", "10"), ("a", "10", "published", ""), ("a", "30", "b", "30"),
+                             ("a", "30", "published", ""), ("b", "10", "published", ""), ("b", "30", "published", ""),
+                             ("b", "5", "published", "")]
 
 
 def test_many_pairs_have_the_normal_approximation(report: Reported, folder: pathlib.Path) -> None:
@@ -342,8 +405,9 @@ def test_many_pairs_have_the_normal_approximation(report: Reported, folder: path
 def test_holms_correction_is_for_all_pairs() -> None:
     """The least p is taken as often as there are pairs, and none is less than one before, nor greater than 1."""
     pandas = pytest.importorskip("pandas")
-    for given, wanted in (([0.04, None, 0.03, 0.05], [0.09, None, 0.09, 0.09]), ([0.9, 0.5], [1, 1]),
-                          ([0.01, 0.04], [0.02, 0.04])):
+    cases: list[tuple[list[float | None], list[float | None]]] = [
+        ([0.04, None, 0.03, 0.05], [0.09, None, 0.09, 0.09]), ([0.9, 0.5], [1, 1]), ([0.01, 0.04], [0.02, 0.04])]
+    for given, wanted in cases:
         got = holm(pandas.Series(given)).reindex(range(len(given)))
         assert [None if each != each else each for each in got] == pytest.approx(wanted)
 
@@ -355,18 +419,28 @@ PAPER = "instance,jobs,machines,makespan,method,reference\n" + "".join(
 
 
 def test_the_table_of_sizes_has_a_column_for_each_method(report: Reported, folder: pathlib.Path) -> None:
-    """And a row of means, which a method that lacks a size has not."""
-    assert report(PAPER).status == 0
-    wanted = [["jobs×machines", "5% & more", "mine_1", "part"], ["20×5", "2.000", "2.000", "9.000"],
-              ["50×5", "1.500", "5.000", ""], ["mean", "1.750", "3.500", ""]]
+    """And a row of means. With a method that lacks instances, only the others are in it, which a note says."""
+    assert report(PAPER + "20-1,20,5,101,part,100\n").status == 0
+    assert list(csv.reader(io.StringIO((folder / "report" / "sizes.csv").read_text()))) == [
+        ["jobs×machines", "5% & more", "mine_1", "part"], ["20×5", "0.500", "1.500", "5.000"],
+        ["mean", "0.500", "1.500", "5.000"]]
+    note = ("Mean RPD, {percent}. Compared are the instances and seeds that all have: part lacks runs of 20-2, 50-0, "
+            "50-1. Not audited, only stated: 5{percent} {and} more, mine{under}1, part.")
+    assert (folder / "report" / "sizes.md").read_text().endswith(
+        "\n" + note.format(percent="%", under="_", **{"and": r"\&"}) + "\n")
+    assert "{\\par\\footnotesize " + note.format(percent=r"\%", under=r"\_", **{"and": r"\&"}) + "\\par}" in (
+        folder / "report" / "sizes.tex").read_text()
+    assert report("".join(line for line in PAPER.splitlines(keepends=True) if "part" not in line)).status == 0
+    wanted = [["jobs×machines", "5% & more", "mine_1"], ["20×5", "2.000", "2.000"], ["50×5", "1.500", "5.000"],
+              ["mean", "1.750", "3.500"]]
     assert list(csv.reader(io.StringIO((folder / "report" / "sizes.csv").read_text()))) == wanted
     lines = (folder / "report" / "sizes.md").read_text().splitlines()
     cells = [line.replace("\\&", "&")[2:-2].split(" | ") for line in lines[:1] + lines[2:5]]
     assert [[cell.strip() for cell in row] for row in cells] == wanted
     tex = (folder / "report" / "sizes.tex").read_text()
     assert re.findall(r"\\(?:top|mid|bottom)rule", tex) == ["\\toprule", "\\midrule", "\\midrule", "\\bottomrule"]
-    assert r"jobs$\times$machines & 5\% \& more & mine\_1 & part \\" in tex
-    assert r"mean & 1.750 & 3.500 &  \\" in tex and r"\begin{tabular}{lrrr}" in tex
+    assert r"jobs$\times$machines & 5\% \& more & mine\_1 \\" in tex
+    assert r"mean & 1.750 & 3.500 \\" in tex and r"\begin{tabular}{lrr}" in tex
 
 
 # The plots
@@ -380,16 +454,24 @@ def done(folder: pathlib.Path) -> Callable[[str], Any]:
     return read
 
 
-def lines_of(axis: Any) -> dict[str, list[tuple[float, float]]]:
+def lines_of(axis: Any) -> dict[str, Any]:
     return {line.get_label(): [tuple(map(float, point)) for point in line.get_xydata()] for line in axis.get_lines()}
+
+
+# Figures of matplotlib, which has no types.
+by_rounds: Any = plots.by_rounds
+by_seconds: Any = plots.by_seconds
+cell_times: Any = plots.cell_times
+means: Any = plots.means
 
 
 def test_a_line_goes_through_the_means_and_its_band_from_seed_to_seed(done: Callable[[str], Any]) -> None:
     """The seeds at 100 rounds have the mean gaps 2 and 6, and the mean RPDs 0 and 3.9220."""
     runs = done(REPORTED)
     rpds = [(900 / 101 + 1700 / 103) / 2, 0, (400 / 101 + 400 / 103) / 2]
-    for value, points in (("gap_percent", [15, 2, 6]), ("rpd", rpds)):
-        axis = plots.by_rounds(runs, value, "y", "title", None).axes[0]
+    wanted: dict[str, list[float]] = {"gap_percent": [15, 2, 6], "rpd": rpds}
+    for value, points in wanted.items():
+        axis = by_rounds(runs, value, "y", "title", None).axes[0]
         assert lines_of(axis)["20×5"] == [(0, points[0]), (100, pytest.approx(sum(points[1:]) / 2))]
         band = {(x, round(y, 4)) for x, y in axis.collections[-1 if len(axis.collections) == 1 else 0]
                 .get_paths()[0].vertices}
@@ -400,7 +482,7 @@ def test_rounds_have_a_logarithmic_scale(done: Callable[[str], Any]) -> None:
     """From the first rounds on: tenfold rounds are always as far apart. 0 comes before them."""
     text = HEAD + "\n" + "".join(f"a,20,5,{rounds},4,0,1,1,{200 - at},100,{100 - at}.0,1,0.1,ok\n"
                                  for at, rounds in enumerate((0, 10, 100, 1000, 10000)))
-    axis = plots.by_rounds(done(text), "rpd", "y", "title", None).axes[0]
+    axis = by_rounds(done(text), "rpd", "y", "title", None).axes[0]
     places = [axis.transData.transform((rounds, 0))[0] for rounds in (0, 10, 100, 1000, 10000)]
     steps = [later - place for place, later in zip(places[1:], places[2:])]
     assert steps == pytest.approx([steps[0]] * 3, rel=0.01) and 0 < places[1] - places[0]
@@ -416,7 +498,7 @@ PANELS = HEAD + "\n" + "".join(
 def test_a_panel_shows_the_gaps_of_the_take_and_the_passes_in_its_title(done: Callable[[str], Any]) -> None:
     """A run of 0 rounds, which is made once, is in each."""
     text = PANELS + "a,20,5,0,2,0,1,1,1,1,30.0,1000,0.001000,ok\n"
-    panels = plots.by_rounds(done(text), "gap_percent", "y", "title", None).axes[:-1]
+    panels = by_rounds(done(text), "gap_percent", "y", "title", None).axes[:-1]
     got = {axis.get_title(): lines_of(axis)["20×5"] for axis in panels}
     assert got == {f"take {take}, passes {passes}": [(0, 30.0), (5, first), (10, second)]
                    for (take, passes), (first, second) in GAPS.items()}
@@ -424,7 +506,7 @@ def test_a_panel_shows_the_gaps_of_the_take_and_the_passes_in_its_title(done: Ca
 
 def test_the_rpd_by_seconds(done: Callable[[str], Any]) -> None:
     """A panel for each size; the seconds have a logarithmic scale with two marks or more."""
-    figure = plots.by_seconds(done(REPORTED), None)
+    figure = by_seconds(done(REPORTED), None)
     first, second, _ = figure.axes
     assert [axis.get_title() for axis in (first, second)] == ["20×5", "100×10"]
     (label, points), = lines_of(first).items()
@@ -437,28 +519,31 @@ def test_a_box_has_the_nanoseconds_a_cell_of_most_rounds(done: Callable[[str], A
     """Of 1, 2, 3, 4 and 10. The title names these rounds."""
     text = HEAD + "\na,20,5,0,4,0,1,1,101,100,1.0000,1000,0.001000,ok\n" + "".join(
         f"a,20,5,100,4,0,{at},1,101,100,1.0000,1000000,{time / 1000:.6f},ok\n" for at, time in enumerate((1, 2, 3, 4, 10)))
-    figure = plots.cell_times(done(text), None)
+    figure = cell_times(done(text), None)
     drawn = sorted({round(float(y), 6) for line in figure.axes[0].get_lines() for y in line.get_ydata()})
     assert drawn == [1, 2, 3, 4, 10] and "at 100 rounds" in figure._suptitle.get_text().replace("\n", " ")
 
 
 def test_the_plot_of_means_has_intervals_of_students_distribution(done: Callable[[str], Any]) -> None:
-    """For 5 instances the quantile is 2.776 and for 2 it is 12.706, as tables of it say."""
-    text = "instance,makespan,method,reference\n" + "".join(
-        f"i{at},{100 + rpd},{method},100\n" for method, rpds in (("a", (1, 2, 3, 4, 5)), ("b", (6, 7)), ("c", (3,)))
-        for at, rpd in enumerate(rpds))
-    axis = plots.means(done(text), None).axes[0]
-    halves = [2.776 * math.sqrt(2.5) / math.sqrt(5), 12.706 * math.sqrt(0.5) / math.sqrt(2), 0.0]
-    bars = [[float(y) for _, y in segment] for segment in axis.collections[0].get_segments()]
-    wanted = [[mean - half, mean + half] for mean, half in zip((3.0, 6.5, 3.0), halves)]
-    assert [each for bar in bars for each in bar] == pytest.approx([each for bar in wanted for each in bar], abs=0.02)
+    """For 5 instances the quantile is 2.776, as tables of it say. The variance of the differences of the two methods is
+    0.5; without the means of the instances, each has half of it."""
+    one, two = {"a": (1, 2, 3, 4, 5)}, {"a": (1, 2, 3, 4, 5), "b": (3, 3, 5, 7, 7)}
+    for methods, variance in ((one, 2.5), (two, 0.25), ({"a": (3,)}, 0)):
+        text = "instance,makespan,method,reference\n" + "".join(
+            f"i{at},{100 + rpd},{method},100\n" for method, rpds in methods.items() for at, rpd in enumerate(rpds))
+        axis = plots.means(done(text), None).axes[0]
+        half = 2.776 * math.sqrt(variance / 5)
+        bars = [[float(y) for _, y in segment] for segment in axis.collections[0].get_segments()]
+        assert bars == [pytest.approx([statistics.fmean(rpds) - half, statistics.fmean(rpds) + half], abs=0.002)
+                        for rpds in methods.values()]
+        assert axis.get_ylim()[0] == 0
 
 
 def test_sizes_have_distinguishable_colours(done: Callable[[str], Any]) -> None:
     """By all eyes, five numbers of jobs on the same machines."""
     text = HEAD + "\n" + "".join(f"{jobs},{jobs},5,{rounds},4,0,1,1,9,9,{jobs}.0,1,0.1,ok\n"
                                  for jobs in (20, 50, 100, 200, 500) for rounds in (0, 10))
-    lines = plots.by_rounds(done(text), "gap_percent", "y", "title", None).axes[0].get_lines()
+    lines = by_rounds(done(text), "gap_percent", "y", "title", None).axes[0].get_lines()
     fills = [to_hex(line.get_color()) for line in lines]
     assert len(fills) == 5 and min(map(least_difference, fills, fills[1:])) > 10, fills
 

@@ -58,10 +58,9 @@ function tell(seen) {
 """
 
 
-def looked_at(chromium: str, page: pathlib.Path, folder: pathlib.Path, script: str,
-              injected: str = "", scale: int = 1, flags: Sequence[str] = ()) -> dict[str, Any]:
-    """What this script sees of a page in a browser. The page's policy holds for all but the script, and for what is
-    injected before it. The browser gets these flags too."""
+def with_script(page: pathlib.Path, folder: pathlib.Path, script: str, injected: str = "") -> pathlib.Path:
+    """A copy of a page with a script at its end, for which its policy doesn't hold. It holds for what is injected
+    before it."""
     copy = folder / "looked_at.html"
     text = page.read_text("utf-8")
     assert text.count("</body>") == 1
@@ -69,6 +68,13 @@ def looked_at(chromium: str, page: pathlib.Path, folder: pathlib.Path, script: s
     allowed = text.replace("script-src 'sha256-", f"script-src 'sha256-{digest}' 'sha256-", 1)
     assert allowed != text, "the page's policy names its script by a hash"
     copy.write_text(allowed.replace("</body>", f"{injected}<script>{script}</script></body>"), "utf-8")
+    return copy
+
+
+def looked_at(chromium: str, page: pathlib.Path, folder: pathlib.Path, script: str,
+              injected: str = "", scale: int = 1, flags: Sequence[str] = ()) -> dict[str, Any]:
+    """What this script sees of a page in a browser. The browser gets these flags too."""
+    copy = with_script(page, folder, script, injected)
     words = [chromium, "--headless", "--no-sandbox", "--disable-gpu", "--disable-dev-shm-usage",
              f"--user-data-dir={folder / 'profile'}", "--window-size=1000,600", "--virtual-time-budget=5000",
              f"--force-device-scale-factor={scale}", "--enable-logging=stderr", "--dump-dom", *flags,

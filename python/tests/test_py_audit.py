@@ -207,7 +207,8 @@ def test_the_first_job_is_that_of_most_orders_of_a_method() -> None:
 
 @pytest.mark.parametrize(("change", "said"), [
     ({"makespan": "1,278"}, "row 1, column 'makespan': '1,278' isn't a makespan"),
-    ({"makespan": "10.5"}, "'10.5' isn't a makespan"), ({"makespan": float("nan")}, "'nan' isn't a makespan"),
+    ({"makespan": "10.5"}, "'10.5' isn't a makespan"), ({"makespan": float("nan")}, "'' isn't a makespan"),
+    ({"block": "x"}, "row 1, column 'block': 'x' isn't a block"), ({"block": 1.5}, "'1.5' isn't a block"),
     ({"makespan": True}, "'True' isn't"), ({"makespan": -10}, "'-10' isn't"), ({"makespan": "٣"}, "isn't a makespan"),
     ({"instance": "smal"}, "row 1, column 'instance': no instance 'smal'"),
     ({"instance": "ta121"}, "no instance 'ta121'"), ({"instance": ""}, "no instance ''"),
@@ -251,7 +252,7 @@ def test_names(tmp_path: pathlib.Path) -> None:
     blocks = [pfs.taillard(1), pfs.Instance(damaged, seed=pfs.taillard(2).seed)]
     (tmp_path / "a" / "tai20_5").write_text("".join(shop.to_text() for shop in blocks))
     rows = [{**rows_of("2 1 3")[0], "instance": name, "block": block}
-            for name, block in (("CAR1", ""), ("two:1", ""), ("best", ""), ("x/two.TXT", 1))]
+            for name, block in (("CAR1", ""), ("two:1", float("nan")), ("best", None), ("x/two.TXT", 1.0))]
     order = list(range(1, 21))
     rows += [{"instance": name, "makespan": makespan(shop, range(20)), "order": order, "block": ""} for name, shop in
              (("ta001", blocks[0]), ("tai20_5:2", blocks[1]), ("ta002", pfs.taillard(2)))]
@@ -282,8 +283,10 @@ def test_the_command(tmp_path: pathlib.Path, monkeypatch: pytest.MonkeyPatch,
         assert said in capsys.readouterr().err
     with pytest.raises(ExperimentError, match="none is not a folder"):
         run("one.csv --instances none")
+    with pytest.raises(ExperimentError, match="one.csv is the table: name another file"):
+        run("one.csv --csv one.csv")
     pathlib.Path("one.csv").write_text("instance,Cmax,order\nta1,1,1\n")
-    with pytest.raises(ExperimentError, match="one.csv: line 2, column 1: no instance 'ta1'"):
+    with pytest.raises(ExperimentError, match="one.csv: cell A2: no instance 'ta1'"):
         run("one.csv")
 
 

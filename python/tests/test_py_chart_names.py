@@ -1,11 +1,13 @@
-"""How charts name operations whose bars are too short for a name: places with a key on paper and in pictures, and in
-pages a search for a job and a list of each machine, as text."""
+"""How charts name operations whose bars are too short for a name: places with a key, and in pages a search for a job
+and a list of each machine, as text."""
+import json
 import pathlib
+import re
 from typing import Any
 
 import pfs
 import pytest
-from browser import PEN, looked_at, printed
+from browser import PEN, looked_at, printed, with_script
 from test_py_chart_hands import pages_of
 
 MACHINES = ["saw", "drill", "paint"]
@@ -27,9 +29,9 @@ function now(done) {
     const machine = Math.floor((y - TOP) / ROW), place = machine < machines ? firstAfter(machine, timeAt(x)) : jobs;
     if (x > left && x < width - RIGHT && place < jobs) bars[`${machine} ${place}`] = text;
   }
-  return {bars, key: [...key.children].map(item => item.textContent),
-          colours: [...key.querySelectorAll("span")].map(square => square.style.color),
-          display: getComputedStyle(key).display};
+  return {bars, key: [...places.querySelectorAll("li")].map(item => item.textContent),
+          colours: [...places.querySelectorAll("span")].map(square => square.style.color),
+          display: getComputedStyle(places).display, open: places.open};
 }
 tell({screen: now(() => press("0")), paper: now(() => window.dispatchEvent(new Event("beforeprint"))),
       after: now(() => window.dispatchEvent(new Event("afterprint"))), fills: table.fills});
@@ -49,21 +51,22 @@ def texts_due(made: pfs.Schedule, sign: str) -> dict[str, set[str]]:
 
 @pytest.mark.seconds(5)
 @pytest.mark.parametrize(("names", "sign"), [(NAMES, ""), (["4711", *NAMES[1:]], "#")])
-def test_bars_on_paper_have_names_or_places_of_a_key(chromium: str, tmp_path: pathlib.Path, names: list[str],
+def test_bars_have_names_or_places_of_a_key(chromium: str, tmp_path: pathlib.Path, names: list[str],
                                                      sign: str) -> None:
-    """A place has a sign where names are numbers too."""
+    """A place has a sign where names are numbers too. The key is opened on paper."""
     made = plan(names)
     seen = seen_of(chromium, made, tmp_path)
     bars, due = seen["paper"]["bars"], texts_due(made, sign)
-    assert all(text in due[bar] for bar, text in bars.items())
+    for each in seen["paper"], seen["screen"]:
+        assert all(text in due[bar] for bar, text in each["bars"].items())
     assert [bars[f"{machine} 0"] for machine in range(3)] == [names[0]] * 3, "long bars have names"
     assert {"0 1": f"{sign}2", "1 1": f"{sign}2", "2 2": f"{sign}3"}.items() <= bars.items(), "short bars have places"
     assert "1 4" not in bars, "a bar for which both are too long"
     listed = [f"\u25a0 {sign}{place} {names[job]}" for place, job in enumerate(ORDER, 1)]
     assert seen["paper"]["key"] == listed and len(set(seen["paper"]["colours"])) == len(set(seen["fills"])) == 5
-    for when in ("screen", "after"):
-        assert seen[when]["key"] == [] and seen[when]["display"] == "none"
-        assert set(seen[when]["bars"].values()) <= set(names), "no places on a screen, where one can point at bars"
+    assert {when: (seen[when]["display"], seen[when]["open"]) for when in ("screen", "paper", "after")} == {
+        "screen": ("block", False), "paper": ("block", True), "after": ("block", False)}
+    assert f"{sign}2" in seen["screen"]["bars"].values() and seen["after"] == seen["screen"]
 
 
 @pytest.mark.parametrize("names", [None, ["a", "b", "c", "d", "e"]])
@@ -71,7 +74,7 @@ def test_no_key_without_names_or_where_all_fit(chromium: str, tmp_path: pathlib.
     times = TIMES if names is None else [[100, 100, 100]] * 5
     made = pfs.Instance(times, job_names=names, machine_names=MACHINES).schedule(ORDER)
     seen = seen_of(chromium, made, tmp_path)
-    assert seen["paper"]["key"] == []
+    assert seen["paper"]["key"] == [] and seen["paper"]["display"] == "none"
     assert set(seen["paper"]["bars"].values()) <= {made.instance.job_name(job) for job in range(5)}
 
 
@@ -85,6 +88,64 @@ def test_a_key_is_printed_below_the_chart(chromium: str, tmp_path: pathlib.Path,
     found = pages_of(printed(chromium, tmp_path / "chart.html", tmp_path, 1000))
     assert found == [pytest.approx((842, 595), abs=2)] * len(found)
     assert len(found) == pages, "pages of A4: chart and key"
+
+
+# Paper
+
+# The plan takes six days, after whose first one a day is closed. What is chosen before the page is printed.
+DATES = pfs.Calendar("2026-12-03T06:00", "06:00-10:00", closed="2026-12-04")
+CHOSEN = """
+for (const [name, value] of Object.entries(%s)) {
+  document.getElementById(name).value = value;
+  document.getElementById(name).dispatchEvent(new Event("change"));
+}
+"""
+A4, A3, UPRIGHT = (842, 595), (1191, 842), (595, 842)
+
+
+@pytest.mark.seconds(8)
+@pytest.mark.parametrize(("chosen", "sizes"), [
+    ({}, [A4]), ({"print": "days"}, [A4] * 6), ({"print": "days", "paper": "A3"}, [A3] * 6),
+    ({"listed": "all"}, [A4, UPRIGHT, UPRIGHT, UPRIGHT])])
+def test_what_is_printed(chromium: str, tmp_path: pathlib.Path, chosen: dict[str, str],
+                         sizes: list[tuple[int, int]]) -> None:
+    """A page of what is shown, or one for each day; and one for the list of each machine."""
+    plan().plot(tmp_path / "chart.html", calendar=DATES)
+    page = with_script(tmp_path / "chart.html", tmp_path, CHOSEN % json.dumps(chosen))
+    found = pages_of(printed(chromium, page, tmp_path, 1000))
+    assert found == [pytest.approx(size, abs=2) for size in sizes]
+
+
+def test_the_sheet_of_a_day_has_its_jobs(chromium: str, tmp_path: pathlib.Path) -> None:
+    script = CHOSEN % '{"print": "days"}' + PEN + """
+    press("+");
+    const seen = {before: [from, to]};
+    beginPrint();
+    seen.sheets = [...sheets.children].map(sheet => [sheet.querySelector("h2").textContent,
+      [...sheet.querySelectorAll("li")].map(item => item.textContent), sheet.querySelector("canvas").width]);
+    endPrint();
+    tell({...seen, after: [from, to], left: sheets.children.length});
+    """
+    made = plan()
+    seen = seen_of(chromium, made, tmp_path, script, calendar=DATES)
+    assert seen["before"] == seen["after"] and seen["left"] == 0, "the page is as it was"
+    names = ["Thu 2026-12-03", "Sat 2026-12-05", "Sun 2026-12-06", "Mon 2026-12-07", "Tue 2026-12-08", "Wed 2026-12-09"]
+    assert [name for name, _, _ in seen["sheets"]] == names[:-(-made.makespan // 240)]
+    for day, (_, key, width) in enumerate(seen["sheets"]):
+        seen_jobs = [place for place in range(5) if any(start < 240 * (day + 1) and end > 240 * day for start, end in
+                                                        zip(made.starts[place], made.ends[place]))]
+        assert [int(item.split()[1]) - 1 for item in key] in (seen_jobs, []) and width == 2080
+
+
+def test_the_lists_are_there_without_scripts(tmp_path: pathlib.Path) -> None:
+    """Names are escaped, and nothing hides them but a script."""
+    plan(["<b>", *NAMES[1:]]).plot(tmp_path / "chart.html", calendar=DATES)
+    text = (tmp_path / "chart.html").read_text("utf-8")
+    lists = text[text.index('<div id="lists">'):text.index('<script type="application/json"')]
+    assert lists.count("<table>") == 3 and "<td>&lt;b&gt;<" in lists and "hidden" not in lists
+    rows = re.findall(r"<tr>(?:<td[^>]*>([^<]*))(?:<td[^>]*>([^<]*))(?:<td[^>]*>([^<]*))(?:<td[^>]*>([^<]*))", lists)
+    assert rows[0] == ("1", "&lt;b&gt;", "06:00", "Sat 2026-12-05 08:40")
+    assert '<div id="drawn" hidden>' in text and "<noscript>" in text
 
 
 # Pictures
@@ -142,7 +203,7 @@ def test_names_that_are_wider_than_a_picture_are_cut_in_its_key() -> None:
 
 SOUGHT = PEN + """
 function rows() {
-  return [...lists.querySelectorAll("table")].map(made => ({
+  return [...document.querySelectorAll("table:not([hidden])")].map(made => ({
     caption: made.caption.textContent, heads: [...made.tHead.rows[0].cells].map(cell => cell.textContent),
     scopes: [...made.tHead.rows[0].cells].map(cell => cell.scope),
     rows: [...made.tBodies[0].rows].map(row => [...row.cells].map(cell => cell.textContent))}));
@@ -160,9 +221,11 @@ choice.value = "1";
 choice.dispatchEvent(new Event("change"));
 seen.machine = rows();
 seen.choices = [...choice.options].map(option => option.textContent);
-choice.value = "";
-choice.dispatchEvent(new Event("change"));
-seen.none = rows();
+for (const value of ["all", ""]) {
+  choice.value = value;
+  choice.dispatchEvent(new Event("change"));
+  seen[value || "none"] = rows();
+}
 const status = document.getElementById("found");
 seen.reached = [field, choice].map(each =>
   [each.tabIndex, each.labels.length, each.labels[0].textContent.trim().split(":")[0]]);
@@ -183,8 +246,8 @@ def sought(chromium: str, tmp_path_factory: pytest.TempPathFactory) -> dict[str,
 
 def rows_of(made: pfs.Schedule, job: int) -> list[list[str]]:
     place = made.order.tolist().index(job)
-    return [[machine, f"{start:,}", f"{end:,}"]
-            for machine, start, end in zip(MACHINES, made.starts[place], made.ends[place])]
+    return [[machine, str(start), str(end)]
+            for machine, start, end in zip(MACHINES, made.starts[place], made.ends[place]) if start < end]
 
 
 TOGETHER = pytest.mark.xdist_group("sought jobs")
@@ -216,9 +279,11 @@ def test_a_machine_is_listed(sought: dict[str, Any]) -> None:
     made = plan(SHORT_NAMES)
     [listed] = sought["machine"]
     assert (listed["caption"], listed["heads"]) == ("Machine drill", ["place", "job", "start", "end"])
-    assert listed["rows"] == [[str(place), SHORT_NAMES[job], f"{start:,}", f"{end:,}"] for place, (job, start, end) in
+    assert listed["rows"] == [[str(place), SHORT_NAMES[job], str(start), str(end)] for place, (job, start, end) in
                               enumerate(zip(ORDER, made.starts[:, 1], made.ends[:, 1]), 1)]
-    assert sought["choices"] == ["none", *MACHINES] and sought["none"] == []
+    assert sought["choices"] == ["none", "all", *MACHINES] and sought["none"] == []
+    assert [each["caption"] for each in sought["all"]] == [f"Machine {name}" for name in MACHINES]
+    assert len(sought["all"][2]["rows"]) == 4, "no job that skips the machine"
 
 
 @TOGETHER

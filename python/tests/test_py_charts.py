@@ -169,7 +169,7 @@ def test_a_large_page(chromium: str, tmp_path: pathlib.Path) -> None:
     made = shop.schedule(shop.neh())
     made.plot(tmp_path / "chart.html")
     seen = looked_at(chromium, tmp_path / "chart.html", tmp_path, LOOKING)
-    rows = [f"job {job}\nmachine {machine}\nstart {start:,}\nend {end:,}" for machine in range(20)
+    rows = [f"job {job}\nmachine {machine}\nstart {start}\nend {end}" for machine in range(20)
             for job, start, end in list(zip(made.order, made.starts[:, machine], made.ends[:, machine]))[::50]]
     assert seen["pointed"] == rows
 

@@ -1,8 +1,11 @@
 """`python3 -m pfs search` and `python3 -m pfs plan`."""
 import contextlib
+import csv
+import datetime
 import fcntl
 import hashlib
 import io
+import itertools
 import json
 import os
 import pathlib
@@ -70,7 +73,7 @@ def run(words: list[str], folder: pathlib.Path, status: int = 0, error: str = ""
 
 def without_summary(got: str) -> str:
     """What a plan prints on standard error after the line that says what it read."""
-    return re.sub(r"\A\d+ jobs?, \d+ machines?, times .*\n", "", got)
+    return re.sub(r"\A\d+ jobs?, \d+ machines? \(.*\), times .*\n", "", got)
 
 
 def wait_until(has_come: Callable[[], bool]) -> None:
@@ -465,12 +468,13 @@ def test_the_time_that_is_left_ends_with_the_time_limit(monkeypatch: pytest.Monk
     ([*LONG, "--take", "61"], 3, "pfs: --take must be from 1 to 60, not 61\n"),
     ([*LONG, "--start", "for_nine"], 3, "pfs: for_nine: an order for 9 machines, and the instance has 10\n"),
     ([*LONG, "--start", "two"], 3, "pfs: --start has 2 jobs, but the instance has 60\n"),
-    (["plan", "bad.csv"], 2, "pfs: bad.csv: line 2, column 3: 'x' isn't a time\n"),
+    (["plan", "bad.csv"], 2, "pfs: bad.csv: cell B3, column 'saw': 'x' isn't a time: leave the column out if it is no "
+     "machine, or say which columns are machines (--machines)\npfs: bad.csv: cell C3, column 'drill': '-1' isn't a time\n"),
     (["plan", "good.csv", "--chart", "chart.jpg"], 3,
      "pfs: chart.jpg: the name of a chart ends with .svg, .png, .pdf or .html\n"),
 ])
 def test_what_is_rejected(folder: pathlib.Path, words: list[str], status: int, error: str) -> None:
-    (folder / "bad.csv").write_text("job,saw,drill\ntable,3,x\n")
+    (folder / "bad.csv").write_text("job,saw,drill\n\ntable,x,-1\n")
     (folder / "good.csv").write_text("job,saw,drill\ntable,3,4\n")
     (folder / "for_nine").write_text(plainly.order_file(range(60), 9, 1))
     (folder / "two").write_text("order 2\n1 2\nmakespan 1\n")
@@ -679,6 +683,7 @@ def test_an_order_that_was_changed_by_hand(folder: pathlib.Path) -> None:
              "a list": "\n\n".join(f"{place}. {name}" for place, name in enumerate(listed, 1)),
              "a schedule": "job;machine;start;end\n" + "".join(f'"{name}";saw;0;1\n"{name}";drill;1;2\n'
                                                                for name in listed),
+             "numbered rows of a spreadsheet": "".join(f"{place};{name}\n" for place, name in enumerate(listed, 1)),
              "a spreadsheet's schedule": "\ufeffjob\tmachine\tstart\tend\n"
                                          + "".join(f"{name}\tsaw\t0\t1\n" for name in listed)}
     for what, text in texts.items():
@@ -693,9 +698,9 @@ def test_an_order_that_was_changed_by_hand(folder: pathlib.Path) -> None:
 
 
 @pytest.mark.parametrize(("text", "error"), [
-    ("b\na\nd\n", "line 3, 'd' isn't the name of a job"), ("1 b\n2 b\n3 a\n", "line 2, the job 'b' is in line 1 too"),
-    ("a\n", "line 1, 2 of 3 jobs missing: 'b', '2 c'"), ("", "line 1, 3 of 3 jobs missing: 'a', 'b', '2 c'"),
-    ("\u00e4\nb\nb", "line 1, '\u00e4' isn't the name of a job")])
+    ("1 b\n2 b\n3 a\n", "line 2, the job 'b' is in line 1 too"), ("d\nb\nd\n", "line 3, the job 'd' is in line 1 too"),
+    ("", "line 1, no job of the table is named: write the names of the jobs, one in a line"),
+    ("\u00e4\nc\n", "line 1, no job of the table is named: write the names of the jobs, one in a line")])
 def test_orders_that_are_rejected(folder: pathlib.Path, text: str, error: str) -> None:
     (folder / "times.csv").write_text("job,saw\na,3\nb,2\n2 c,1\n")
     (folder / "order").write_text(text, "utf-8")
@@ -709,6 +714,110 @@ def test_names_that_look_like_places_and_makespans(folder: pathlib.Path) -> None
         (folder / "order").write_text(text)
         lines = run(["plan", "times.csv", "--order", "order"], folder).splitlines()
         assert lines[-4:] == [f"{place} {name}" for place, name in enumerate(names, 1)]
+
+
+# Held jobs, and the order of the day before
+
+def planned(folder: pathlib.Path, words: str) -> tuple[list[str], int, str]:
+    """The names of the jobs of a plan in their order, its makespan in tenths, and what it says on standard error."""
+    (folder / "times.csv").write_text(TABLE)
+    status, out, got = ended(["plan", "times.csv", *words.split()], folder)
+    assert status == 0, got
+    names = [line.split(" ", 1)[1] for line in out.splitlines() if line[0].isdigit()]
+    return names, round(10 * float(out.split()[1])), got
+
+
+def test_jobs_that_are_held(folder: pathlib.Path) -> None:
+    """The search finds the best of the orders that begin with them."""
+    times = {"table": [30, 25, 40], "chair": [20, 50, 15], "shelf; oak": [40, 10, 20], "box": [10, 10, 60]}
+    rows = list(times.values())
+
+    def shortest(*first: str) -> int:
+        return min(plainly.makespan(rows, order) for order in itertools.permutations(range(4))
+                   if [list(times)[job] for job in order][:len(first)] == list(first))
+
+    assert shortest("chair") > shortest() and shortest("table", "chair") > shortest("table")
+    for first in (["chair"], ["table", "chair"]):
+        names, makespan, got = planned(folder, " ".join(f"--first {name}" for name in first))
+        assert (names[:len(first)], makespan, got) == (first, shortest(*first), "")
+    (folder / "order").write_text("table\nbox\nchair\nshelf; oak\n")
+    assert planned(folder, "--order order --hold 1")[:2][1] == shortest("table")
+    names, makespan, _ = planned(folder, "--order order --hold 1 --first chair")
+    assert (names[:2], makespan) == (["chair", "table"], shortest("chair", "table"))
+    assert planned(folder, "--order order --hold 9")[0] == ["table", "box", "chair", "shelf; oak"]
+
+
+def test_the_order_of_the_day_before(folder: pathlib.Path) -> None:
+    """Jobs that are done are left out, and new ones are inserted at their best places; with --keep, and in a search
+    with it, nothing else moves."""
+    (folder / "order").write_text("done before\nchair\nbox\n")
+    note = ("order: left out, as the table has no such jobs: done before\n"
+            "order: new, and inserted at their best places: table, shelf; oak\n")
+    rows, best = [[30, 25, 40], [20, 50, 15], [40, 10, 20], [10, 10, 60]], [1, 3]
+    for job in (0, 2):
+        place = min(range(len(best) + 1), key=lambda at: plainly.makespan(rows, [*best[:at], job, *best[at:]]))
+        best.insert(place, job)
+    names = ["table", "chair", "shelf; oak", "box"]
+    assert planned(folder, "--order order") == ([names[job] for job in best], plainly.makespan(rows, best), note)
+    kept, makespan, got = planned(folder, "--order order --keep")
+    orders = [order for order in itertools.permutations(range(4)) if order.index(1) < order.index(3)]
+    assert makespan == min(plainly.makespan(rows, order) for order in orders) and got == note
+    assert kept.index("chair") < kept.index("box")
+    (folder / "order").write_text("\n".join(names))
+    assert planned(folder, "--order order --keep --rounds 100")[0] == names, "there is no new job to move"
+    assert planned(folder, "--order times.csv")[0] == names, "the table itself is an order"
+
+
+def test_another_order_is_compared(folder: pathlib.Path) -> None:
+    rows = [[30, 25, 40], [20, 50, 15], [40, 10, 20], [10, 10, 60]]
+    (folder / "order").write_text("table\nchair\nshelf; oak\nbox\n")
+    (folder / "other").write_text("box\ntable\nchair\nshelf; oak\n")
+    ends = [f"makespan {hours} h, end {datetime.datetime(2026, 11, 30, 6) + datetime.timedelta(hours=hours):%Y-%m-%d %H:%M}"
+            for hours in (plainly.makespan(rows, order) / 10 for order in ([3, 0, 1, 2], [0, 1, 2, 3]))]
+    got = planned(folder, "--order order --compare other --begin 2026-11-30T06:00")[2]
+    assert got == f"other: {ends[0]}; the plan: {ends[1]}\nother: moved: box (place 1 to 4)\n"
+    (folder / "other").write_text("done\nbox\ntable\nchair\n")
+    assert planned(folder, "--order order --compare other")[2] == (
+        "other: not in the plan: done\nother: new in the plan: shelf; oak\nother: moved: box (place 1 to 4)\n")
+
+
+@pytest.mark.parametrize(("words", "error"), [
+    (["--hold", "1"], "--hold needs --order, which says where the jobs are"),
+    (["--keep"], "--keep needs --order, which says where the jobs are"),
+    (["--first", "lamp"], "--first: 'lamp' isn't the name of a job of the table"),
+    (["--schedule", "times.csv"], "times.csv is read, and writing would replace it: name another file"),
+    (["--schedule", "./link.csv"], "./link.csv is read, and writing would replace it: name another file"),
+    (["--order", "order.html", "--chart", "order.html"], "order.html is read, and writing would replace it: name another "
+     "file"),
+    (["--compare", "order.html", "--chart", "order.html"], "order.html is read, and writing would replace it: name "
+     "another file"),
+    (["--schedule", "out.ods"], "out.ods: the name of a schedule ends with .csv or .xlsx"),
+    (["--schedule", "out.html"], "out.html: the name of a schedule ends with .csv or .xlsx"),
+])
+def test_plans_that_are_refused_before_the_search(folder: pathlib.Path, monkeypatch: pytest.MonkeyPatch,
+                                                  words: list[str], error: str) -> None:
+    """No file changes."""
+    monkeypatch.setattr(_commands, "searched", None)
+    (folder / "times.csv").write_text(TABLE)
+    (folder / "link.csv").symlink_to("times.csv")
+    (folder / "order.html").write_text("table\n")
+    before = {path: path.read_bytes() for path in folder.iterdir()}
+    assert run(["plan", "times.csv", *words], folder, 3, f"pfs: {error}\n") == ""
+    assert {path: path.read_bytes() for path in folder.iterdir()} == before
+
+
+def test_a_workbook_is_planned(folder: pathlib.Path) -> None:
+    """From its table to its schedule, which is an order too."""
+    openpyxl = pytest.importorskip("openpyxl")
+    book = openpyxl.Workbook()
+    for row in csv.reader(TABLE.replace(",", ".").splitlines(), delimiter=";"):
+        book.active.append([float(cell) if cell[0].isdigit() else cell for cell in row])
+    book.save(folder / "times.xlsx")
+    words = ["plan", "times.xlsx", "--schedule", "out.xlsx"]
+    printed = run(words, folder)
+    assert printed == run(["plan", "times.xlsx", "--order", "out.xlsx"], folder)
+    (folder / "times.csv").write_text(TABLE)
+    assert printed == run(["plan", "times.csv"], folder)
 
 
 @pytest.mark.parametrize(("options", "error"), [
@@ -819,8 +928,10 @@ def test_names_that_a_terminal_would_take_for_commands(folder: pathlib.Path) -> 
     assert {line[2:] for line in lines[3:]} == {"chair\\x1b[2J", "two\\nlines", "\\x9b5m", "\\u202eab", "M\xfcller"}
     words = ["plan", "\x1b[2J.csv", "--rounds", "0"]
     run(words, folder, 4, "pfs: [Errno 2] No such file or directory: '\\x1b[2J.csv'\n")
-    (folder / "\x1b[2J.csv").write_text("job,saw\na,x\n")
-    run(words, folder, 2, "pfs: \\x1b[2J.csv: line 2, column 2: 'x' isn't a time\n")
+    (folder / "\x1b[2J.csv").write_text("job,saw\na,-1\n")
+    run(words, folder, 2, "pfs: \\x1b[2J.csv: cell B2, column 'saw': '-1' isn't a time\n")
+    (folder / "a\nb.csv").write_text("job,saw\na,-1\n")
+    run(["plan", "a\nb.csv"], folder, 2, "pfs: a\\nb.csv: cell B2, column 'saw': '-1' isn't a time\n")
 
 
 @pytest.mark.parametrize("words", [["plan", "x.csv", "--\x1b[2J"], ["plan", "x.csv", "\x1b[2J"], ["\x1b[2J"],
@@ -837,7 +948,7 @@ def test_names_that_standard_output_has_no_letters_for(folder: pathlib.Path) -> 
     (folder / "times.csv").write_text("job,saw\nM\xfcller,3\n", "utf-8")
     child = start(["plan", "times.csv"], folder, environment() | {"PYTHONIOENCODING": "ascii"})
     printed, got = child.communicate(timeout=60)
-    assert (child.returncode, got) == (0, b"1 job, 1 machine, times without a unit\n")
+    assert (child.returncode, got) == (0, b"1 job, 1 machine (saw), times without a unit\n")
     assert printed.splitlines()[-1] == b"1 M\\xfcller"
 
 
@@ -862,7 +973,7 @@ def test_a_plan_that_is_interrupted(folder: pathlib.Path) -> None:
     time.sleep(0.5)
     child.send_signal(signal.SIGTERM)
     printed, got = child.communicate(timeout=30)
-    assert (child.returncode, got) == (128 + signal.SIGTERM, b"60 jobs, 10 machines, times without a unit\n")
+    assert (child.returncode, without_summary(got.decode())) == (128 + signal.SIGTERM, "")
     order = [int(job) for job in re.findall(r"^\d+ job (\d+)$", printed.decode(), re.MULTILINE)]
     assert sorted(order) == list(range(60))
     assert printed.decode().startswith(f"makespan {pfs.generate(60, 10, 4).makespan(order)}\n")

@@ -58,19 +58,21 @@ def test_the_version_is_printed(tmp_path: pathlib.Path, capsys: pytest.CaptureFi
 
 # A table that is rejected, options, and what is said of it: with options, where the package for Python has arguments.
 MESSAGES = [
-    ("job;saw\na;1.000\n", [], 2, "line 2, column 2: '1.000' may be 1000, or have decimals: leave out thousands "
+    ("job;saw\na;1.000\n", [], 2, "cell B2, column 'saw': '1.000' may be 1000, or have decimals: leave out thousands "
      "separators, or say which decimal sign the table has (--decimal point or --decimal comma)"),
-    ("job;saw;drill\na;1;2\nb;3;4\nc;4;6\n", [], 2, "line 4, the row 'c' has the sums of the rows above: leave it out, "
+    ("job;saw;drill\na;1;2\nb;3;4\nc;4;6\n", [], 2, "cell A4: the row 'c' has the sums of the rows above: leave it out, "
      "or allow totals (--allow-totals)"),
-    ("job;saw;drill;all\na;1;2;3\nb;3;4;7\n", [], 2, "line 1, column 4: the column 'all' has the sums of the columns "
+    ("job;saw;drill;all\na;1;2;3\nb;3;4;7\n", [], 2, "cell D1: the column 'all' has the sums of the columns "
      "before: leave it out, or allow totals (--allow-totals)"),
     ("job [min];saw\na;1\n", ["--unit", "h"], 2,
-     "line 1, column 1: the times are in min, and --unit is h: use one unit"),
+     "cell A1: the times are in min, and --unit is h: use one unit"),
     ("job;saw [min]\na;1\n", ["--unit", "h"], 2,
-     "line 1, column 2: the times of the machine are in min, and --unit is h: use one unit"),
-    ("job [min];saw\na;1:30\n", [], 2, "line 1, column 1: times such as 1:30 may be hours and minutes, or minutes and "
+     "cell B1: the times of 'saw' are in min, and --unit is h: use one unit"),
+    ("job [min];saw\na;1:30\n", [], 2, "cell A1: times such as 1:30 may be hours and minutes, or minutes and "
      "seconds: write [h:mm] instead of min, or numbers"),
-    ("a;1;2\nb;20;5\n", [], 2, "line 1, column 2: the names of the machines are numbers, as if the row of names were "
+    ("job;saw;eta\na;1;soon\n", [], 2, "cell C2, column 'eta': 'soon' isn't a time: leave the column out if it is no "
+     "machine, or say which columns are machines (--machines)"),
+    ("a;1;2\nb;20;5\n", [], 2, "cell B1: the names of the machines are numbers, as if the row of names were "
      "missing: add it, or write `job` into the first cell of the table"),
 ]
 
@@ -90,7 +92,7 @@ def test_what_the_messages_propose_is_taken(tmp_path: pathlib.Path, monkeypatch:
     proposed: dict[str, list[str]] = {
         "job;saw\na;1.000\n": ["--decimal", "comma"], "job [min];saw\na;1\n": ["--unit", "minutes"],
         "job;saw;drill\na;1;2\nb;3;4\nc;4;6\n": ["--allow-totals"], "job [h:mm];saw\na;1:30\n": [],
-        "job;1;2\nb;20;5\n": [],
+        "job;1;2\nb;20;5\n": [], "job;saw;eta\na;1;soon\n": ["--machines", "saw"],
     }
     for table, words in proposed.items():
         (tmp_path / "times.csv").write_text(table)

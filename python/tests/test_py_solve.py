@@ -675,3 +675,78 @@ def test_a_solution_of_another_instance_is_rejected() -> None:
             call()
     assert other.solve(0, start=best.order).order.tolist() == best.order.tolist()
     assert other.solve(0, start=pfs.Solution(best.order, 1)).order.tolist() == best.order.tolist()
+
+
+# Searches that hold jobs
+
+@st.composite
+def held_searches(draw: st.DrawFn) -> tuple[plainly.Table, list[int], list[int], list[int]]:
+    """Times, an order, jobs that are held, and jobs that move."""
+    times, order = draw(plainly.shops_and_orders())
+    jobs = st.lists(st.sampled_from(range(len(times))), unique=True)
+    return times, order, draw(jobs), draw(jobs)
+
+
+@given(held_searches(), st.integers(0, 2), st.integers(1, 6), st.integers(0, 2**64 - 1))
+def test_held_jobs_stay_where_they_are(case: tuple[plainly.Table, list[int], list[int], list[int]], passes: int,
+                                       take: int, seed: int) -> None:
+    """The first ones keep their places and those that don't move their order, and no makespan is above the start's."""
+    times, order, hold, move = case
+    shop = pfs.Instance(times)
+    words: dict[str, Any] = {"take": min(take, shop.jobs), "passes": passes, "seed": seed, "start": order}
+    start = [*hold, *(job for job in order if job not in hold)]
+    for moved in (move, None):
+        found = shop.solve(5, **words, hold=hold, move=moved)
+        jobs = found.order.tolist()
+        assert jobs[:len(hold)] == hold and sorted(jobs) == list(range(shop.jobs))
+        assert found.makespan == plainly.makespan(times, jobs) <= plainly.makespan(times, start)
+        if moved is not None:
+            stay = [job for job in start if job in hold or job not in moved]
+            assert [job for job in jobs if job in stay] == stay
+        begun = shop.solve(0, **words, hold=hold, move=moved)
+        assert not hold and moved is None or begun.order.tolist() == start
+
+
+@given(plainly.shops())
+def test_without_a_start_the_others_are_inserted_as_neh_does(times: plainly.Table) -> None:
+    shop = pfs.Instance(times)
+    order = [0]
+    for job in sorted(range(1, shop.jobs), key=lambda job: -sum(times[job])):
+        spans = [plainly.makespan(times, [*order[:at], job, *order[at:]]) for at in range(1, len(order) + 1)]
+        order.insert(1 + spans.index(min(spans)), job)
+    assert shop.solve(0, hold=[0]).order.tolist() == order
+
+
+def test_a_search_that_holds_jobs_is_continued() -> None:
+    """After an interruption, and in parts of any length."""
+    shop = pfs.generate(50, 10, 4)
+    whole = shop.solve(60, hold=[3, 1])
+    assert whole.makespan < shop.solve(0, hold=[3, 1]).makespan
+
+    def interrupt(rounds: int, makespan: int) -> None:
+        if rounds >= 20:
+            raise KeyboardInterrupt
+
+    with pytest.raises(pfs.Interrupted) as stop:
+        shop.solve(60, hold=[3, 1], progress=interrupt)
+    half = stop.value.solution
+    assert 20 <= half.rounds < 60
+    rest = shop.solve(60 - half.rounds, hold=[3, 1], start=half, first=half.rounds)
+    assert (rest.order.tolist(), rest.rounds) == (whole.order.tolist(), 60)
+    assert shop.solve(60, hold=[3, 1], target=whole.makespan).makespan == whole.makespan
+
+
+@pytest.mark.parametrize(("words", "kind", "why"), [
+    ({"hold": [1, 1]}, ValueError, "hold: job 1 occurs twice, at places 0 and 1"),
+    ({"hold": [3]}, ValueError, "hold: 3 at place 0 isn't a job: jobs are 0 to 2"),
+    ({"move": [3]}, ValueError, "move: 3 at place 0 isn't a job: jobs are 0 to 2"),
+    ({"hold": ["d"]}, ValueError, "hold: 'd' at place 0 isn't the name of a job"),
+    ({"hold": 1}, ValueError, "hold must be a list of jobs, not of the shape ()"),
+    ({"move": [0.5]}, ValueError, "move: 0.5 at place 0 isn't a whole number"),
+])
+def test_held_jobs_that_are_rejected(words: dict[str, Any], kind: type[Exception], why: str) -> None:
+    shop = pfs.Instance([[3, 2], [2, 5], [4, 1]], job_names=["a", "b", "c"])
+    with pytest.raises(kind) as fault:
+        shop.solve(10, **words)
+    assert str(fault.value) == why
+    assert shop.solve(10, hold=["c", "a"]).order.tolist() == [2, 0, 1], "names are jobs too"

@@ -340,7 +340,7 @@ FAULTS: list[BaseException] = [
 def test_a_copy_of_an_exception_has_each_attribute(fault: BaseException, how: str) -> None:
     other = COPIES[how](fault)
     assert (type(other), str(other), vars(other)) == (type(fault), str(fault), vars(fault))
-    assert len(vars(fault)) == {"FileFault": 8, "OrderFault": 5, "TableFault": 7, "Interrupted": 1}[
+    assert len(vars(fault)) == {"FileFault": 8, "OrderFault": 5, "TableFault": 9, "Interrupted": 1}[
         type(fault).__name__]
 
 

@@ -173,7 +173,7 @@ class Experiment(NamedTuple):
         """How often each run's search was started."""
         started = [(*line.split()[2:7:2], line.split()[-1]) for line in self.started()]
         runs = [line.split("\t") for line in (self.runs / "runs.tsv").read_text().splitlines()]
-        return {run[0]: started.count((run[4], run[6], run[7], run[1])) for run in runs}
+        return {run[0]: started.count((run[4], run[7], run[8], run[1])) for run in runs}
 
     def done(self) -> set[str]:
         """The numbers of the runs that have a whole result."""

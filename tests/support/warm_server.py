@@ -1,6 +1,6 @@
-"""Imports matplotlib, pandas and SciPy, and then runs scripts, each in a copy of this process (a fork). warm.py starts it and
-writes a line for each script: a list of the script and its arguments, its folder, and the files that are its standard
-streams. It prints the exit status of each."""
+"""Imports matplotlib, pandas and SciPy, and then runs scripts, each in a copy of this process (a fork). warm.py starts
+it and writes a line for each script: a list of the script and its arguments, its folder, and the files that are its
+standard streams. It prints the exit status of each."""
 import contextlib
 import gc
 import importlib

@@ -22,6 +22,8 @@ from pfs._validate import checked_int
 COLUMNS = {"instance": ("instance", "problem"), "makespan": ("makespan", "cmax"),
            "order": ("order", "sequence", "permutation"), "method": ("method", "algorithm"), "block": ("block",)}
 NEEDED = ("instance", "makespan", "order")
+# The most hints at the cause of a wrong makespan.
+MOST_HINTS = 3
 LAYOUTS = (*c.LAYOUTS, "matrix")
 # A job's number, perhaps with letters before it.
 JOB = re.compile(r"([A-Za-z]*_?)([0-9]{1,9})")
@@ -284,17 +286,19 @@ class Given(NamedTuple):
                 raise self.fault(at, "", f"{len(cells)} cells for {len(self.head)} columns: quote an order that "
                                          "contains the separator")
             cells += [""] * (len(self.head) - len(cells))
-            instance, method, block = (text_in(cells[places[role]]) if role in places else ""
-                                       for role in ("instance", "method", "block"))
-            stated = WHOLE.fullmatch(text_in(cells[places["makespan"]]))
-            if not stated:
-                raise self.fault(at, self.head[places["makespan"]],
-                                 f"{text_in(cells[places['makespan']])[:40]!r} isn't a makespan: a whole number")
+            texts = {role: text_in(cells[place]) for role, place in places.items() if role != "order"}
+            numbers = {role: WHOLE.fullmatch(texts[role]) for role in ("makespan", "block") if role in texts}
+            for role, match in numbers.items():
+                if match is None and (role == "makespan" or texts[role]):
+                    text = f"{texts[role][:40]!r} isn't a {role}: a whole number"
+                    raise self.fault(at, self.head[places[role]], text)
+            stated, block = (match[1] if match else "" for match in (numbers["makespan"], numbers.get("block")))
             try:
-                shop = shelf.get(instance, block)
+                shop = shelf.get(texts["instance"], block)
             except LookupError as error:
                 raise self.fault(at, self.head[places["instance"]], str(error.args[0])) from None
-            yield Row(at, instance, method, int(stated[1]), numbers_in(cells[places["order"]]), shop)
+            order = numbers_in(cells[places["order"]])
+            yield Row(at, texts["instance"], texts.get("method", ""), int(stated), order, shop)
 
     def first_job(self, method: str, rows: list[Row]) -> int:
         """Return the number of the first job in most orders of a method."""
@@ -313,7 +317,8 @@ def role_of(name: str) -> str:
 
 
 def text_in(cell: Any) -> str:
-    return str(cell).strip()
+    """Return the text of a cell, which is empty for a missing value."""
+    return "" if cell is None or cell != cell else str(cell).strip()
 
 
 def numbers_in(cell: Any) -> list[int] | str:
@@ -362,7 +367,7 @@ class Others:
             found.append(f"the reversed order takes {row.stated}")
         found += [f"{name} is stated to take {row.stated}" for name, shop in
                   self.stated[(row.stated, *row.shop.times.shape)].items() if shop is not row.shop]
-        return found
+        return found[:MOST_HINTS]
 
 
 def audited(row: Row, first: int, others: Others) -> Audited:

@@ -127,7 +127,7 @@ class Calendar:
         """When this working time is over: after a shift its end, and not the start of the next one."""
         return self._within(worked, True)
 
-    def breaks(self, end: int) -> Iterator[tuple[int, str]]:
+    def _breaks(self, end: int) -> Iterator[tuple[int, str]]:
         """Return the working times before `end` at which a shift or a day begins, each with the day if it is the first
         of its date: `Mon 2026-11-30`."""
         worked, number, before = 0, 0, ""
@@ -177,7 +177,7 @@ class Clock:
     def breaks(self, end: int) -> list[tuple[float, str]]:
         """The times up to `end` at which a shift or a day begins, with the day; none if there are too many for a
         chart."""
-        found = list(islice(self.calendar.breaks(self.worked(end)), MOST_BREAKS + 1))
+        found = list(islice(self.calendar._breaks(self.worked(end)), MOST_BREAKS + 1))
         return [] if len(found) > MOST_BREAKS else [(at * self.scale / self.tick, day) for at, day in found]
 
     def steps(self) -> list[float]:

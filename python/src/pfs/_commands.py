@@ -445,8 +445,10 @@ def main(line: list[str], parser: argparse.ArgumentParser | None = None) -> int:
             raise OSError("standard output is closed")
         status: Any = given.run(given)
         return int(status)
-    except (TableFault, StateFault) as fault:
-        return report("\n".join(map(line_of, str(fault).split("\n"))), REFUSED)
+    except TableFault as fault:
+        return report("\n".join(map(line_of, fault.messages())), REFUSED)
+    except StateFault as fault:
+        return report(line_of(fault), REFUSED)
     except Fault as fault:
         return report(fault.text, REFUSED)
     except ValueError as fault:

@@ -317,10 +317,11 @@ def draw_key(figure: Figure, table: Table, look: Look, fills: list[Colour]) -> N
 
 def draw_breaks(axis: Axis, look: Look) -> None:
     """Draw a line where a day begins, and a thin one where another shift does."""
-    for wide, style, times in ((0.9, "-", [at for at, day in look.breaks if at and day]),
-                               (0.6, ":", [at for at, day in look.breaks if at and not day])):
-        axis.vlines(times, 0, 1, transform=axis.get_xaxis_transform(), color="black", linewidth=wide, linestyle=style,
-                    zorder=2.5, gid="days" if style == "-" else "shifts")
+    for name, wide, style in (("days", 0.9, "-"), ("shifts", 0.6, ":")):
+        times = [at for at, day in look.breaks if at and bool(day) == (name == "days")]
+        if times:
+            axis.vlines(times, 0, 1, transform=axis.get_xaxis_transform(), color="black", linewidth=wide,
+                        linestyle=style, zorder=2.5, gid=name)
 
 
 def draw_bound(axis: Axis, bound: int) -> None:

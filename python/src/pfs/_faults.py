@@ -114,13 +114,16 @@ class TableFault(Fault):
         self.text = text
         self.head = head
         self.others = others
-        ValueError.__init__(self, "\n".join(
-            [self.message, *(other.message for other in others[:MOST_FAULTS])]
-            + [f"{path}: and {len(others) - MOST_FAULTS} more"] * (len(others) > MOST_FAULTS)))
+        ValueError.__init__(self, "\n".join(self.messages()))
 
-    @property
-    def message(self) -> str:
-        """The line that says where the first fault is and what it is."""
+    def messages(self) -> list[str]:
+        """Return a line for each fault, up to a number of them."""
+        rest = len(self.others) - MOST_FAULTS
+        return [self._message(), *(other._message() for other in self.others[:MOST_FAULTS])] + (
+            [f"{self.path}: and {rest} more"] if rest > 0 else [])
+
+    def _message(self) -> str:
+        """Return the line that says where the first fault is and what it is."""
         place = f"line {self.line}, " if not self.column else f"cell {cell_name(self.line, self.column)}"
         place += f", column {self.head!r}: " if self.head else ": " if self.column else ""
         return f"{self.path}: {place}{self.text}"

@@ -51,7 +51,7 @@ def command_line() -> CommandLine:
     taillard = add("taillard", "Writes the 120 instances of Taillard into a folder.", "stage")
     taillard.add_argument("folder", metavar="FOLDER", type=pathlib.Path)
     run = add("run", "Makes the runs of a plan with GNU parallel, which gets the further options.", allow_abbrev=False)
-    slurm = add("slurm", "Makes the runs of a plan on a Slurm cluster, as one array job; sbatch gets the further options.",
+    slurm = add("slurm", "Makes the runs of a plan on a Slurm cluster, as one array; sbatch gets the further options.",
                 allow_abbrev=False)
     for starter in (run, slurm):
         starter.add_argument("--retry", action="store_true", help="repeat the runs that failed")
@@ -61,7 +61,7 @@ def command_line() -> CommandLine:
     slurm.add_argument("--tasks", metavar="N", type=number("[0-9]{1,9}", 1, 10 ** 9, "a whole number from 1"),
                        help="the most tasks of the array")
     slurm.add_argument("--dry-run", action="store_true", help="print the call of sbatch")
-    status = add("status", "Writes the CSV of the runs that have ended so far, while the others go on.", "run")
+    status = add("status", "Writes the CSV of the runs that have ended so far, while the others continue.", "run")
     status.add_argument("csv", metavar="CSV")
     check = add("check", "Audits the orders of a CSV again.", "run")
     check.add_argument("csv", metavar="CSV")

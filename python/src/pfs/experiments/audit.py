@@ -25,6 +25,8 @@ def audit(args: argparse.Namespace) -> int:
         found = audited(args.table, args.instances or (), layout=args.layout, first=args.first)
     except ValueError as error:
         raise ExperimentError(str(error)) from None
+    if args.csv and os.path.exists(args.csv) and os.path.samefile(args.csv, args.table):
+        raise ExperimentError(f"{args.csv} is the table: name another file for the verdicts")
     if args.csv:
         atomic_write(args.csv, csv_of(found).encode(errors="backslashreplace"))
     for row in found:

@@ -3,10 +3,10 @@
 the program `pfs`, audits the order, and prints the order file, and then one line of CSV: the run's number, makespan,
 bound, cells, processor seconds of the search, `ok` or an error, the rounds of a search by time, and how many processes
 a command has left. Without an order it prints only this line. The exit status is 0 even if the search or the audit
-fails. ROUNDS is `time-FACTOR-SECONDS` for a search by time, with the library. If the folder has the file
-`command.json`, its command is the search.
+fails. A search by time, which is made with the library, has SECONDS and no ROUNDS; what a run doesn't have is a hyphen.
+If the folder has the file `command.json`, its command is the search.
 
-usage: one NUMBER FILE LAYOUT BLOCK ROUNDS TAKE PASSES SEED"""
+usage: one NUMBER FILE LAYOUT BLOCK ROUNDS SECONDS TAKE PASSES SEED"""
 from __future__ import annotations
 
 import contextlib
@@ -184,7 +184,8 @@ def by_command(words: list[str], instance: list[str], seconds: str, seed: str) -
             values["instance"] = shutil.copyfile(os.path.join(HERE, instance[-1]), os.path.join(own, "instance"))
             os.chmod(values["instance"], 0o444)
             words = [re.sub(r"\{(\w+)\}", lambda name: values[str(name[1])], word) for word in words]
-            text, spent, left = run_command(words, os.path.join(HERE, "files"), float(seconds) if seconds else None)
+            text, spent, left = run_command(words, os.path.join(HERE, "files"),
+                                            None if seconds == "-" else float(seconds))
         order, jobs = order_of(text)
     except Failed as failure:
         raise Failed(f"command: {failure}") from None
@@ -283,14 +284,13 @@ def kill_descendants() -> int:
 
 # The run
 
-def find(instance: list[str], rounds: str, take: str, passes: str, seed: str) -> Found:
+def find(instance: list[str], rounds: str, seconds: str, take: str, passes: str, seed: str) -> Found:
     """Searches with the command, by time, or by rounds."""
-    seconds = rounds.rpartition("-")[2] if rounds.startswith("time-") else ""
     command = os.path.join(HERE, "command.json")
     if os.path.exists(command):
         with open(command, encoding="utf-8") as file:
             return by_command(json.load(file), instance, seconds, seed)
-    if seconds:
+    if seconds != "-":
         return by_time(instance, seconds, take, passes, seed)
     return by_rounds(instance, rounds, take, passes, seed)
 

@@ -2,13 +2,13 @@
 and of runs, as they are read without pandas."""
 from __future__ import annotations
 
-import contextlib
 import csv
 import glob
 import importlib
 import os
 import re
 import shlex
+import sys
 from collections.abc import Iterable
 from typing import Any
 
@@ -24,7 +24,6 @@ KEYS = {*NUMBERS, *TEXTS, "layout", "instances", "repetitions", "time_factors", 
 # Keys that a plan with a command can't have.
 OF_PFS = ("rounds", "takes", "passes")
 LEAST_FACTOR, MOST_FACTOR = 0.001, 10_000
-MOST_BYTES = 1_048_576
 # The greatest makespan that an order file can state.
 MOST_MAKESPAN = 10 ** 18 - 1
 
@@ -33,18 +32,10 @@ Row = dict[str, str]
 
 def parse_toml(path: str) -> dict[str, Any]:
     """Returns the keys and values of a TOML file."""
-    toml: Any = None
-    for name in ("tomllib", "tomli"):
-        with contextlib.suppress(ImportError):
-            toml = toml or importlib.import_module(name)
-    if toml is None:
-        raise ExperimentError("a plan needs Python 3.11 or newer, or tomli (Debian: python3-tomli)")
+    toml: Any = importlib.import_module("tomllib" if sys.version_info >= (3, 11) else "tomli")
     try:
         with open(path, "rb") as file:
-            text = file.read(MOST_BYTES + 1)
-        if len(text) > MOST_BYTES:
-            raise ExperimentError(f"{path}: a plan has at most {MOST_BYTES:,} bytes")
-        plan: dict[str, Any] = toml.loads(text.decode())
+            plan: dict[str, Any] = toml.load(file)
     except ValueError as error:
         raise ExperimentError(f"{path}: {error}") from None
     except RecursionError:

@@ -222,7 +222,8 @@ def table_of(runs: pd.DataFrame) -> pd.DataFrame:
 def write_sizes(shared: pd.DataFrame, folder: pathlib.Path, note: str) -> None:
     """Writes the mean RPD with a row for each size and a column for each setting, and the means of the columns."""
     means = shared.pivot_table(index=["jobs", "machines"], columns=SETTING, values="rpd")
-    rows = [[size_name(size), *(cell("rpd", value) for value in row)] for size, row in zip(means.index, means.to_numpy())]
+    rows = [[size_name(size), *(cell("rpd", value) for value in row)]
+            for size, row in zip(means.index, means.to_numpy())]
     rows.append(["mean", *(cell("rpd", value) for value in means.mean())])
     heads = ["jobs×machines", *setting_names(list(means.columns))]
     write_text(folder / "sizes.csv", csv_of([heads, *rows]))

@@ -18,7 +18,7 @@ from types import FrameType
 from pfs._atomic import FORMULA, text_cell
 from pfs.experiments import ExperimentError, one, plain, stage
 from pfs.experiments.plan import Row, reference_for, rows_of
-from pfs.experiments.stage import Experiment, prepare, require_program, stage_of, time_of, write_text
+from pfs.experiments.stage import Experiment, prepare, require_program, stage_of, write_text
 
 COLUMNS = ["instance", "jobs", "machines", "rounds", "take", "passes", "seed", "repetition",
            "makespan", "bound", "gap_percent", "cells", "seconds", "status", "order", "reference", "source"]
@@ -48,7 +48,8 @@ def run(args: argparse.Namespace) -> int:
              "--results", "results/{1}"]
     words += ["--bar"] if sys.stderr.isatty() else []
     words += ["--sshloginfile", machines, "--basefile", experiment.stage] if machines else []
-    parallel(experiment.folder, [*words, *args.options, f"{experiment.stage}/one", *(f"{{{at}}}" for at in range(1, 9))])
+    words += [*args.options, f"{experiment.stage}/one", *(f"{{{at}}}" for at in range(1, 10))]
+    parallel(experiment.folder, words)
     failed, left = gather(experiment, args.csv)
     if machines and left == 0:
         subprocess.run(["parallel", "--plain", "--will-cite", "--sshloginfile", machines, "--nonall",
@@ -117,7 +118,7 @@ def endings(folder: pathlib.Path) -> Row:
     for log in sorted((folder / "slurm").glob("*.log"), key=lambda path: path.stat().st_mtime_ns):
         text = log.read_bytes().decode(errors="replace")
         last = re.findall(r"^run ([0-9]+)$", text, re.MULTILINE | re.ASCII)
-        errors = re.findall(r"^slurmstepd: error: (.*)", text, re.MULTILINE)
+        errors = re.findall(r"^slurmstepd\S*: error: (.*)", text, re.MULTILINE)
         if last and errors:
             found[last[-1]] = f"lost: {errors[0]}"
     return found
@@ -130,16 +131,8 @@ def path_cell(path: str) -> str:
     return f"./{path}" if FORMULA.match(path) else path
 
 
-def identity(run: Row) -> Row:
-    """Returns the columns of a row that are known before the run. Unknown values are empty."""
-    known = {column: value for column, value in run.items() if value != "-" or column == "instance"}
-    by_time = time_of(run)
-    times = {"rounds": "", "time_factor": by_time[0]} if by_time else {"time_factor": ""}
-    return known | times | {"instance": path_cell(run["instance"])}
-
-
 def status(args: argparse.Namespace) -> int:
-    """Writes the CSV of the runs that have ended so far, while the others go on."""
+    """Writes the CSV of the runs that have ended so far, while the others continue."""
     return 1 if any(gather(stage.started(args.csv), args.csv)) else 0
 
 
@@ -163,7 +156,7 @@ def write_csv(experiment: Experiment, csv_path: str) -> tuple[int, int]:
         result = result_of(folder, run["number"]) or {"status": ended.get(run["number"], "")}
         if not result["status"]:
             continue
-        row = {**identity(run), **result, "status": text_cell(result["status"])}
+        row = {**run, **result, "instance": path_cell(run["instance"]), "status": text_cell(result["status"])}
         if result.get("order"):
             name = order_name(row, run["number"])
             if not (orders / name).exists() or (orders / name).read_bytes() != result["order"].encode():
@@ -209,9 +202,9 @@ def order_name(row: Row, number: str) -> str:
     """Returns the name of a run's order file. It has the number of the run, as instances in several folders may have
     the same name."""
     file = os.path.basename(row["instance"]).encode()[:100].decode(errors="ignore").replace(":", "-block-")
-    known = {**row, "time": row["time_factor"], "rounds": "" if row["time_factor"] else row.get("rounds", "")}
+    known = {**row, "time": row["time_factor"], "rounds": "" if row["time_factor"] else row["rounds"]}
     parts = [f"{column}-{known[column]}" for column in ("rounds", "time", "take", "passes", "seed", "repetition")
-             if known.get(column)]
+             if known[column]]
     return "-".join([file, *parts, "run", number])
 
 
@@ -225,7 +218,8 @@ def check(args: argparse.Namespace) -> int:
     if not (folder / "plan.json").exists():
         raise ExperimentError(f"{args.csv}.d, the folder of the instances and the orders, is missing")
     program = stage.find_pfs(args.pfs)
-    listed = {same(identity(run)): run for run in stage.stored_plan(folder)["runs"]}
+    runs = stage.stored_plan(folder)["runs"]
+    listed = {same({**run, "instance": path_cell(run["instance"])}): run for run in runs}
     faults = [(row, wrong(row, program, folder, listed.get(same(row)))) for row in rows]
     for row, fault in faults:
         if fault:

@@ -46,9 +46,8 @@ def tasks_for(left: list[Row]) -> int:
 def seconds_of(run: Row) -> float:
     """Returns about how many seconds a run takes. A command without a time, or a run of an instance that pfs rejects,
     needs a whole task."""
-    by_time = stage.time_of(run)
-    if by_time:
-        return by_time[1]
+    if run["limit"]:
+        return float(run["limit"])
     numbers = [run[column] for column in ("jobs", "machines", "rounds", "take", "passes")]
     if not all(map(str.isdigit, numbers)):
         return LEAST_SECONDS

@@ -22,12 +22,12 @@ from pfs.experiments import ExperimentError, one, plain, provenance
 from pfs.experiments.plan import Row, read_plan, reference_for, reference_of, rows_of
 
 PACKAGE = pathlib.Path(__file__).resolve().parent.parent
-# What plan.json has of a run, and a line of runs.tsv, which is made of it. An unknown value is a hyphen. The number is
-# that of the line. Rounds of a run by time are `time-FACTOR-SECONDS`.
-RUN = ["number", "file", "layout", "block", "rounds", "take", "passes", "seed", "repetition", "jobs", "machines",
-       "instance"]
+# What plan.json has of a run: columns of the CSV, its number, the copy of its instance, and the seconds of a search by
+# time. Unknown values are empty, and hyphens in runs.tsv, which is made of it: a line for each number.
+RUN = ["number", "file", "layout", "block", "rounds", "limit", "take", "passes", "seed", "repetition", "time_factor",
+       "jobs", "machines", "instance"]
 # The columns that identify a run.
-KEY = ["file", "block", "rounds", "take", "passes", "seed", "repetition"]
+KEY = ["file", "block", "rounds", "time_factor", "take", "passes", "seed", "repetition"]
 # Those that don't change a search of 0 rounds.
 OF_ROUNDS = ["take", "passes", "seed"]
 # What `pfs generate 1 1 1` prints.
@@ -100,17 +100,17 @@ def prepare(plan_path: str, csv_path: str, program: str | None) -> Experiment:
     try:
         if not (folder / "plan.json").exists():
             begin(folder, pfs or find_pfs(program))
-        stored = stored_plan(folder)
+        stored: dict[str, Any] = {"places": {}, "runs": [], **stored_plan(folder)}
         for key in ("command", "layout"):
-            if stored and stored.get(key) != plan.get(key):
+            if "layout" in stored and stored.get(key) != plan.get(key):
                 raise ExperimentError(f"{csv_path} was started with another {key}: use another CSV")
         copy_inputs(plan, top, folder / stage_of(folder))
         experiment = Experiment(plan, folder, add_runs(plan, stored, top, folder, csv_path), reference)
-        inputs = inputs_of(plan, stored_plan(folder)["places"], top, folder / experiment.stage)
+        inputs = inputs_of(plan, stored["places"], top, folder / experiment.stage)
         provenance.note_start(folder, plan, inputs)
         if changed := provenance.changed(inputs):
-            print(plain(f"{csv_path}: changed since they were copied for its runs: {', '.join(changed)}. The copies are "
-                        f"used: to begin anew, name another CSV or delete {csv_path}.d"), file=sys.stderr, flush=True)
+            print(plain(f"{csv_path}: changed since they were copied for its runs: {', '.join(changed)}. The copies "
+                        f"are used: to begin anew, name another CSV or delete {csv_path}.d"), file=sys.stderr, flush=True)
         return experiment
     except BaseException:
         if not (folder / "plan.json").exists():
@@ -208,7 +208,7 @@ def library() -> str:
 def add_runs(plan: dict[str, Any], stored: dict[str, Any], top: str, folder: pathlib.Path, csv_path: str) -> list[Row]:
     """Adds the plan's new instances and runs to the folder, and returns all runs in the order of the plan. A run keeps
     its number."""
-    places, listed = stored.get("places", {}), stored.get("runs", [])
+    places, listed = stored["places"], stored["runs"]
     known, runs = {key_of(run): run for run in listed}, dict[tuple[str, ...], Row]()
     for name in plan["instances"]:
         place = places.setdefault(name, len(places) + 1)
@@ -221,7 +221,7 @@ def add_runs(plan: dict[str, Any], stored: dict[str, Any], top: str, folder: pat
             listed += [] if kept else [runs[key]]
     gone = known.keys() - runs.keys()
     if gone:
-        what = ", ".join(f"{column} {value}" for column, value in zip(KEY[1:], min(gone)[1:]))
+        what = ", ".join(f"{column} {value}" for column, value in zip(KEY[1:], min(gone)[1:]) if value)
         raise ExperimentError(f"{csv_path} was started with another plan, which has {what}: use another CSV, or delete "
                               f"{folder}")
     write_text(folder / "runs.tsv", table_of(listed))
@@ -243,7 +243,7 @@ def started(csv_path: str) -> Experiment:
 
 
 def table_of(runs: list[Row]) -> str:
-    return "".join("\t".join(run[column] for column in RUN) + "\n" for run in runs)
+    return "".join("\t".join(run[column] or "-" for column in RUN) + "\n" for run in runs)
 
 
 def key_of(run: Row) -> tuple[str, ...]:
@@ -260,35 +260,30 @@ def planned_runs(plan: dict[str, Any], folder: pathlib.Path, places: dict[str, i
         jobs, machines = (known["jobs"], known["machines"]) if known else size_of(
             folder / stage_of(folder), "--from", plan["layout"], "--block", str(block), file)
         label = label_of(plan, name, block)
-        usual = "-" if jobs == "-" or not is_pfs else str(min(4, int(jobs)))
-        budgets = [*map(str, plan["rounds"]), *(by_time(each, jobs, machines) for each in plan.get("time_factors", []))]
-        for rounds, take, passes, seed, repetition in itertools.product(
-                budgets or ["-"], map(str, plan["takes"] or [usual]), plan["passes"] if is_pfs else ["-"],
+        usual = str(min(4, int(jobs))) if jobs and is_pfs else ""
+        # the milliseconds of a time factor are jobs times half the machines times the factor
+        unit = int(jobs) * int(machines) / 2000 if jobs else 0
+        budgets = [(str(rounds), "", "") for rounds in plan["rounds"]]
+        budgets += [("", decimal(unit * factor), decimal(factor)) for factor in plan.get("time_factors", [])]
+        for (rounds, seconds, factor), take, passes, seed, repetition in itertools.product(
+                budgets or [("", "", "")], map(str, plan["takes"] or [usual]), plan["passes"] if is_pfs else [""],
                 plan["seeds"], range(1, plan["repetitions"] + 1)):
-            if "-" not in (jobs, take) and int(take) > int(jobs):
+            if jobs and take and int(take) > int(jobs):
                 raise ExperimentError(f"takes has {take}, but {label} has only {jobs} jobs")
-            values = ("", file, plan["layout"], block, rounds, take, passes, seed, repetition, jobs, machines, label)
-            yield dict(zip(RUN, map(str, values)))
+            yield dict(zip(RUN, map(str, ("", file, plan["layout"], block, rounds, seconds, take, passes, seed,
+                                          repetition, factor, jobs, machines, label))))
 
 
-def by_time(factor: float, jobs: str, machines: str) -> str:
-    """Returns the rounds of a run by time. Its milliseconds are jobs times half the machines times the factor."""
-    seconds = 0.0 if jobs == "-" else int(jobs) * int(machines) / 2 * factor / 1000
-    return "-".join(["time", *(f"{number:.9f}".rstrip("0").rstrip(".") for number in (factor, seconds))])
-
-
-def time_of(run: Row) -> tuple[str, float] | None:
-    """Returns the time factor and the seconds of a run by time."""
-    _, factor, seconds = run["rounds"].split("-") if run["rounds"].startswith("time-") else ("", "", "0")
-    return (factor, float(seconds)) if factor else None
+def decimal(number: float) -> str:
+    return f"{number:.9f}".rstrip("0").rstrip(".")
 
 
 def size_of(stage: pathlib.Path, *words: str) -> tuple[str, str]:
-    """Returns the jobs and machines of an instance; hyphens if pfs rejects it."""
+    """Returns the jobs and machines of an instance, as texts, which are empty if pfs rejects it."""
     done = subprocess.run(["./pfs", "convert", "--to", "orlib", *words], cwd=stage, stdin=subprocess.DEVNULL,
                           capture_output=True, text=True, errors="replace")
     size = re.match("flow shop instance\n([0-9]{1,4}) ([0-9]{1,3})\n", done.stdout, re.ASCII)
-    return (size[1], size[2]) if size and done.returncode == 0 else ("-", "-")
+    return (size[1], size[2]) if size and done.returncode == 0 else ("", "")
 
 
 def stored_plan(folder: pathlib.Path) -> dict[str, Any]:
