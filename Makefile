@@ -1,7 +1,7 @@
 ## make help       this list
 ## make try        runs pfs on the stored instance (crates/pfs/stdin) without proofs, in a minute (tools/try)
 ## make run        proves and builds pfs, and runs it on the stored instance
-## make lib        proves and builds the library for C: lib/out/libpfs.a and lib/out/libpfs.so.0 (docs/LIBRARY.md)
+## make lib        proves and builds the library for C: lib/out/libpfs.a and lib/out/libpfs.so.1 (docs/LIBRARY.md)
 ## make check      what to run before each commit: layout, types, scripts and pages, in less than a minute
 ## make test       proves and tests all that a change has to pass but the mutants (tools/test; times: docs/TESTS.md)
 ## make fuzz       compares the built program with a second program on random input, for MINUTES (5)
@@ -24,8 +24,7 @@ PREFIX = /usr/local
 LIB = lib
 ZSH = share/zsh/site-functions
 PROGRAM = crates/pfs/out/pfs
-LIBRARY = lib/out/libpfs.so.0
-PLANS = $(notdir $(wildcard experiments/*.toml))
+LIBRARY = lib/out/libpfs.so.1
 PACKAGE = PYTHONPATH=python/src /usr/bin/python3 -B -m
 
 define newline
@@ -40,15 +39,13 @@ share/pfs.bash $(ZSH)/_pfs
 $(foreach name,pfs pfs-plan pfs-gantt pfs-experiments,\
     share/pfs.bash share/bash-completion/completions/$(name)$(newline))
 $(foreach name,$(PAGES),$(name) share/doc/pfs/$(name)$(newline))
-$(foreach name,$(PLANS),experiments/$(name) share/doc/pfs/examples/$(name)$(newline))
 endef
-PAGES = README.md CHANGELOG.md CITATION.cff CONTRIBUTING.md SECURITY.md LICENSE-MIT LICENSE-APACHE \
-    experiments/README.md lib/pfs.h \
-    $(sort $(wildcard docs/*.* docs/maintain/*.* examples/* python/README.md python/examples/*.py))
+PAGES = $(sort $(wildcard *.md CITATION.cff LICENSE-* docs/*.* docs/maintain/*.* examples/* experiments/*.* lib/pfs.h \
+    python/README.md python/examples/*.py))
 define LIBRARY_FILES
 lib/out/libpfs.a $(LIB)/libpfs.a
-$(LIBRARY) $(LIB)/libpfs.so.0
--> libpfs.so.0 $(LIB)/libpfs.so
+$(LIBRARY) $(LIB)/libpfs.so.1
+-> libpfs.so.1 $(LIB)/libpfs.so
 lib/pfs.h include/pfs.h
 lib/pfs.pc.in $(LIB)/pkgconfig/pfs.pc
 lib/pfsConfig.cmake $(LIB)/cmake/pfs/pfsConfig.cmake

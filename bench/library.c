@@ -7,11 +7,10 @@
  *        library makespans COUNT FILE FORM  computes the makespans of the same 1,000 orders COUNT times, by `one` call
  *                                           of pfs_makespans or by `many` calls of pfs_makespan; prints their sum
  *        library own ROUNDS FILE FORM       NEH and ROUNDS rounds with seed 1, made of other functions. Each round
- *                                           inserts its jobs by calls of pfs_insert (`insert`), by calls of
- *                                           pfs_insert_prepared (`prepared`) or by one call of pfs_construct
- *                                           (`construct`); with `local` a call of pfs_local_search follows. The forms
- *                                           `rounds` and `passes` make the same rounds by one call of pfs_rounds.
- *                                           Prints the makespan and a sum of the order */
+ *                                           inserts its jobs by calls of pfs_insert (`insert`) or by one call of
+ *                                           pfs_construct (`construct`); with `local` a call of pfs_local_search
+ *                                           follows. The forms `rounds` and `passes` make the same rounds by one call
+ *                                           of pfs_rounds. Prints the makespan and a sum of the order */
 #include <inttypes.h>
 #include <stdio.h>
 #include <stdlib.h>
@@ -23,6 +22,7 @@
 
 static uint8_t bytes[1 << 24];
 static uint32_t times[PFS_MOST_JOBS * PFS_MOST_MACHINES], order[PFS_MOST_JOBS];
+static struct pfs_instance instance = {NULL};
 static size_t jobs, machines;
 
 static void check(int number) {
@@ -34,25 +34,27 @@ static void check(int number) {
 
 static void read_shop(const char *path) {
     FILE *file = fopen(path, "rb");
-    struct pfs_notes notes;
+    struct pfs_block block;
     uint64_t place;
     if (file == NULL) {
         fprintf(stderr, "library: cannot open\n");
         exit(4);
     }
-    check(pfs_read(bytes, fread(bytes, 1, sizeof bytes, file), PFS_TAILLARD, 1, &jobs, &machines, &notes, times,
+    check(pfs_read(bytes, fread(bytes, 1, sizeof bytes, file), PFS_TAILLARD, 1, &block, times,
                    sizeof times / sizeof *times, &place));
     fclose(file);
+    jobs = block.jobs, machines = block.machines;
+    check(pfs_prepare(times, jobs * machines, jobs, machines, &instance));
 }
 
 static void search(uint32_t rounds, uint32_t part) {
     uint64_t makespan, some, cells;
-    size_t length, size = jobs * machines;
-    check(pfs_neh(times, size, jobs, machines, order, jobs, &makespan, &cells));
+    size_t length;
+    check(pfs_neh(&instance, order, jobs, &makespan, &cells));
     for (uint32_t first = 0; first < rounds; first += part) {
         uint32_t count = rounds - first < part ? rounds - first : part;
-        check(pfs_rounds(times, size, jobs, machines, order, jobs, first, count, jobs < 4 ? jobs : 4, 0, 1, &makespan,
-                         &some));
+        struct pfs_rounds_options options = {1, jobs < 4 ? jobs : 4, first, count, 0};
+        check(pfs_rounds(&instance, &options, order, jobs, &makespan, &some));
         cells += some;
     }
     check(pfs_write_order(order, jobs, machines, makespan, bytes, sizeof bytes, &length));
@@ -68,7 +70,7 @@ static void insert(uint64_t count) {
         for (uint32_t other = 0, at = 0; other < jobs; ++other)
             if (other != job)
                 order[at++] = other;
-        check(pfs_insert(times, jobs * machines, jobs, machines, order, jobs - 1, job, &place, &makespan));
+        check(pfs_insert(&instance, order, jobs - 1, job, &place, &makespan));
         sum += makespan + place;
     }
     printf("%" PRIu64 " insertions, sum %" PRIu64 "\n", count, sum);
@@ -94,10 +96,10 @@ static void makespans(uint64_t count, int in_one_call) {
     draw_orders(orders);
     for (uint64_t made = 0; made < count; ++made) {
         if (in_one_call)
-            check(pfs_makespans(times, jobs * machines, jobs, machines, orders, ORDERS * jobs, jobs, found, ORDERS));
+            check(pfs_makespans(&instance, orders, ORDERS * jobs, jobs, found, ORDERS));
         else
             for (size_t index = 0; index < ORDERS; ++index)
-                check(pfs_makespan(times, jobs * machines, jobs, machines, orders + index * jobs, jobs, found + index));
+                check(pfs_makespan(&instance, orders + index * jobs, jobs, found + index));
         for (size_t index = 0; index < ORDERS; ++index)
             sum += found[index];
     }
@@ -106,34 +108,25 @@ static void makespans(uint64_t count, int in_one_call) {
 
 enum { TAKE = 4 };
 
-/* Holds the instance in the form `prepared`, otherwise nothing. */
-static struct pfs_prepared prepared = {NULL};
-
-static int insert_one(const uint32_t *sequence, size_t length, uint32_t job, size_t *place, uint64_t *makespan) {
-    if (prepared.at != NULL)
-        return pfs_insert_prepared(&prepared, sequence, length, job, place, makespan);
-    return pfs_insert(times, jobs * machines, jobs, machines, sequence, length, job, place, makespan);
-}
-
 /* Inserts the removed jobs into the sequence, and returns the makespan. */
 static uint64_t reinsert(const char *form, uint32_t *sequence, size_t length, const uint32_t *removed, size_t take) {
     static uint32_t found[PFS_MOST_JOBS], all[PFS_MOST_JOBS];
     uint64_t makespan = 0;
-    size_t place, size = jobs * machines;
-    if (strcmp(form, "insert") == 0 || strcmp(form, "prepared") == 0) {
+    size_t place;
+    if (strcmp(form, "insert") == 0) {
         for (size_t index = 0; index < take; ++index, ++length) {
-            check(insert_one(sequence, length, removed[index], &place, &makespan));
+            check(pfs_insert(&instance, sequence, length, removed[index], &place, &makespan));
             memmove(sequence + place + 1, sequence + place, (length - place) * sizeof *sequence);
             sequence[place] = removed[index];
         }
         return makespan;
     }
-    check(pfs_construct(times, size, jobs, machines, sequence, length, removed, take, found, jobs, &makespan));
+    check(pfs_construct(&instance, sequence, length, removed, take, found, jobs, &makespan));
     memcpy(sequence, found, jobs * sizeof *found);
     if (strcmp(form, "local") == 0) {
         for (uint32_t job = 0; job < jobs; ++job)
             all[job] = job;
-        check(pfs_local_search(times, size, jobs, machines, found, jobs, all, jobs, 1, sequence, jobs, &makespan));
+        check(pfs_local_search(&instance, all, jobs, 1, sequence, jobs, &makespan));
     }
     return makespan;
 }
@@ -164,15 +157,12 @@ static uint64_t own_rounds(const char *form, uint32_t rounds, uint64_t makespan)
 static void own(const char *form, uint32_t rounds) {
     uint64_t makespan, cells, sum = 0;
     uint32_t passes = strcmp(form, "passes") == 0;
-    check(pfs_neh(times, jobs * machines, jobs, machines, order, jobs, &makespan, &cells));
-    if (strcmp(form, "prepared") == 0)
-        check(pfs_prepare(times, jobs * machines, jobs, machines, &prepared));
+    struct pfs_rounds_options options = {1, jobs < TAKE ? jobs : TAKE, 0, rounds, passes};
+    check(pfs_neh(&instance, order, jobs, &makespan, &cells));
     if (passes || strcmp(form, "rounds") == 0)
-        check(pfs_rounds(times, jobs * machines, jobs, machines, order, jobs, 0, rounds, jobs < TAKE ? jobs : TAKE,
-                         passes, 1, &makespan, &cells));
+        check(pfs_rounds(&instance, &options, order, jobs, &makespan, &cells));
     else
         makespan = own_rounds(form, rounds, makespan);
-    pfs_release(&prepared);
     for (size_t place = 0; place < jobs; ++place)
         sum = sum * 31 + order[place];
     printf("makespan %" PRIu64 ", order %" PRIu64 "\n", makespan, sum);
@@ -194,5 +184,6 @@ int main(int count, char **words) {
     } else {
         return 3;
     }
+    pfs_release(&instance);
     return 0;
 }

@@ -22,15 +22,15 @@ static size_t read_file(const char *path) {
 }
 
 /* Prints what is wrong with an order file, or its makespan. Returns whether it is right. */
-static int audit(const char *path, size_t jobs, size_t machines, uint64_t bound) {
+static int audit(const char *path, struct pfs_instance *instance, const struct pfs_block *block, uint64_t bound) {
     size_t of_jobs, of_machines;
     uint64_t stated, makespan, place;
     int number = pfs_read_order(bytes, read_file(path), order, PFS_MOST_JOBS, &of_jobs, &of_machines, &stated, &place);
     if (number != PFS_OK)
         return printf("%s: %s (%" PRIu64 ")\n", path, pfs_message(number), place), 0;
-    if (of_jobs != jobs || (of_machines != 0 && of_machines != machines))
+    if (of_jobs != block->jobs || (of_machines != 0 && of_machines != block->machines))
         return printf("%s: of another instance\n", path), 0;
-    number = pfs_makespan(times, jobs * machines, jobs, machines, order, jobs, &makespan);
+    number = pfs_makespan(instance, order, of_jobs, &makespan);
     if (number != PFS_OK)
         return printf("%s: %s\n", path, pfs_message(number)), 0;
     if (stated != makespan)
@@ -40,20 +40,23 @@ static int audit(const char *path, size_t jobs, size_t machines, uint64_t bound)
 }
 
 int main(int count, char **words) {
-    size_t jobs, machines;
-    struct pfs_notes notes;
+    struct pfs_instance instance = {NULL};
+    struct pfs_block block;
     uint64_t place, bound;
     int is_wrong = 0;
     if (count < 3)
         return fputs("usage: audit_orders INSTANCE ORDER ..\n", stderr), 3;
-    int number = pfs_read(bytes, read_file(words[1]), PFS_TAILLARD, 1, &jobs, &machines, &notes, times,
-                          sizeof times / sizeof *times, &place);
+    int number =
+        pfs_read(bytes, read_file(words[1]), PFS_TAILLARD, 1, &block, times, sizeof times / sizeof *times, &place);
     if (number == PFS_OK)
-        number = pfs_bound(times, jobs * machines, jobs, machines, &bound);
+        number = pfs_prepare(times, block.jobs * block.machines, block.jobs, block.machines, &instance);
+    if (number == PFS_OK)
+        number = pfs_bound(&instance, &bound);
     if (number != PFS_OK)
         return fprintf(stderr, "audit_orders: %s: %s\n", words[1], pfs_message(number)), 2;
     for (int word = 2; word < count; ++word)
-        is_wrong |= !audit(words[word], jobs, machines, bound);
+        is_wrong |= !audit(words[word], &instance, &block, bound);
+    pfs_release(&instance);
     if (fflush(stdout) || ferror(stdout))
         return fputs("audit_orders: cannot write\n", stderr), 4;
     return is_wrong;

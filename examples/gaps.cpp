@@ -14,20 +14,19 @@ static void check(int number) {
     }
 }
 
+// A prepared instance, which is released at the end of its scope.
 struct Shop {
-    std::size_t jobs, machines;
-    std::vector<std::uint32_t> times;
+    pfs_instance instance = {nullptr};
 
-    Shop(std::size_t jobs, std::size_t machines, std::uint64_t seed)
-        : jobs(jobs), machines(machines), times(jobs * machines) {
+    Shop(std::size_t jobs, std::size_t machines, std::uint64_t seed) {
+        std::vector<std::uint32_t> times(jobs * machines);
         check(pfs_generate(jobs, machines, seed, times.data(), times.size()));
+        check(pfs_prepare(times.data(), times.size(), jobs, machines, &instance));
     }
 
-    std::uint64_t bound() const {
-        std::uint64_t bound;
-        check(pfs_bound(times.data(), times.size(), jobs, machines, &bound));
-        return bound;
-    }
+    Shop(const Shop&) = delete;
+
+    ~Shop() { pfs_release(&instance); }
 };
 
 static double gap(std::uint64_t makespan, std::uint64_t bound) {
@@ -42,14 +41,13 @@ int main(int count, char** words) try {
     auto number = [&](int word) { return std::strtoull(words[word], nullptr, 10); };
     for (int word = 4; word < count; ++word) {
         Shop shop(number(1), number(2), number(word));
-        std::vector<std::uint32_t> order(shop.jobs);
-        std::uint64_t neh, found, cells, bound = shop.bound();
-        const std::uint32_t* times = shop.times.data();
-        std::size_t size = shop.times.size(), take = shop.jobs < 4 ? shop.jobs : 4;
-        auto rounds = static_cast<std::uint32_t>(number(3));
-        check(pfs_neh(times, size, shop.jobs, shop.machines, order.data(), order.size(), &neh, &cells));
-        check(pfs_rounds(times, size, shop.jobs, shop.machines, order.data(), order.size(), 0, rounds, take, 0, 1,
-                         &found, &cells));
+        std::vector<std::uint32_t> order(number(1));
+        std::uint64_t bound, neh, found, cells;
+        pfs_rounds_options options = {1, order.size() < 4 ? order.size() : 4, 0, static_cast<std::uint32_t>(number(3)),
+                                      0};
+        check(pfs_bound(&shop.instance, &bound));
+        check(pfs_neh(&shop.instance, order.data(), order.size(), &neh, &cells));
+        check(pfs_rounds(&shop.instance, &options, order.data(), order.size(), &found, &cells));
         std::printf("%s: bound %" PRIu64 ", NEH %" PRIu64 " (%.2f %%), found %" PRIu64 " (%.2f %%)\n", words[word],
                     bound, neh, gap(neh, bound), found, gap(found, bound));
     }

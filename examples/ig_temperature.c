@@ -10,12 +10,12 @@
 #include <time.h>
 
 #define TEMPERATURE 0.4
-#define SHOP times, jobs *machines, jobs, machines
 enum { TAKE = 4 };
 
 static uint8_t bytes[PFS_LONGEST_INPUT + 1];
 static uint32_t times[PFS_MOST_JOBS * PFS_MOST_MACHINES], words[PFS_MOST_JOBS], list[PFS_MOST_JOBS];
 static uint32_t now[PFS_MOST_JOBS], best[PFS_MOST_JOBS], found[PFS_MOST_JOBS], changed[PFS_MOST_JOBS];
+static struct pfs_instance instance;
 static size_t jobs, machines;
 static uint64_t seed, drawn;
 
@@ -26,13 +26,15 @@ static void check(const char *what, int number) {
 }
 
 static void read_instance(const char *path) {
-    struct pfs_notes notes;
+    struct pfs_block block;
     uint64_t place;
     FILE *file = fopen(path, "rb");
     size_t length = file ? fread(bytes, 1, sizeof bytes, file) : 0;
     if (file == NULL || ferror(file) || fclose(file))
         exit((fprintf(stderr, "ig_temperature: %s: cannot read\n", path), 4));
-    check(path, pfs_read(bytes, length, PFS_TAILLARD, 1, &jobs, &machines, &notes, times, sizeof times / 4, &place));
+    check(path, pfs_read(bytes, length, PFS_TAILLARD, 1, &block, times, sizeof times / 4, &place));
+    jobs = block.jobs, machines = block.machines;
+    check(path, pfs_prepare(times, jobs * machines, jobs, machines, &instance));
 }
 
 /* Sets `list` to a random permutation. words[0] has no effect on it. */
@@ -52,8 +54,7 @@ static uint64_t improve(uint64_t makespan) {
     do {
         before = makespan;
         shuffle();
-        check("local search", pfs_local_search(SHOP, found, jobs, list, jobs, 1, changed, jobs, &makespan));
-        memcpy(found, changed, jobs * sizeof *found);
+        check("local search", pfs_local_search(&instance, list, jobs, 1, found, jobs, &makespan));
     } while (makespan < before);
     return makespan;
 }
@@ -70,7 +71,7 @@ static uint64_t reconstruct(void) {
         if (index == take)
             changed[length++] = now[place];
     }
-    check("construction", pfs_construct(SHOP, changed, length, list, take, found, jobs, &makespan));
+    check("construction", pfs_construct(&instance, changed, length, list, take, found, jobs, &makespan));
     return makespan;
 }
 
@@ -85,7 +86,7 @@ int main(int count, char **arguments) {
     read_instance(arguments[1]);
     for (size_t at = 0; at < jobs * machines; ++at)
         temperature += TEMPERATURE * times[at] / (double)(10 * jobs * machines);
-    check("NEH", pfs_neh(SHOP, found, jobs, &makespan, &cells));
+    check("NEH", pfs_neh(&instance, found, jobs, &makespan, &cells));
     do {
         makespan = improve(current == UINT64_MAX ? makespan : reconstruct());
         if (makespan <= current || words[0] / 4294967296.0 < exp(-(double)(makespan - current) / temperature)) {
@@ -97,6 +98,7 @@ int main(int count, char **arguments) {
             memcpy(best, found, jobs * sizeof *best);
         }
     } while (clock() < end);
+    pfs_release(&instance);
     check("order", pfs_write_order(best, jobs, machines, shortest, bytes, sizeof bytes, &length));
     if (fwrite(bytes, 1, length, stdout) != length || fflush(stdout))
         return fputs("ig_temperature: standard output: cannot write\n", stderr), 4;

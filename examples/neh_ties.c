@@ -29,11 +29,10 @@ static void rank_jobs(size_t jobs, size_t machines) {
 }
 
 /* Inserts the jobs of the ranking one after the other, each at the last of its best places. */
-static int insert_last(size_t jobs, size_t machines, uint64_t *makespan) {
+static int insert_last(struct pfs_instance *instance, size_t jobs, uint64_t *makespan) {
     for (size_t length = 0; length < jobs; ++length) {
         size_t best = 0;
-        int number = pfs_insertions(times, jobs * machines, jobs, machines, order, length, ranking[length], makespans,
-                                    length + 1);
+        int number = pfs_insertions(instance, order, length, ranking[length], makespans, length + 1);
         if (number != PFS_OK)
             return number;
         for (size_t place = 1; place <= length; ++place)
@@ -49,14 +48,18 @@ static int insert_last(size_t jobs, size_t machines, uint64_t *makespan) {
 int main(int count, char **words) {
     size_t jobs = count == 4 ? strtoull(words[1], NULL, 10) : 0, machines = jobs ? strtoull(words[2], NULL, 10) : 0;
     uint64_t first, last, cells;
+    struct pfs_instance instance = {NULL};
     if (jobs < 1 || jobs > PFS_MOST_JOBS || machines < 1 || machines > PFS_MOST_MACHINES)
         return fputs("usage: neh_ties JOBS MACHINES SEED\n", stderr), 3;
     int number = pfs_generate(jobs, machines, strtoull(words[3], NULL, 10), times, jobs * machines);
     if (number == PFS_OK)
-        number = pfs_neh(times, jobs * machines, jobs, machines, order, jobs, &first, &cells);
+        number = pfs_prepare(times, jobs * machines, jobs, machines, &instance);
+    if (number == PFS_OK)
+        number = pfs_neh(&instance, order, jobs, &first, &cells);
     rank_jobs(jobs, machines);
     if (number == PFS_OK)
-        number = insert_last(jobs, machines, &last);
+        number = insert_last(&instance, jobs, &last);
+    pfs_release(&instance);
     if (number != PFS_OK)
         return fprintf(stderr, "neh_ties: %s\n", pfs_message(number)), 2;
     if (printf("first places %" PRIu64 "\nlast places %" PRIu64 "\n", first, last) < 0 || fflush(stdout))

@@ -26,9 +26,9 @@ static void check(const char *what, int number) {
         fail(what, pfs_message(number), 2);
 }
 
-/* Reads the instance into `times`. */
-static void read_instance(const char *path, size_t *jobs, size_t *machines) {
-    struct pfs_notes notes;
+/* Reads and prepares an instance. Returns the number of its jobs. */
+static size_t read_instance(const char *path, struct pfs_instance *instance, size_t *machines) {
+    struct pfs_block block;
     uint64_t place;
     FILE *file = fopen(path, "rb");
     if (file == NULL)
@@ -36,12 +36,14 @@ static void read_instance(const char *path, size_t *jobs, size_t *machines) {
     size_t length = fread(bytes, 1, sizeof bytes, file);
     if (ferror(file) || fclose(file))
         fail(path, "cannot read", 4);
-    check(path, pfs_read(bytes, length, PFS_TAILLARD, 1, jobs, machines, &notes, times, sizeof times / sizeof *times,
-                         &place));
+    check(path, pfs_read(bytes, length, PFS_TAILLARD, 1, &block, times, sizeof times / sizeof *times, &place));
+    check(path, pfs_prepare(times, block.jobs * block.machines, block.jobs, block.machines, instance));
+    *machines = block.machines;
+    return block.jobs;
 }
 
 /* Changes a copy of the order, and sets its makespan. Returns the number of a call that has failed, or PFS_OK. */
-static int make_round(struct pfs_prepared *prepared, size_t jobs, uint64_t round, uint64_t seed, uint64_t *makespan) {
+static int make_round(struct pfs_instance *instance, size_t jobs, uint64_t round, uint64_t seed, uint64_t *makespan) {
     uint32_t words[TAKE], removed[TAKE];
     size_t take = jobs < TAKE ? jobs : TAKE, length = jobs, place;
     int number = pfs_random(seed, round * take, words, take);
@@ -54,7 +56,7 @@ static int make_round(struct pfs_prepared *prepared, size_t jobs, uint64_t round
         memmove(changed + place, changed + place + 1, (--length - place) * sizeof *changed);
     }
     for (size_t index = 0; index < take; ++index, ++length) {
-        number = pfs_insert_prepared(prepared, changed, length, removed[index], &place, makespan);
+        number = pfs_insert(instance, changed, length, removed[index], &place, makespan);
         if (number != PFS_OK)
             return number;
         memmove(changed + place + 1, changed + place, (length - place) * sizeof *changed);
@@ -63,19 +65,17 @@ static int make_round(struct pfs_prepared *prepared, size_t jobs, uint64_t round
     return PFS_OK;
 }
 
-/* Improves the order in these rounds, and its makespan. If a call fails, the handle is released too. */
-static int search(size_t jobs, size_t machines, uint64_t rounds, uint64_t seed, uint64_t *makespan) {
-    struct pfs_prepared prepared = {NULL};
-    int number = pfs_prepare(times, jobs * machines, jobs, machines, &prepared);
+/* Improves the order in these rounds, and its makespan. */
+static int search(struct pfs_instance *instance, size_t jobs, uint64_t rounds, uint64_t seed, uint64_t *makespan) {
+    int number = PFS_OK;
     for (uint64_t round = 0; number == PFS_OK && round < rounds; ++round) {
         uint64_t found;
-        number = make_round(&prepared, jobs, round, seed, &found);
+        number = make_round(instance, jobs, round, seed, &found);
         if (number == PFS_OK && found <= *makespan) {
             *makespan = found;
             memcpy(order, changed, jobs * sizeof *order);
         }
     }
-    pfs_release(&prepared);
     return number;
 }
 
@@ -83,10 +83,11 @@ int main(int count, char **words) {
     if (count != 4)
         return fputs("usage: own_search INSTANCE ROUNDS SEED\n", stderr), 3;
     uint64_t rounds = strtoull(words[2], NULL, 10), seed = strtoull(words[3], NULL, 10), makespan, cells;
-    size_t jobs, machines, length;
-    read_instance(words[1], &jobs, &machines);
-    check("NEH", pfs_neh(times, jobs * machines, jobs, machines, order, jobs, &makespan, &cells));
-    check("search", search(jobs, machines, rounds, seed, &makespan));
+    struct pfs_instance instance = {NULL};
+    size_t machines, length, jobs = read_instance(words[1], &instance, &machines);
+    check("NEH", pfs_neh(&instance, order, jobs, &makespan, &cells));
+    check("search", search(&instance, jobs, rounds, seed, &makespan));
+    pfs_release(&instance);
     check("order", pfs_write_order(order, jobs, machines, makespan, bytes, sizeof bytes, &length));
     fprintf(stderr, "%" PRIu64 " rounds, makespan %" PRIu64 "\n", rounds, makespan);
     if (fwrite(bytes, 1, length, stdout) != length || fflush(stdout))

@@ -23,9 +23,9 @@ static void check(const char *what, int number) {
         fail(what, pfs_message(number), 2);
 }
 
-/* Reads the instance into `times`. */
-static void read_instance(const char *path, size_t *jobs, size_t *machines) {
-    struct pfs_notes notes;
+/* Reads and prepares an instance. Returns the number of its jobs. */
+static size_t read_instance(const char *path, struct pfs_instance *instance, size_t *machines) {
+    struct pfs_block block;
     uint64_t place;
     FILE *file = fopen(path, "rb");
     if (file == NULL)
@@ -33,8 +33,10 @@ static void read_instance(const char *path, size_t *jobs, size_t *machines) {
     size_t length = fread(bytes, 1, sizeof bytes, file);
     if (ferror(file) || fclose(file))
         fail(path, "cannot read", 4);
-    check(path, pfs_read(bytes, length, PFS_TAILLARD, 1, jobs, machines, &notes, times, sizeof times / sizeof *times,
-                         &place));
+    check(path, pfs_read(bytes, length, PFS_TAILLARD, 1, &block, times, sizeof times / sizeof *times, &place));
+    check(path, pfs_prepare(times, block.jobs * block.machines, block.jobs, block.machines, instance));
+    *machines = block.machines;
+    return block.jobs;
 }
 
 /* Reads the rounds made so far, and the order into `order`. Returns 0 if there is no such file. */
@@ -73,18 +75,20 @@ int main(int count, char **words) {
         return fputs("usage: timed_search INSTANCE STATE SEED SECONDS [ROUNDS]\n", stderr), 3;
     clock_t end = clock() + (clock_t)(strtod(words[4], NULL) * CLOCKS_PER_SEC);
     uint64_t seed = strtoull(words[3], NULL, 10), makespan, cells;
-    size_t jobs, machines, length;
-    uint32_t rounds = 0, part;
-    read_instance(words[1], &jobs, &machines);
+    uint32_t rounds = 0;
+    struct pfs_instance instance = {NULL};
+    size_t machines, length, jobs = read_instance(words[1], &instance, &machines);
     if (!read_state(words[2], jobs, machines, &rounds))
-        check("NEH", pfs_neh(times, jobs * machines, jobs, machines, order, jobs, &makespan, &cells));
+        check("NEH", pfs_neh(&instance, order, jobs, &makespan, &cells));
     uint32_t last = count == 6 ? rounds + (uint32_t)strtoul(words[5], NULL, 10) : PFS_MOST_ROUNDS;
+    struct pfs_rounds_options options = {.seed = seed, .take = jobs < 4 ? jobs : 4, .passes = 0};
     do {
-        part = last - rounds < 10 ? last - rounds : 10;
-        check("rounds", pfs_rounds(times, jobs * machines, jobs, machines, order, jobs, rounds, part,
-                                   jobs < 4 ? jobs : 4, 0, seed, &makespan, &cells));
-        rounds += part;
+        options.first = rounds;
+        options.count = last - rounds < 10 ? last - rounds : 10;
+        check("rounds", pfs_rounds(&instance, &options, order, jobs, &makespan, &cells));
+        rounds += options.count;
     } while (rounds < last && clock() < end);
+    pfs_release(&instance);
     check("order", pfs_write_order(order, jobs, machines, makespan, bytes, sizeof bytes, &length));
     write_state(words[2], rounds, length);
     fprintf(stderr, "%" PRIu32 " rounds, makespan %" PRIu64 "\n", rounds, makespan);

@@ -3,30 +3,39 @@
  *
  * In a permutation flow shop each job runs on machine 0, then on machine 1, and so on to the last; a machine runs one
  * job at a time, and all machines run the jobs in the same order. The makespan of an order is the time at which its
- * last job leaves the last machine.
+ * last job leaves the last machine. Jobs, machines and places count from 0; only in files do jobs count from 1.
  *
- * Processing times are stored job by job: times[job * machines + machine], as an array of shape (jobs, machines) in C
- * order. Jobs, machines and places count from 0; only in files do jobs count from 1. Times and sums are in the
- * instance's own unit.
+ * A program prepares an instance once (pfs_prepare), makes any number of calls on it, and releases it (pfs_release):
  *
- * Each function validates its arguments, and returns PFS_OK or the number of a fault. Of several faults it returns the
- * one that its description lists first. Validation allocates nothing and writes nothing. If a function does not return
+ *     struct pfs_instance instance = {NULL};
+ *     int number = pfs_prepare(times, jobs * machines, jobs, machines, &instance);
+ *     if (number == PFS_OK)
+ *         number = pfs_makespan(&instance, sequence, length, &makespan);
+ *     pfs_release(&instance);
+ *
+ * Each function validates its arguments, and returns PFS_OK or the number of a fault; of several faults, the one that
+ * its description lists first. Each list is a pointer and a length. A length that follows from other arguments is
+ * validated too, so that no list of another instance is read or written (PFS_LENGTH). If a function does not return
  * PFS_OK, every output is unchanged, except the sizes that it sets with PFS_ROOM and the place of a file's fault. Only
  * pfs_release returns nothing, as it cannot fail.
  *
  * A pointer may be NULL only if the length that belongs to it is 0, as that of an empty std::vector is. No output may
- * overlap another argument, and no list may change during a call. Nothing is kept between calls, except for what a
- * handle holds (struct pfs_prepared). Any number of threads may call the library at once, also on the same lists, but
- * only one at a time with the same handle. Memory comes from malloc and is freed before the call returns, except for
- * that of a handle; if an allocation fails, the function returns PFS_MEMORY. No function may be called from a signal
- * handler.
+ * overlap another argument, and no list may change during a call. One thread at a time may use a struct pfs_instance;
+ * several instances may be used at once. The other functions may be called at any time. No function may be called from
+ * a signal handler.
  *
- * Versions of libpfs.so.0 stay compatible: functions, numbers and structs keep their meaning and their layout. Later
+ * Where a description says that a function allocates, the memory comes from malloc and is freed before the function
+ * returns, and if an allocation fails, it returns PFS_MEMORY. Other functions allocate nothing. Times are for n jobs, m
+ * machines and k jobs in the sequence, after the arguments are validated, which takes O(n). Each function exists since
+ * version 2.0.0 in this form, unless its description says otherwise.
+ *
+ * Versions of libpfs.so.1 stay compatible: functions, numbers and structs keep their meaning and their layout. Later
  * versions may add functions and numbers. A program that needs an added one compares PFS_VERSION_NUMBER.
  *
  * For every input, what each function does with its arguments is proved, except for pfs_version and pfs_message: the
  * number that it returns, and what it writes. That the declarations below agree with the proved functions (the order
- * and types of the parameters, the fields of the structs, the numbers of the macros) is tested.
+ * and types of the parameters, the fields of the structs, the numbers of the macros), and that pfs_release frees the
+ * memory, is tested.
  */
 #ifndef PFS_H
 #define PFS_H
@@ -39,10 +48,10 @@ extern "C" {
 #endif
 
 /** @brief The version of this header. */
-#define PFS_VERSION "1.1.0"
+#define PFS_VERSION "2.0.0"
 
 /** @brief The same as a number for the preprocessor: 10000 * major + 100 * minor + patch. */
-#define PFS_VERSION_NUMBER 10100
+#define PFS_VERSION_NUMBER 20000
 
 /** @brief Compilers that support it warn if a program ignores the number that a function returns. */
 #ifdef __GNUC__
@@ -90,7 +99,7 @@ extern "C" {
 #define PFS_BLOCK 12        /**< the number of the block is not 1 to PFS_MOST_BLOCKS */
 #define PFS_MAKESPAN 13     /**< the makespan is greater than PFS_MOST_MAKESPAN */
 #define PFS_ROOM 14         /**< too little room for the result; the outputs say how much it needs */
-#define PFS_NOT_PREPARED 15 /**< the handle holds no prepared instance */
+#define PFS_NOT_PREPARED 15 /**< the struct holds no prepared instance */
 /** @} */
 
 /** @name Faults of instance files, and what place is then.
@@ -131,260 +140,210 @@ const char *pfs_version(void);
  */
 const char *pfs_message(int number);
 
-/** @brief Computes the makespan of a sequence of distinct jobs.
+/** @brief A prepared instance, or none.
+ *
+ * A new struct holds none: struct pfs_instance instance = {NULL}. One whose bytes are all 0 holds none either. Only the
+ * functions below may change it after that. It may be moved in memory; of a struct and its copy, only one may be used.
+ */
+struct pfs_instance {
+    void *at; /**< what is prepared, or NULL */
+};
+
+/** @brief Prepares an instance for the calls below. Time O(nm).
+ *
+ * The struct holds a copy of the times, and the memory of an insertion and of a sequence. If it held another instance,
+ * the function releases that one, unless it fails. It allocates what the struct holds, which pfs_release frees.
+ *
+ * @param[in] times processing times, job by job: times[job * machines + machine]
+ * @param[in] times_length number of times, which is jobs * machines
+ * @param[in] jobs number of jobs
+ * @param[in] machines number of machines
+ * @param[in,out] instance a struct that holds an instance or none; unless the function returns PFS_OK, it holds what it
+ *     held before
+ * @return PFS_OK, or the first of PFS_SIZE (jobs, machines), PFS_LENGTH (times_length), PFS_TIME (times), PFS_MEMORY
+ */
+int pfs_prepare(const uint32_t *times, size_t times_length, size_t jobs, size_t machines,
+                struct pfs_instance *instance) PFS_CHECKED;
+
+/** @brief Releases an instance: its memory is freed, and the struct holds none. If it held none, nothing happens.
+ *
+ * @param[in,out] instance a struct that holds an instance or none
+ */
+void pfs_release(struct pfs_instance *instance);
+
+/** @name Calls on a prepared instance.
+ * After each call the struct holds the same instance. Calls do not depend on one another.
+ * @{
+ */
+
+/** @brief Computes the makespan of a sequence of distinct jobs. Time O(km).
  *
  * The sequence need not contain all jobs. The makespan of no jobs is 0.
  *
- * @param[in] times processing times, job by job
- * @param[in] times_length number of times, which is jobs * machines
- * @param[in] jobs number of jobs
- * @param[in] machines number of machines
+ * @param[in,out] instance the instance
  * @param[in] sequence distinct jobs, in the order in which they are processed
  * @param[in] sequence_length number of jobs in the sequence
  * @param[out] makespan makespan of the sequence
- * @return PFS_OK, or the first of PFS_SIZE (jobs, machines), PFS_LENGTH (times_length), PFS_TIME (times), PFS_JOB or
- *     PFS_REPEATED (the jobs from the left), PFS_MEMORY
+ * @return PFS_OK, or the first of PFS_NOT_PREPARED (instance), PFS_JOB or PFS_REPEATED (the jobs from the left)
  */
-int pfs_makespan(const uint32_t *times, size_t times_length, size_t jobs, size_t machines, const uint32_t *sequence,
-                 size_t sequence_length, uint64_t *makespan) PFS_CHECKED;
+int pfs_makespan(struct pfs_instance *instance, const uint32_t *sequence, size_t sequence_length,
+                 uint64_t *makespan) PFS_CHECKED;
 
-/** @brief Computes the makespans of many sequences of distinct jobs.
+/** @brief Computes the makespans of many sequences of distinct jobs. Time O(km) for each.
  *
  * The sequences have the same length and are stored one after the other: makespans[index] is the makespan of the
  * sequence that begins at sequences[index * length]. A sequence need not contain all jobs. If one sequence is invalid,
- * no makespan is written. The function allocates nothing.
+ * no makespan is written.
  *
- * @param[in] times processing times, job by job
- * @param[in] times_length number of times, which is jobs * machines
- * @param[in] jobs number of jobs
- * @param[in] machines number of machines
+ * @param[in,out] instance the instance
  * @param[in] sequences the sequences, one after the other
  * @param[in] sequences_length number of all their jobs, which is makespans_length * length
  * @param[in] length number of jobs in each sequence
  * @param[out] makespans makespan of each sequence
  * @param[in] makespans_length number of sequences
- * @return PFS_OK, or the first of PFS_SIZE (jobs, machines), PFS_LENGTH (times_length, sequences_length), PFS_TIME
- *     (times), PFS_JOB or PFS_REPEATED (the jobs of the first sequence from the left, then those of the second, and so
- *     on)
+ * @return PFS_OK, or the first of PFS_NOT_PREPARED (instance), PFS_LENGTH (sequences_length), PFS_JOB or PFS_REPEATED
+ *     (the jobs of the first sequence from the left, then those of the second, and so on)
  */
-int pfs_makespans(const uint32_t *times, size_t times_length, size_t jobs, size_t machines, const uint32_t *sequences,
-                  size_t sequences_length, size_t length, uint64_t *makespans, size_t makespans_length) PFS_CHECKED;
+int pfs_makespans(struct pfs_instance *instance, const uint32_t *sequences, size_t sequences_length, size_t length,
+                  uint64_t *makespans, size_t makespans_length) PFS_CHECKED;
 
-/** @brief Computes a lower bound of the makespans of all orders (Taillard 1993).
+/** @brief Computes a lower bound of the makespans of all orders (Taillard 1993). Time O(nm).
  *
  * The bound is the greatest of the total processing times of the jobs and of a sum for each machine: the load of the
  * machine, plus the least time that a job takes on the machines before it, plus the least time that a job takes on
  * those after it.
  *
- * @param[in] times processing times, job by job
- * @param[in] times_length number of times, which is jobs * machines
- * @param[in] jobs number of jobs
- * @param[in] machines number of machines
+ * @param[in,out] instance the instance
  * @param[out] bound the lower bound
- * @return PFS_OK, or the first of PFS_SIZE (jobs, machines), PFS_LENGTH (times_length), PFS_TIME (times), PFS_MEMORY
+ * @return PFS_OK or PFS_NOT_PREPARED (instance)
  */
-int pfs_bound(const uint32_t *times, size_t times_length, size_t jobs, size_t machines, uint64_t *bound) PFS_CHECKED;
+int pfs_bound(struct pfs_instance *instance, uint64_t *bound) PFS_CHECKED;
 
-/** @brief Computes when each operation of an order starts and ends, each as early as possible.
+/** @brief Computes when each operation of an order starts and ends, each as early as possible. Time O(nm). Allocates.
  *
  * Entry place * machines + machine belongs to the job at this place of the order, on this machine.
  *
- * @param[in] times processing times, job by job
- * @param[in] times_length number of times, which is jobs * machines
- * @param[in] jobs number of jobs
- * @param[in] machines number of machines
+ * @param[in,out] instance the instance
  * @param[in] order all jobs, in the order in which they are processed
- * @param[in] order_length length of the order, which is `jobs`
+ * @param[in] order_length length of the order, which is the number of jobs
  * @param[out] starts start of each operation
  * @param[in] starts_length number of starts, which is jobs * machines
  * @param[out] ends end of each operation
  * @param[in] ends_length number of ends, which is jobs * machines
- * @return PFS_OK, or the first of PFS_SIZE (jobs, machines), PFS_LENGTH (times_length, order_length, starts_length,
- *     ends_length), PFS_TIME (times), PFS_JOB or PFS_REPEATED (the jobs from the left), PFS_MEMORY
+ * @return PFS_OK, or the first of PFS_NOT_PREPARED (instance), PFS_LENGTH (order_length, starts_length, ends_length),
+ *     PFS_JOB or PFS_REPEATED (the jobs from the left), PFS_MEMORY
  */
-int pfs_table(const uint32_t *times, size_t times_length, size_t jobs, size_t machines, const uint32_t *order,
-              size_t order_length, uint64_t *starts, size_t starts_length, uint64_t *ends,
-              size_t ends_length) PFS_CHECKED;
+int pfs_table(struct pfs_instance *instance, const uint32_t *order, size_t order_length, uint64_t *starts,
+              size_t starts_length, uint64_t *ends, size_t ends_length) PFS_CHECKED;
 
-/** @brief Computes the order of NEH (Nawaz, Enscore and Ham 1983), by heads and tails (Taillard 1990).
+/** @brief Computes the order of NEH (Nawaz, Enscore and Ham 1983). Time O(nnm). Allocates.
  *
  * NEH takes the jobs by decreasing total processing time, of equal totals the lower job first, and inserts each at its
- * best place, of equally good places the first.
+ * best place, of equally good places the first. Best places are found by heads and tails (Taillard 1990).
  *
- * @param[in] times processing times, job by job
- * @param[in] times_length number of times, which is jobs * machines
- * @param[in] jobs number of jobs
- * @param[in] machines number of machines
+ * @param[in,out] instance the instance
  * @param[out] order NEH's order
- * @param[in] order_length length of the order, which is `jobs`
+ * @param[in] order_length length of the order, which is the number of jobs
  * @param[out] makespan makespan of the order
  * @param[out] cells number of table cells that were computed, which is 2 * machines * jobs * jobs
- * @return PFS_OK, or the first of PFS_SIZE (jobs, machines), PFS_LENGTH (times_length, order_length), PFS_TIME (times),
- *     PFS_MEMORY
+ * @return PFS_OK, or the first of PFS_NOT_PREPARED (instance), PFS_LENGTH (order_length), PFS_MEMORY
  */
-int pfs_neh(const uint32_t *times, size_t times_length, size_t jobs, size_t machines, uint32_t *order,
-            size_t order_length, uint64_t *makespan, uint64_t *cells) PFS_CHECKED;
+int pfs_neh(struct pfs_instance *instance, uint32_t *order, size_t order_length, uint64_t *makespan,
+            uint64_t *cells) PFS_CHECKED;
 
-/** @brief Makes rounds of the iterated greedy search (Ruiz and Stützle 2007) from a given order.
- *
- * The function makes the rounds `first` to `first + count - 1` of the search with a seed. The given order may be any
- * order of all jobs; it is replaced by the order after these rounds.
- *
- * A round removes `take` jobs (the destruction size), which the next random words of the seed select, and reinserts
- * them at their best places. Then it makes `passes` passes; in each pass every job leaves its place for its best one.
- * The new order is kept unless its makespan is greater.
- *
- * A search may be made in parts: rounds 0 to 99 and then rounds 100 to 199 leave the same order as rounds 0 to 199.
- * From NEH's order, the rounds leave the order that `pfs solve` prints. Each call builds its tables again, which costs
- * about as much as one insertion.
- *
- * @param[in] times processing times, job by job
- * @param[in] times_length number of times, which is jobs * machines
- * @param[in] jobs number of jobs
- * @param[in] machines number of machines
- * @param[in,out] order all jobs; the order to start from, then the order after the rounds
- * @param[in] order_length length of the order, which is `jobs`
- * @param[in] first the first round, counted from 0
- * @param[in] count number of rounds
- * @param[in] take number of jobs that a round removes
- * @param[in] passes number of passes in each round
- * @param[in] seed seed of the random words
- * @param[out] makespan makespan of the order after the rounds
- * @param[out] cells number of table cells that these rounds computed
- * @return PFS_OK, or the first of PFS_SIZE (jobs, machines), PFS_LENGTH (times_length, order_length), PFS_TIME (times),
- *     PFS_JOB or PFS_REPEATED (the jobs from the left), PFS_TAKE (take), PFS_PASSES (passes), PFS_ROUNDS (first +
- *     count), PFS_MEMORY
- */
-int pfs_rounds(const uint32_t *times, size_t times_length, size_t jobs, size_t machines, uint32_t *order,
-               size_t order_length, uint32_t first, uint32_t count, size_t take, uint32_t passes, uint64_t seed,
-               uint64_t *makespan, uint64_t *cells) PFS_CHECKED;
-
-/** @brief Finds the best place of a job in a sequence of other jobs.
- *
- * The best place is the first one that gives the least makespan. The job is inserted before the job at this place, or
- * after the last job.
- *
- * @param[in] times processing times, job by job
- * @param[in] times_length number of times, which is jobs * machines
- * @param[in] jobs number of jobs
- * @param[in] machines number of machines
- * @param[in] sequence distinct jobs, without the job to insert
- * @param[in] sequence_length number of jobs in the sequence
- * @param[in] job the job to insert
- * @param[out] place the best place, from 0 to sequence_length
- * @param[out] makespan makespan with the job at this place
- * @return PFS_OK, or the first of PFS_SIZE (jobs, machines), PFS_LENGTH (times_length), PFS_TIME (times), PFS_JOB or
- *     PFS_REPEATED (the jobs of the sequence from the left), PFS_JOB or PFS_REPEATED (job), PFS_MEMORY
- */
-int pfs_insert(const uint32_t *times, size_t times_length, size_t jobs, size_t machines, const uint32_t *sequence,
-               size_t sequence_length, uint32_t job, size_t *place, uint64_t *makespan) PFS_CHECKED;
-
-/** @brief A handle, which holds a prepared instance or none.
- *
- * A new handle holds none: struct pfs_prepared prepared = {NULL}. A handle whose bytes are all 0 holds none either.
- * After that, only the three functions below may change it. A handle may be moved in memory; of a handle and its copy,
- * only one may be used.
- */
-struct pfs_prepared {
-    void *at; /**< what the handle holds, or NULL if it holds no instance */
+/** @brief Which rounds pfs_rounds makes. */
+struct pfs_rounds_options {
+    uint64_t seed;   /**< seed of the random words */
+    size_t take;     /**< number of jobs that a round removes (the destruction size), 1 to the number of jobs */
+    uint32_t first;  /**< the first round, counted from 0 */
+    uint32_t count;  /**< number of rounds; first + count is at most PFS_MOST_ROUNDS */
+    uint32_t passes; /**< number of passes in each round, at most PFS_MOST_PASSES */
 };
 
-/** @brief Prepares an instance for many insertions.
+/** @brief Makes rounds of the iterated greedy search (Ruiz and Stützle 2007) from a given order. Allocates.
  *
- * The handle holds a copy of the times, and the tables of an insertion. So pfs_insert_prepared neither validates nor
- * copies the times, and the caller's list may change after this call. If the handle held another instance, the function
- * releases that one, unless it fails. Release every prepared instance by pfs_release.
+ * The function makes the rounds `first` to `first + count - 1` of the search with a seed. The given order may be any
+ * order of all jobs; it is replaced by the order after these rounds. A round takes the time of take + passes * n
+ * insertions, each of which takes O(nm).
  *
- * @param[in] times processing times, job by job
- * @param[in] times_length number of times, which is jobs * machines
- * @param[in] jobs number of jobs
- * @param[in] machines number of machines
- * @param[in,out] prepared a handle; unless the function returns PFS_OK, it holds what it held before
- * @return PFS_OK, or the first of PFS_SIZE (jobs, machines), PFS_LENGTH (times_length), PFS_TIME (times), PFS_MEMORY
+ * A round removes `take` jobs, which the next random words of the seed select, and reinserts them at their best places.
+ * Then it makes `passes` passes; in each pass every job leaves its place for its best one. The new order is kept unless
+ * its makespan is greater.
+ *
+ * A search may be made in parts: rounds 0 to 99 and then rounds 100 to 199 leave the same order as rounds 0 to 199.
+ * From NEH's order, the rounds leave the order that `pfs solve` prints.
+ *
+ * @param[in,out] instance the instance
+ * @param[in] options which rounds to make
+ * @param[in,out] order all jobs; the order to start from, then the order after the rounds
+ * @param[in] order_length length of the order, which is the number of jobs
+ * @param[out] makespan makespan of the order after the rounds
+ * @param[out] cells number of table cells that these rounds computed
+ * @return PFS_OK, or the first of PFS_NOT_PREPARED (instance), PFS_LENGTH (order_length), PFS_JOB or PFS_REPEATED (the
+ *     jobs from the left), PFS_TAKE (take), PFS_PASSES (passes), PFS_ROUNDS (first + count), PFS_MEMORY
  */
-int pfs_prepare(const uint32_t *times, size_t times_length, size_t jobs, size_t machines,
-                struct pfs_prepared *prepared) PFS_CHECKED;
+int pfs_rounds(struct pfs_instance *instance, const struct pfs_rounds_options *options, uint32_t *order,
+               size_t order_length, uint64_t *makespan, uint64_t *cells) PFS_CHECKED;
 
-/** @brief Finds the best place of a job in a sequence of other jobs of a prepared instance.
+/** @brief Finds the best place of a job in a sequence of other jobs. Time O(km).
  *
- * The place and the makespan are those of pfs_insert. The handle holds the same instance after every call, also after
- * one that reports a fault. Calls do not depend on one another, but a call is faster if its sequence differs only in a
- * few places from the one before. Where a wavefront serves the instance (docs/SEARCH.md), the function allocates
- * nothing.
+ * The best place is the first one that gives the least makespan. The job is inserted before the job at this place, or
+ * after the last job. A call is faster if its sequence differs only in a few places from the one before.
  *
- * @param[in,out] prepared a handle that holds an instance
+ * @param[in,out] instance the instance
  * @param[in] sequence distinct jobs, without the job to insert
  * @param[in] sequence_length number of jobs in the sequence
  * @param[in] job the job to insert
  * @param[out] place the best place, from 0 to sequence_length
  * @param[out] makespan makespan with the job at this place
- * @return PFS_OK, or the first of PFS_NOT_PREPARED (prepared), PFS_JOB or PFS_REPEATED (the jobs of the sequence from
- *     the left), PFS_JOB or PFS_REPEATED (job), PFS_MEMORY
+ * @return PFS_OK, or the first of PFS_NOT_PREPARED (instance), PFS_JOB or PFS_REPEATED (the jobs of the sequence from
+ *     the left), PFS_JOB or PFS_REPEATED (job)
  */
-int pfs_insert_prepared(struct pfs_prepared *prepared, const uint32_t *sequence, size_t sequence_length, uint32_t job,
-                        size_t *place, uint64_t *makespan) PFS_CHECKED;
+int pfs_insert(struct pfs_instance *instance, const uint32_t *sequence, size_t sequence_length, uint32_t job,
+               size_t *place, uint64_t *makespan) PFS_CHECKED;
 
-/** @brief Releases a prepared instance.
- *
- * Its memory is freed, and the handle holds no instance. If it held none, nothing happens.
- *
- * @param[in,out] prepared a handle
- */
-void pfs_release(struct pfs_prepared *prepared);
-
-/** @brief Computes the makespan with a job at each place of a sequence of other jobs.
+/** @brief Computes the makespan with a job at each place of a sequence of other jobs. Time O(km).
  *
  * makespans[place] is the makespan with the job before the one at this place, and makespans[sequence_length] that with
  * the job after the last one. The first place with the least of them is the one that pfs_insert finds.
  *
- * @param[in] times processing times, job by job
- * @param[in] times_length number of times, which is jobs * machines
- * @param[in] jobs number of jobs
- * @param[in] machines number of machines
+ * @param[in,out] instance the instance
  * @param[in] sequence distinct jobs, without the job to insert
  * @param[in] sequence_length number of jobs in the sequence
  * @param[in] job the job to insert
  * @param[out] makespans makespan with the job at each place
  * @param[in] makespans_length number of makespans, which is sequence_length + 1
- * @return PFS_OK, or the first of PFS_SIZE (jobs, machines), PFS_LENGTH (times_length, makespans_length), PFS_TIME
- *     (times), PFS_JOB or PFS_REPEATED (the jobs of the sequence from the left), PFS_JOB or PFS_REPEATED (job),
- *     PFS_MEMORY
+ * @return PFS_OK, or the first of PFS_NOT_PREPARED (instance), PFS_LENGTH (makespans_length), PFS_JOB or PFS_REPEATED
+ *     (the jobs of the sequence from the left), PFS_JOB or PFS_REPEATED (job)
  */
-int pfs_insertions(const uint32_t *times, size_t times_length, size_t jobs, size_t machines, const uint32_t *sequence,
-                   size_t sequence_length, uint32_t job, uint64_t *makespans, size_t makespans_length) PFS_CHECKED;
+int pfs_insertions(struct pfs_instance *instance, const uint32_t *sequence, size_t sequence_length, uint32_t job,
+                   uint64_t *makespans, size_t makespans_length) PFS_CHECKED;
 
-/** @brief Computes the heads and tails of a sequence.
+/** @brief Computes the heads and tails of a sequence. Time O(km).
  *
  * Entry place * machines + machine belongs to the operation of the job at this place of the sequence, on this machine.
  * Its head is the earliest time at which the operation ends. Its tail is the longest path from the start of the
- * operation to the end of the sequence. Both include the time of the operation. The function allocates nothing.
+ * operation to the end of the sequence. Both include the time of the operation.
  *
- * @param[in] times processing times, job by job
- * @param[in] times_length number of times, which is jobs * machines
- * @param[in] jobs number of jobs
- * @param[in] machines number of machines
+ * @param[in,out] instance the instance
  * @param[in] sequence distinct jobs, in the order in which they are processed
  * @param[in] sequence_length number of jobs in the sequence
  * @param[out] heads head of each operation
  * @param[in] heads_length number of heads, which is sequence_length * machines
  * @param[out] tails tail of each operation
  * @param[in] tails_length number of tails, which is sequence_length * machines
- * @return PFS_OK, or the first of PFS_SIZE (jobs, machines), PFS_LENGTH (times_length, heads_length, tails_length),
- *     PFS_TIME (times), PFS_JOB or PFS_REPEATED (the jobs from the left)
+ * @return PFS_OK, or the first of PFS_NOT_PREPARED (instance), PFS_LENGTH (heads_length, tails_length), PFS_JOB or
+ *     PFS_REPEATED (the jobs from the left)
  */
-int pfs_heads_tails(const uint32_t *times, size_t times_length, size_t jobs, size_t machines, const uint32_t *sequence,
-                    size_t sequence_length, uint64_t *heads, size_t heads_length, uint64_t *tails,
-                    size_t tails_length) PFS_CHECKED;
+int pfs_heads_tails(struct pfs_instance *instance, const uint32_t *sequence, size_t sequence_length, uint64_t *heads,
+                    size_t heads_length, uint64_t *tails, size_t tails_length) PFS_CHECKED;
 
-/** @brief Inserts jobs into a sequence one after the other, each at its best place.
+/** @brief Inserts jobs into a sequence one after the other, each at its best place. Time O(nm) for each.
  *
  * The best place is the one that pfs_insert finds. From the empty sequence and all jobs in the order of NEH's ranking,
- * the function finds NEH's order. The tables are built once for all insertions.
+ * the function finds NEH's order.
  *
- * @param[in] times processing times, job by job
- * @param[in] times_length number of times, which is jobs * machines
- * @param[in] jobs number of jobs
- * @param[in] machines number of machines
+ * @param[in,out] instance the instance
  * @param[in] sequence distinct jobs, to which the others are added
  * @param[in] sequence_length number of jobs in the sequence
  * @param[in] more jobs to insert, in this order; they are distinct, and not in the sequence
@@ -392,43 +351,63 @@ int pfs_heads_tails(const uint32_t *times, size_t times_length, size_t jobs, siz
  * @param[out] order the sequence with all of these jobs
  * @param[in] order_length length of the order, which is sequence_length + more_length
  * @param[out] makespan makespan of the order
- * @return PFS_OK, or the first of PFS_SIZE (jobs, machines), PFS_LENGTH (times_length, order_length), PFS_TIME (times),
- *     PFS_JOB or PFS_REPEATED (the jobs of the sequence from the left, then those to insert), PFS_MEMORY
+ * @return PFS_OK, or the first of PFS_NOT_PREPARED (instance), PFS_LENGTH (order_length), PFS_JOB or PFS_REPEATED (the
+ *     jobs of the sequence from the left, then those to insert)
  */
-int pfs_construct(const uint32_t *times, size_t times_length, size_t jobs, size_t machines, const uint32_t *sequence,
-                  size_t sequence_length, const uint32_t *more, size_t more_length, uint32_t *order,
-                  size_t order_length, uint64_t *makespan) PFS_CHECKED;
+int pfs_construct(struct pfs_instance *instance, const uint32_t *sequence, size_t sequence_length, const uint32_t *more,
+                  size_t more_length, uint32_t *order, size_t order_length, uint64_t *makespan) PFS_CHECKED;
 
-/** @brief Improves a sequence by passes over a list of its jobs.
+/** @brief Improves a sequence by passes over a list of its jobs. Time O(km) for each job and pass.
  *
  * In a pass, each job of the list is removed and inserted at its best place, which is the one that pfs_insert finds.
  * The result is never longer than the sequence. A list of all jobs from 0 on makes the passes of a round of pfs_rounds.
- * The tables are built once for all passes.
  *
- * @param[in] times processing times, job by job
- * @param[in] times_length number of times, which is jobs * machines
- * @param[in] jobs number of jobs
- * @param[in] machines number of machines
- * @param[in] sequence distinct jobs
- * @param[in] sequence_length number of jobs in the sequence
+ * @param[in,out] instance the instance
  * @param[in] list distinct jobs of the sequence, in the order in which they are removed and inserted
  * @param[in] list_length number of jobs in the list
  * @param[in] passes number of passes, from 0 to PFS_MOST_PASSES
- * @param[out] order the sequence after the passes
- * @param[in] order_length length of the order, which is sequence_length
- * @param[out] makespan makespan of the order
- * @return PFS_OK, or the first of PFS_SIZE (jobs, machines), PFS_LENGTH (times_length, order_length), PFS_TIME (times),
- *     PFS_JOB or PFS_REPEATED (the jobs of the sequence from the left), PFS_JOB or PFS_REPEATED (those of the list),
- *     PFS_JOB (a job of the list that is not in the sequence), PFS_PASSES (passes), PFS_MEMORY
+ * @param[in,out] sequence distinct jobs; the sequence to start from, then the sequence after the passes
+ * @param[in] sequence_length number of jobs in the sequence
+ * @param[out] makespan makespan of the sequence after the passes
+ * @return PFS_OK, or the first of PFS_NOT_PREPARED (instance), PFS_JOB or PFS_REPEATED (the jobs of the sequence from
+ *     the left), PFS_JOB or PFS_REPEATED (those of the list), PFS_JOB (a job of the list that is not in the sequence),
+ *     PFS_PASSES (passes)
  */
-int pfs_local_search(const uint32_t *times, size_t times_length, size_t jobs, size_t machines, const uint32_t *sequence,
-                     size_t sequence_length, const uint32_t *list, size_t list_length, uint32_t passes, uint32_t *order,
-                     size_t order_length, uint64_t *makespan) PFS_CHECKED;
+int pfs_local_search(struct pfs_instance *instance, const uint32_t *list, size_t list_length, uint32_t passes,
+                     uint32_t *sequence, size_t sequence_length, uint64_t *makespan) PFS_CHECKED;
 
-/** @brief Computes random words of a seed (Pcg32, O'Neill 2014).
+/** @brief What a size line of Taillard's layout contains besides the sizes. Nothing is computed from it. */
+struct pfs_notes {
+    uint32_t seed;  /**< the initial seed of the generator */
+    uint32_t upper; /**< the upper bound: some order's makespan is not greater */
+    uint32_t lower; /**< the lower bound: no order's makespan is less */
+};
+
+/** @brief Writes an instance as a file of one block. Time O(nm). Allocates.
+ *
+ * The file has single spaces and no leading zeros. The layout PFS_ORLIB has no notes.
+ *
+ * @param[in,out] instance the instance
+ * @param[in] notes notes for the size line
+ * @param[in] layout PFS_TAILLARD or PFS_ORLIB
+ * @param[out] text the file, in the front of the list
+ * @param[in] room length of the list `text`
+ * @param[out] length number of bytes in the file, on PFS_OK and on PFS_ROOM
+ * @return PFS_OK, or the first of PFS_NOT_PREPARED (instance), PFS_LAYOUT (layout), PFS_MEMORY, PFS_ROOM (room)
+ */
+int pfs_write(struct pfs_instance *instance, const struct pfs_notes *notes, uint32_t layout, uint8_t *text, size_t room,
+              size_t *length) PFS_CHECKED;
+
+/** @} */
+
+/** @name Calls that need no instance.
+ * @{
+ */
+
+/** @brief Computes random words of a seed (Pcg32, O'Neill 2014), in the time of as many words and of a jump.
  *
  * Round r of pfs_rounds uses the `take` words from word r * take on. Each word selects a job to remove: the job at the
- * place that is the word modulo the number of jobs left in the order. The function allocates nothing.
+ * place that is the word modulo the number of jobs left in the order. Since version 1.1.0.
  *
  * @param[in] seed seed of the random words
  * @param[in] first the first word, counted from 0
@@ -438,7 +417,10 @@ int pfs_local_search(const uint32_t *times, size_t times_length, size_t jobs, si
  */
 int pfs_random(uint64_t seed, uint64_t first, uint32_t *words, size_t words_length) PFS_CHECKED;
 
-/** @brief Draws processing times from 1 to 99 from a seed, as Taillard (1993) does for his benchmark.
+/** @brief Draws processing times from 1 to 99 from a seed, as Taillard (1993) does for his benchmark. Time O(nm).
+ * Allocates.
+ *
+ * Since version 1.0.0.
  *
  * @param[in] jobs number of jobs
  * @param[in] machines number of machines
@@ -449,58 +431,37 @@ int pfs_random(uint64_t seed, uint64_t first, uint32_t *words, size_t words_leng
  */
 int pfs_generate(size_t jobs, size_t machines, uint64_t seed, uint32_t *times, size_t times_length) PFS_CHECKED;
 
-/** @brief What a size line of Taillard's layout contains besides the sizes. Nothing is computed from it. */
-struct pfs_notes {
-    uint32_t seed;  /**< the initial seed of the generator */
-    uint32_t upper; /**< the upper bound: some order's makespan is not greater */
-    uint32_t lower; /**< the lower bound: no order's makespan is less */
+/** @brief What the size line of a block says. */
+struct pfs_block {
+    size_t jobs;            /**< number of jobs */
+    size_t machines;        /**< number of machines */
+    struct pfs_notes notes; /**< notes of the size line; with PFS_ORLIB all are 0 */
 };
 
-/** @brief Reads a block of an instance file in memory.
+/** @brief Reads a block of an instance file in memory. Time O(bytes_length). Allocates.
  *
- * If `room` is less than jobs * machines, the function returns PFS_ROOM and still sets jobs, machines and notes, so a
- * call with room 0 finds the sizes. Nothing after the block is examined. Memory for the times is allocated at the end
- * of the block's size line, so PFS_MEMORY says nothing about the bytes after it.
+ * If `room` is less than jobs * machines, the function returns PFS_ROOM and still sets `found`, so a call with room 0
+ * finds the sizes. Nothing after the block is examined. Memory for the times is allocated at the end of the block's
+ * size line, so PFS_MEMORY says nothing about the bytes after it.
  *
  * @param[in] bytes the file
  * @param[in] bytes_length number of bytes in the file
  * @param[in] layout PFS_TAILLARD or PFS_ORLIB
  * @param[in] block number of the block, counted from 1
- * @param[out] jobs number of jobs
- * @param[out] machines number of machines
- * @param[out] notes notes of the size line; with PFS_ORLIB all are 0
+ * @param[out] found the sizes and notes of the block
  * @param[out] times processing times, job by job, in the front of the list
  * @param[in] room length of the list `times`
  * @param[out] place place of the file's fault, as its number says
  * @return PFS_OK, or the first of PFS_LAYOUT (layout), PFS_BLOCK (block), PFS_NO_BLOCK to PFS_INPUT_TOO_LONG (the file)
  *     or PFS_MEMORY, PFS_ROOM (room)
  */
-int pfs_read(const uint8_t *bytes, size_t bytes_length, uint32_t layout, size_t block, size_t *jobs, size_t *machines,
-             struct pfs_notes *notes, uint32_t *times, size_t room, uint64_t *place) PFS_CHECKED;
+int pfs_read(const uint8_t *bytes, size_t bytes_length, uint32_t layout, size_t block, struct pfs_block *found,
+             uint32_t *times, size_t room, uint64_t *place) PFS_CHECKED;
 
-/** @brief Writes an instance as a file of one block.
- *
- * The file has single spaces and no leading zeros. The layout PFS_ORLIB has no notes.
- *
- * @param[in] times processing times, job by job
- * @param[in] times_length number of times, which is jobs * machines
- * @param[in] jobs number of jobs
- * @param[in] machines number of machines
- * @param[in] notes notes for the size line
- * @param[in] layout PFS_TAILLARD or PFS_ORLIB
- * @param[out] text the file, in the front of the list
- * @param[in] room length of the list `text`
- * @param[out] length number of bytes in the file, on PFS_OK and on PFS_ROOM
- * @return PFS_OK, or the first of PFS_SIZE (jobs, machines), PFS_LENGTH (times_length), PFS_TIME (times), PFS_LAYOUT
- *     (layout), PFS_MEMORY, PFS_ROOM (room)
- */
-int pfs_write(const uint32_t *times, size_t times_length, size_t jobs, size_t machines, const struct pfs_notes *notes,
-              uint32_t layout, uint8_t *text, size_t room, size_t *length) PFS_CHECKED;
-
-/** @brief Reads an order file of version 1 or 2 in memory.
+/** @brief Reads an order file of version 1 or 2 in memory. Time O(bytes_length). Allocates.
  *
  * If `room` is less than the number of jobs, the function returns PFS_ROOM and still sets jobs, machines and makespan.
- * The makespan is the one that the file states, right or wrong.
+ * The makespan is the one that the file states, right or wrong. Since version 1.0.0.
  *
  * @param[in] bytes the file
  * @param[in] bytes_length number of bytes in the file
@@ -515,9 +476,9 @@ int pfs_write(const uint32_t *times, size_t times_length, size_t jobs, size_t ma
 int pfs_read_order(const uint8_t *bytes, size_t bytes_length, uint32_t *order, size_t room, size_t *jobs,
                    size_t *machines, uint64_t *makespan, uint64_t *place) PFS_CHECKED;
 
-/** @brief Writes an order of all jobs and a makespan as an order file.
+/** @brief Writes an order of all jobs and a makespan as an order file. Time O(n). Allocates.
  *
- * The file is of version 1 if machines is 0, otherwise of version 2.
+ * The file is of version 1 if machines is 0, otherwise of version 2. Since version 1.0.0.
  *
  * @param[in] order all jobs, counted from 0
  * @param[in] order_length number of jobs
@@ -531,6 +492,8 @@ int pfs_read_order(const uint8_t *bytes, size_t bytes_length, uint32_t *order, s
  */
 int pfs_write_order(const uint32_t *order, size_t order_length, size_t machines, uint64_t makespan, uint8_t *text,
                     size_t room, size_t *length) PFS_CHECKED;
+
+/** @} */
 
 #ifdef __cplusplus
 }

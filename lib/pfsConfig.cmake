@@ -2,7 +2,7 @@
 get_filename_component(pfs_folder "${CMAKE_CURRENT_LIST_DIR}/../.." ABSOLUTE)
 find_path(pfs_INCLUDE_DIR pfs.h HINTS "${pfs_folder}/../include" "${pfs_folder}/../../include" NO_DEFAULT_PATH)
 mark_as_advanced(pfs_INCLUDE_DIR)
-foreach(pfs_kind "pfs;SHARED;libpfs.so.0" "pfs_static;STATIC;libpfs.a")
+foreach(pfs_kind "pfs;SHARED;libpfs.so.1" "pfs_static;STATIC;libpfs.a")
     list(GET pfs_kind 0 pfs_target)
     list(GET pfs_kind 1 pfs_type)
     list(GET pfs_kind 2 pfs_file)

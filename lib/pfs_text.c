@@ -24,7 +24,7 @@ const char *pfs_message(int number) {
     case PFS_BLOCK: return "the block isn't from 1 to 1000";
     case PFS_MAKESPAN: return "the makespan has more than 18 digits";
     case PFS_ROOM: return "too little room for the result";
-    case PFS_NOT_PREPARED: return "the handle holds no prepared instance";
+    case PFS_NOT_PREPARED: return "no instance is prepared";
     case PFS_NO_BLOCK: return "the file ends before the block";
     case PFS_SIZE_COUNT: return "a size line has too few or too many numbers";
     case PFS_SIZE_RANGE: return "a number of a size line is out of range";

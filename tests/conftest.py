@@ -19,7 +19,7 @@ pytest_plugins = ["support.needs", "support.folders", "support.tools", "support.
                   "support.experiments", "support.installed"]
 
 TOP = pathlib.Path(__file__).resolve().parent.parent
-LIBRARY = TOP / "lib" / "out" / "libpfs.so.0"
+LIBRARY = TOP / "lib" / "out" / "libpfs.so.1"
 # The fixtures of what is proved and built.
 BUILT = {"pfs", "pfs_calls", "libpfs"}
 

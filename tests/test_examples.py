@@ -34,8 +34,8 @@ def installed(libpfs: Library, tmp_path_factory: pytest.TempPathFactory) -> path
     for folder in ("include", "lib/pkgconfig"):
         (prefix / folder).mkdir(parents=True)
     shutil.copy(HEADER, prefix / "include")
-    shutil.copy(libpfs.path, prefix / "lib" / "libpfs.so.0")
-    (prefix / "lib" / "libpfs.so").symlink_to("libpfs.so.0")
+    shutil.copy(libpfs.path, prefix / "lib" / "libpfs.so.1")
+    (prefix / "lib" / "libpfs.so").symlink_to("libpfs.so.1")
     lines = {"prefix=.*": f"prefix={prefix}", "libdir=.*": "libdir=${prefix}/lib", "Version:.*": f"Version: {VERSION}"}
     text = HEADER.with_name("pfs.pc.in").read_text()
     for line, filled in lines.items():
@@ -178,7 +178,7 @@ def test_an_own_search_reports_failed_allocations(built: pathlib.Path, shop: pat
         if ran != right:
             assert (ran.stdout, ran.status) == (b"", 4 if b"cannot open" in ran.stderr else 2), f"allocation {growth}"
             failed.add(ran.stderr)
-    assert right.status == 0 and b"own_search: search: memory allocation failed\n" in failed
+    assert right.status == 0 and b"own_search: shop: memory allocation failed\n" in failed
     assert all(re.fullmatch(rb"own_search: (shop: cannot open|\w+: memory allocation failed)\n", line)
                for line in failed), failed
 

@@ -5,38 +5,35 @@ import ctypes
 import pathlib
 import re
 import subprocess
+from collections.abc import Callable
 from random import Random
 
 import fuzz
 import pytest
 from support import second_library, second_program
 from support.growths import Shim
-from support.library import (HEADER, SUPPORT, Library, Memory, Number, compile_quietly, compiled, list32,
+from support.library import (HEADER, SUPPORT, Answer, Library, Memory, Number, compile_quietly, compiled, list32,
                              list64, read32, text, u32s, u64s)
 from support.needs import tool
 from support.program import Program, Ran
-from support.second_library import by_job
+from support.second_library import OPTIONS, by_job
 from support.second_program import Instance
 from support.tools import output_of
 
 CALLS = SUPPORT / "library_calls.c"
-# Each function that is proved, and whether a call of it allocates memory.
-FUNCTIONS = {
-    "makespan": True, "makespans": False, "bound": False, "table": True, "neh": True, "rounds": True, "insert": True,
-    "prepare": True, "insert_prepared": True, "release": False, "insertions": True, "heads_tails": False,
-    "construct": True, "local_search": True, "random": False, "generate": False, "read": False, "write": False,
-    "read_order": False, "write_order": False,
-}
-# Calls on a larger instance, which use other tables.
-LARGE = ["insert_lanes", "insert_rows", "prepare_lanes", "prepare_rows", "thrice_lanes", "thrice_rows",
-         "prepare_again", "construct_lanes", "local_search_lanes"]
+# The functions that allocate nothing once their instance is prepared, those that do, and those that need none.
+QUIET = ["makespan", "makespans", "bound", "insert", "insertions", "heads_tails", "construct", "local_search"]
+LOUD = ["table", "neh", "rounds", "write"]
+OTHERS = ["random", "generate", "read", "read_order", "write_order"]
+FUNCTIONS = [*QUIET, *LOUD, *OTHERS, "prepare", "release"]
 TEXTS = {"pfs_message", "pfs_version"}
 NAMES = {f"pfs_{name}" for name in FUNCTIONS} | TEXTS
-ALL_CALLS = Ran(b"5497 calls, 0 failures\n", b"", 0)
+# The words of library_calls: the functions, and calls on larger instances, which use other tables.
+NAMED = [*QUIET, *LOUD, *OTHERS, "prepare", "prepare_again", "prepare_lanes", "prepare_rows",
+         "insert_lanes", "insert_rows"]
+ALL_CALLS = Ran(b"173 calls, 0 failures\n", b"", 0)
 LONG_CALLS = Ran(b"4 calls, 0 failures\n", b"", 0)
-# The number of the first allocation of a call, after those of the calling program. No call makes more than
-# MOST_GROWTHS.
-FIRST_GROWTH = 3
+# No call makes as many allocations.
 MOST_GROWTHS = 200
 SHOPS = 200
 FILES = 1_000
@@ -113,7 +110,7 @@ def test_the_version_number_is_that_of_the_version() -> None:
 
 @pytest.mark.parametrize("compiler", ["gcc", "clang"])
 def test_a_compiler_warns_if_a_program_ignores_the_number(folder: pathlib.Path, compiler: str) -> None:
-    (folder / "ignores.c").write_text('#include "pfs.h"\nvoid f(uint64_t *b) { pfs_bound(0, 0, 0, 0, b); }\n')
+    (folder / "ignores.c").write_text('#include "pfs.h"\nvoid f(uint64_t *b) { pfs_bound(0, b); }\n')
     words = [tool(compiler), "-std=c99", f"-I{HEADER.parent}", "-c", "ignores.c"]
     got = subprocess.run(words, cwd=folder, capture_output=True, text=True)
     assert got.returncode == 0 and "unused-result" in got.stderr
@@ -123,7 +120,7 @@ def test_a_compiler_warns_if_a_program_ignores_the_number(folder: pathlib.Path, 
 MEANT = {
     0: "done", 1: "memory", 2: "number of jobs or of machines", 3: "list", 4: "^a time is greater",
     5: "^a job isn't below", 6: "^a job occurs twice", 7: "destruction size", 8: "passes", 9: "rounds", 10: "seed",
-    11: "layout", 12: "block isn't from 1", 13: "makespan", 14: "room", 15: "handle", 20: "ends before the block",
+    11: "layout", 12: "block isn't from 1", 13: "makespan", 14: "room", 15: "prepared", 20: "ends before the block",
     21: "too few or too many", 22: "number of a size line is out", 23: "and a word", 24: "time of the file is greater",
     25: "machine number", 26: "follows the last time", 27: "ends inside a block", 28: "doesn't end within",
     30: "not an order file", 31: "0 or greater than the number of jobs", 32: "job of the order file occurs twice",
@@ -162,7 +159,7 @@ COMMENTS = {
     1: "allocation failed", 2: "PFS_MOST_JOBS.*PFS_MOST_MACHINES", 3: "a list.*length", 4: "a time.*PFS_LONGEST_TIME$",
     5: "a job is not below", 6: "a job occurs twice", 7: "destruction size", 8: "PFS_MOST_PASSES", 9: "PFS_MOST_ROUNDS",
     10: "2147483646", 11: "PFS_TAILLARD nor PFS_ORLIB", 12: "PFS_MOST_BLOCKS", 13: "PFS_MOST_MAKESPAN", 14: "room",
-    15: "handle holds no", 20: "before the block", 21: "too few or too many", 22: "out of range", 23: "a word",
+    15: "holds no", 20: "before the block", 21: "too few or too many", 22: "out of range", 23: "a word",
     24: "PFS_LONGEST_TIME;", 25: "machine number", 26: "last time", 27: "inside a block", 28: "PFS_LONGEST_INPUT",
     30: "not an order file", 31: "0 or greater", 32: "at an earlier place", 33: "PFS_LONGEST_ORDER_FILE"}
 
@@ -212,7 +209,7 @@ def test_the_library_exports_only_the_names_of_the_header(libpfs: Library) -> No
         printed = output_of([tool("nm"), how, "--defined-only", "--format=posix", path], path.parent)
         lines = [line.split() for line in printed.splitlines() if not line.endswith(":")]
         names = {name for name, kind, *_ in lines if kind != "A"}
-        assert names == ({f"{name}@@PFS_0" for name in NAMES} if path == libpfs.path else NAMES), path
+        assert names == ({f"{name}@@PFS_1" for name in NAMES} if path == libpfs.path else NAMES), path
     header = set(re.findall(r"^(?:int|void|const char \*)\s*(pfs_\w+)\(", HEADER.read_text(), re.MULTILINE))
     assert header == NAMES
 
@@ -220,7 +217,7 @@ def test_the_library_exports_only_the_names_of_the_header(libpfs: Library) -> No
 def test_the_library_needs_only_the_c_library(libpfs: Library) -> None:
     got = output_of([tool("readelf"), "--dynamic", "--wide", libpfs.path], libpfs.path.parent)
     assert re.findall(r"\(NEEDED\).*\[(.*)\]", got) == ["libc.so.6"]
-    assert re.findall(r"\(SONAME\).*\[(.*)\]", got) == ["libpfs.so.0"]
+    assert re.findall(r"\(SONAME\).*\[(.*)\]", got) == ["libpfs.so.1"]
     assert "TEXTREL" not in got
     assert re.findall(r"\(FLAGS\) +(.*)", got) == ["BIND_NOW"]
     wanted = output_of([tool("nm"), "--dynamic", "--undefined-only", libpfs.path], libpfs.path.parent)
@@ -261,7 +258,7 @@ def test_the_sanitizers_find_nothing_in_any_call(libpfs: Library, folder: pathli
 @pytest.mark.seconds(3)
 @pytest.mark.parametrize(("words", "printed"), [
     (["all"], ALL_CALLS.stdout), (["threads"], LONG_CALLS.stdout),
-    ([*FUNCTIONS, *LARGE], b"right\nright\n" * len([*FUNCTIONS, *LARGE]))], ids=["all", "threads", "each function"])
+    (NAMED, b"right\nright\n" * len(NAMED))], ids=["all", "threads", "each function"])
 def test_valgrind_finds_nothing_in_any_call(calls: Program, folder: pathlib.Path, words: list[str],
                                             printed: bytes) -> None:
     """One start of valgrind takes longer than the calls of a function. It reports with each error in which call it
@@ -284,19 +281,29 @@ def shim(tmp_path_factory: pytest.TempPathFactory) -> Shim:
 
 
 @OF_CALLS
-@pytest.mark.parametrize("name", [*FUNCTIONS, *LARGE])
+@pytest.mark.parametrize("name", NAMED)
 def test_a_failed_allocation_leaves_every_output_unchanged(calls: Program, shim: Shim, folder: pathlib.Path,
                                                            name: str) -> None:
     """Of two calls, the one whose allocation fails returns PFS_MEMORY and leaves every output unchanged. The other one
-    is right."""
-    half = allocations(calls, shim, folder, name)
-    assert half > (1 if name in LARGE else 0) or FUNCTIONS.get(name) is False
+    is right. Functions that need no allocation don't make any beside those of pfs_prepare."""
+    made = allocations(calls, shim, folder, name)
+    prepared = allocations(calls, shim, folder, "prepare")
+    assert name not in FUNCTIONS or (made > prepared) == (name in LOUD + OTHERS[1:])
+
+
+@OF_CALLS
+@pytest.mark.parametrize("name", ["insert_lanes", "insert_rows"])
+def test_an_insertion_allocates_nothing_on_large_instances(calls: Program, shim: Shim, folder: pathlib.Path,
+                                                           name: str) -> None:
+    """By a wavefront, and by rows."""
+    prepared = allocations(calls, shim, folder, name.replace("insert", "prepare"))
+    assert allocations(calls, shim, folder, name) == prepared > 1
 
 
 def allocations(calls: Program, shim: Shim, folder: pathlib.Path, name: str) -> int:
     """The number of allocations of a call, each of which was made to fail in the first and in the second of two."""
     got = []
-    for growth in range(FIRST_GROWTH, MOST_GROWTHS):
+    for growth in range(1, MOST_GROWTHS):
         ran, is_refused = shim.run_refused(calls, [name], folder, b"", growth)
         if not is_refused:
             break
@@ -306,15 +313,6 @@ def allocations(calls: Program, shim: Shim, folder: pathlib.Path, name: str) -> 
     half = len(got) // 2
     assert got == [b"memory\nright\n"] * half + [b"right\nmemory\n"] * half
     return half
-
-
-@OF_CALLS
-def test_an_insertion_into_a_prepared_instance_allocates_nothing_by_a_wavefront(calls: Program, shim: Shim,
-                                                                                folder: pathlib.Path) -> None:
-    once, thrice = (allocations(calls, shim, folder, f"{name}_lanes") for name in ("prepare", "thrice"))
-    assert once == thrice, "further insertions allocate memory"
-    once, thrice = (allocations(calls, shim, folder, f"{name}_rows") for name in ("prepare", "thrice"))
-    assert once < thrice, "by rows an insertion allocates memory, so this test would find it"
 
 
 # Against the program and the second implementation
@@ -360,17 +358,17 @@ def searches(random: Random, shop: Instance) -> list[Call]:
         ("pfs_bound", [*given(shop), out64()]),
         ("pfs_table", [*given(shop), *list32(jobs), *list64([PATTERN] * size), *list64([PATTERN] * size)]),
         ("pfs_neh", [*given(shop), out32(shop.jobs), Number(shop.jobs, is_length=True), out64(), out64()]),
-        ("pfs_rounds", [*given(shop), *list32(jobs), Number(first, 32), Number(random.randint(0, 4), 32),
-                        Number(random.randint(1, shop.jobs)), Number(random.randint(0, 2), 32),
-                        Number(random.choice(fuzz.SEEDS[:-1])), out64(), out64()]),
+        ("pfs_rounds", [*given(shop), Memory(OPTIONS.pack(random.choice(fuzz.SEEDS[:-1]), random.randint(1, shop.jobs),
+                                                          first, random.randint(0, 4), random.randint(0, 2))),
+                        *list32(jobs), out64(), out64()]),
         ("pfs_insert", [*given(shop), *list32(some), Number(jobs[-1], 32), out64(), out64()]),
         ("pfs_insertions", [*given(shop), *list32(some), Number(jobs[-1], 32), *list64([PATTERN] * (len(some) + 1))]),
         ("pfs_heads_tails", [*given(shop), *list32(some), *list64([PATTERN] * (len(some) * shop.machines)),
                              *list64([PATTERN] * (len(some) * shop.machines))]),
         ("pfs_construct", [*given(shop), *list32(some), *list32(jobs[len(some):]), *list32([PATTERN] * shop.jobs),
                            out64()]),
-        ("pfs_local_search", [*given(shop), *list32(jobs), *list32(random.sample(jobs, length)),
-                              Number(random.randint(0, 2), 32), *list32([PATTERN] * shop.jobs), out64()]),
+        ("pfs_local_search", [*given(shop), *list32(random.sample(jobs, length)), Number(random.randint(0, 2), 32),
+                              *list32(jobs), out64()]),
         ("pfs_random", [Number(random.choice(fuzz.SEEDS[:-1])), Number(random.randint(0, 9)),
                         *list32([PATTERN] * count)]),
     ]
@@ -389,7 +387,7 @@ def files(random: Random, shop: Instance) -> list[Call]:
     return [
         ("pfs_generate", [Number(shop.jobs), Number(shop.machines), Number(random.randint(1, 2_147_483_646)),
                           *list32([PATTERN] * size)]),
-        ("pfs_read", [*text(file), Number(layout, 32), Number(random.randint(1, 2)), out64(), out64(), out32(3),
+        ("pfs_read", [*text(file), Number(layout, 32), Number(random.randint(1, 2)), out32(8),
                       *list32([PATTERN] * 50), out64()]),
         ("pfs_write", [*given(shop), notes, Number(random.randint(0, 1), 32), *text(b"\xa5" * 1_500), out64()]),
         ("pfs_read_order", [*text(order), *list32([PATTERN] * 12), out64(), out64(), out64(), out64()]),
@@ -426,18 +424,29 @@ def is_quick(name: str, arguments: Arguments) -> bool:
     numbers = [argument.value for argument in arguments if isinstance(argument, Number)]
     if name == "pfs_random":
         return numbers[1] <= 10_000
-    counts = {"pfs_rounds": numbers[5:8:2], "pfs_local_search": [1, *numbers[5:6]]}
-    if name not in counts or max(counts[name]) > second_library.MOST_ROUNDS:
+    if name == "pfs_rounds":
+        options = [argument.content for argument in arguments if isinstance(argument, Memory)][1]
+        _, take, first, count, passes = OPTIONS.unpack(options)
+    elif name == "pfs_local_search":
+        take, first, count, passes = 1, 0, 1, numbers[4]
+    else:
         return True
-    count, passes = counts[name]
-    return count <= 20 and count * passes * numbers[1]**3 * numbers[2] <= MOST_WORK
+    if max(first + count, take, passes) > second_library.MOST_ROUNDS:
+        return True
+    return bool(first * take <= 100_000 and count <= 20 and count * passes * numbers[1]**3 * numbers[2] <= MOST_WORK)
 
 
 def assert_same(libpfs: Library, name: str, arguments: Arguments) -> int:
     """Both libraries return the same number and leave the same bytes in all memory. Returns the number."""
-    answer = libpfs.call(name, *arguments)
-    assert answer == second_library.call(name, *arguments), (name, arguments)
+    answer, due = (named(library, name, arguments) for library in (libpfs.call, second_library.call))
+    assert answer == due, (name, arguments)
     return answer.number
+
+
+def named(call: Callable[..., Answer], name: str, arguments: Arguments) -> Answer:
+    """What a call returns, without the bytes after the last field of a `struct pfs_block`."""
+    number, memory = call(name, *arguments)
+    return Answer(number, [memory[0], memory[1][:28], *memory[2:]] if name == "pfs_read" else memory)
 
 
 @pytest.mark.quick

@@ -18,7 +18,7 @@ int main(void) {
     return printf("%d, makespan %d\\n", number, (int)makespan) < 0;
 }
 """
-SHARED, STATIC = "libpfs.so.0", "libpfs.a"
+SHARED, STATIC = "libpfs.so.1", "libpfs.a"
 
 
 def program(libpfs: Library, folder: pathlib.Path, compiler: str, library: str, *options: str) -> pathlib.Path:

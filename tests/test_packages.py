@@ -253,7 +253,7 @@ def test_the_pages_lines_unpack_the_tarball_and_remove_it(made: Made, folder: pa
 def test_the_packages_have_their_files_where_debian_looks(extracted: pathlib.Path, made: Made) -> None:
     """With the bytes that were built, packed manual pages and changelogs, and the licences in the file copyright."""
     places = {f"usr/{place}": file for place, file in (PLACES | LIBRARY).items()
-              if pathlib.Path(place).name not in ("CHANGELOG.md", "LICENSE-MIT", "LICENSE-APACHE")}
+              if "LICENSE" not in place}
     places = {path.replace("usr/lib/", f"{LIBRARIES}/").replace("zsh/site-functions", "zsh/vendor-completions"): file
               for path, file in places.items()}
     pages = "usr/share/doc/python3-pfs"

@@ -1,4 +1,4 @@
-"""Prepared instances of the library for C: on random instances each call has the results of pfs_insert, also in four
+"""Insertions into prepared instances: on random instances pfs_insert has the results of pfs_insertions, also in four
 threads at once, with gcc's sanitizers and under valgrind (support/prepared_calls.c). What the calls do with wrong
 arguments and with failing allocations is in test_library.py."""
 import pathlib
@@ -22,7 +22,7 @@ pytestmark = [pytest.mark.xdist_group("prepared calls"), pytest.mark.seconds(3)]
 
 @pytest.fixture(scope="session")
 def prepared_calls(libpfs: Library, tmp_path_factory: pytest.TempPathFactory) -> Program:
-    """The program that compares prepared instances with pfs_insert."""
+    """The program that compares both."""
     return compiled(tmp_path_factory.mktemp("prepared") / "prepared_calls", [CALLS], libpfs)
 
 
@@ -31,11 +31,11 @@ def all_the_same(instances: int) -> Ran:
     return Ran(f"{STEPS * instances} calls, 0 failures\n".encode(), b"", 0)
 
 
-def test_a_prepared_instance_has_the_results_of_insert(prepared_calls: Program, folder: pathlib.Path) -> None:
+def test_the_best_place_is_the_first_of_the_least_makespan(prepared_calls: Program, folder: pathlib.Path) -> None:
     assert prepared_calls.run([str(INSTANCES), "1"], folder) == all_the_same(INSTANCES)
 
 
-def test_threads_with_a_handle_each_have_the_same_results(prepared_calls: Program, folder: pathlib.Path) -> None:
+def test_threads_with_an_instance_each_have_the_same_results(prepared_calls: Program, folder: pathlib.Path) -> None:
     each = INSTANCES // THREADS
     assert prepared_calls.run(["threads", str(each)], folder) == all_the_same(THREADS * each)
 

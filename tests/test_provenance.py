@@ -78,7 +78,7 @@ def test_a_search_by_time_has_the_sum_of_the_library(experiment: Experiment, lib
     env = dict(os.environ, PFS_LIBRARY=str(libpfs.path))
     experiment.plan('instances = ["shops/b"]\ntime_factors = [1]\n').run(env=env)
     stored = json.loads((experiment.runs / "provenance.json").read_text())
-    assert stored["sha256"]["libpfs.so.0"] == sum_of(libpfs.path.read_bytes())
+    assert stored["sha256"]["libpfs.so.1"] == sum_of(libpfs.path.read_bytes())
 
 
 # The reference of a plan

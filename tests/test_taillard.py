@@ -92,13 +92,6 @@ def test_a_killed_program_leaves_no_part_of_an_instance(scripts: pathlib.Path, p
     assert whole == ["ta001"], "a part of ta002 has the name of the whole instance"
 
 
-@pytest.mark.parametrize("words", [[], ["a", "b"]], ids=["none", "too many"])
-def test_other_words_get_the_usage(words: list[str], scripts: pathlib.Path, folder: pathlib.Path) -> None:
-    got = run_tool([scripts / "pfs-experiments", "taillard", *words], folder)
-    assert got.status == 2 and "(usage: pfs-experiments taillard [--pfs PROGRAM] FOLDER)" in got.stderr
-    assert list(folder.iterdir()) == []
-
-
 def test_best_known_makespans_are_of_all_instances(best_known: dict[str, int], listed: Listed) -> None:
     assert list(best_known) == NAMES
     assert [name for name, span in best_known.items() if span < int(listed[name]["lower_bound"])] == []

@@ -39,7 +39,7 @@ def pytest_configure(config: pytest.Config) -> None:
     # It would hide that a command doesn't flush what it prints.
     os.environ.pop("PYTHONUNBUFFERED", None)
     found = importlib.util.find_spec("pfs")
-    built = pathlib.Path(config.getoption("libpfs", TOP / "lib" / "out" / "libpfs.so.0"))
+    built = pathlib.Path(config.getoption("libpfs", TOP / "lib" / "out" / "libpfs.so.1"))
     if found and found.origin and pathlib.Path(found.origin).is_relative_to(SOURCES) and built.exists():
         os.environ.setdefault("PFS_LIBRARY", str(built.resolve()))
     try:

@@ -43,6 +43,7 @@ static void touch(const volatile void *memory, size_t size, int is_output) {
 
 const char *pfs_version(void) { return REAL(pfs_version)(); }
 const char *pfs_message(int number) { return REAL(pfs_message)(number); }
+void pfs_release(struct pfs_instance *instance) { REAL(pfs_release)(instance); }
 """
 
 
@@ -67,7 +68,7 @@ def touching(tmp_path_factory: pytest.TempPathFactory) -> dict[str, str]:
         pytest.skip("gcc isn't installed (Debian: gcc)")
     folder = tmp_path_factory.mktemp("touching")
     (folder / "touching.c").write_text(HEAD + "".join(functions()))
-    library = folder / "libpfs.so.0"
+    library = folder / "libpfs.so.1"
     subprocess.run(["gcc", *FLAGS, "-Wall", "-Werror", f"-I{TOP / 'lib'}", "-o", library, folder / "touching.c"],
                    check=True)
     asan = subprocess.run(["gcc", "-print-file-name=libasan.so"], capture_output=True, text=True).stdout.strip()
@@ -94,8 +95,8 @@ import ctypes
 import numpy
 from pfs import _library
 times = numpy.full({size}, 1, numpy.uint32)
-span = ctypes.c_uint64()
-print(_library.library.pfs_bound(times.ctypes.data, 200, 20, 10, ctypes.byref(span)), flush=True)
+handle = _library.Handle()
+print(_library.library.pfs_prepare(times.ctypes.data, 200, 20, 10, ctypes.byref(handle)), flush=True)
 """
 
 

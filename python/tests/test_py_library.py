@@ -26,10 +26,10 @@ def library_of(version: str, folder: pathlib.Path, without: str = "") -> pathlib
     shutil.copy(TOP / "lib" / "pfs_text.c", folder)
     names = [name for name in _library.PROTOTYPES if name != without]
     (folder / "nothing.c").write_text("".join(f"int {name}(void) {{ return 0; }}\n" for name in names))
-    words = ["gcc", "-shared", "-fPIC", f"-I{folder}", "-o", str(folder / "libpfs.so.0"), str(folder / "pfs_text.c"),
+    words = ["gcc", "-shared", "-fPIC", f"-I{folder}", "-o", str(folder / "libpfs.so.1"), str(folder / "pfs_text.c"),
              str(folder / "nothing.c")]
     subprocess.run(words, check=True)
-    return folder / "libpfs.so.0"
+    return folder / "libpfs.so.1"
 
 
 def loaded(library: pathlib.Path | str, folder: pathlib.Path) -> subprocess.CompletedProcess[str]:
@@ -61,17 +61,17 @@ def test_a_library_without_a_function_is_rejected(tmp_path: pathlib.Path, name: 
     got = loaded(library, tmp_path).stderr.splitlines()[-1]
     assert got.startswith(f"ImportError: pfs can't load its library {library} (")
     assert f"undefined symbol: {name}" in got
-    assert got.endswith("): set PFS_LIBRARY to the path of libpfs.so.0")
+    assert got.endswith("): set PFS_LIBRARY to the path of libpfs.so.1")
 
 
 @pytest.mark.parametrize("content", [None, b"", b"no library"])
 def test_a_file_that_is_not_a_library_is_reported(tmp_path: pathlib.Path, content: bytes | None) -> None:
-    library = tmp_path / "libpfs.so.0"
+    library = tmp_path / "libpfs.so.1"
     if content is not None:
         library.write_bytes(content)
     got = loaded(library, tmp_path).stderr.splitlines()[-1]
     assert got.startswith(f"ImportError: pfs can't load its library {library} (")
-    assert got.endswith("): set PFS_LIBRARY to the path of libpfs.so.0")
+    assert got.endswith("): set PFS_LIBRARY to the path of libpfs.so.1")
 
 
 def test_the_library_that_the_variable_names_goes_before_the_packages(monkeypatch: pytest.MonkeyPatch,
@@ -79,18 +79,13 @@ def test_the_library_that_the_variable_names_goes_before_the_packages(monkeypatc
     """Then the one in the package, as a wheel has it, and then the system's."""
     monkeypatch.setattr(_library, "__file__", str(tmp_path / "_library.py"))
     monkeypatch.delenv("PFS_LIBRARY", raising=False)
-    assert _library.path_of_library() == "libpfs.so.0"
-    (tmp_path / "libpfs.so.0").touch()
-    assert _library.path_of_library() == str(tmp_path / "libpfs.so.0")
+    assert _library.path_of_library() == "libpfs.so.1"
+    (tmp_path / "libpfs.so.1").touch()
+    assert _library.path_of_library() == str(tmp_path / "libpfs.so.1")
     monkeypatch.setenv("PFS_LIBRARY", "")
-    assert _library.path_of_library() == str(tmp_path / "libpfs.so.0")
-    monkeypatch.setenv("PFS_LIBRARY", "/elsewhere/libpfs.so.0")
-    assert _library.path_of_library() == "/elsewhere/libpfs.so.0", "the package's library goes before the named one"
-
-
-# The functions over a handle. The package has none: threads may call the methods of one instance at once, but only one
-# thread at a time may use a handle.
-OVER_HANDLES = {"pfs_prepare", "pfs_insert_prepared", "pfs_release"}
+    assert _library.path_of_library() == str(tmp_path / "libpfs.so.1")
+    monkeypatch.setenv("PFS_LIBRARY", "/elsewhere/libpfs.so.1")
+    assert _library.path_of_library() == "/elsewhere/libpfs.so.1", "the package's library goes before the named one"
 
 
 def test_the_functions_are_called_as_the_header_declares_them() -> None:
@@ -99,7 +94,7 @@ def test_the_functions_are_called_as_the_header_declares_them() -> None:
     header = re.sub(r"/\*.*?\*/", "", (TOP / "lib" / "pfs.h").read_text(), flags=re.DOTALL)
     declared = dict(re.findall(r"^(?:int|void) (pfs_\w+)\((.*?)\)(?: PFS_CHECKED)?;", header,
                                re.MULTILINE | re.DOTALL))
-    assert declared.keys() == _library.PROTOTYPES.keys() | OVER_HANDLES
+    assert declared.keys() == _library.PROTOTYPES.keys()
     for name in _library.PROTOTYPES:
         parameters = declared[name]
         due = ["c_void_p" if "*" in each else types[each.split()[-2]] for each in parameters.split(",")]
@@ -117,3 +112,13 @@ def test_the_numbers_and_limits_are_those_of_the_header() -> None:
     assert (_library.MOST_NOTE, _library.MOST_SEED) == (2**32 - 1, 2**64 - 1)
     version = re.search(r'^#define PFS_VERSION "(.*)"$', text, re.MULTILINE)
     assert version and version[1] == pfs.__version__
+
+
+def test_modules_that_need_no_library_are_imported_without_one(tmp_path: pathlib.Path) -> None:
+    """Those that draw a time table, and those of experiments. A name of the package says what is missing."""
+    code = ("import pfs, pfs._gantt, pfs.experiments.__main__\n"
+            "from pfs.experiments import plan, run, slurm\nprint(pfs.__version__)\npfs.Instance\n")
+    env = os.environ | {"PFS_LIBRARY": "/none", "PYTHONPATH": str(pathlib.Path(pfs.__file__).parents[1])}
+    done = subprocess.run([sys.executable, "-B", "-c", code], cwd=tmp_path, env=env, capture_output=True, text=True)
+    assert done.stdout == f"{pfs.__version__}\n", done.stderr
+    assert done.stderr.splitlines()[-1].startswith("ImportError: pfs can't load its library /none")

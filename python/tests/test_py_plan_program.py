@@ -35,6 +35,19 @@ def test_the_page_has_the_programs_options(tmp_path: pathlib.Path) -> None:
     assert (synopsis, listed) == (due, due | {"version": ""})
 
 
+@pytest.mark.parametrize("words", [["-m", "pfs", "plan"], ["-c", CALL]], ids=["python3 -m pfs plan", "pfs-plan"])
+def test_no_module_is_imported_from_the_current_folder(words: list[str], tmp_path: pathlib.Path) -> None:
+    """`python3 -m pfs` takes the package itself from there, if it is there; pfs-plan doesn't."""
+    for name in ("csv", "numpy", "argparse", *(["pfs"] if "-m" not in words else [])):
+        (tmp_path / f"{name}.py").write_text("raise SystemExit('another module')\n")
+    (tmp_path / "times.csv").write_text(TABLE)
+    env = {"PYTHONPATH": ":".join(filter(None, sys.path)), "PFS_LIBRARY": str(_library.PATH)}
+    own = [] if "-m" in words else ["-P"]
+    done = subprocess.run([sys.executable, *own, *words, "times.csv"], cwd=tmp_path, env=env, capture_output=True,
+                          text=True)
+    assert (done.returncode, done.stdout.splitlines()[:1]) == (0, ["makespan 9 min"]), done.stderr
+
+
 def test_a_plan_is_printed(tmp_path: pathlib.Path) -> None:
     done = run(tmp_path, "times.csv", "--chart", "plan.html")
     assert done.returncode == 0, done.stderr

@@ -36,17 +36,20 @@ from ctypes import byref, c_size_t, c_uint64
 import numpy as np
 import pfs
 from pfs import _library
+from pfs._validate import as_uint32_bytes
 
 shop = pfs.taillard(1)
 order = shop.neh().order.astype(np.uint32)
-others, job, own = order[1:], int(order[0]), order[1:].tobytes()
+others, job = order[1:], int(order[0])
 
 def ready():
     return shop.best_place(others, job)
 
 def typed():
-    place, makespan = c_size_t(), c_uint64()
-    _library.library.pfs_insert(*shop._arguments, own, 19, job, byref(place), byref(makespan))
+    own, count = as_uint32_bytes(others)
+    place, makespan, prepared = c_size_t(), c_uint64(), shop._ready()
+    with prepared.lock:
+        _library.library.pfs_insert(prepared.address, own, count, job, byref(place), byref(makespan))
     return pfs.Place(place.value, makespan.value)
 
 assert typed() == ready()

@@ -359,7 +359,8 @@ def test_objects_that_change_their_minds() -> None:
 def call_everywhere(shop: pfs.Instance) -> dict[str, Callable[[], Any]]:
     """A call of each function of the library."""
     return {
-        "pfs_makespan": lambda: shop.makespan([0, 1, 2]), "pfs_bound": shop.bound, "pfs_neh": shop.neh,
+        "pfs_prepare": lambda: pfs.Instance(TIMES).bound(), "pfs_makespan": lambda: shop.makespan([0, 1, 2]),
+        "pfs_bound": shop.bound, "pfs_neh": shop.neh,
         "pfs_table": lambda: shop.schedule([0, 1, 2]), "pfs_rounds": lambda: shop.solve(1, start=[0, 1, 2]),
         "pfs_insert": lambda: shop.best_place([0, 1], 2), "pfs_generate": lambda: pfs.generate(2, 2, 1),
         "pfs_read": lambda: pfs.read(io.BytesIO(b"1 1 0 0 0\n1\n"), "taillard"), "pfs_write": shop.to_text,
@@ -369,7 +370,7 @@ def call_everywhere(shop: pfs.Instance) -> dict[str, Callable[[], Any]]:
 
 
 # Nothing of the package calls these.
-UNCALLED = {"pfs_construct", "pfs_heads_tails", "pfs_local_search", "pfs_random"}
+UNCALLED = {"pfs_release", "pfs_construct", "pfs_heads_tails", "pfs_local_search", "pfs_random"}
 CALLED = [name for name in _library.PROTOTYPES if name not in UNCALLED]
 
 

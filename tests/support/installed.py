@@ -15,9 +15,9 @@ from support.tools import Done, output_of, run_tool, with_path, write_script
 
 TOP = pathlib.Path(__file__).resolve().parent.parent.parent
 VERSION = (TOP / "VERSION").read_text().strip()
-PROGRAM, SHARED = "crates/pfs/out/pfs", "libpfs.so.0"
+PROGRAM, SHARED = "crates/pfs/out/pfs", "libpfs.so.1"
 # What of a page's table of contents is installed: patterns of files that keep their paths.
-PAGES = ["*.md", "CITATION.cff", "LICENSE-*", "docs/**/*.*", "examples/*", "experiments/README.md", "lib/pfs.h",
+PAGES = ["*.md", "CITATION.cff", "LICENSE-*", "docs/**/*.*", "examples/*", "experiments/*.*", "lib/pfs.h",
          "python/README.md", "python/examples/*.py"]
 # Where each file goes below the prefix, and which one it is.
 PLACES = {
@@ -26,8 +26,6 @@ PLACES = {
     "share/zsh/site-functions/_pfs": "share/pfs.bash",
     **{f"share/bash-completion/completions/pfs{name}": "share/pfs.bash"
        for name in ("", "-experiments", "-gantt", "-plan")},
-    **{f"share/doc/pfs/examples/{path.name}": f"experiments/{path.name}"
-       for path in (TOP / "experiments").glob("*.toml")},
     **{f"share/doc/pfs/{page}": page for pattern in PAGES
        for page in sorted(str(path.relative_to(TOP)) for path in TOP.glob(pattern) if path.is_file())},
 }

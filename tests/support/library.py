@@ -64,6 +64,12 @@ def read64(memory: bytes) -> list[int]:
     return array("Q", memory).tolist()
 
 
+# The functions that work on a prepared instance.
+ON_SHOP = {f"pfs_{name}" for name in (
+    "makespan", "makespans", "bound", "table", "neh", "rounds", "insert", "insertions", "heads_tails", "construct",
+    "local_search", "write")}
+
+
 class Library:
     """A built library, whose functions are called in this process."""
 
@@ -72,7 +78,8 @@ class Library:
         self.functions = ctypes.CDLL(str(path))
 
     def call(self, name: str, *arguments: Number | Memory) -> Answer:
-        """Calls a function with pointers to copies of the memory."""
+        """Calls a function with pointers to copies of the memory. One that works on an instance has the arguments of
+        `pfs_prepare` first: the instance is prepared from them before the call, and released after it."""
         buffers: list[ctypes.Array[ctypes.c_char]] = []
         given: list[object] = []
         for argument in arguments:
@@ -81,9 +88,18 @@ class Library:
                 given.append(buffers[-1])
             else:
                 given.append((ctypes.c_uint32 if argument.bits == 32 else ctypes.c_uint64)(argument.value))
-        number: int = self.functions[name](*given)
+        number = self.on_instance(name, given) if name in ON_SHOP else int(self.functions[name](*given))
         contents = [argument.content for argument in arguments if isinstance(argument, Memory)]
         return Answer(number, [buffer.raw[:len(content)] for buffer, content in zip(buffers, contents)])
+
+    def on_instance(self, name: str, given: list[object]) -> int:
+        """The number of the call, or that of the preparation if it fails."""
+        instance = ctypes.c_void_p()
+        number: int = self.functions["pfs_prepare"](*given[:4], ctypes.byref(instance))
+        if number == 0:
+            number = self.functions[name](ctypes.byref(instance), *given[4:])
+            self.functions["pfs_release"](ctypes.byref(instance))
+        return number
 
 
 def compiled(program: pathlib.Path, sources: Words, libpfs: Library, *words: str, compiler: str = "gcc",

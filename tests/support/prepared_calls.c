@@ -1,8 +1,9 @@
-/* Compares pfs_insert_prepared with pfs_insert: on random instances of many sizes, in each order of a random walk, and
- * after faults. All instances are prepared in the same handle, most of them while it holds the one before.
+/* Compares pfs_insert with pfs_insertions, which computes by rows: on random instances of many sizes, in each order of
+ * a random walk, and after faults. All instances are prepared in the same struct, most of them while it holds the one
+ * before.
  *
  * usage: prepared_calls COUNT SEED     COUNT instances; prints the number of calls
- *        prepared_calls threads COUNT  the same in four threads at once, with a handle for each */
+ *        prepared_calls threads COUNT  the same in four threads at once, with a struct for each */
 #define _POSIX_C_SOURCE 200809L
 #include <inttypes.h>
 #include <pthread.h>
@@ -27,7 +28,7 @@ struct walk {
     unsigned long instances;
     size_t jobs, machines;
     uint32_t *times, order[MOST];
-    struct pfs_prepared prepared;
+    struct pfs_instance instance;
 };
 
 static uint32_t draw(struct walk *walk, uint32_t below) {
@@ -35,20 +36,22 @@ static uint32_t draw(struct walk *walk, uint32_t below) {
     return (uint32_t)((walk->state >> 33) % below);
 }
 
-/* Makes both calls, and returns the number and the place of pfs_insert. */
+/* Makes both calls, and returns the number and the place of the first least makespan. */
 static int compare(struct walk *walk, const uint32_t *sequence, size_t length, uint32_t job, size_t *place) {
     size_t got_place = 77;
-    uint64_t makespan = 77, got_makespan = 77;
-    *place = 77;
-    int number = pfs_insert(walk->times, walk->jobs * walk->machines, walk->jobs, walk->machines, sequence, length, job,
-                            place, &makespan);
-    int got = pfs_insert_prepared(&walk->prepared, sequence, length, job, &got_place, &got_makespan);
+    uint64_t makespans[MOST + 2] = {77}, got_makespan = 77;
+    int number = pfs_insertions(&walk->instance, sequence, length, job, makespans, length + 1);
+    int got = pfs_insert(&walk->instance, sequence, length, job, &got_place, &got_makespan);
+    *place = number == PFS_OK ? 0 : 77;
+    for (size_t at = 1; number == PFS_OK && at <= length; ++at)
+        if (makespans[at] < makespans[*place])
+            *place = at;
     ++walk->calls;
     walk->done += number == PFS_OK;
-    if (got != number || got_place != *place || got_makespan != makespan) {
+    if (got != number || got_place != *place || got_makespan != makespans[number == PFS_OK ? *place : 0]) {
         ++walk->wrong;
-        printf("%zu jobs, %zu machines, %zu in the sequence: %d at %zu, %" PRIu64 ", not %d at %zu, %" PRIu64 "\n",
-               walk->jobs, walk->machines, length, got, got_place, got_makespan, number, *place, makespan);
+        printf("%zu jobs, %zu machines, %zu in the sequence: %d at %zu, %" PRIu64 ", not %d at %zu\n", walk->jobs,
+               walk->machines, length, got, got_place, got_makespan, number, *place);
     }
     return number;
 }
@@ -90,7 +93,7 @@ static void on_instance(struct walk *walk) {
         walk->times[at] = draw(walk, longest + 1);
     for (uint32_t job = 0; job < walk->jobs; ++job)
         walk->order[job] = job;
-    if (pfs_prepare(walk->times, size, walk->jobs, walk->machines, &walk->prepared) != PFS_OK)
+    if (pfs_prepare(walk->times, size, walk->jobs, walk->machines, &walk->instance) != PFS_OK)
         exit(2);
     for (int made = 0; made < STEPS; ++made)
         if (draw(walk, 5) == 0)
@@ -105,10 +108,10 @@ static void *walk_all(void *given) {
     for (unsigned long made = 0; made < walk->instances; ++made) {
         on_instance(walk);
         if (draw(walk, 4) == 0)
-            pfs_release(&walk->prepared);
+            pfs_release(&walk->instance);
     }
-    pfs_release(&walk->prepared);
-    pfs_release(&walk->prepared);
+    pfs_release(&walk->instance);
+    pfs_release(&walk->instance);
     return NULL;
 }
 

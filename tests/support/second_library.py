@@ -1,12 +1,14 @@
 """A second implementation of lib/pfs.h, with which tests compare the library: the validation and the outputs of each
 function as pfs.h describes them, over the second program. Each function has the parameters of pfs.h, with a bytearray
-for each pointer, and computes its results before it writes an output."""
+for each pointer and an `Instance` for a prepared one, and computes its results before it writes an output."""
 import contextlib
 import re
+import struct
 from collections.abc import Callable, Iterator, Sequence
+from typing import Any
 
 from support import second_program
-from support.library import Answer, Memory, Number, read32, u32s, u64s
+from support.library import ON_SHOP, Answer, Memory, Number, read32, u32s, u64s
 from support.second_program import (LONGEST_TIME, MOST_GENERATOR_SEED, MOST_JOBS, MOST_MACHINES, Instance, Pcg32, Stop,
                                     ends_of, makespan)
 
@@ -36,10 +38,13 @@ class Fault(Exception):
 
 def call(name: str, *arguments: Number | Memory) -> Answer:
     """What a function of pfs.h returns, and the memory that it leaves, as `Library.call` of the built library."""
-    given = [bytearray(each.content) if isinstance(each, Memory) else each.value for each in arguments]
+    given: list[Any] = [bytearray(each.content) if isinstance(each, Memory) else each.value for each in arguments]
     number = OK
     try:
-        FUNCTIONS[name](*given)
+        if name in ON_SHOP:
+            FUNCTIONS[name](instance_of(*given[:4]), *given[4:])
+        else:
+            FUNCTIONS[name](*given)
     except Fault as fault:
         number = fault.number
     return Answer(number, [bytes(each) for each in given if isinstance(each, bytearray)])
@@ -56,10 +61,10 @@ def expect_sizes(jobs: int, machines: int) -> None:
     expect(1 <= jobs <= MOST_JOBS and 1 <= machines <= MOST_MACHINES, SIZE)
 
 
-def instance_of(times: bytearray, length: int, jobs: int, machines: int, lengths_fit: bool = True) -> Instance:
-    """The instance of these times, which are job by job. `lengths_fit`: whether the call's other lists fit it."""
+def instance_of(times: bytearray, length: int, jobs: int, machines: int) -> Instance:
+    """The instance of these times, which are job by job."""
     expect_sizes(jobs, machines)
-    expect(length == jobs * machines and lengths_fit, LENGTH)
+    expect(length == jobs * machines, LENGTH)
     numbers = read32(times)[:length]
     expect(max(numbers) <= LONGEST_TIME, TIME)
     shop = Instance(jobs, machines, [0, 0, 0])
@@ -107,38 +112,34 @@ def faults_of_a_file(place: bytearray) -> Iterator[None]:
         raise Fault(number) from None
 
 
-# The functions. All begin with `times, times_length, jobs, machines`, except those that read, write or draw.
+# The functions on an instance
 
-def pfs_makespan(times: bytearray, size: int, jobs: int, machines: int, sequence: bytearray, length: int,
-                 span: bytearray) -> None:
-    shop = instance_of(times, size, jobs, machines)
-    put64(span, makespan(shop, distinct(jobs, read32(sequence)[:length])))
+def pfs_makespan(shop: Instance, sequence: bytearray, length: int, span: bytearray) -> None:
+    put64(span, makespan(shop, distinct(shop.jobs, read32(sequence)[:length])))
 
 
-def pfs_makespans(times: bytearray, size: int, jobs: int, machines: int, sequences: bytearray, whole: int, length: int,
-                  spans: bytearray, count: int) -> None:
-    shop = instance_of(times, size, jobs, machines, whole == count * length)
+def pfs_makespans(shop: Instance, sequences: bytearray, whole: int, length: int, spans: bytearray, count: int) -> None:
+    expect(whole == count * length, LENGTH)
     each = [read32(sequences)[index * length:][:length] for index in range(count)]
-    put64(spans, *[makespan(shop, distinct(jobs, sequence)) for sequence in each])
+    put64(spans, *[makespan(shop, distinct(shop.jobs, sequence)) for sequence in each])
 
 
-def pfs_bound(times: bytearray, size: int, jobs: int, machines: int, bound: bytearray) -> None:
-    put64(bound, second_program.lower_bound(instance_of(times, size, jobs, machines)))
+def pfs_bound(shop: Instance, bound: bytearray) -> None:
+    put64(bound, second_program.lower_bound(shop))
 
 
-def pfs_table(times: bytearray, size: int, jobs: int, machines: int, order: bytearray, length: int, starts: bytearray,
-              starts_length: int, ends: bytearray, ends_length: int) -> None:
-    shop = instance_of(times, size, jobs, machines, length == jobs and starts_length == ends_length == jobs * machines)
-    places = distinct(jobs, read32(order)[:length])
+def pfs_table(shop: Instance, order: bytearray, length: int, starts: bytearray, starts_length: int, ends: bytearray,
+              ends_length: int) -> None:
+    expect(length == shop.jobs and starts_length == ends_length == shop.jobs * shop.machines, LENGTH)
+    places = distinct(shop.jobs, read32(order)[:length])
     rows = ends_of(shop, places)
     put64(ends, *[end for row in rows for end in row])
     put64(starts, *[end - shop.times[machine][job] for job, row in zip(places, rows)
                     for machine, end in enumerate(row)])
 
 
-def pfs_neh(times: bytearray, size: int, jobs: int, machines: int, order: bytearray, length: int, span: bytearray,
-            cells: bytearray) -> None:
-    shop = instance_of(times, size, jobs, machines, length == jobs)
+def pfs_neh(shop: Instance, order: bytearray, length: int, span: bytearray, cells: bytearray) -> None:
+    expect(length == shop.jobs, LENGTH)
     found = second_program.by_totals(shop)
     put32(order, found)
     put64(span, makespan(shop, found))
@@ -151,11 +152,16 @@ def words_of(seed: int, first: int, count: int) -> list[int]:
     return [random.next_word() for _ in range(first + count)][first:] if count else []
 
 
-def pfs_rounds(times: bytearray, size: int, jobs: int, machines: int, order: bytearray, length: int, first: int,
-               count: int, take: int, passes: int, seed: int, span: bytearray, cells: bytearray) -> None:
-    shop = instance_of(times, size, jobs, machines, length == jobs)
-    kept = distinct(jobs, read32(order)[:length])
-    expect(1 <= take <= jobs, TAKE)
+# How `struct pfs_rounds_options` lies in memory: the seed, `take`, `first`, `count` and `passes`.
+OPTIONS = struct.Struct("=QQIII4x")
+
+
+def pfs_rounds(shop: Instance, options: bytearray, order: bytearray, length: int, span: bytearray,
+               cells: bytearray) -> None:
+    seed, take, first, count, passes = OPTIONS.unpack(options)
+    expect(length == shop.jobs, LENGTH)
+    kept = distinct(shop.jobs, read32(order)[:length])
+    expect(1 <= take <= shop.jobs, TAKE)
     expect(passes <= MOST_PASSES, PASSES)
     expect(first + count <= MOST_ROUNDS, ROUNDS)
     words = words_of(seed, first * take, count * take)
@@ -166,37 +172,32 @@ def pfs_rounds(times: bytearray, size: int, jobs: int, machines: int, order: byt
     put64(cells, count * second_program.cells_of_round(shop, take, passes))
 
 
-def with_job(times: bytearray, size: int, jobs: int, machines: int, sequence: bytearray, length: int, job: int,
-             lengths_fit: bool = True) -> tuple[Instance, list[int]]:
-    """The instance and the sequence into which a job is to be inserted."""
-    shop = instance_of(times, size, jobs, machines, lengths_fit)
-    others = distinct(jobs, read32(sequence)[:length])
-    distinct(jobs, [*others, job], length)
-    return shop, others
+def others_of(shop: Instance, sequence: bytearray, length: int, job: int) -> list[int]:
+    """The sequence into which a job is to be inserted."""
+    others = distinct(shop.jobs, read32(sequence)[:length])
+    distinct(shop.jobs, [*others, job], length)
+    return others
 
 
-def pfs_insert(times: bytearray, size: int, jobs: int, machines: int, sequence: bytearray, length: int, job: int,
-               place: bytearray, span: bytearray) -> None:
-    shop, others = with_job(times, size, jobs, machines, sequence, length, job)
-    order = second_program.inserted(shop, others, job)
+def pfs_insert(shop: Instance, sequence: bytearray, length: int, job: int, place: bytearray, span: bytearray) -> None:
+    order = second_program.inserted(shop, others_of(shop, sequence, length, job), job)
     put64(place, order.index(job))
     put64(span, makespan(shop, order))
 
 
-def pfs_insertions(times: bytearray, size: int, jobs: int, machines: int, sequence: bytearray, length: int, job: int,
-                   spans: bytearray, count: int) -> None:
-    shop, others = with_job(times, size, jobs, machines, sequence, length, job, count == length + 1)
+def pfs_insertions(shop: Instance, sequence: bytearray, length: int, job: int, spans: bytearray, count: int) -> None:
+    expect(count == length + 1, LENGTH)
+    others = others_of(shop, sequence, length, job)
     put64(spans, *[makespan(shop, [*others[:place], job, *others[place:]]) for place in range(count)])
 
 
-def pfs_heads_tails(times: bytearray, size: int, jobs: int, machines: int, sequence: bytearray, length: int,
-                    heads: bytearray, heads_length: int, tails: bytearray, tails_length: int) -> None:
-    lengths_fit = heads_length == tails_length == length * machines
-    shop = instance_of(times, size, jobs, machines, lengths_fit)
-    places = distinct(jobs, read32(sequence)[:length])
+def pfs_heads_tails(shop: Instance, sequence: bytearray, length: int, heads: bytearray, heads_length: int,
+                    tails: bytearray, tails_length: int) -> None:
+    expect(heads_length == tails_length == length * shop.machines, LENGTH)
+    places = distinct(shop.jobs, read32(sequence)[:length])
     put64(heads, *[end for row in ends_of(shop, places) for end in row])
     put64(tails, *[makespan(machines_from(shop, machine), places[place:])
-                   for place in range(length) for machine in range(machines)])
+                   for place in range(length) for machine in range(shop.machines)])
 
 
 def machines_from(shop: Instance, machine: int) -> Instance:
@@ -206,29 +207,35 @@ def machines_from(shop: Instance, machine: int) -> Instance:
     return rest
 
 
-def pfs_construct(times: bytearray, size: int, jobs: int, machines: int, sequence: bytearray, length: int,
-                  more: bytearray, more_length: int, order: bytearray, order_length: int, span: bytearray) -> None:
-    shop = instance_of(times, size, jobs, machines, order_length == length + more_length)
-    made = distinct(jobs, read32(sequence)[:length])
-    for job in distinct(jobs, [*made, *read32(more)[:more_length]], length)[length:]:
+def pfs_construct(shop: Instance, sequence: bytearray, length: int, more: bytearray, more_length: int, order: bytearray,
+                  order_length: int, span: bytearray) -> None:
+    expect(order_length == length + more_length, LENGTH)
+    made = distinct(shop.jobs, read32(sequence)[:length])
+    for job in distinct(shop.jobs, [*made, *read32(more)[:more_length]], length)[length:]:
         made = second_program.inserted(shop, made, job)
     put32(order, made)
     put64(span, makespan(shop, made))
 
 
-def pfs_local_search(times: bytearray, size: int, jobs: int, machines: int, sequence: bytearray, length: int,
-                     moved: bytearray, moved_length: int, passes: int, order: bytearray, order_length: int,
-                     span: bytearray) -> None:
-    shop = instance_of(times, size, jobs, machines, order_length == length)
-    made = distinct(jobs, read32(sequence)[:length])
-    each = distinct(jobs, read32(moved)[:moved_length])
+def pfs_local_search(shop: Instance, moved: bytearray, moved_length: int, passes: int, sequence: bytearray,
+                     length: int, span: bytearray) -> None:
+    made = distinct(shop.jobs, read32(sequence)[:length])
+    each = distinct(shop.jobs, read32(moved)[:moved_length])
     expect(set(each) <= set(made), JOB)
     expect(passes <= MOST_PASSES, PASSES)
     for job in each * passes:
         made = second_program.inserted(shop, [other for other in made if other != job], job)
-    put32(order, made)
+    put32(sequence, made)
     put64(span, makespan(shop, made))
 
+
+def pfs_write(shop: Instance, notes: bytearray, layout: int, text: bytearray, room: int, length: bytearray) -> None:
+    expect(layout < len(LAYOUTS), LAYOUT)
+    shop.notes = read32(notes)
+    put_text(text, room, length, second_program.canonical(shop, LAYOUTS[layout]))
+
+
+# The others
 
 def pfs_random(seed: int, first: int, words: bytearray, length: int) -> None:
     put32(words, words_of(seed, first, length))
@@ -241,25 +248,16 @@ def pfs_generate(jobs: int, machines: int, seed: int, times: bytearray, length: 
     put32(times, by_job(second_program.generated(jobs, machines, seed)))
 
 
-def pfs_read(content: bytearray, length: int, layout: int, block: int, jobs: bytearray, machines: bytearray,
-             notes: bytearray, times: bytearray, room: int, place: bytearray) -> None:
+def pfs_read(content: bytearray, length: int, layout: int, block: int, found: bytearray, times: bytearray, room: int,
+             place: bytearray) -> None:
     expect(layout < len(LAYOUTS), LAYOUT)
     expect(1 <= block <= MOST_BLOCKS, BLOCK)
     with faults_of_a_file(place):
         shop = second_program.read_instance(bytes(content[:length]), LAYOUTS[layout], block)
-    put64(jobs, shop.jobs)
-    put64(machines, shop.machines)
-    put32(notes, shop.notes)
+    # The last field is followed by four bytes that nothing is said of.
+    found[:28] = struct.pack("=QQIII", shop.jobs, shop.machines, *shop.notes)
     expect(room >= shop.jobs * shop.machines, ROOM)
     put32(times, by_job(shop))
-
-
-def pfs_write(times: bytearray, size: int, jobs: int, machines: int, notes: bytearray, layout: int, text: bytearray,
-              room: int, length: bytearray) -> None:
-    shop = instance_of(times, size, jobs, machines)
-    expect(layout < len(LAYOUTS), LAYOUT)
-    shop.notes = read32(notes)
-    put_text(text, room, length, second_program.canonical(shop, LAYOUTS[layout]))
 
 
 def pfs_read_order(content: bytearray, length: int, order: bytearray, room: int, jobs: bytearray, machines: bytearray,

@@ -1,5 +1,5 @@
 -- Jobs that are inserted one after the other, passes over a list of jobs, and which arguments are invalid.
-use Rattle.std.specs.Prelude.{◌≡◌, ℕ, zero, suc, ◌+◌, ◌*◌, ◌≤◌, List, [], ◌∷◌, ◌++◌, length, fold, nat_eq, Option}
+use Rattle.std.specs.Prelude.{◌≡◌, ℕ, zero, suc, ◌+◌, ◌≤◌, List, [], ◌∷◌, ◌++◌, length, fold, nat_eq, Option}
 use Rattle.std.specs.Prelude.{Contains}
 use Rattle.std.specs.List.{All, list_all, list_any}
 use Rattle.pfs_base.specs.FlowShop.{FlowShop}
@@ -12,7 +12,7 @@ use Rattle.pfs_search.specs.Ranking.{ranking}
 use Rattle.pfs_search.specs.Solution.{neh_cells}
 use Rattle.pfs_c.specs.declared.numbers.CallFault.{CallFault}
 use Rattle.pfs_c.specs.declared.numbers.CallFault.TheVariants.{Job}
-use Rattle.pfs_c.specs.Validation.{unless, sizes_fault, length_fault, times_fault, jobs_fault}
+use Rattle.pfs_c.specs.Validation.{unless, length_fault, jobs_fault}
 use Rattle.pfs_c.specs.Searching.{IsNeh, passes_fault}
 
 -- ---- passes over a list of jobs
@@ -50,21 +50,17 @@ pub record IsLocalSearch (shop : FlowShop) (sequence list : List ℕ) (passes : 
 -- ---- invalid arguments
 
 -- with room for a result of this length; the jobs to insert are validated after those of the sequence
-abbrev pub construct_fault : List ℕ → ℕ → ℕ → List ℕ → List ℕ → ℕ → Option CallFault
-construct_fault times jobs machines sequence more room = first_some (sizes_fault jobs machines
-    ∷ length_fault (length times) (jobs * machines) ∷ length_fault room (length sequence + length more)
-    ∷ times_fault times ∷ jobs_fault jobs sequence ∷ jobs_fault jobs (sequence ++ more) ∷ [])
+abbrev pub construct_fault : FlowShop → List ℕ → List ℕ → ℕ → Option CallFault
+construct_fault shop sequence more room = first_some (length_fault room (length sequence + length more)
+    ∷ jobs_fault shop.jobs sequence ∷ jobs_fault shop.jobs (sequence ++ more) ∷ [])
 
 -- a job of a list is not in the sequence
 abbrev pub members_fault : List ℕ → List ℕ → Option CallFault
 members_fault sequence list = unless (list_all (λ job. list_any (nat_eq job) sequence) list) Job
 
--- with room for a result of this length
-abbrev pub local_search_fault : List ℕ → ℕ → ℕ → List ℕ → List ℕ → ℕ → ℕ → Option CallFault
-local_search_fault times jobs machines sequence list passes room = first_some (sizes_fault jobs machines
-    ∷ length_fault (length times) (jobs * machines) ∷ length_fault room (length sequence) ∷ times_fault times
-    ∷ jobs_fault jobs sequence ∷ jobs_fault jobs list ∷ members_fault sequence list
-    ∷ passes_fault passes ∷ [])
+abbrev pub local_search_fault : FlowShop → List ℕ → List ℕ → ℕ → Option CallFault
+local_search_fault shop sequence list passes = first_some (jobs_fault shop.jobs sequence
+    ∷ jobs_fault shop.jobs list ∷ members_fault sequence list ∷ passes_fault passes ∷ [])
 
 -- ---- laws
 

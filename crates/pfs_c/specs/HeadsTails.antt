@@ -4,14 +4,13 @@ use Rattle.pfs_base.specs.FlowShop.{FlowShop}
 use Rattle.pfs_base.specs.Lists.{first_some}
 use Rattle.pfs_insert.specs.Exchange.{heaviest_front, heaviest_back}
 use Rattle.pfs_c.specs.declared.numbers.CallFault.{CallFault}
-use Rattle.pfs_c.specs.Validation.{sizes_fault, length_fault, times_fault, jobs_fault}
+use Rattle.pfs_c.specs.Validation.{length_fault, jobs_fault}
 use Rattle.pfs_c.specs.Tables.{table_entry}
 
 -- for tables of heads and of tails of these lengths
-abbrev pub heads_tails_fault : List ℕ → ℕ → ℕ → List ℕ → ℕ → ℕ → Option CallFault
-heads_tails_fault times jobs machines sequence heads tails = first_some (sizes_fault jobs machines
-    ∷ length_fault (length times) (jobs * machines) ∷ length_fault heads (length sequence * machines)
-    ∷ length_fault tails (length sequence * machines) ∷ times_fault times ∷ jobs_fault jobs sequence ∷ [])
+abbrev pub heads_tails_fault : ℕ → ℕ → FlowShop → List ℕ → Option CallFault
+heads_tails_fault heads tails shop sequence = first_some (length_fault heads (length sequence * shop.machines)
+    ∷ length_fault tails (length sequence * shop.machines) ∷ jobs_fault shop.jobs sequence ∷ [])
 
 -- row by row: the heaviest path from the first operation of the sequence to that of the row and the machine, which is
 -- the earliest time at which this operation ends

@@ -1,4 +1,5 @@
 pub mod Building
+pub mod Faults
 pub mod HeadsTails
 pub mod Inserting
 pub mod Validation

@@ -4,7 +4,7 @@ use Rattle.pfs_base.specs.FlowShop.{FlowShop}
 use Rattle.pfs_base.specs.Lists.{below, first_some}
 use Rattle.pfs_base.specs.Paths.{makespan}
 use Rattle.pfs_c.specs.declared.numbers.CallFault.{CallFault}
-use Rattle.pfs_c.specs.Validation.{sizes_fault, length_fault, times_fault, jobs_fault}
+use Rattle.pfs_c.specs.Validation.{length_fault, jobs_fault}
 
 -- the sequence with this index, counted from 0, if each has `long` jobs
 abbrev pub sequence_at : ℕ → List ℕ → ℕ → List ℕ
@@ -16,10 +16,9 @@ sequences_fault jobs count long sequences =
     first_some (map (λ index. jobs_fault jobs (sequence_at long sequences index)) (below count))
 
 -- `room` is the length of the list for the makespans, one for each sequence
-abbrev pub makespans_fault : List ℕ → ℕ → ℕ → List ℕ → ℕ → ℕ → Option CallFault
-makespans_fault times jobs machines sequences long room = first_some (sizes_fault jobs machines
-    ∷ length_fault (length times) (jobs * machines) ∷ length_fault (length sequences) (room * long)
-    ∷ times_fault times ∷ sequences_fault jobs room long sequences ∷ [])
+abbrev pub makespans_fault : FlowShop → List ℕ → ℕ → ℕ → Option CallFault
+makespans_fault shop sequences long room =
+    first_some (length_fault (length sequences) (room * long) ∷ sequences_fault shop.jobs room long sequences ∷ [])
 
 -- the makespan of each sequence
 abbrev pub AreMakespans : FlowShop → List ℕ → ℕ → List ℕ → Type 0

@@ -40,3 +40,8 @@ fault_number faults.FileTooLong = numbers.PFS_FILE_TOO_LONG
 abbrev pub Returns : ℤ → Option CallFault → Type 0
 Returns result (Some why) = result ≡ fault_number why
 Returns result None = (result ≡ numbers.PFS_OK) ⊎ (result ≡ numbers.PFS_MEMORY)
+
+-- the same of a call that allocates nothing
+abbrev pub number_returned : Option CallFault → ℤ
+number_returned None = numbers.PFS_OK
+number_returned (Some why) = fault_number why

@@ -1,5 +1,5 @@
--- The first fault in the arguments of `pfs_neh` and of `pfs_rounds`, and what `pfs_neh` returns if there is none.
-use Rattle.std.specs.Prelude.{◌≡◌, ℕ, ◌+◌, ◌*◌, ◌&&◌, List, [], ◌∷◌, length, nat_le, Option}
+-- The first fault in the arguments of `pfs_rounds`, and what `pfs_neh` returns.
+use Rattle.std.specs.Prelude.{◌≡◌, ℕ, ◌+◌, ◌&&◌, List, [], ◌∷◌, length, nat_le, Option}
 use Rattle.pfs_base.specs.FlowShop.{FlowShop}
 use Rattle.pfs_base.specs.Lists.{first_some}
 use Rattle.pfs_base.specs.Paths.{makespan}
@@ -8,13 +8,9 @@ use Rattle.pfs_order.specs.Sequence.{IsSequence}
 use Rattle.pfs_search.specs.Neh.{neh_order}
 use Rattle.pfs_search.specs.Solution.{neh_cells}
 use Rattle.pfs_c.specs.declared.numbers.CallFault.{CallFault}
+use Rattle.pfs_c.specs.declared.searching.RoundsOptions.{RoundsOptions}
 use Rattle.pfs_c.specs.declared.numbers.CallFault.TheVariants.{Take, Passes, Rounds}
-use Rattle.pfs_c.specs.Validation.{unless, sizes_fault, length_fault, times_fault, jobs_fault}
-
--- `room` is the length of the list for the order
-abbrev pub neh_fault : List ℕ → ℕ → ℕ → ℕ → Option CallFault
-neh_fault times jobs machines room = first_some (sizes_fault jobs machines
-    ∷ length_fault (length times) (jobs * machines) ∷ length_fault room jobs ∷ times_fault times ∷ [])
+use Rattle.pfs_c.specs.Validation.{unless, length_fault, jobs_fault}
 
 abbrev pub take_fault : ℕ → ℕ → Option CallFault
 take_fault take jobs = unless (nat_le 1 take && nat_le take jobs) Take
@@ -25,10 +21,10 @@ passes_fault passes = unless (nat_le passes MOST_PASSES) Passes
 abbrev pub count_fault : ℕ → ℕ → Option CallFault
 count_fault first count = unless (nat_le (first + count) MOST_ROUNDS) Rounds
 
-abbrev pub rounds_fault : List ℕ → ℕ → ℕ → List ℕ → ℕ → ℕ → ℕ → ℕ → Option CallFault
-rounds_fault times jobs machines start first count take passes = first_some (sizes_fault jobs machines
-    ∷ length_fault (length times) (jobs * machines) ∷ length_fault (length start) jobs ∷ times_fault times
-    ∷ jobs_fault jobs start ∷ take_fault take jobs ∷ passes_fault passes ∷ count_fault first count ∷ [])
+-- `start` is the order to start from
+abbrev pub rounds_fault : FlowShop → List ℕ → RoundsOptions → Option CallFault
+rounds_fault shop start options = first_some (length_fault (length start) shop.jobs ∷ jobs_fault shop.jobs start
+    ∷ take_fault options.take shop.jobs ∷ passes_fault options.passes ∷ count_fault options.first options.count ∷ [])
 
 -- NEH's order, its makespan, and the number of table cells that NEH takes
 pub record IsNeh (shop : FlowShop) (order : List ℕ) (span cells : ℕ) : Type 0 where

@@ -3,6 +3,7 @@ use Rattle.std.specs.Prelude.{◌≡◌, ◌⊎◌, ℕ, ℤ, ◌*◌, ◌^◌, 
 use Rattle.std.specs.Prelude.{List, [], ◌∷◌, ◌++◌, length, take, drop, slice_index}
 use Rattle.std.specs.Prelude.{Option, Some, None, is_some, Result, Ok, Err, IsSomeAnd, MatchOption}
 use Rattle.std.specs.Option.{option_map_or}
+use Rattle.pfs_base.specs.FlowShop.{FlowShop}
 use Rattle.pfs_base.specs.Limits.{limits}
 use Rattle.pfs_base.specs.Lists.{first_some}
 use Rattle.pfs_base.specs.Problem.{Problem}
@@ -20,11 +21,12 @@ use Rattle.pfs_order.specs.OrderFile.{IsText, IsOrderFile, RejectsOrder}
 use Rattle.pfs_order.specs.Sequence.{StatedOrder}
 use Rattle.pfs_order.specs.declared.fault.OrderFault.{OrderFault}
 use Rattle.pfs_order.specs.declared.fault.OrderFault.TheVariants as order
-use Rattle.pfs_c.specs.Validation.{shop_of, unless, shop_fault, jobs_fault}
-use Rattle.pfs_c.specs.Numbers.{fault_number}
+use Rattle.pfs_c.specs.Validation.{shop_of, unless, jobs_fault}
+use Rattle.pfs_c.specs.Numbers.{fault_number, number_returned}
 use Rattle.pfs_c.specs.declared.numbers.CallFault.{CallFault}
 use Rattle.pfs_c.specs.declared.numbers.CallFault.TheVariants as faults
-use Rattle.pfs_c.specs.declared.numbers.TheConstants.{PFS_OK, PFS_MEMORY}
+use Rattle.pfs_c.specs.declared.numbers.TheConstants.{PFS_MEMORY}
+use Rattle.pfs_c.specs.declared.texts.PfsBlock.{PfsBlock}
 use Rattle.pfs_c.specs.declared.texts.PfsNotes.{PfsNotes}
 
 -- ---- arguments, as C passes them
@@ -41,9 +43,10 @@ notes_of notes = record { seed = notes.seed; upper = notes.upper; lower = notes.
 abbrev pub machines_stated : ℕ → Option ℕ
 machines_stated machines = if machines == 0 then None else Some machines
 
--- a problem and an order file from their parts, as C passes them
-abbrev pub given_problem : ℕ → ℕ → PfsNotes → List ℕ → Problem
-given_problem jobs machines notes times = record { shop = shop_of times jobs machines; notes = notes_of notes }
+-- a problem and an order file from their parts, as C receives and passes them
+abbrev pub given_problem : PfsBlock → List ℕ → Problem
+given_problem block times =
+    record { shop = shop_of times block.jobs block.machines; notes = notes_of block.notes }
 
 abbrev pub order_file_of : List ℕ → ℕ → ℕ → StatedOrder
 order_file_of jobs machines makespan =
@@ -138,10 +141,6 @@ order_verdict_fault room (Err fault) = Some (order_fault fault)
 
 -- ---- the numbers that are returned
 
-abbrev pub number_returned : Option CallFault → ℤ
-number_returned None = PFS_OK
-number_returned (Some why) = fault_number why
-
 -- the layout and the block are validated first, then the file
 abbrev pub asked_fault : ℕ → ℕ → Option CallFault
 asked_fault layout block = first_some (layout_fault layout ∷ block_fault block ∷ [])
@@ -176,13 +175,14 @@ ReturnsReadOrder number bytes room = ((number ≡ PFS_MEMORY) × IsText bytes)
 abbrev pub text_in : ℕ → Problem → List ℕ
 text_in layout problem = option_map_or (λ named. canonical_text named problem) (layout_named layout) []
 
+-- the text of the flow shop that a handle holds, with these notes
+abbrev pub written : Option FlowShop → ℕ → PfsNotes → List ℕ
+written None layout notes = []
+written (Some shop) layout notes = text_in layout (record { shop = shop; notes = notes_of notes })
+
 -- a list whose front was overwritten with another list
 abbrev pub put_in_front : {A : Type 0} → List A → List A → List A
 put_in_front front whole = front ++ drop (length front) whole
-
-abbrev pub write_fault : List ℕ → ℕ → ℕ → ℕ → Option CallFault
-write_fault times jobs machines layout =
-    first_some (shop_fault times jobs machines ∷ layout_fault layout ∷ [])
 
 abbrev pub order_size_fault : ℕ → ℕ → Option CallFault
 order_size_fault jobs machines =

@@ -52,31 +52,17 @@ place_fault size jobs place = job_fault size (take place jobs) (slice_index jobs
 abbrev pub jobs_fault : ℕ → List ℕ → Option CallFault
 jobs_fault size jobs = first_some (map (place_fault size jobs) (below (length jobs)))
 
--- ---- the arguments of each function, in the order of its checks
+-- ---- the arguments of calls, in the order of their checks
 
-abbrev pub makespan_fault : List ℕ → ℕ → ℕ → List ℕ → Option CallFault
-makespan_fault times jobs machines sequence =
-    first_some (shop_fault times jobs machines ∷ jobs_fault jobs sequence ∷ [])
+-- those of a call on the flow shop that a handle holds, or `NotPrepared` if it holds none
+abbrev pub on_shop : Option FlowShop → (FlowShop → Option CallFault) → Option CallFault
+on_shop None faults = Some NotPrepared
+on_shop (Some shop) faults = faults shop
 
-abbrev pub table_fault : List ℕ → ℕ → ℕ → List ℕ → ℕ → ℕ → Option CallFault
-table_fault times jobs machines order starts ends = first_some (sizes_fault jobs machines
-    ∷ length_fault (length times) (jobs * machines) ∷ length_fault (length order) jobs
-    ∷ length_fault starts (jobs * machines) ∷ length_fault ends (jobs * machines)
-    ∷ times_fault times ∷ jobs_fault jobs order ∷ [])
-
-abbrev pub insert_fault : List ℕ → ℕ → ℕ → List ℕ → ℕ → Option CallFault
-insert_fault times jobs machines sequence job = first_some
-    (shop_fault times jobs machines ∷ jobs_fault jobs sequence ∷ job_fault jobs sequence job ∷ [])
-
--- the same without the faults of the shop
+-- a sequence and a job to insert
 abbrev pub insertion_fault : FlowShop → List ℕ → ℕ → Option CallFault
 insertion_fault shop sequence job =
     first_some (jobs_fault shop.jobs sequence ∷ job_fault shop.jobs sequence job ∷ [])
-
--- those of an insertion into the shop of a handle, or `NotPrepared` if the handle holds none
-abbrev pub prepared_fault : Option FlowShop → List ℕ → ℕ → Option CallFault
-prepared_fault None sequence job = Some NotPrepared
-prepared_fault (Some shop) sequence job = insertion_fault shop sequence job
 
 abbrev pub seed_fault : ℕ → Option CallFault
 seed_fault seed = unless (nat_lt 0 seed && nat_lt seed prime) Seed

@@ -1,24 +1,17 @@
 //! Construction and local search by insertions, for C.
-ghost use Rattle.std.specs.Prelude.{◌≡◌, ◌≢◌, ◌+◌, ◌<◌, ◌≤◌, ◌++◌, length, All, Contains, OnOk, IfOk, IfErr, IfSome};
-ghost use Rattle.pfs_base.specs.FlowShop.{IsWithin};
-ghost use Rattle.pfs_base.specs.Limits.{limits};
-ghost use Rattle.pfs_base.specs.Paths.{makespan};
+ghost use Rattle.std.specs.Prelude.{◌≡◌, ◌≢◌, ◌+◌, ◌<◌, ◌≤◌, ◌++◌, length, All, Contains, IfOk, IfErr, IfSome};
 ghost use Rattle.pfs_order.specs.Sequence.{IsSequence};
-ghost use Rattle.pfs_c.specs.Building.{IsConstructed, IsLocalSearch, after_visits};
+ghost use Rattle.pfs_c.specs.Building.{IsConstructed, IsLocalSearch};
 ghost use Rattle.pfs_c.specs.Building.{construct_fault, local_search_fault, members_fault};
-ghost use Rattle.pfs_c.specs.Validation.{jobs_fault, shop_of};
-ghost use Rattle.pfs_c.specs.Numbers.{Returns};
+ghost use Rattle.pfs_c.specs.Numbers.{number_returned};
+ghost use Rattle.pfs_c.specs.Validation.{jobs_fault, on_shop};
 ghost use Rattle.pfs_c.specs.Private.Outcomes.{Validates};
 
-use crate::given::{
-    NO_NOTES, instance_of, sequence_of, validate_jobs, validate_length, validate_passes,
-    validate_sizes, validate_times,
-};
-use crate::moving::make_visits;
-use crate::numbers::{CallFault, PFS_OK};
-use crate::rows::span_of;
-use pfs_base::{MOST_JOBS, MOST_PASSES};
-use pfs_order::Seq;
+use crate::given::{validate_jobs, validate_length, validate_passes};
+use crate::handle::Prepared;
+use crate::kept::Kept;
+use crate::numbers::{CallFault, PFS_OK, number_of};
+use pfs_base::MOST_JOBS;
 use std::alloc::Global;
 
 /// Inserts jobs into a sequence one after the other, each at its first best place, as NEH does with its ranking. The
@@ -26,54 +19,49 @@ use std::alloc::Global;
 #[unsafe(no_mangle)]
 pub extern "C" fn pfs_construct(
     alloc: Global,
-    times: &[u32],
-    jobs: usize,
-    machines: usize,
+    instance: &mut Prepared,
     sequence: &[u32],
     more: &[u32],
     order: &mut [u32],
     span: &mut u64,
 ) -> i32
-    ensures number { Returns result
-        (construct_fault times.now jobs machines sequence.now more.now (length order.old)) }
+    ensures number { result ≡ number_returned (on_shop instance.old.shop
+        (λ shop. construct_fault shop sequence.now more.now (length order.old))) }
     ensures done { result ≡ PFS_OK →
-        IsConstructed (shop_of times.now jobs machines) sequence.now more.now order.new span.new }
+        IfSome instance.old.shop (λ shop. IsConstructed shop sequence.now more.now order.new span.new) }
+    ensures shop { instance.new.shop ≡ instance.old.shop }
     ensures kept_order { result ≢ PFS_OK → order.new ≡ order.old }
     ensures kept_span { result ≢ PFS_OK → span.new ≡ span.old }
 {
-    if let Err(why) = validate_construct(times, jobs, machines, sequence, more, order.len()) {
-        return why.number();
-    }
-    match visits_of(alloc, times, jobs, machines, sequence, more, 1) {
-        Ok(found) => {
-            copy_sequence(&found.seq, order);
-            *span = found_span(times, jobs, machines, order, found.last);
-            PFS_OK
-        }
-        Err(why) => why.number(),
-    }
+    let mut kept = match instance.take(alloc) {
+        Ok(kept) => kept,
+        Err(why) => return why.number(),
+    };
+    let done = construct_in(&mut kept, sequence, more, order, span);
+    instance.put(kept);
+    number_of(done)
 }
 
-fn validate_construct(
-    times: &[u32],
-    jobs: usize,
-    machines: usize,
+fn construct_in(
+    kept: &mut Kept,
     sequence: &[u32],
     more: &[u32],
-    room: usize,
+    order: &mut [u32],
+    span: &mut u64,
 ) -> Result<(), CallFault>
-    ensures validated { Validates result (construct_fault times.now jobs machines sequence.now more.now room) }
-    ensures within { IfOk result (λ done. IsWithin limits (shop_of times.now jobs machines)) }
-    ensures sequence { IfOk result (λ done. IsSequence jobs sequence.now) }
-    ensures together { IfOk result (λ done. IsSequence jobs (sequence.now ++ more.now)) }
-    ensures room { IfOk result (λ done. room ≡ length sequence.now + length more.now) }
+    ensures validated { Validates result (construct_fault kept.old sequence.now more.now (length order.old)) }
+    ensures done { IfOk result (λ _. IsConstructed kept.old sequence.now more.now order.new span.new) }
+    ensures shop { kept.new ≡ kept.old }
+    ensures kept_order { IfErr result (λ _. order.new ≡ order.old) }
+    ensures kept_span { IfErr result (λ _. span.new ≡ span.old) }
 {
-    validate_sizes(jobs, machines)?;
-    validate_length(times.len(), jobs * machines)?;
-    validate_length(room, sequence.len() + more.len())?;
-    validate_times(times)?;
+    let jobs = kept.tables.instance().jobs();
+    validate_length(order.len(), sequence.len() + more.len())?;
     validate_jobs(jobs, sequence)?;
-    validate_more(jobs, sequence, more)
+    validate_more(jobs, sequence, more)?;
+    order[..sequence.len()].copy_from_slice(sequence);
+    *span = kept.visit(more, 1, order, sequence.len());
+    Ok(())
 }
 
 // Validates the jobs to insert into a sequence that is valid: `Job` if one is not below the size, `Repeated` if it is
@@ -99,118 +87,54 @@ fn validate_more(jobs: usize, sequence: &[u32], more: &[u32]) -> Result<(), Call
 }
 
 /// Makes passes over a list of jobs of a sequence: in the order of the list, each job leaves its place for its first
-/// best one. The result, which is no longer than the sequence, and its makespan are written to `order` and `span`.
+/// best one. `sequence` is overwritten with the result, which is no longer than before, and `span` with its makespan.
 #[unsafe(no_mangle)]
 pub extern "C" fn pfs_local_search(
     alloc: Global,
-    times: &[u32],
-    jobs: usize,
-    machines: usize,
-    sequence: &[u32],
+    instance: &mut Prepared,
     list: &[u32],
     passes: u32,
-    order: &mut [u32],
+    sequence: &mut [u32],
     span: &mut u64,
 ) -> i32
-    ensures number { Returns result
-        (local_search_fault times.now jobs machines sequence.now list.now passes (length order.old)) }
-    ensures done { result ≡ PFS_OK →
-        IsLocalSearch (shop_of times.now jobs machines) sequence.now list.now passes order.new span.new }
-    ensures kept_order { result ≢ PFS_OK → order.new ≡ order.old }
+    ensures number { result ≡ number_returned (on_shop instance.old.shop
+        (λ shop. local_search_fault shop sequence.old list.now passes)) }
+    ensures done { result ≡ PFS_OK → IfSome instance.old.shop
+        (λ shop. IsLocalSearch shop sequence.old list.now passes sequence.new span.new) }
+    ensures shop { instance.new.shop ≡ instance.old.shop }
+    ensures kept_sequence { result ≢ PFS_OK → sequence.new ≡ sequence.old }
     ensures kept_span { result ≢ PFS_OK → span.new ≡ span.old }
 {
-    if let Err(why) = validate_search(times, jobs, machines, sequence, list, passes, order.len()) {
-        return why.number();
-    }
-    match visits_of(alloc, times, jobs, machines, sequence, list, passes) {
-        Ok(found) => {
-            copy_sequence(&found.seq, order);
-            *span = found_span(times, jobs, machines, order, found.last);
-            PFS_OK
-        }
-        Err(why) => why.number(),
-    }
+    let mut kept = match instance.take(alloc) {
+        Ok(kept) => kept,
+        Err(why) => return why.number(),
+    };
+    let done = local_search_in(&mut kept, list, passes, sequence, span);
+    instance.put(kept);
+    number_of(done)
 }
 
-fn validate_search(
-    times: &[u32],
-    jobs: usize,
-    machines: usize,
-    sequence: &[u32],
+fn local_search_in(
+    kept: &mut Kept,
     list: &[u32],
     passes: u32,
-    room: usize,
+    sequence: &mut [u32],
+    span: &mut u64,
 ) -> Result<(), CallFault>
-    ensures validated { Validates result
-        (local_search_fault times.now jobs machines sequence.now list.now passes room) }
-    ensures within { IfOk result (λ done. IsWithin limits (shop_of times.now jobs machines)) }
-    ensures sequence { IfOk result (λ done. IsSequence jobs sequence.now) }
-    ensures distinct { IfOk result (λ done. IsSequence jobs list.now) }
-    ensures members { IfOk result (λ done. All (λ job. Contains sequence.now job) list.now) }
-    ensures passes { IfOk result (λ done. passes ≤ MOST_PASSES) }
-    ensures room { IfOk result (λ done. room ≡ length sequence.now) }
+    ensures validated { Validates result (local_search_fault kept.old sequence.old list.now passes) }
+    ensures done { IfOk result (λ _. IsLocalSearch kept.old sequence.old list.now passes sequence.new span.new) }
+    ensures shop { kept.new ≡ kept.old }
+    ensures kept_sequence { IfErr result (λ _. sequence.new ≡ sequence.old) }
+    ensures kept_span { IfErr result (λ _. span.new ≡ span.old) }
 {
-    validate_sizes(jobs, machines)?;
-    validate_length(times.len(), jobs * machines)?;
-    validate_length(room, sequence.len())?;
-    validate_times(times)?;
+    let jobs = kept.tables.instance().jobs();
     validate_jobs(jobs, sequence)?;
     validate_jobs(jobs, list)?;
     validate_members(sequence, list)?;
-    validate_passes(passes)
-}
-
-// A sequence, and its makespan if the last step was an insertion.
-#[derive(Drop)]
-struct Built {
-    seq: Seq,
-    last: Option<u64>,
-}
-
-// The makespan of a sequence. That is `last`, unless it is `None`.
-fn found_span(
-    times: &[u32],
-    jobs: usize,
-    machines: usize,
-    sequence: &[u32],
-    last: Option<u64>,
-) -> u64
-    requires within { IsWithin limits (shop_of times.now jobs machines) }
-    requires sequence { IsSequence jobs sequence.now }
-    requires last { IfSome last (λ span. span ≡ makespan (shop_of times.now jobs machines) sequence.now) }
-    ensures { result ≡ makespan (shop_of times.now jobs machines) sequence.now }
-{
-    match last {
-        Some(span) => span,
-        None => span_of(times, jobs, machines, sequence),
-    }
-}
-
-// A sequence after passes over a list of jobs. The only fault is `Memory`.
-fn visits_of(
-    alloc: Global,
-    times: &[u32],
-    jobs: usize,
-    machines: usize,
-    sequence: &[u32],
-    list: &[u32],
-    passes: u32,
-) -> Result<Built, CallFault>
-    requires within { IsWithin limits (shop_of times.now jobs machines) }
-    requires sequence { IsSequence jobs sequence.now }
-    requires small { All (λ job. job < jobs) list.now }
-    requires few { length list.now ≤ jobs }
-    requires passes { passes ≤ MOST_PASSES }
-    ensures jobs { IfOk result (λ found.
-        found.seq.jobs ≡ after_visits (shop_of times.now jobs machines) list.now passes sequence.now) }
-    ensures last { IfOk result (λ found. IfSome found.last (λ span.
-        span ≡ makespan (shop_of times.now jobs machines) found.seq.jobs)) }
-    ensures memory { IfErr result (λ why. why ≡ CallFault.Memory) }
-{
-    let instance = instance_of(alloc, times, jobs, machines, NO_NOTES)?;
-    let mut seq = sequence_of(alloc, jobs, sequence)?;
-    let last = make_visits(alloc, &instance, &mut seq, list, passes)?;
-    Ok(Built { seq, last })
+    validate_passes(passes)?;
+    let count = sequence.len();
+    *span = kept.visit(list, passes, sequence, count);
+    Ok(())
 }
 
 // Validates that each job of a list is in a sequence: `Job` if one is not.
@@ -224,14 +148,4 @@ fn validate_members(sequence: &[u32], list: &[u32]) -> Result<(), CallFault>
         }
     }
     Ok(())
-}
-
-// Copies a sequence to a list of the same length.
-fn copy_sequence(seq: &Seq, out: &mut [u32])
-    requires { length seq.now.jobs ≡ length out.old }
-    ensures { out.new ≡ seq.now.jobs }
-{
-    for place in 0..seq.len() {
-        out[place] = seq.at(place) as u32;
-    }
 }

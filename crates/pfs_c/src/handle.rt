@@ -1,16 +1,19 @@
 //! The handle of a prepared instance, as C holds it.
-ghost use Rattle.std.specs.Prelude.{◌≡◌, MatchOption, Option};
+ghost use Rattle.std.specs.Prelude.{◌≡◌, MatchOption, MatchResult, Option};
 ghost use Rattle.std.specs.declared.option.Option.TheVariants.{None, Some};
 ghost use Rattle.pfs_base.specs.FlowShop.{FlowShop};
 
 use crate::kept::Kept;
+use crate::numbers::CallFault;
 use crate::opened::OpenBox;
 use std::alloc::Global;
 use std::marker::Model;
+use std::mem::replace;
 use std::ptr::null_mut;
 
-/// The struct `pfs_prepared` of C: the address of a kept instance in a box, or null. `Global` takes no bytes. A type
-/// with a `Vec` in it can't cross to C, so the pointer is one to bytes.
+/// The struct `pfs_instance` of C: the address of a prepared instance in a box, or null. `Global` takes no bytes. A type
+/// with a `Vec` in it can't cross to C, so the pointer is one to bytes. It has no drop, so the compiler rejects a
+/// function that overwrites one without a look at what it holds.
 #[repr(C)]
 pub struct Prepared {
     at: *mut u8,
@@ -61,12 +64,25 @@ impl Prepared {
             })
         }
     }
-}
 
-impl Drop for Prepared {
-    fn drop(self) {
-        if let Some(kept) = self.into_kept() {
-            drop(kept.into_box());
+    /// Takes the instance out, after which the handle holds none.
+    pub(crate) fn take(&mut self, alloc: Global) -> Result<Box<Kept>, CallFault>
+        ensures none { self.new.shop ≡ None }
+        ensures taken { MatchResult result (λ kept. self.old.shop ≡ Some kept.value)
+            (λ why. (self.old.shop ≡ None) × (why ≡ CallFault.NotPrepared)) }
+    {
+        match replace(self, Prepared::none(alloc)).into_kept() {
+            Some(kept) => Ok(kept.into_box()),
+            None => Err(CallFault::NotPrepared),
+        }
+    }
+
+    /// Puts an instance in. One that the handle holds is released.
+    pub(crate) fn put(&mut self, kept: Box<Kept>)
+        ensures { self.new.shop ≡ Some kept.value }
+    {
+        if let Some(old) = replace(self, Prepared::of(OpenBox::from_box(kept))).into_kept() {
+            drop(old.into_box());
         }
     }
 }

@@ -1,192 +1,112 @@
-//! The best place for a job, by the method that `method_for` chooses for the instance.
-ghost use Rattle.std.specs.Prelude.{◌≡◌, ◌+◌, ◌*◌, ◌<◌, length, Contains, IfOk, IfErr};
-ghost use Rattle.pfs_base.specs.FlowShop.{IsWithin};
-ghost use Rattle.pfs_base.specs.Limits.{limits};
+//! Insertions of a job into a sequence, for C.
+ghost use Rattle.std.specs.Prelude.{◌≡◌, ◌≢◌, length, IfOk, IfErr, IfSome};
 ghost use Rattle.pfs_insert.specs.Inserter.{IsBestPlace};
-ghost use Rattle.pfs_order.specs.Sequence.{IsSequence};
-ghost use Rattle.pfs_wave.specs.Served.{IsServed, lanes_of};
-ghost use Rattle.pfs_c.specs.Validation.{shop_of};
-ghost use Rattle.pfs_c.specs.Private.Rows.{TailsFrom};
+ghost use Rattle.pfs_c.specs.Inserting.{AreInsertions, insertions_fault};
+ghost use Rattle.pfs_c.specs.Numbers.{number_returned};
+ghost use Rattle.pfs_c.specs.Validation.{insertion_fault, on_shop};
+ghost use Rattle.pfs_c.specs.Private.Outcomes.{Validates};
 
-use crate::numbers::CallFault;
-use crate::places::tails_of;
-use crate::rows::{add_head, span_with};
-use pfs_base::{Instance, MOST_MACHINES};
-use pfs_insert::{HeadsTails, Inserter, Placed};
-use pfs_order::Seq;
-use pfs_wave::{
-    Bits16, Bits32, LaneSize, MeteredLanes, Method, MixedLanes, Wavefront, Width, method_for,
-};
+use crate::given::{validate_insertion, validate_length};
+use crate::handle::Prepared;
+use crate::kept::Kept;
+use crate::numbers::{CallFault, PFS_OK, number_of};
+use pfs_insert::Placed;
 use std::alloc::Global;
 
-/// Returns the best place for a job in a sequence, and the makespan with the job there, from the caller's times. It
-/// copies nothing and allocates one table of tails, so for a few jobs no other method is faster. The only error is
-/// `Memory`, if the allocation fails.
-pub(crate) fn best_on_times(
+/// Finds the best place of a job in a sequence of others, of equal ones the first, and the makespan with the job there.
+#[unsafe(no_mangle)]
+pub extern "C" fn pfs_insert(
     alloc: Global,
-    times: &[u32],
-    jobs: usize,
-    machines: usize,
+    instance: &mut Prepared,
     sequence: &[u32],
-    job: usize,
-) -> Result<Placed<u64>, CallFault>
-    requires within { IsWithin limits (shop_of times.now jobs machines) }
-    requires sequence { IsSequence jobs sequence.now }
-    requires job { job < jobs }
-    ensures best { IfOk result (λ best.
-        IsBestPlace (shop_of times.now jobs machines) sequence.now job best.place best.span) }
-    ensures memory { IfErr result (λ why. why ≡ CallFault.Memory) }
+    job: u32,
+    place: &mut usize,
+    span: &mut u64,
+) -> i32
+    ensures number { result ≡ number_returned
+        (on_shop instance.old.shop (λ shop. insertion_fault shop sequence.now job)) }
+    ensures done { result ≡ PFS_OK →
+        IfSome instance.old.shop (λ shop. IsBestPlace shop sequence.now job place.new span.new) }
+    ensures shop { instance.new.shop ≡ instance.old.shop }
+    ensures kept_place { result ≢ PFS_OK → place.new ≡ place.old }
+    ensures kept_span { result ≢ PFS_OK → span.new ≡ span.old }
 {
-    let tails = tails_of(alloc, times, jobs, machines, sequence)?;
-    Ok(first_best(times, jobs, machines, sequence, job, &tails))
+    match best_of(alloc, instance, sequence, job) {
+        Ok(best) => {
+            *place = best.place;
+            *span = best.span;
+            PFS_OK
+        }
+        Err(why) => why.number(),
+    }
 }
 
-// The first place with the least makespan, and that makespan.
-fn first_best(
-    times: &[u32],
-    jobs: usize,
-    machines: usize,
+fn best_of(
+    alloc: Global,
+    instance: &mut Prepared,
     sequence: &[u32],
-    job: usize,
-    tails: &[u64],
-) -> Placed<u64>
-    requires within { IsWithin limits (shop_of times.now jobs machines) }
-    requires sequence { IsSequence jobs sequence.now }
-    requires job { job < jobs }
-    requires long { length tails.now ≡ (length sequence.now + 1) * machines }
-    requires tails { TailsFrom (shop_of times.now jobs machines) sequence.now 0 tails.now }
-    ensures { IsBestPlace (shop_of times.now jobs machines) sequence.now job result.place result.span }
+    job: u32,
+) -> Result<Placed<u64>, CallFault>
+    ensures validated { Validates result
+        (on_shop instance.old.shop (λ shop. insertion_fault shop sequence.now job)) }
+    ensures best { IfOk result (λ best.
+        IfSome instance.old.shop (λ shop. IsBestPlace shop sequence.now job best.place best.span)) }
+    ensures shop { instance.new.shop ≡ instance.old.shop }
 {
-    let mut heads = [0; MOST_MACHINES];
-    let mut best = 0;
-    let mut least = span_with(times, jobs, machines, sequence, job, 0, &heads, tails);
-    for place in 0..sequence.len() {
-        add_head(times, jobs, machines, sequence, place, &mut heads);
-        let next = place + 1;
-        let span = span_with(times, jobs, machines, sequence, job, next, &heads, tails);
-        if span < least {
-            best = next;
-            least = span;
-        }
-    }
-    Placed {
-        place: best,
-        span: least,
-    }
+    let mut kept = instance.take(alloc)?;
+    let best = best_in(&mut kept, sequence, job);
+    instance.put(kept);
+    best
 }
 
-/// Returns the best place for a job in a sequence of the instance's jobs, and the makespan with the job there. The only
-/// error is `Memory`, if an allocation fails.
-pub(crate) fn best_place(
-    alloc: Global,
-    instance: &Instance,
-    sequence: &Seq,
-    job: usize,
-) -> Result<Placed<u64>, CallFault>
-    requires size { sequence.now.size ≡ instance.now.shop.jobs }
-    requires job { job < instance.now.shop.jobs }
-    requires absent { Contains sequence.now.jobs job → ⊥ }
-    ensures best { IfOk result (λ best.
-        IsBestPlace instance.now.shop sequence.now.jobs job best.place best.span) }
-    ensures memory { IfErr result (λ why. why ≡ CallFault.Memory) }
+fn best_in(kept: &mut Kept, sequence: &[u32], job: u32) -> Result<Placed<u64>, CallFault>
+    ensures validated { Validates result (insertion_fault kept.old sequence.now job) }
+    ensures best { IfOk result (λ best. IsBestPlace kept.old sequence.now job best.place best.span) }
+    ensures shop { kept.new ≡ kept.old }
 {
-    match method_for(instance) {
-        Method::HeadsTails => best_by_rows(alloc, instance, sequence, job),
-        Method::Wavefront16(width) => {
-            best_in_width::<Bits16>(alloc, instance, width, sequence, job)
-        }
-        Method::Wavefront32(width) => {
-            best_in_width::<Bits32>(alloc, instance, width, sequence, job)
-        }
-    }
+    validate_insertion(kept.tables.instance().jobs(), sequence, job)?;
+    Ok(kept.tables.best(sequence, job as usize))
 }
 
-/// `best_place` by `HeadsTails`.
-pub(crate) fn best_by_rows(
+/// Computes the makespan with a job at each place of a sequence of others. `makespans[place]` is that with the job
+/// before the one at this place, and the last entry that with the job after the last one.
+#[unsafe(no_mangle)]
+pub extern "C" fn pfs_insertions(
     alloc: Global,
-    instance: &Instance,
-    sequence: &Seq,
-    job: usize,
-) -> Result<Placed<u64>, CallFault>
-    requires size { sequence.now.size ≡ instance.now.shop.jobs }
-    requires job { job < instance.now.shop.jobs }
-    requires absent { Contains sequence.now.jobs job → ⊥ }
-    ensures best { IfOk result (λ best.
-        IsBestPlace instance.now.shop sequence.now.jobs job best.place best.span) }
-    ensures memory { IfErr result (λ why. why ≡ CallFault.Memory) }
+    instance: &mut Prepared,
+    sequence: &[u32],
+    job: u32,
+    makespans: &mut [u64],
+) -> i32
+    ensures number { result ≡ number_returned (on_shop instance.old.shop
+        (λ shop. insertions_fault shop sequence.now job (length makespans.old))) }
+    ensures done { result ≡ PFS_OK →
+        IfSome instance.old.shop (λ shop. AreInsertions shop sequence.now job makespans.new) }
+    ensures shop { instance.new.shop ≡ instance.old.shop }
+    ensures kept { result ≢ PFS_OK → makespans.new ≡ makespans.old }
 {
-    // Called for their contracts: the instance and the sequence are within the limits.
-    let _jobs = instance.jobs();
-    let _len = sequence.len();
-    let mut bench = instance.metered();
-    let Ok(mut inserter) = HeadsTails::new(alloc, &bench) else {
-        return Err(CallFault::Memory);
+    let mut kept = match instance.take(alloc) {
+        Ok(kept) => kept,
+        Err(why) => return why.number(),
     };
-    let Ok(best) = inserter.best(alloc, &mut bench, sequence, job) else {
-        return Err(CallFault::Memory);
-    };
-    Ok(Placed {
-        place: best.place,
-        span: bench.reveal(best.span),
-    })
+    let done = insertions_in(&mut kept, sequence, job, makespans);
+    instance.put(kept);
+    number_of(done)
 }
 
-// `best_place` by a wavefront of a given width.
-fn best_in_width<S: LaneSize>(
-    alloc: Global,
-    instance: &Instance,
-    width: Width,
-    sequence: &Seq,
-    job: usize,
-) -> Result<Placed<u64>, CallFault>
-    requires served { IsServed instance.now.shop (lanes_of width) S.Band.CAP }
-    requires size { sequence.now.size ≡ instance.now.shop.jobs }
-    requires job { job < instance.now.shop.jobs }
-    requires absent { Contains sequence.now.jobs job → ⊥ }
-    ensures best { IfOk result (λ best.
-        IsBestPlace instance.now.shop sequence.now.jobs job best.place best.span) }
-    ensures memory { IfErr result (λ why. why ≡ CallFault.Memory) }
+fn insertions_in(
+    kept: &mut Kept,
+    sequence: &[u32],
+    job: u32,
+    makespans: &mut [u64],
+) -> Result<(), CallFault>
+    ensures validated { Validates result (insertions_fault kept.old sequence.now job (length makespans.old)) }
+    ensures done { IfOk result (λ _. AreInsertions kept.old sequence.now job makespans.new) }
+    ensures shop { kept.new ≡ kept.old }
+    ensures kept { IfErr result (λ _. makespans.new ≡ makespans.old) }
 {
-    match width {
-        Width::Lanes8 => best_in_lanes::<S::Lanes8>(alloc, instance, sequence, job),
-        Width::Lanes16 => best_in_lanes::<S::Lanes16>(alloc, instance, sequence, job),
-        Width::Lanes24 => best_in_lanes::<S::Lanes24>(alloc, instance, sequence, job),
-        Width::Lanes40 => best_in_lanes::<S::Lanes40>(alloc, instance, sequence, job),
-        Width::Lanes64 => best_in_lanes::<S::Lanes64>(alloc, instance, sequence, job),
-        Width::Lanes104 => best_in_lanes::<S::Lanes104>(alloc, instance, sequence, job),
-        Width::Lanes208 => best_in_lanes::<S::Lanes208>(alloc, instance, sequence, job),
-    }
-}
-
-// `best_place` by a wavefront.
-fn best_in_lanes<L: MixedLanes>(
-    alloc: Global,
-    instance: &Instance,
-    sequence: &Seq,
-    job: usize,
-) -> Result<Placed<u64>, CallFault>
-    requires served { IsServed instance.now.shop L.WIDTH L.Band.CAP }
-    requires size { sequence.now.size ≡ instance.now.shop.jobs }
-    requires job { job < instance.now.shop.jobs }
-    requires absent { Contains sequence.now.jobs job → ⊥ }
-    ensures best { IfOk result (λ best.
-        IsBestPlace instance.now.shop sequence.now.jobs job best.place best.span) }
-    ensures memory { IfErr result (λ why. why ≡ CallFault.Memory) }
-{
-    // Called for their contracts: the instance and the sequence are within the limits.
-    let _jobs = instance.jobs();
-    let _len = sequence.len();
-    let Ok(mut bench) = MeteredLanes::<L>::new(alloc, instance) else {
-        return Err(CallFault::Memory);
-    };
-    let Ok(mut inserter) = Wavefront::new(alloc, &bench) else {
-        return Err(CallFault::Memory);
-    };
-    let Ok(found) = inserter.best(alloc, &mut bench, sequence, job) else {
-        return Err(CallFault::Memory);
-    };
-    Ok(Placed {
-        place: found.place,
-        span: bench.reveal(found.span),
-    })
+    validate_length(makespans.len(), sequence.len() + 1)?;
+    validate_insertion(kept.tables.instance().jobs(), sequence, job)?;
+    kept.tables.insertions(sequence, job as usize, makespans);
+    Ok(())
 }

@@ -1,5 +1,6 @@
 //! Laws about the definitions alone.
 ghost use Rattle.pfs_c.specs.Building.{AllJobsLaw, NehLaw, VisitsLaw};
+ghost use Rattle.pfs_c.specs.Faults.{InsertionLaw, JobsLaw, ShopLaw};
 
 /// NEH inserts the ranking into the empty sequence.
 pub fn neh()
@@ -16,4 +17,11 @@ pub fn all_jobs()
 /// Passes over jobs of a sequence make it no longer.
 pub fn no_longer()
     ensures { VisitsLaw }
+{}
+
+/// Validation finds no fault exactly in what the functions are defined for.
+pub fn no_fault()
+    ensures shop { ShopLaw }
+    ensures jobs { JobsLaw }
+    ensures insertion { InsertionLaw }
 {}

@@ -1,6 +1,6 @@
-//! The library for C. C gives no guarantees, so each function first validates all of its arguments. It then calls a
-//! proved function, most of them in the crates below, and copies the result out. Its declaration in `lib/pfs.h` also
-//! says what it validates, in which order, and what it returns. Processing times are stored job by job:
+//! The library for C. C gives no guarantees, so each function first validates its arguments, in the order that its
+//! declaration in `lib/pfs.h` says. A call on a prepared instance takes the instance out of the struct of C (`handle`),
+//! works on it and puts it back. Processing times are stored job by job:
 //! `times[job * machines + machine]`. Jobs, machines and places count from 0.
 #![tactic(auto)]
 
@@ -11,7 +11,6 @@ mod heads;
 mod inserting;
 mod kept;
 pub mod laws;
-mod many;
 mod moving;
 mod numbers;
 mod opened;
@@ -20,5 +19,5 @@ mod preparing;
 mod random;
 mod rows;
 mod searching;
-mod shop;
+mod spans;
 mod texts;

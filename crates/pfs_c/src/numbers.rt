@@ -1,5 +1,5 @@
 //! The numbers that the functions return.
-ghost use Rattle.std.specs.Prelude.{◌≡◌, ◌≢◌, pos};
+ghost use Rattle.std.specs.Prelude.{◌≡◌, ◌≢◌, pos, IsOk, IfErr};
 ghost use Rattle.pfs_c.specs.Numbers.{fault_number};
 
 /// The call succeeded.
@@ -47,7 +47,7 @@ pub const PFS_MAKESPAN: i32 = 13;
 /// The output has too little room for the result.
 pub const PFS_ROOM: i32 = 14;
 
-/// The handle holds no prepared instance.
+/// The struct holds no prepared instance.
 pub const PFS_NOT_PREPARED: i32 = 15;
 
 /// The file ends before the block.
@@ -162,5 +162,16 @@ impl CallFault {
         ensures some { result ≢ PFS_OK }
     {
         self as i32
+    }
+}
+
+/// The number that C receives for a result.
+pub(crate) fn number_of(done: Result<(), CallFault>) -> i32
+    ensures ok { IsOk done → result ≡ PFS_OK }
+    ensures err { IfErr done (λ why. (result ≡ fault_number why) × (result ≢ PFS_OK)) }
+{
+    match done {
+        Ok(()) => PFS_OK,
+        Err(why) => why.number(),
     }
 }

@@ -23,6 +23,18 @@ pub struct PfsNotes {
     pub lower: u32,
 }
 
+/// The struct `pfs_block` of C: what the size line of a block says.
+#[repr(C)]
+#[derive(Clone, Copy)]
+pub struct PfsBlock {
+    /// The number of jobs.
+    pub jobs: usize,
+    /// The number of machines.
+    pub machines: usize,
+    /// The notes, which are 0 in the layout of the OR-Library.
+    pub notes: PfsNotes,
+}
+
 impl PfsNotes {
     // The notes of an instance, as C sees them.
     fn from_notes(notes: Notes) -> PfsNotes

@@ -50,17 +50,17 @@ def read_up_to(read_some: Callable[[int], bytes | None], most: int) -> bytes:
 
 def block_of(text: bytes, path: str, layout: int, block: int, start: int = 0) -> Instance:
     """Return a block of a file, counted from the offset `start`."""
-    jobs, machines, place, notes = c_size_t(), c_size_t(), c_uint64(), c.Notes()
+    found, place = c.Block(), c_uint64()
     length = len(text) - start
     # Each time takes at least two bytes, except the last, which may take one.
     times = np.empty(min(length // 2 + 1, c.MOST_JOBS * c.MOST_MACHINES), dtype=np.uint32)
     address = cast(c_char_p(text), c_void_p).value or 0
-    number = c.library.pfs_read(address + start, length, layout, block, byref(jobs), byref(machines), byref(notes),
-                                times.ctypes.data, times.size, byref(place))
+    number = c.library.pfs_read(address + start, length, layout, block, byref(found), times.ctypes.data, times.size,
+                                byref(place))
     if number in INSTANCE_FAULTS:
         raise fault_of(text, path, layout, number, place.value, start)
     c.done(number)
-    table = times[:jobs.value * machines.value].reshape(jobs.value, machines.value)
+    table, notes = times[:found.jobs * found.machines].reshape(found.jobs, found.machines), found.notes
     return Instance(table, name=os.path.basename(path), seed=notes.seed, upper=notes.upper, lower=notes.lower)
 
 
@@ -77,13 +77,13 @@ def start_of_fault(text: bytes, layout: int) -> int:
     """Return the offset of the first block that is invalid."""
     start, numbers = 0, 2 if layout == c.LAYOUTS["orlib"] else 1
     for _ in range(c.MOST_BLOCKS):
-        jobs, machines, place, notes = c_size_t(), c_size_t(), c_uint64(), c.Notes()
+        found, place = c.Block(), c_uint64()
         times = np.empty(min((len(text) - start) // 2 + 1, c.MOST_JOBS * c.MOST_MACHINES), dtype=np.uint32)
         address = cast(c_char_p(text), c_void_p).value or 0
-        if c.library.pfs_read(address + start, len(text) - start, layout, 1, byref(jobs), byref(machines), byref(notes),
-                              times.ctypes.data, times.size, byref(place)) != c.OK:
+        if c.library.pfs_read(address + start, len(text) - start, layout, 1, byref(found), times.ctypes.data,
+                              times.size, byref(place)) != c.OK:
             break
-        start = end_of_block(text, start, numbers * jobs.value * machines.value)
+        start = end_of_block(text, start, numbers * found.jobs * found.machines)
     return start
 
 

@@ -19,7 +19,7 @@ if TYPE_CHECKING:
 def numbers_of(given: Jobs, shop: Instance, what: str) -> list[int]:
     """Return the numbers of distinct jobs, given by number or by name."""
     own, count = as_uint32_bytes(getattr(given, "order", given), what, shop.job_names)
-    number = c.library.pfs_makespan(*shop._arguments, own, count, byref(c_uint64()))
+    number = shop._call("pfs_makespan", own, count, byref(c_uint64()))
     if number != c.OK:
         raise jobs_error(number, shop.jobs, own, what)
     jobs: list[int] = np.frombuffer(own, dtype=np.uint32).tolist()

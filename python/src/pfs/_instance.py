@@ -15,7 +15,7 @@ from pfs._atomic import atomic_write
 from pfs._bounds import bound_by_pairs
 from pfs._faults import Interrupted
 from pfs._held import HeldSearch
-from pfs._library import LENGTHS, SHORT, library
+from pfs._library import LENGTHS, SHORT, Prepared
 from pfs._names import frame_names, is_frame, names_of
 from pfs._schedule import Schedule
 from pfs._search import Progress, Search, Stop
@@ -124,7 +124,7 @@ class Instance:
     """
 
     __slots__ = ("name", "job_names", "machine_names", "unit", "decimals", "seed", "upper", "lower", "_times",
-                 "_arguments", "_converted")
+                 "_data", "_prepared")
 
     def __init__(self, times: npt.ArrayLike, *, name: str = "", job_names: Iterable[str] | None = None,
                  machine_names: Iterable[str] | None = None, unit: str = "", decimals: int = 0, seed: int = 0,
@@ -134,10 +134,10 @@ class Instance:
             job_names = frame_names(times, "index") if job_names is None else job_names
             machine_names = frame_names(times, "columns") if machine_names is None else machine_names
         # An array over `bytes` can't be made writable.
-        data = own.tobytes()
+        self._data = own.tobytes()
         self._times: Order = np.frombuffer(own.astype(np.int64).tobytes(), dtype=np.int64).reshape(own.shape)
-        self._arguments: tuple[bytes, int, int, int] = (data, own.size, own.shape[0], own.shape[1])
-        self._converted = c.converted(self._arguments)
+        # What the library has prepared, from the first call on.
+        self._prepared: Prepared | None = None
         self.name = str(name)
         self.job_names = names_of(job_names, self.jobs, "job_names")
         self.machine_names = names_of(machine_names, self.machines, "machine_names")
@@ -172,13 +172,31 @@ class Instance:
     def __eq__(self, other: object) -> bool:
         if not isinstance(other, Instance):
             return NotImplemented
-        return self._arguments == other._arguments and self._metadata() == other._metadata()
+        return self._key() == other._key() and self._metadata() == other._metadata()
 
     def __hash__(self) -> int:
-        return hash(self._arguments)
+        return hash(self._key())
+
+    def _key(self) -> tuple[bytes, tuple[int, ...]]:
+        return self._data, self._times.shape
 
     def __reduce__(self) -> tuple[Any, ...]:
         return _instance_of, (np.array(self.times), self._metadata())
+
+    def _ready(self) -> Prepared:
+        """Return what the library has prepared in this process. If two threads prepare it at once, one of the two is
+        kept, and the other is released after the call."""
+        prepared = self._prepared
+        if prepared is None or not prepared.is_own():
+            prepared = self._prepared = Prepared(self._data, self.jobs, self.machines)
+        return prepared
+
+    def _call(self, name: str, *arguments: Any) -> int:
+        """Call a function of the library on the prepared instance, and return its number."""
+        prepared = self._ready()
+        with prepared.lock:
+            number: int = getattr(c.library, name)(prepared.address, *arguments)
+        return number
 
     def job_name(self, job: int) -> str:
         """The name of a job, or its number, counted from 0, if jobs have no names."""
@@ -207,8 +225,10 @@ class Instance:
             If it isn't a list of distinct jobs. The message says which element is wrong.
         """
         jobs, count = as_uint32_bytes(order, "order", self.job_names)
-        found = _free_buffer()
-        number = _pfs_makespan(*self._converted, jobs, LENGTHS[count] if count < SHORT else c_size_t(count), found[3])
+        found, prepared = _free_buffer(), self._ready()
+        with prepared.lock:
+            number = _pfs_makespan(prepared.address, jobs, LENGTHS[count] if count < SHORT else c_size_t(count),
+                                   found[3])
         if number:
             raise jobs_error(number, self.jobs, jobs)
         makespan: int = found[1].value
@@ -292,7 +312,7 @@ class Instance:
         if method not in ("machines", "pairs"):
             raise ValueError(f"method must be 'machines' or 'pairs', not {method!r}")
         bound = c_uint64()
-        c.done(library.pfs_bound(*self._arguments, byref(bound)))
+        c.done(self._call("pfs_bound", byref(bound)))
         return max(bound.value, bound_by_pairs(self._times)) if method == "pairs" else bound.value
 
     def rpd(self, makespan: int | Solution | Sequence, reference: int | None = None) -> float:
@@ -375,11 +395,12 @@ class Instance:
         Place(place=0, makespan=10)
         """
         jobs, count = as_uint32_bytes(sequence, "sequence")
-        if type(job) is not int or not 0 <= job < self._arguments[2]:
+        if type(job) is not int or not 0 <= job < self.jobs:
             job = checked_int(job, "job", 0, self.jobs - 1)
-        found = _free_buffer()
-        number = _pfs_insert(*self._converted, jobs, LENGTHS[count] if count < SHORT else c_size_t(count), job,
-                             found[2], found[3])
+        found, prepared = _free_buffer(), self._ready()
+        with prepared.lock:
+            number = _pfs_insert(prepared.address, jobs, LENGTHS[count] if count < SHORT else c_size_t(count), job,
+                                 found[2], found[3])
         if number:
             fault = jobs_error(number, self.jobs, jobs, "sequence")
             if number == c.REPEATED and fault.args == (c.message(number),):
@@ -420,8 +441,7 @@ class Instance:
         jobs, count = as_uint32_bytes(sequence, "sequence")
         job = checked_int(job, "job", 0, self.jobs - 1)
         spans = np.empty(min(count, self.jobs) + 1, dtype=np.int64)
-        number = library.pfs_insertions(*self._arguments, jobs, min(count, self.jobs), job, spans.ctypes.data,
-                                        spans.size)
+        number = self._call("pfs_insertions", jobs, min(count, self.jobs), job, spans.ctypes.data, spans.size)
         if number:
             fault = jobs_error(number, self.jobs, jobs, "sequence")
             if number == c.REPEATED and fault.args == (c.message(number),):
@@ -498,8 +518,8 @@ class Instance:
         jobs, count = as_uint32_bytes(sequence, "sequence")
         shape = min(count, self.jobs + 1), self.machines
         heads, tails = np.empty(shape, dtype=np.int64), np.empty(shape, dtype=np.int64)
-        number = library.pfs_heads_tails(*self._arguments, jobs, shape[0], heads.ctypes.data, heads.size,
-                                         tails.ctypes.data, tails.size)
+        number = self._call("pfs_heads_tails", jobs, shape[0], heads.ctypes.data, heads.size, tails.ctypes.data,
+                            tails.size)
         if number:
             raise jobs_error(number, self.jobs, jobs, "sequence")
         return heads, tails
@@ -534,7 +554,14 @@ class Instance:
         >>> pfs.Instance([[3, 2], [2, 5], [4, 1]]).insert_all([2], [0, 1])
         Sequence(jobs=array([1, 0, 2]), makespan=10)
         """
-        return self._reinserted("pfs_construct", sequence, jobs)
+        given, count = as_uint32_bytes(sequence, "sequence")
+        more, many = as_uint32_bytes(jobs, "jobs")
+        found = np.empty(min(count + many, 2 * c.MOST_JOBS), dtype=np.uint32)
+        makespan = c_uint64()
+        number = self._call("pfs_construct", given, count, more, many, found.ctypes.data, found.size, byref(makespan))
+        if number:
+            raise self._reinsertion_error(number, given, more, is_in=True)
+        return Sequence(found.astype(np.int64), makespan.value)
 
     def local_search(self, sequence: Jobs, jobs: Jobs | None = None, *, passes: int = 1) -> Sequence:
         """Improve a sequence of jobs: in a pass, each of some jobs is removed and inserted at its best place.
@@ -571,18 +598,13 @@ class Instance:
         passes = checked_int(passes, "passes", 0, c.MOST_PASSES)
         if jobs is None:
             jobs = np.sort(checked_jobs(sequence, "sequence"))
-        return self._reinserted("pfs_local_search", sequence, jobs, passes)
-
-    def _reinserted(self, name: str, sequence: Jobs, jobs: Jobs, *passes: int) -> Sequence:
-        """Call a function that inserts jobs into a sequence. Only pfs_local_search has passes."""
-        given, count = as_uint32_bytes(sequence, "sequence")
-        moved, more = as_uint32_bytes(jobs, "jobs")
-        found = np.empty(min(count + (0 if passes else more), 2 * c.MOST_JOBS), dtype=np.uint32)
+        given, _ = as_uint32_bytes(sequence, "sequence")
+        moved, many = as_uint32_bytes(jobs, "jobs")
+        found = np.frombuffer(bytearray(given), dtype=np.uint32)
         makespan = c_uint64()
-        number = getattr(library, name)(*self._arguments, given, count, moved, more, *passes, found.ctypes.data,
-                                        found.size, byref(makespan))
+        number = self._call("pfs_local_search", moved, many, passes, found.ctypes.data, found.size, byref(makespan))
         if number:
-            raise self._reinsertion_error(number, given, moved, is_in=not passes)
+            raise self._reinsertion_error(number, given, moved, is_in=False)
         return Sequence(found.astype(np.int64), makespan.value)
 
     def _reinsertion_error(self, number: int, given: bytes, moved: bytes, *, is_in: bool) -> Exception:
@@ -631,10 +653,10 @@ class Instance:
         jobs = as_uint32(own, 2**32 - 1, "orders", "row {}, place {}", "isn't a job: jobs count from 0")
         rows = jobs.tobytes()
         spans = np.empty(len(jobs), dtype=np.int64)
-        number = library.pfs_makespans(*self._arguments, rows, jobs.size, jobs.shape[1], spans.ctypes.data, spans.size)
+        number = self._call("pfs_makespans", rows, jobs.size, jobs.shape[1], spans.ctypes.data, spans.size)
         if number in (c.JOB, c.REPEATED):
             for row, sequence in enumerate(jobs):
-                if library.pfs_makespan(*self._arguments, sequence.tobytes(), len(sequence), byref(c_uint64())):
+                if self._call("pfs_makespan", sequence.tobytes(), len(sequence), byref(c_uint64())):
                     raise jobs_error(number, self.jobs, sequence.tobytes(), f"orders, row {row}")
         c.done(number)
         return spans
@@ -753,8 +775,7 @@ class Instance:
         jobs = checked_order(as_order(order, self), self.jobs, "order", self.job_names)
         starts = np.empty((self.jobs, self.machines), dtype=np.int64)
         ends = np.empty_like(starts)
-        number = library.pfs_table(*self._arguments, jobs, self.jobs, starts.ctypes.data, starts.size, ends.ctypes.data,
-                                   ends.size)
+        number = self._call("pfs_table", jobs, self.jobs, starts.ctypes.data, starts.size, ends.ctypes.data, ends.size)
         if number:
             raise jobs_error(number, self.jobs, jobs)
         own = np.frombuffer(jobs, dtype=np.uint32).astype(np.int64)
@@ -779,7 +800,7 @@ class Instance:
         notes = c.Notes(self.seed, self.upper, self.lower)
         length = c_size_t()
         text = create_string_buffer(256 + 16 * self.times.size + 8 * self.jobs)
-        c.done(library.pfs_write(*self._arguments, byref(notes), number, text, len(text), byref(length)))
+        c.done(self._call("pfs_write", byref(notes), number, text, len(text), byref(length)))
         return text.raw[:length.value].decode("ascii")
 
     def write(self, path: str | os.PathLike[str], layout: str = "taillard") -> None:

@@ -1,19 +1,20 @@
-"""The shared library, loaded with ctypes: the functions and constants of `pfs.h`, but for those over a handle.
+"""The shared library, loaded with ctypes: the functions and constants of `pfs.h`.
 
 A ctypes call releases the GIL, so other threads run during the call. Therefore its inputs are `bytes`, which are
-immutable, and its outputs are arrays that are allocated for the call.
+immutable, its outputs are arrays that are allocated for the call, and a prepared instance has a lock.
 """
 from __future__ import annotations
 
 import ctypes
 import os
 import pathlib
-from ctypes import c_char_p, c_int, c_size_t, c_uint32, c_uint64, c_void_p
+import threading
+from ctypes import byref, c_char_p, c_int, c_size_t, c_uint32, c_uint64, c_void_p
 from typing import Any, Final
 
 from pfs._version import VERSION
 
-FILE = "libpfs.so.0"
+FILE = "libpfs.so.1"
 
 # The limits of the library.
 MOST_JOBS: Final = 5_000
@@ -50,25 +51,36 @@ class Notes(ctypes.Structure):
     _fields_ = [("seed", c_uint32), ("upper", c_uint32), ("lower", c_uint32)]
 
 
-# The parameters of each function.
-SHOP = [c_void_p, c_size_t, c_size_t, c_size_t]
+class Block(ctypes.Structure):
+    """The sizes and the notes of a block of an instance file."""
+    _fields_ = [("jobs", c_size_t), ("machines", c_size_t), ("notes", Notes)]
+
+
+class RoundsOptions(ctypes.Structure):
+    """Which rounds `pfs_rounds` makes."""
+    _fields_ = [("seed", c_uint64), ("take", c_size_t), ("first", c_uint32), ("count", c_uint32), ("passes", c_uint32)]
+
+
+# The parameters of each function, an instance first where it works on one.
 LIST = [c_void_p, c_size_t]
-PROTOTYPES = {
-    "pfs_makespan": [*SHOP, *LIST, c_void_p],
-    "pfs_makespans": [*SHOP, *LIST, c_size_t, *LIST],
-    "pfs_bound": [*SHOP, c_void_p],
-    "pfs_table": [*SHOP, *LIST, *LIST, *LIST],
-    "pfs_neh": [*SHOP, *LIST, c_void_p, c_void_p],
-    "pfs_rounds": [*SHOP, *LIST, c_uint32, c_uint32, c_size_t, c_uint32, c_uint64, c_void_p, c_void_p],
-    "pfs_insert": [*SHOP, *LIST, c_uint32, c_void_p, c_void_p],
-    "pfs_insertions": [*SHOP, *LIST, c_uint32, *LIST],
-    "pfs_heads_tails": [*SHOP, *LIST, *LIST, *LIST],
-    "pfs_construct": [*SHOP, *LIST, *LIST, *LIST, c_void_p],
-    "pfs_local_search": [*SHOP, *LIST, *LIST, c_uint32, *LIST, c_void_p],
+PROTOTYPES: Final[dict[str, list[type[Any]]]] = {
+    "pfs_prepare": [*LIST, c_size_t, c_size_t, c_void_p],
+    "pfs_release": [c_void_p],
+    "pfs_makespan": [c_void_p, *LIST, c_void_p],
+    "pfs_makespans": [c_void_p, *LIST, c_size_t, *LIST],
+    "pfs_bound": [c_void_p, c_void_p],
+    "pfs_table": [c_void_p, *LIST, *LIST, *LIST],
+    "pfs_neh": [c_void_p, *LIST, c_void_p, c_void_p],
+    "pfs_rounds": [c_void_p, c_void_p, *LIST, c_void_p, c_void_p],
+    "pfs_insert": [c_void_p, *LIST, c_uint32, c_void_p, c_void_p],
+    "pfs_insertions": [c_void_p, *LIST, c_uint32, *LIST],
+    "pfs_heads_tails": [c_void_p, *LIST, *LIST, *LIST],
+    "pfs_construct": [c_void_p, *LIST, *LIST, *LIST, c_void_p],
+    "pfs_local_search": [c_void_p, *LIST, c_uint32, *LIST, c_void_p],
+    "pfs_write": [c_void_p, c_void_p, c_uint32, *LIST, c_void_p],
     "pfs_random": [c_uint64, c_uint64, *LIST],
     "pfs_generate": [c_size_t, c_size_t, c_uint64, *LIST],
-    "pfs_read": [*LIST, c_uint32, c_size_t, c_void_p, c_void_p, c_void_p, *LIST, c_void_p],
-    "pfs_write": [*SHOP, c_void_p, c_uint32, *LIST, c_void_p],
+    "pfs_read": [*LIST, c_uint32, c_size_t, c_void_p, *LIST, c_void_p],
     "pfs_read_order": [*LIST, *LIST, c_void_p, c_void_p, c_void_p, c_void_p],
     "pfs_write_order": [*LIST, c_size_t, c_uint64, *LIST, c_void_p],
 }
@@ -86,7 +98,7 @@ def load(path: str) -> ctypes.CDLL:
         loaded = ctypes.CDLL(path)
         for name, parameters in PROTOTYPES.items():
             function = getattr(loaded, name)
-            function.argtypes, function.restype = parameters, c_int
+            function.argtypes, function.restype = parameters, None if name == "pfs_release" else c_int
         loaded.pfs_version.argtypes, loaded.pfs_version.restype = [], c_char_p
         loaded.pfs_message.argtypes, loaded.pfs_message.restype = [c_int], c_char_p
     except (OSError, AttributeError) as error:
@@ -100,19 +112,12 @@ def load(path: str) -> ctypes.CDLL:
 
 PATH = path_of_library()
 library = load(PATH)
-# The two functions that methods call most often, without declared types. Their arguments are converted once per
-# instance (`converted`), since the conversion takes longer than the call itself.
+# The two functions that methods call most often, without declared types, whose conversion takes longer than the call.
 quick_makespan: Any = library["pfs_makespan"]
 quick_insert: Any = library["pfs_insert"]
 # The lengths of short lists, converted for such a call.
 SHORT: Final = 257
 LENGTHS: Final = [c_size_t.from_param(length) for length in range(SHORT)]
-
-
-def converted(arguments: tuple[bytes, int, int, int]) -> tuple[Any, ...]:
-    """Convert the times, their number, the jobs and the machines of an instance for a function without types."""
-    times, *sizes = arguments
-    return c_void_p.from_param(times), *(c_size_t.from_param(size) for size in sizes)
 
 
 def message(number: int) -> str:
@@ -127,3 +132,43 @@ def done(number: int) -> None:
         raise MemoryError(NO_MEMORY)
     if number != OK:
         raise ValueError(message(number))
+
+
+class Handle(ctypes.Structure):
+    """The struct `pfs_instance`."""
+    _fields_ = [("at", c_void_p)]
+
+
+class Prepared:
+    """An instance that the library has prepared, and a lock that a caller holds during each call on it. It is released
+    when it is no longer used.
+
+    A process may fork while another thread makes a call. So a forked process prepares its instances again, and does not
+    touch the memory of the old ones."""
+
+    # Counts the forks that led to this process.
+    forks = 0
+
+    def __init__(self, times: bytes, jobs: int, machines: int) -> None:
+        self.made = Prepared.forks
+        # A signal handler may make a call on the instance, too.
+        self.lock = threading.RLock()
+        self.handle = Handle()
+        self.address = byref(self.handle)
+        done(library.pfs_prepare(times, jobs * machines, jobs, machines, self.address))
+
+    def is_own(self) -> bool:
+        """Whether it was made in this process."""
+        return self.made == Prepared.forks
+
+    def __del__(self) -> None:
+        if self.is_own():
+            library.pfs_release(self.address)
+
+
+def forked() -> None:
+    """Count a fork."""
+    Prepared.forks += 1
+
+
+os.register_at_fork(after_in_child=forked)

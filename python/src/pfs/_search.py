@@ -86,10 +86,9 @@ class Search:
         part = Part(self.start or bytes(4 * shop.jobs), self.first, 0, self.seed, self.first)
         self.running = part
         if self.start is None:
-            c.done(c.library.pfs_neh(*shop._arguments, part.order.ctypes.data, shop.jobs, byref(part.makespan),
-                                     byref(part.cells)))
+            c.done(shop._call("pfs_neh", part.order.ctypes.data, shop.jobs, byref(part.makespan), byref(part.cells)))
         else:
-            number = c.library.pfs_makespan(*shop._arguments, self.start, shop.jobs, byref(part.makespan))
+            number = shop._call("pfs_makespan", self.start, shop.jobs, byref(part.makespan))
             if number != c.OK:
                 raise jobs_error(number, shop.jobs, self.start, "start")
         self.last = part
@@ -114,8 +113,9 @@ class Search:
 
     def run_part(self, part: Part, count: int) -> None:
         """Run the `count` rounds of a part."""
-        c.done(c.library.pfs_rounds(*self.shop._arguments, part.order.ctypes.data, self.shop.jobs, part.rounds - count,
-                                    count, self.take, self.passes, part.seed, byref(part.makespan), byref(part.cells)))
+        options = c.RoundsOptions(part.seed, self.take, part.rounds - count, count, self.passes)
+        c.done(self.shop._call("pfs_rounds", byref(options), part.order.ctypes.data, self.shop.jobs,
+                               byref(part.makespan), byref(part.cells)))
 
     def first_within(self, before: Part, after: Part, makespan: int) -> Part:
         """Return the part up to the first round with at most this makespan.

@@ -95,7 +95,7 @@ def lock_of(path: str) -> int:
 def identity_of(shop: Instance, search: Search) -> dict[str, Any]:
     """Return the inputs of a search. Only a search with the same inputs may continue from its state."""
     start = "NEH" if search.start is None else hashlib.sha256(search.start).hexdigest()
-    times = hashlib.sha256(repr(shop.times.shape).encode() + shop._arguments[0]).hexdigest()
+    times = hashlib.sha256(repr(shop.times.shape).encode() + shop._data).hexdigest()
     return {"instance": times, "start": start, "take": search.take, "passes": search.passes, "seed": search.seed}
 
 

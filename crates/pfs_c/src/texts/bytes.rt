@@ -1,6 +1,7 @@
 //! Bytes in memory as a source and as a sink.
 ghost use Rattle.std.specs.Prelude.{◌≡◌, ◌≢◌, length, Some, [], false};
-ghost use Rattle.pfs_c.specs.Texts.{put_in_front, room_fault, number_returned};
+ghost use Rattle.pfs_c.specs.Numbers.{number_returned};
+ghost use Rattle.pfs_c.specs.Texts.{put_in_front, room_fault};
 
 use crate::numbers::{CallFault, PFS_OK};
 use pfs_base::{Sink, Source};

@@ -11,14 +11,14 @@ ghost use Rattle.pfs_c.specs.Texts.{HoldsProblem, HasFault, NeedsMemory, Returns
 
 use crate::numbers::{CallFault, PFS_NO_BLOCK, PFS_OK, PFS_ROOM};
 use crate::texts::bytes::Bytes;
-use crate::texts::{PfsNotes, layout_of};
+use crate::texts::{PfsBlock, PfsNotes, layout_of};
 use pfs_base::{Instance, MOST_BLOCKS};
 use pfs_layout::{Layout, LayoutFault, read_block};
 use std::alloc::Global;
 
 /// Reads a block, counted from 1, of an instance file in memory, in the layout that a number names. The processing
 /// times are stored in the front of `times`, job by job. If they do not fit there, the function returns `PFS_ROOM` and
-/// still sets jobs, machines and notes.
+/// still sets `found`.
 ///
 /// It returns `PFS_LAYOUT` if no layout has the number, `PFS_BLOCK` if the block's number is invalid, and a number from
 /// `PFS_NO_BLOCK` on if the file has a fault; then `place` is the fault's count, line or offset. Memory for the times
@@ -29,25 +29,22 @@ pub extern "C" fn pfs_read(
     bytes: &[u8],
     layout: u32,
     block: usize,
-    jobs: &mut usize,
-    machines: &mut usize,
-    notes: &mut PfsNotes,
+    found: &mut PfsBlock,
     times: &mut [u32],
     place: &mut u64,
 ) -> i32
     ensures number { ReturnsRead result bytes.now layout block (length times.old) }
     ensures done { result ≡ PFS_OK → HoldsProblem bytes.now layout block
-        (given_problem jobs.new machines.new notes.new (take (jobs.new * machines.new) times.new)) }
-    ensures rest { result ≡ PFS_OK
-        → drop (jobs.new * machines.new) times.new ≡ drop (jobs.new * machines.new) times.old }
-    ensures room { result ≡ PFS_ROOM → length times.old < jobs.new * machines.new }
+        (given_problem found.new (take (found.new.jobs * found.new.machines) times.new)) }
+    ensures rest { result ≡ PFS_OK → drop (found.new.jobs * found.new.machines) times.new
+        ≡ drop (found.new.jobs * found.new.machines) times.old }
+    ensures room { result ≡ PFS_ROOM → length times.old < found.new.jobs * found.new.machines }
     ensures reported { result ≡ PFS_ROOM → (all : List ℕ)
-        × HoldsProblem bytes.now layout block (given_problem jobs.new machines.new notes.new all) }
+        × HoldsProblem bytes.now layout block (given_problem found.new all) }
     ensures fault { PFS_NO_BLOCK ≤ℤ result → (fault : LayoutFault) × (HasFault bytes.now layout block fault
         × (result ≡ fault_number (file_fault fault)) × (place.new ≡ file_place fault)) }
     ensures times_kept { result ≢ PFS_OK → times.new ≡ times.old }
-    ensures sizes_kept { result ≢ PFS_OK → result ≢ PFS_ROOM
-        → (jobs.new ≡ jobs.old) × (machines.new ≡ machines.old) × (notes.new ≡ notes.old) }
+    ensures found_kept { result ≢ PFS_OK → result ≢ PFS_ROOM → found.new ≡ found.old }
     ensures place_kept { result <ℤ PFS_NO_BLOCK → place.new ≡ place.old }
 {
     let Some(named) = layout_of(layout) else {
@@ -64,9 +61,11 @@ pub extern "C" fn pfs_read(
             return fault_of(fault).number();
         }
     };
-    *jobs = instance.jobs();
-    *machines = instance.machines();
-    *notes = PfsNotes::from_notes(instance.notes());
+    *found = PfsBlock {
+        jobs: instance.jobs(),
+        machines: instance.machines(),
+        notes: PfsNotes::from_notes(instance.notes()),
+    };
     let read = instance.times();
     if times.len() < read.len() {
         return CallFault::Room.number();

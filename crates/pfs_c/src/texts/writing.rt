@@ -1,12 +1,15 @@
 //! Writing instance files into memory.
 ghost use Rattle.std.specs.Prelude.{◌≡◌, ◌≢◌, length, IfOk};
 ghost use Rattle.pfs_c.specs.Private.Outcomes.{Rejects};
-ghost use Rattle.pfs_c.specs.Texts.{write_fault, given_problem, text_in, put_in_front, ReturnsWrite};
+ghost use Rattle.pfs_c.specs.Texts.{layout_fault, notes_of, put_in_front, text_in, written, ReturnsWrite};
+ghost use Rattle.pfs_c.specs.Validation.{on_shop};
 
-use crate::given::{instance_of, validate_shop};
+use crate::given::instance_of;
+use crate::handle::Prepared;
 use crate::numbers::{CallFault, PFS_OK, PFS_ROOM};
 use crate::texts::bytes::{Text, return_text};
 use crate::texts::{PfsNotes, layout_of};
+use pfs_base::Instance;
 use pfs_layout::write_block;
 use std::alloc::Global;
 
@@ -18,47 +21,60 @@ use std::alloc::Global;
 #[unsafe(no_mangle)]
 pub extern "C" fn pfs_write(
     alloc: Global,
-    times: &[u32],
-    jobs: usize,
-    machines: usize,
+    instance: &mut Prepared,
     notes: &PfsNotes,
     layout: u32,
     text: &mut [u8],
     len: &mut usize,
 ) -> i32
-    ensures number { ReturnsWrite result (write_fault times.now jobs machines layout) (length text.old)
-        (length (text_in layout (given_problem jobs machines notes.now times.now))) }
-    ensures done { result ≡ PFS_OK
-        → text.new ≡ put_in_front (text_in layout (given_problem jobs machines notes.now times.now)) text.old }
-    ensures reported { result ≡ PFS_OK
-        → len.new ≡ length (text_in layout (given_problem jobs machines notes.now times.now)) }
-    ensures wanted { result ≡ PFS_ROOM
-        → len.new ≡ length (text_in layout (given_problem jobs machines notes.now times.now)) }
+    ensures number { ReturnsWrite result (on_shop instance.old.shop (λ _. layout_fault layout)) (length text.old)
+        (length (written instance.old.shop layout notes.now)) }
+    ensures done { result ≡ PFS_OK → text.new ≡ put_in_front (written instance.old.shop layout notes.now) text.old }
+    ensures reported { result ≡ PFS_OK → len.new ≡ length (written instance.old.shop layout notes.now) }
+    ensures wanted { result ≡ PFS_ROOM → len.new ≡ length (written instance.old.shop layout notes.now) }
+    ensures shop { instance.new.shop ≡ instance.old.shop }
     ensures text_kept { result ≢ PFS_OK → text.new ≡ text.old }
     ensures len_kept { result ≢ PFS_OK → result ≢ PFS_ROOM → len.new ≡ len.old }
 {
-    match file_of(alloc, times, jobs, machines, notes, layout) {
+    match file_of(alloc, instance, notes, layout) {
         Ok(file) => return_text(&file, text, len),
         Err(why) => why.number(),
     }
 }
 
-// The file of an instance that C passes, in the layout that a number names.
+// The file of a prepared instance, in the layout that a number names.
 fn file_of(
     alloc: Global,
-    times: &[u32],
-    jobs: usize,
-    machines: usize,
+    instance: &mut Prepared,
     notes: &PfsNotes,
     layout: u32,
 ) -> Result<Vec<u8>, CallFault>
-    ensures rejected { Rejects result (write_fault times.now jobs machines layout) }
-    ensures text { IfOk result (λ file. file.items ≡ text_in layout (given_problem jobs machines notes.now times.now)) }
+    ensures rejected { Rejects result (on_shop instance.old.shop (λ _. layout_fault layout)) }
+    ensures text { IfOk result (λ file. file.items ≡ written instance.old.shop layout notes.now) }
+    ensures room { result ≢ Err CallFault.Room }
+    ensures shop { instance.new.shop ≡ instance.old.shop }
 {
-    validate_shop(times, jobs, machines)?;
+    let kept = instance.take(alloc)?;
+    let file = file_in(alloc, kept.tables.instance(), notes, layout);
+    instance.put(kept);
+    file
+}
+
+fn file_in(
+    alloc: Global,
+    instance: &Instance,
+    notes: &PfsNotes,
+    layout: u32,
+) -> Result<Vec<u8>, CallFault>
+    ensures rejected { Rejects result (layout_fault layout) }
+    ensures text { IfOk result (λ file.
+        file.items ≡ text_in layout (record { shop = instance.now.shop; notes = notes_of notes.now })) }
+    ensures room { result ≢ Err CallFault.Room }
+{
     let named = layout_of(layout).ok_or(CallFault::Layout)?;
-    let instance = instance_of(alloc, times, jobs, machines, notes.notes())?;
+    let (times, jobs, machines) = (instance.times(), instance.jobs(), instance.machines());
+    let noted = instance_of(alloc, times, jobs, machines, notes.notes())?;
     let mut text = Text::new(alloc);
-    write_block(&mut text, &instance, named).or(Err(CallFault::Memory))?;
+    write_block(&mut text, &noted, named).or(Err(CallFault::Memory))?;
     Ok(text.into_bytes())
 }

@@ -30,7 +30,7 @@ from types import FrameType
 from typing import NamedTuple
 
 HERE = os.path.dirname(os.path.abspath(__file__))
-LIBRARY = "libpfs.so.0"
+LIBRARY = "libpfs.so.1"
 # A seed has this number of rounds. A longer search continues with rounds of the next seed, which is greater by STEP.
 MOST_ROUNDS, STEP = 1_000_000, 0x9E3779B97F4A7C15
 # About how many seconds a part of a search takes, and the greatest ratio of its rounds to those of the part before it.
@@ -114,6 +114,12 @@ def audit(instance: list[str], order: str) -> tuple[str, str]:
 
 # Searches by time, in parts of rounds
 
+class Options(ctypes.Structure):
+    """Which rounds `pfs_rounds` makes."""
+    _fields_ = [("seed", ctypes.c_uint64), ("take", ctypes.c_size_t), ("first", ctypes.c_uint32),
+                ("count", ctypes.c_uint32), ("passes", ctypes.c_uint32)]
+
+
 class Search:
     """Iterated greedy from NEH's order, with the library for C. The processing times are listed job by job."""
 
@@ -121,18 +127,23 @@ class Search:
         self.library = ctypes.CDLL(os.path.join(HERE, LIBRARY))
         self.take, self.passes, self.seed = take, passes, seed
         self.order = (ctypes.c_uint32 * jobs)()
-        sizes = [ctypes.c_size_t(size) for size in (len(times), jobs, machines)]
-        self.shop = [(ctypes.c_uint32 * len(times))(*times), *sizes, self.order, ctypes.c_size_t(jobs)]
         self.makespan, self.cells, self.rounds = ctypes.c_uint64(), 0, 0
+        self.instance = ctypes.c_void_p()
+        sizes = [ctypes.c_size_t(size) for size in (len(times), jobs, machines)]
+        self.check("pfs_prepare", (ctypes.c_uint32 * len(times))(*times), *sizes, ctypes.byref(self.instance))
 
     def call(self, function: str, *arguments: object) -> None:
-        """Calls a function of the library, and counts the cells that it computed."""
+        """Calls a function on the instance, and counts the cells that it computed."""
         cells = ctypes.c_uint64()
-        number = getattr(self.library, function)(*self.shop, *arguments, ctypes.byref(self.makespan),
-                                                 ctypes.byref(cells))
+        self.check(function, ctypes.byref(self.instance), *arguments, self.order, ctypes.c_size_t(len(self.order)),
+                   ctypes.byref(self.makespan), ctypes.byref(cells))
+        self.cells += cells.value
+
+    def check(self, function: str, *arguments: object) -> None:
+        """Calls a function of the library, which has to succeed."""
+        number = getattr(self.library, function)(*arguments)
         if number != 0:
             raise Failed("solve: exit 4, pfs: no memory" if number == 1 else f"libpfs: {function} returns {number}")
-        self.cells += cells.value
 
     def neh(self) -> None:
         self.call("pfs_neh")
@@ -141,8 +152,7 @@ class Search:
         """Runs rounds of one seed, at most this number, and returns how many."""
         first, seed = self.rounds % MOST_ROUNDS, self.seed + self.rounds // MOST_ROUNDS * STEP
         count = min(count, MOST_ROUNDS - first)
-        self.call("pfs_rounds", ctypes.c_uint32(first), ctypes.c_uint32(count), ctypes.c_size_t(self.take),
-                  ctypes.c_uint32(self.passes), ctypes.c_uint64(seed % 2 ** 64))
+        self.call("pfs_rounds", ctypes.byref(Options(seed % 2 ** 64, self.take, first, count, self.passes)))
         self.rounds += count
         return count
 

@@ -1,4 +1,15 @@
+use Rattle.std.proofs.Common.{sym, ◌∙◌}
+use Rattle.pfs_c.proofs.Visits.{visits_more}
 use Rattle.pfs_c.proofs.moving.make_visits.Goals as goal
 
-pub visit_in_width-requires-clause-served : goal.visit_in_width-requires-clause-served
-visit_in_width-requires-clause-served c = c.method_for.ensures.short c.in-Wavefront16.width c.in-Wavefront16.is
+pub loop-pass-preserved : goal.loop-pass-preserved
+loop-pass-preserved c =
+    let invariant = c.loop-pass.invariant in
+    let gives = c.visit_once.ensures in
+    record {
+      same = gives.shop ∙ invariant.same;
+      room = rw gives.shop gives.room;
+      sequence = rw gives.shop gives.sequence;
+      order = rw (gives.jobs, invariant.same, invariant.order)
+          (sym (visits_more c.args.tables.now c.args.list.now c.loop-pass._pass c.args.jobs.now.items));
+    }

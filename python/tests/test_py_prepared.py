@@ -1,0 +1,99 @@
+"""An instance is prepared by the library once, on its first call, and released with the object. Copies, pickled ones
+and forked processes prepare their own, and threads on one instance wait for each other."""
+import copy
+import gc
+import os
+import pathlib
+import pickle
+import subprocess
+import sys
+import threading
+import time
+from collections.abc import Callable
+from concurrent.futures import ThreadPoolExecutor
+from typing import Any
+
+import pfs
+import pytest
+from pfs import _library
+
+
+@pytest.fixture
+def counted(monkeypatch: pytest.MonkeyPatch) -> dict[str, int]:
+    """The number of calls of these functions."""
+    counts = {"pfs_prepare": 0, "pfs_release": 0}
+
+    def counting(name: str, real: Callable[..., Any]) -> Callable[..., Any]:
+        def call(*given: Any) -> Any:
+            counts[name] += 1
+            return real(*given)
+        return call
+
+    for name in counts:
+        monkeypatch.setattr(_library.library, name, counting(name, getattr(_library.library, name)))
+    return counts
+
+
+def test_an_instance_is_prepared_once_and_released_with_it(counted: dict[str, int]) -> None:
+    shop = pfs.generate(12, 4, 1)
+    assert counted == {"pfs_prepare": 0, "pfs_release": 0}, "before the first call"
+    order = shop.neh()
+    shop.makespan(order), shop.best_place(range(11), 11), shop.bound(), shop.schedule(order), shop.to_text()
+    shop.places([0, 1], 2), shop.makespans([[0, 1]]), shop.insert_all([0], [1]), shop.local_search([1, 0])
+    shop.solve(50)
+    assert counted == {"pfs_prepare": 1, "pfs_release": 0}
+    del shop
+    gc.collect()
+    assert counted == {"pfs_prepare": 1, "pfs_release": 1}
+
+
+@pytest.mark.parametrize("again", [copy.copy, copy.deepcopy, lambda shop: pickle.loads(pickle.dumps(shop))])
+def test_a_copy_prepares_its_own(counted: dict[str, int], again: Callable[[pfs.Instance], pfs.Instance]) -> None:
+    shop = pfs.generate(12, 4, 1)
+    due = shop.makespan(range(12))
+    other = again(shop)
+    assert counted["pfs_prepare"] == 1
+    del shop
+    gc.collect()
+    assert other.makespan(range(12)) == due and counted == {"pfs_prepare": 2, "pfs_release": 1}
+
+
+def test_threads_on_one_instance_wait_for_each_other() -> None:
+    """Also on its first call."""
+    shop = pfs.generate(30, 5, 1)
+    due, place, found = (pfs.generate(30, 5, 1).makespan(range(30)), pfs.generate(30, 5, 1).best_place(range(29), 29),
+                         pfs.generate(30, 5, 1).solve(20))
+
+    def many(at: int) -> bool:
+        return all(shop.makespan(range(30)) == due and shop.best_place(range(29), 29) == place
+                   and (turn % 50 or shop.solve(20) == found) for turn in range(200))
+
+    with ThreadPoolExecutor(8) as threads:
+        assert all(threads.map(many, range(8)))
+
+
+@pytest.mark.skipif(not hasattr(os, "fork"), reason="needs fork")
+@pytest.mark.filterwarnings("ignore:This process.*multi-threaded:DeprecationWarning")
+def test_a_forked_process_prepares_its_own_instance() -> None:
+    """Also while another thread makes a call, which holds the lock and the instance then."""
+    shop, stop = pfs.generate(200, 20, 1), threading.Event()
+    due = shop.makespan(range(200))
+    search = threading.Thread(target=lambda: shop.solve(100_000, stop=stop))
+    search.start()
+    time.sleep(0.3)
+    child = os.fork()
+    if child == 0:
+        os._exit(0 if shop.makespan(range(200)) == due and shop.solve(1).rounds == 1 else 1)
+    deadline = time.monotonic() + 30
+    while (ended := os.waitpid(child, os.WNOHANG))[0] == 0 and time.monotonic() < deadline:
+        time.sleep(0.01)
+    stop.set()
+    search.join()
+    assert ended == (child, 0), "the child waits for a lock, or has another result"
+
+
+def test_nothing_is_printed_when_python_ends_with_an_instance(tmp_path: pathlib.Path) -> None:
+    env = os.environ | {"PYTHONPATH": str(pathlib.Path(pfs.__file__).parents[1]), "PYTHONDONTWRITEBYTECODE": "1"}
+    script = "import pfs; shop = pfs.taillard(1); pfs.kept = [shop, shop.solve(1)]; print(shop.bound())"
+    done = subprocess.run([sys.executable, "-c", script], cwd=tmp_path, env=env, capture_output=True, text=True)
+    assert (done.stdout, done.stderr, done.returncode) == ("1232\n", "", 0)
