@@ -76,7 +76,7 @@ def test_the_page_has_each_example() -> None:
     names = {path.name for path in SOURCES} | {"neh.R", "neh.rs", "neh_cffi.py", "pfs_r.c", "README.md"}
     assert {path.name for path in EXAMPLES.iterdir()} == names
     assert set(re.findall(r"^`(\w+) ", PAGE, re.MULTILINE)) == {path.stem for path in SOURCES}
-    assert all(len(path.read_text().splitlines()) <= 105 for path in SOURCES)
+    assert all(len(path.read_text().splitlines()) <= 110 for path in SOURCES)
 
 
 def run_page(built: pathlib.Path, pfs: Program, folder: pathlib.Path) -> None:
@@ -215,8 +215,8 @@ def test_a_plan_runs_and_audits_the_search_with_temperature(built: pathlib.Path,
     env = dict(os.environ, PFS_LIBRARY=str(libpfs.path), PYTHONPATH=str(EXAMPLES.parent / "python" / "src"))
     for name in ("ig_temperature", "ig_temperature.py"):
         (shop / "plan.toml").write_text(plan.replace("out/ig_temperature {", f"out/{name} {{"))
-        words = [scripts / "pfs-experiments", "run", "--pfs", pfs.path, "plan.toml", f"{name}.csv"]
-        got = run_tool(words, shop, env=env)
+        got = run_tool([scripts / "pfs-experiments", "run", "--pfs", pfs.path, "plan.toml", f"{name}.csv"], shop,
+                       env=env)
         assert got == Done(0, "", f"{name}.csv: 1 runs, 0 of them failed, 0 still to run\n")
         row, = csv_rows(shop / f"{name}.csv")
         assert (row["instance"], row["makespan"], row["status"]) == ("out/taillard/ta001", "1278", "ok")

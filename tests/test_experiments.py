@@ -397,9 +397,14 @@ def search(libpfs: Library, monkeypatch: pytest.MonkeyPatch) -> Callable[..., on
     monkeypatch.setattr(time, "process_time", lambda: clock[0])
 
     class Search(one.Search):
-        def call(self, function: str, *arguments: Any) -> None:
-            super().call(function, *arguments)
-            clock[0] += arguments[1].value if arguments else 3
+        def neh(self) -> None:
+            super().neh()
+            clock[0] += 3
+
+        def run_rounds(self, count: int) -> int:
+            made = super().run_rounds(count)
+            clock[0] += made
+            return made
 
     return lambda seed: Search(TIMES, 20, 10, 4, 0, seed)
 

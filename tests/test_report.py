@@ -367,10 +367,11 @@ def test_two_methods_are_compared_by_plain_definitions(scales: list[int], differ
 def test_the_effect_size_is_the_mean_over_the_instances(report: Reported, folder: pathlib.Path) -> None:
     """On the first instance 3 of 4 pairs of runs are won, and on the second, which is longer, 1 and a tie. On the third
     one method lacks a seed, which has no part."""
+    spans: dict[str, dict[str, tuple[int, ...]]] = {"a": {"i": (10, 12), "j": (500, 510), "k": (7,)},
+                                                    "b": {"i": (11, 13), "j": (500, 505), "k": (8, 1)}}
     texts = {name: "instance,seed,makespan\n" + "".join(
-        f"{instance},{seed},{span}\n" for instance, spans in rows.items() for seed, span in enumerate(spans, 1))
-             for name, rows in {"a": {"i": (10, 12), "j": (500, 510), "k": (7,)},
-                                "b": {"i": (11, 13), "j": (500, 505), "k": (8, 1)}}.items()}
+        f"{instance},{seed},{span}\n" for instance, own in rows.items() for seed, span in enumerate(own, 1))
+             for name, rows in spans.items()}
     assert report(**texts).status == 0
     assert column(folder, "vargha_delaney_a", "comparison") == [f"{(0.75 + 0.375 + 1) / 3:.3f}"]
     assert column(folder, "lost", "comparison") == ["1"]
@@ -527,11 +528,12 @@ def test_a_box_has_the_nanoseconds_a_cell_of_most_rounds(done: Callable[[str], A
 def test_the_plot_of_means_has_intervals_of_students_distribution(done: Callable[[str], Any]) -> None:
     """For 5 instances the quantile is 2.776, as tables of it say. The variance of the differences of the two methods is
     0.5; without the means of the instances, each has half of it."""
-    one, two = {"a": (1, 2, 3, 4, 5)}, {"a": (1, 2, 3, 4, 5), "b": (3, 3, 5, 7, 7)}
-    for methods, variance in ((one, 2.5), (two, 0.25), ({"a": (3,)}, 0)):
+    cases: list[tuple[dict[str, list[int]], float]] = [
+        ({"a": [1, 2, 3, 4, 5]}, 2.5), ({"a": [1, 2, 3, 4, 5], "b": [3, 3, 5, 7, 7]}, 0.25), ({"a": [3]}, 0)]
+    for methods, variance in cases:
         text = "instance,makespan,method,reference\n" + "".join(
             f"i{at},{100 + rpd},{method},100\n" for method, rpds in methods.items() for at, rpd in enumerate(rpds))
-        axis = plots.means(done(text), None).axes[0]
+        axis = means(done(text), None).axes[0]
         half = 2.776 * math.sqrt(variance / 5)
         bars = [[float(y) for _, y in segment] for segment in axis.collections[0].get_segments()]
         assert bars == [pytest.approx([statistics.fmean(rpds) - half, statistics.fmean(rpds) + half], abs=0.002)

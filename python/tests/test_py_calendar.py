@@ -263,7 +263,8 @@ def test_what_is_read_as_the_same_calendar() -> None:
     for begin in begins:
         other = pfs.Calendar(begin, "14:00-22:00, 6:00-14:00", ["MON", "wed", "tue"])
         assert (other.begin, other.spans, other.loop) == (plain.begin, plain.spans, plain.loop)
-    for shifts in (["mon-wed:06:00-14:00,14:00-22:00"], ["mon,Tue:06:00-14:00,14:00-22:00", "wed:14:00-22:00,06:00-14:00"]):
+    for shifts in (["mon-wed:06:00-14:00,14:00-22:00"],
+                   ["mon,Tue:06:00-14:00,14:00-22:00", "wed:14:00-22:00,06:00-14:00"]):
         assert pfs.Calendar("2026-11-30T06:00", shifts).spans == plain.spans
     assert pfs.Calendar("2026-11-30T06:00", "06:00-14:00,14:00-22:00,22:00-06:00").is_always
     assert pfs.Calendar("2026-11-30T06:00").is_always and not plain.is_always
@@ -349,7 +350,8 @@ for (let machine = 0; machine < machines; ++machine) {
   }
   choice.value = machine;
   choice.dispatchEvent(new Event("change"));
-  seen.lists.push([...lists[machine].querySelectorAll("tbody tr")].map(row => [...row.cells].map(cell => cell.textContent)));
+  const rows = [...lists[machine].querySelectorAll("tbody tr")];
+  seen.lists.push(rows.map(row => [...row.cells].map(cell => cell.textContent)));
 }
 tell(seen);
 """

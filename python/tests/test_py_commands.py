@@ -469,7 +469,8 @@ def test_the_time_that_is_left_ends_with_the_time_limit(monkeypatch: pytest.Monk
     ([*LONG, "--start", "for_nine"], 3, "pfs: for_nine: an order for 9 machines, and the instance has 10\n"),
     ([*LONG, "--start", "two"], 3, "pfs: --start has 2 jobs, but the instance has 60\n"),
     (["plan", "bad.csv"], 2, "pfs: bad.csv: cell B3, column 'saw': 'x' isn't a time: leave the column out if it is no "
-     "machine, or say which columns are machines (--machines)\npfs: bad.csv: cell C3, column 'drill': '-1' isn't a time\n"),
+     "machine, or say which columns are machines (--machines)\n"
+     "pfs: bad.csv: cell C3, column 'drill': '-1' isn't a time\n"),
     (["plan", "good.csv", "--chart", "chart.jpg"], 3,
      "pfs: chart.jpg: the name of a chart ends with .svg, .png, .pdf or .html\n"),
 ])
@@ -772,8 +773,9 @@ def test_another_order_is_compared(folder: pathlib.Path) -> None:
     rows = [[30, 25, 40], [20, 50, 15], [40, 10, 20], [10, 10, 60]]
     (folder / "order").write_text("table\nchair\nshelf; oak\nbox\n")
     (folder / "other").write_text("box\ntable\nchair\nshelf; oak\n")
-    ends = [f"makespan {hours} h, end {datetime.datetime(2026, 11, 30, 6) + datetime.timedelta(hours=hours):%Y-%m-%d %H:%M}"
-            for hours in (plainly.makespan(rows, order) / 10 for order in ([3, 0, 1, 2], [0, 1, 2, 3]))]
+    begin = datetime.datetime(2026, 11, 30, 6)
+    spans = [plainly.makespan(rows, order) / 10 for order in ([3, 0, 1, 2], [0, 1, 2, 3])]
+    ends = [f"makespan {hours} h, end {begin + datetime.timedelta(hours=hours):%Y-%m-%d %H:%M}" for hours in spans]
     got = planned(folder, "--order order --compare other --begin 2026-11-30T06:00")[2]
     assert got == f"other: {ends[0]}; the plan: {ends[1]}\nother: moved: box (place 1 to 4)\n"
     (folder / "other").write_text("done\nbox\ntable\nchair\n")
@@ -787,10 +789,10 @@ def test_another_order_is_compared(folder: pathlib.Path) -> None:
     (["--first", "lamp"], "--first: 'lamp' isn't the name of a job of the table"),
     (["--schedule", "times.csv"], "times.csv is read, and writing would replace it: name another file"),
     (["--schedule", "./link.csv"], "./link.csv is read, and writing would replace it: name another file"),
-    (["--order", "order.html", "--chart", "order.html"], "order.html is read, and writing would replace it: name another "
-     "file"),
-    (["--compare", "order.html", "--chart", "order.html"], "order.html is read, and writing would replace it: name "
-     "another file"),
+    (["--order", "order.html", "--chart", "order.html"],
+     "order.html is read, and writing would replace it: name another file"),
+    (["--compare", "order.html", "--chart", "order.html"],
+     "order.html is read, and writing would replace it: name another file"),
     (["--schedule", "out.ods"], "out.ods: the name of a schedule ends with .csv or .xlsx"),
     (["--schedule", "out.html"], "out.html: the name of a schedule ends with .csv or .xlsx"),
 ])

@@ -73,8 +73,8 @@ def test_the_version_is_printed(tmp_path: pathlib.Path, capsys: pytest.CaptureFi
 MESSAGES = [
     ("job;saw\na;1.000\n", [], 2, "cell B2, column 'saw': '1.000' may be 1000, or have decimals: leave out thousands "
      "separators, or say which decimal sign the table has (--decimal point or --decimal comma)"),
-    ("job;saw;drill\na;1;2\nb;3;4\nc;4;6\n", [], 2, "cell A4: the row 'c' has the sums of the rows above: leave it out, "
-     "or allow totals (--allow-totals)"),
+    ("job;saw;drill\na;1;2\nb;3;4\nc;4;6\n", [], 2, "cell A4: the row 'c' has the sums of the rows above: leave it "
+     "out, or allow totals (--allow-totals)"),
     ("job;saw;drill;all\na;1;2;3\nb;3;4;7\n", [], 2, "cell D1: the column 'all' has the sums of the columns "
      "before: leave it out, or allow totals (--allow-totals)"),
     ("job [min];saw\na;1\n", ["--unit", "h"], 2,

@@ -53,8 +53,8 @@ BAD_TABLES = {
     "a word": ("job,saw\n\na,x\n", 3, 2, f"'x' isn't a time: {NO_MACHINE}"),
     "a date": ("job,saw\na,4.12.2026\nb,5.12.\n", 2, 2,
                f"'4.12.2026' isn't a time: {NO_MACHINE} (and 1 more cell of the column)"),
-    "a comment with a number": ("job,saw\na,10 pieces\n", 2, 2,
-                                "'10 pieces' isn't a time: write the unit in brackets into the first cell of the table"),
+    "a number with a word": ("job,saw\na,10 pieces\n", 2, 2,
+                             "'10 pieces' isn't a time: write the unit in brackets into the first cell of the table"),
     "a minus": ("job,saw\na,-1\n", 2, 2, "'-1' isn't a time"),
     "a digit of another script": ("job,saw\na,\u0663\n", 2, 2, "'\u0663' isn't a time"),
     "no time": ("job,saw,drill\na,3,\n", 2, 3, MISSING),
@@ -107,7 +107,8 @@ WRONG_TABLES = {
     "minutes and seconds in German": ("job;saw [Minuten]\na;1:30\n", 1, 1, MINUTES.format("Minuten")),
     "hours, minutes and seconds": ("job;saw\na;1:30:10\n", 2, 2,
                                    "'1:30:10' isn't a time: write hours and minutes, as 1:30, or a number"),
-    "hours and minutes with a letter": ("job;saw\na;3h30\n", 2, 2, "'3h30' isn't a time: write hours and minutes as 1:30"),
+    "hours and minutes with a letter": ("job;saw\na;3h30\n", 2, 2,
+                                        "'3h30' isn't a time: write hours and minutes as 1:30"),
     "both signs in a number": ("job;saw\na;1.250,5\n", 2, 2, "'1.250,5' isn't a time: leave out thousands separators, "
                                "or say which decimal sign the table has (`decimal`)"),
     "hours, minutes and seconds beside others": (
@@ -204,7 +205,8 @@ def test_utf_16(tmp_path: pathlib.Path, encoding: str) -> None:
 
 @pytest.mark.parametrize(("head", "given_unit", "unit"), [
     ("job [min]", "", "min"), ("times ( h )", "", "h"), ("job", "s", "s"), ("job [min]", "Minuten", "Minuten"),
-    ("job (week 48)", "s", "s"), ("[min] job", "", ""), ("job [Std.]", "", "Std."), ("job (Zeit in h)", "", "Zeit in h")])
+    ("job (week 48)", "s", "s"), ("[min] job", "", ""), ("job [Std.]", "", "Std."),
+    ("job (Zeit in h)", "", "Zeit in h")])
 def test_units_and_decimals(tmp_path: pathlib.Path, head: str, given_unit: str, unit: str) -> None:
     path = written(tmp_path, f"{head};saw;drill\ntable;3,25;2\nchair;0,5;5\n")
     shop = pfs.read_csv(path, unit=given_unit)
@@ -221,7 +223,8 @@ def test_another_unit_than_the_tables(tmp_path: pathlib.Path, head: str, column:
 
 
 @pytest.mark.parametrize(("head", "given_unit"), [
-    ("job;saw [min];drill (min)", ""), ("job;saw [min];drill (Min.)", ""), ("job [min];saw [min];drill", ""), ("job;saw;drill [min]", "min")])
+    ("job;saw [min];drill (min)", ""), ("job;saw [min];drill (Min.)", ""), ("job [min];saw [min];drill", ""),
+    ("job;saw;drill [min]", "min")])
 def test_units_of_machines(tmp_path: pathlib.Path, head: str, given_unit: str) -> None:
     shop = pfs.read_csv(written(tmp_path, f"{head}\na;3;2\n"), unit=given_unit)
     assert (shop.unit, shop.machine_names) == ("min", ("saw", "drill"))

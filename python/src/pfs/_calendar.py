@@ -290,8 +290,8 @@ def shifts_of(shifts: str | Iterable[str]) -> Shifts:
             found.others.extend(spans)
         for day in days_of(named[1]) if named and named[1] else []:
             found.of_days.setdefault(day, []).extend(spans)
-        for date in dates_of(named[2]) if named and named[2] else []:
-            found.of_dates.setdefault(date, []).extend(spans)
+        for day in dates_of(named[2]) if named and named[2] else []:
+            found.of_dates.setdefault(day, []).extend(spans)
     return found
 
 

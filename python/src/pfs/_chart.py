@@ -186,8 +186,9 @@ def lists_of(table: _drawing.Table, look: _drawing.Look, schedule: Schedule, clo
 
     lines: list[str] = []
     for machine, name in enumerate(table.machine_names):
-        lines.append(f"\n<table><caption>Machine {html.escape(name)}</caption><thead><tr><th scope=col class=number>place"
-                     "<th scope=col>job<th scope=col class=number>start<th scope=col class=number>end</thead><tbody>")
+        lines.append(f"\n<table><caption>Machine {html.escape(name)}</caption><thead><tr>"
+                     "<th scope=col class=number>place<th scope=col>job"
+                     "<th scope=col class=number>start<th scope=col class=number>end</thead><tbody>")
         before = ""
         for place, (start, end) in enumerate(zip(table.starts[:, machine].tolist(), table.ends[:, machine].tolist())):
             if start < end:

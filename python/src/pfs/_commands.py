@@ -360,6 +360,15 @@ def add_plan_words(plan: argparse.ArgumentParser) -> None:
     plan.add_argument("--version", **VERSION_OPTION)
     plan.add_argument("table", metavar="TIMES.csv", help="a row for each job, a column for each machine, with names; "
                       "also a workbook .xlsx")
+    add_table_words(plan.add_argument_group("the table"))
+    add_order_words(plan.add_argument_group("the order"))
+    add_date_words(plan.add_argument_group("dates and shifts"))
+    add_output_words(plan.add_argument_group("what is written"))
+    plan.set_defaults(run=plan_command)
+
+
+def add_table_words(plan: argparse._ArgumentGroup) -> None:
+    """Add the options that say how a table is read."""
     plan.add_argument("--unit", default="", help="of the times; else what stands in brackets in the first cell")
     plan.add_argument("--decimal", choices=tuple(DECIMAL_SIGNS),
                       help="the decimal sign of the times; the other sign may then group thousands; else the sign that "
@@ -370,6 +379,10 @@ def add_plan_words(plan: argparse.ArgumentParser) -> None:
     plan.add_argument("--allow-totals", action="store_true",
                       help="take rows and columns with the names of sums, means or quantities, and a last one with the "
                       "sums of the others, as jobs and machines")
+
+
+def add_order_words(plan: argparse._ArgumentGroup) -> None:
+    """Add the options about orders and held jobs."""
     plan.add_argument("--order", metavar="FILE",
                       help="an order to begin with: the names of the jobs, one in a line, or what plan printed, or its "
                       "schedule. Jobs that the table lacks are left out, and jobs that the order lacks are inserted at "
@@ -383,6 +396,10 @@ def add_plan_words(plan: argparse.ArgumentParser) -> None:
                       help="the jobs of --order keep their order; only new ones are moved")
     plan.add_argument("--compare", metavar="FILE",
                       help="another order, as for --order: standard error says how the plan ends and which jobs moved")
+
+
+def add_date_words(plan: argparse._ArgumentGroup) -> None:
+    """Add the options that say when there is work."""
     plan.add_argument("--begin", type=checked(begin_of), metavar="DATETIME",
                       help="when the work begins, such as 2026-11-30T06:00; the schedule and the chart then have local "
                       "dates and times of day, for which times need the unit min, h, s or d")
@@ -396,10 +413,13 @@ def add_plan_words(plan: argparse.ArgumentParser) -> None:
     plan.add_argument("--closed", type=checked(dates_of), action="append", default=[], metavar="DATES",
                       help="dates on which no shift starts, such as 2026-12-24..2027-01-01; several with commas, or "
                       "the option more than once")
+
+
+def add_output_words(plan: argparse._ArgumentGroup) -> None:
+    """Add the options that name files to write."""
     plan.add_argument("--schedule", metavar="OUT.csv", help="when each operation starts and ends, as .csv or .xlsx")
     plan.add_argument("--chart", metavar="OUT.svg", action="append", default=[],
                       help="the chart, as .svg, .png, .pdf or a page .html; may be given more than once")
-    plan.set_defaults(run=plan_command)
 
 
 def plan_words() -> CommandLine:

@@ -5,6 +5,7 @@ import csv
 import os
 import re
 from collections.abc import Callable, Iterable, Iterator, Sequence
+from functools import cached_property
 from itertools import islice
 from typing import NamedTuple
 
@@ -96,9 +97,14 @@ class Rows:
         # The first cell of each column that isn't a time, and how many there are, for each cause.
         self.wrong: dict[tuple[int, str], tuple[TableFault, int]] = {}
 
+    @cached_property
+    def heads(self) -> dict[int, str]:
+        """The names of the machines by their columns."""
+        return {head.column: head.text for head in self.machines}
+
     def fault(self, cell: Cell, text: str) -> TableFault:
-        heads = {head.column: head.text for head in self.machines if head.line < cell.line}
-        return TableFault(self.path, cell.line, cell.column, text, heads.get(cell.column, ""))
+        head = self.heads.get(cell.column, "") if cell.line > self.corner.line else ""
+        return TableFault(self.path, cell.line, cell.column, text, head)
 
     def report(self, cell: Cell, text: str) -> None:
         self.faults.append(self.fault(cell, text))

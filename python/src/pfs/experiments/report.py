@@ -8,7 +8,6 @@ import importlib
 import io
 import itertools
 import logging
-import os
 import pathlib
 import re
 import sys
@@ -32,7 +31,8 @@ RANGES = {"gap_percent": (-100, 1e20), "seconds": (0, 1e12), "time_factor": (0, 
           **{column: (0, most) for column, most in WHOLE.items()}}
 NUMBER = r" *-?[0-9]+(?:\.[0-9]*)?(?:[eE][+-]?[0-9]{1,3})? *"
 # How the values of a setting are named, where a method's settings differ in them.
-FORMS = {"rounds": "{:,.0f} rounds", "take": "take {:,.0f}", "passes": "passes {:.0f}", "time_factor": "time factor {:g}"}
+FORMS = {"rounds": "{:,.0f} rounds", "take": "take {:,.0f}", "passes": "passes {:.0f}",
+         "time_factor": "time factor {:g}"}
 # The decimals of the columns of tables.
 DECIMALS = {"mean_seconds": "{:.4f}", "time_factor": "{:g}", "p": "{:.4g}", "p_holm": "{:.4g}"}
 LATEX = {"\\": r"\textbackslash{}", "~": r"\textasciitilde{}", "^": r"\textasciicircum{}", "×": r"$\times$",

@@ -109,8 +109,9 @@ def prepare(plan_path: str, csv_path: str, program: str | None) -> Experiment:
         inputs = inputs_of(plan, stored["places"], top, folder / experiment.stage)
         provenance.note_start(folder, plan, inputs)
         if changed := provenance.changed(inputs):
-            print(plain(f"{csv_path}: changed since they were copied for its runs: {', '.join(changed)}. The copies "
-                        f"are used: to begin anew, name another CSV or delete {csv_path}.d"), file=sys.stderr, flush=True)
+            text = (f"{csv_path}: changed since they were copied for its runs: {', '.join(changed)}. The copies are "
+                    f"used: to begin anew, name another CSV or delete {csv_path}.d")
+            print(plain(text), file=sys.stderr, flush=True)
         return experiment
     except BaseException:
         if not (folder / "plan.json").exists():

@@ -13,11 +13,11 @@ from pfs.experiments.fair import SETTING, common, made_of
 # The exact test is for at most this number of pairs; for more, SciPy's normal approximation is used.
 MOST_EXACT = 50
 NOTE = ("Compared are settings of the same rounds or time factor, on the instances and seeds that both have. Won, "
-        "tied, lost: the numbers of instances on which the first setting's mean makespan is less than, equal to or greater "
-        "than the other's. p: Wilcoxon's signed-rank test, two-sided, of the differences in RPD that are not 0, exact "
-        "up to 50 pairs. p holm: p with Holm's correction for all rows. Median difference: the median of the first "
-        "setting's RPD minus the other's. Vargha-Delaney A: the probability that a run of the first setting is shorter "
-        "than one of the other on the same instance, as a mean over the instances; ties count half.")
+        "tied, lost: the numbers of instances on which the first setting's mean makespan is less than, equal to or "
+        "greater than the other's. p: Wilcoxon's signed-rank test, two-sided, of the differences in RPD that are not "
+        "0, exact up to 50 pairs. p holm: p with Holm's correction for all rows. Median difference: the median of the "
+        "first setting's RPD minus the other's. Vargha-Delaney A: the probability that a run of the first setting is "
+        "shorter than one of the other on the same instance, as a mean over the instances; ties count half.")
 
 
 def compared(done: pd.DataFrame) -> pd.DataFrame:
