@@ -201,6 +201,19 @@ def test_the_example_of_the_manual_page_prints_its_makespan(libpfs: Library, fol
     assert program.run([], folder) == Ran(b"10\n", b"", 0)
 
 
+def test_the_first_program_of_the_page_prints_its_makespan(libpfs: Library, top: pathlib.Path,
+                                                           folder: pathlib.Path) -> None:
+    text, = re.findall(r"^```c\n(.*?)^```$", (top / "docs" / "LIBRARY.md").read_text(), re.MULTILINE | re.DOTALL)
+    (folder / "example.c").write_text(text)
+    program = compiled(folder / "example", [folder / "example.c"], libpfs)
+    assert program.run([], folder) == Ran(b"makespan 10\n", b"", 0)
+
+
+def test_the_table_of_calls_of_the_page_has_each_function(top: pathlib.Path) -> None:
+    table = (top / "docs" / "LIBRARY.md").read_text().partition("| Function |")[2].partition("\n\n")[0]
+    assert set(re.findall(r"`(pfs_\w+)`", table)) == NAMES
+
+
 # The files
 
 def test_the_library_exports_only_the_names_of_the_header(libpfs: Library) -> None:

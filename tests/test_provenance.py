@@ -9,7 +9,7 @@ import pytest
 from support.experiments import Experiment
 from support.library import Library
 from support.needs import tool
-from support.tools import Done, run_tool, wait_until, write_script
+from support.tools import Done, csv_rows, run_tool, wait_until, write_script
 
 ORDER = "#!/bin/sh\necho {order}\n"
 PLAN = """instances = ["shops/b"]
@@ -95,6 +95,30 @@ def test_a_reference_must_name_an_instance(experiment: Experiment) -> None:
     assert experiment.run() == Done(0, "", "best.csv lacks 1 of 2 instances: shops/a\n"
                                            "out.csv: 2 runs, 0 of them failed, 0 still to run\n")
     assert experiment.columns("reference") == [("",), ("7",)]
+
+
+# Its report
+
+def test_a_report_audits_the_runs_with_the_instances_next_to_the_csv(mine: Experiment, libpfs: Library) -> None:
+    """As long as they are there and whole. An order that isn't that of the makespan is an error."""
+    env = dict(os.environ, PFS_LIBRARY=str(libpfs.path))
+
+    def report() -> Done:
+        return run_tool([mine.scripts / "pfs-experiments", "report", "out.csv", "report"], mine.folder, env=env)
+
+    mine.run()
+    assert (report().status, csv_rows(mine.folder / "report" / "table.csv")[0]["audited"]) == (0, "1")
+    text = (mine.folder / "out.csv").read_text()
+    (name, makespan), = mine.columns("order", "makespan")
+    (mine.folder / "out.csv").write_text(text.replace(f",{makespan},", f",{int(makespan) + 1},"))
+    assert report() == Done(2, "", f"pfs-experiments report: out.csv: line 2, shops/b: wrong makespan: states "
+                                   f"{int(makespan) + 1}, takes {makespan}\n")
+    (mine.folder / "out.csv").write_text(text)
+    (mine.folder / name).write_text("order 3\n1 1 2\nmakespan 9\n")
+    assert report().stderr == f"pfs-experiments report: out.csv: {name}: order file job repeated at place 2\n"
+    (mine.runs / "plan.json").write_text("{")
+    (mine.folder / name).unlink()
+    assert (report().status, csv_rows(mine.folder / "report" / "table.csv")[0]["audited"]) == (0, "0")
 
 
 # Before the end

@@ -519,7 +519,8 @@ def test_the_rpd_by_seconds(done: Callable[[str], Any]) -> None:
 def test_a_box_has_the_nanoseconds_a_cell_of_most_rounds(done: Callable[[str], Any]) -> None:
     """Of 1, 2, 3, 4 and 10. The title names these rounds."""
     text = HEAD + "\na,20,5,0,4,0,1,1,101,100,1.0000,1000,0.001000,ok\n" + "".join(
-        f"a,20,5,100,4,0,{at},1,101,100,1.0000,1000000,{time / 1000:.6f},ok\n" for at, time in enumerate((1, 2, 3, 4, 10)))
+        f"a,20,5,100,4,0,{at},1,101,100,1.0000,1000000,{time / 1000:.6f},ok\n"
+        for at, time in enumerate((1, 2, 3, 4, 10)))
     figure = cell_times(done(text), None)
     drawn = sorted({round(float(y), 6) for line in figure.axes[0].get_lines() for y in line.get_ydata()})
     assert drawn == [1, 2, 3, 4, 10] and "at 100 rounds" in figure._suptitle.get_text().replace("\n", " ")
@@ -568,7 +569,8 @@ def test_all_is_inside_of_the_picture_and_can_be_read(width: str, options: list[
         assert letters and min(float(size) for size, *_ in letters) >= 7
         for size, anchor, x, shown in letters:
             half = 0.25 * float(size) * len(shown)
-            assert float(x) + {"middle": half, "start": 2 * half, "": 2 * half, "end": 0}[anchor] <= 72 * float(width) + 2, shown
+            after = {"middle": half, "start": 2 * half, "": 2 * half, "end": 0}[anchor]
+            assert float(x) + after <= 72 * float(width) + 2, shown
         assert options == [] or "interval" not in picture and "range over" not in picture
 
 

@@ -121,6 +121,7 @@ def test_the_sheet_of_a_day_has_its_jobs(chromium: str, tmp_path: pathlib.Path) 
     press("+");
     const seen = {before: [from, to]};
     beginPrint();
+    beginPrint();
     seen.sheets = [...sheets.children].map(sheet => [sheet.querySelector("h2").textContent,
       [...sheet.querySelectorAll("li")].map(item => item.textContent), sheet.querySelector("canvas").width]);
     endPrint();

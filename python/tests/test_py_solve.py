@@ -20,6 +20,7 @@ from clocks import Clock
 from hypothesis import given
 from hypothesis import strategies as st
 from pfs import _commands, _library, _search
+from pfs.experiments import one
 
 
 class Cut:
@@ -653,7 +654,7 @@ def test_a_search_by_time_continues_with_another_seed(monkeypatch: pytest.Monkey
     words: dict[str, Any] = {"start": range(6), "take": 2, "target": 0, "history": True}
     found = shop.solve(time_limit=300 / 1024, first=999_900, seed=2**64 - 1, progress=lambda made, _: got.append(made),
                        **words)
-    next_seed = 11400714819323198485 - 1
+    next_seed = one.STEP - 1
     assert (found.seed, found.rounds) == (next_seed, got[-1] - 100) and got == sorted(set(got)) and got[-1] > 250
     before = shop.solve(100, first=999_900, seed=2**64 - 1, start=range(6), take=2)
     assert (before.seed, before.rounds) == (2**64 - 1, 1_000_000)

@@ -59,8 +59,8 @@ static void fail(const char *what, int number) {
 static void forget_padding(void) {
     struct pfs_block *blocks[] = {&out.block, &due.block};
     for (size_t at = 0; at < COUNT(blocks); ++at)
-        memset((char *)(&blocks[at]->notes + 1), PATTERN, sizeof *blocks[at] - offsetof(struct pfs_block, notes)
-                                                              - sizeof blocks[at]->notes);
+        memset((char *)(&blocks[at]->notes + 1), PATTERN,
+               sizeof *blocks[at] - offsetof(struct pfs_block, notes) - sizeof blocks[at]->notes);
 }
 
 /* Checks a call, which should have returned `number`, and fills the outputs with the pattern again. */
@@ -180,9 +180,9 @@ static int call_named(const char *name) {
     return PFS_OK;
 }
 
-static const char *const NAMES[] = {"makespan", "makespans", "bound", "table", "neh", "rounds", "insert", "insertions",
-                                    "heads_tails", "construct", "local_search", "write", "generate", "random", "read",
-                                    "read_order", "write_order"};
+static const char *const NAMES[] = {"makespan", "makespans",  "bound",       "table",      "neh",          "rounds",
+                                    "insert",   "insertions", "heads_tails", "construct",  "local_search", "write",
+                                    "generate", "random",     "read",        "read_order", "write_order"};
 enum { ON_SHOP = 12 };
 
 /* What is wrong in a call on an instance, after the instance itself. */
@@ -233,11 +233,18 @@ static void wrong_files(void) {
     CALL(PFS_LENGTH, pfs_generate(20, 2, 873654221, out.list, 44));
     CALL(PFS_LAYOUT, read_text("", 2, 0, 0));
     CALL(PFS_BLOCK, read_text("", PFS_ORLIB, PFS_MOST_BLOCKS + 1, 0));
-    static const struct { int number; uint64_t place; const char *text; } wrong[] = {
-        {PFS_NO_BLOCK, 0, ""}, {PFS_SIZE_COUNT, 1, "3 2 1\n"}, {PFS_SIZE_RANGE, 1, "5001 1\n"},
-        {PFS_MIXED_LINE, 7, "1 1\n0 7x\n"}, {PFS_TIME_RANGE, 6, "1 1\n0 1000000001\n"},
-        {PFS_MACHINE_NUMBER, 4, "1 1\n1 7\n"}, {PFS_EXTRA_NUMBER, 8, "1 1\n0 7 9\n"},
-        {PFS_TRUNCATED, 2, "3 2\n0 3 1 2\n"}};
+    static const struct {
+        int number;
+        uint64_t place;
+        const char *text;
+    } wrong[] = {{PFS_NO_BLOCK, 0, ""},
+                 {PFS_SIZE_COUNT, 1, "3 2 1\n"},
+                 {PFS_SIZE_RANGE, 1, "5001 1\n"},
+                 {PFS_MIXED_LINE, 7, "1 1\n0 7x\n"},
+                 {PFS_TIME_RANGE, 6, "1 1\n0 1000000001\n"},
+                 {PFS_MACHINE_NUMBER, 4, "1 1\n1 7\n"},
+                 {PFS_EXTRA_NUMBER, 8, "1 1\n0 7 9\n"},
+                 {PFS_TRUNCATED, 2, "3 2\n0 3 1 2\n"}};
     for (size_t at = 0; at < COUNT(wrong); ++at) {
         due.fault = wrong[at].place;
         CALL(wrong[at].number, read_text(wrong[at].text, PFS_ORLIB, 1, 44));
@@ -319,8 +326,8 @@ static void long_files(void) {
     memset(bytes, 'x', PFS_LONGEST_INPUT + 1);
     for (size_t more = 0; more < 2; ++more) {
         due.fault = 0;
-        CALL(more ? PFS_INPUT_TOO_LONG : PFS_NO_BLOCK, pfs_read(bytes, PFS_LONGEST_INPUT + more, PFS_ORLIB, 1,
-                                                                &out.block, out.list, 44, &out.fault));
+        CALL(more ? PFS_INPUT_TOO_LONG : PFS_NO_BLOCK,
+             pfs_read(bytes, PFS_LONGEST_INPUT + more, PFS_ORLIB, 1, &out.block, out.list, 44, &out.fault));
         due.fault = 0;
         CALL(more ? PFS_FILE_TOO_LONG : PFS_SYNTAX,
              pfs_read_order(bytes, PFS_LONGEST_ORDER_FILE + more, out.list, 44, &out.jobs, &out.machines, &out.makespan,

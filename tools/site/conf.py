@@ -22,6 +22,7 @@ html_theme_options = {"description": "Permutation flow shop scheduling with mach
 html_sidebars = {"**": ["about.html", "searchbox.html", "localtoc.html", "navigation.html"]}
 html_static_path = ["site.css"]
 html_css_files = ["site.css"]
+highlight_language = "none"
 html_copy_source = False
 html_show_sourcelink = False
 myst_heading_anchors = 4

@@ -2,6 +2,7 @@
 from __future__ import annotations
 
 import argparse
+import contextlib
 import csv
 import io
 import os
@@ -50,12 +51,14 @@ def csv_of(found: list[Audited]) -> str:
 # The CSVs of a report
 
 def shops_of(path: str) -> dict[str, Instance]:
-    """Returns the instances in the folder next to the CSV of an experiment, by their names there."""
+    """Returns the instances in the folder next to the CSV of an experiment, by their names there; none if the folder is
+    missing, damaged or of another version."""
     folder = pathlib.Path(os.path.abspath(path) + ".d")
-    listed = stage.stored_plan(folder).get("runs", [])
-    runs = {path_cell(run["instance"]): run for run in listed if run["jobs"] != "-"}
-    return {name: read(folder / stage.stage_of(folder) / run["file"], run["layout"], int(run["block"]))
-            for name, run in runs.items()}
+    with contextlib.suppress(ExperimentError, OSError, Fault):
+        runs = {path_cell(run["instance"]): run for run in stage.stored_plan(folder).get("runs", [])}
+        return {name: read(folder / stage.stage_of(folder) / run["file"], run["layout"], int(run["block"]))
+                for name, run in runs.items() if run["jobs"]}
+    return {}
 
 
 def audits_of(paths: list[str]) -> list[bool]:
