@@ -81,19 +81,10 @@ SHOPS: dict[str, Instance] = {
     "makespans from 5,000 to 100,000": drawn(24, 3, 8_000),
     "makespans to 70,000 on 9 machines": drawn(40, 9, 3_000),
     "a long job in lanes of 32 bits": with_long_job(24, 8, 6_000),
-    # A mixed bench has lanes of 16 bits where 8 mean times are at most 24,576, no time is more than 32,767 above the
-    # mean time, and the mean time and what a job's times are less are at most 16,384 together.
-    "8 mean times are 24,576": equal(16, 8, 3_072),
-    "8 mean times are 24,584": equal(16, 8, 3_073),
-    "a time is 32,767 above the mean time": shop_of(24, 3, [1_000] * 71 + [34_228]),
-    "a time is 32,768 above the mean time": shop_of(24, 3, [1_000] * 71 + [34_229]),
-    "a time and the mean are 8,192 apart": shop_of(16, 1, [0] + [8_738] * 14 + [8_740]),
-    "a time and the mean are 8,193 apart": shop_of(16, 1, [0] + [8_739] * 14 + [8_742]),
+    # A search in lanes of 32 bits also has lanes of 16 bits where no time is above 65,535.
+    "a time of 65,535": with_one_long_time(20, 5, 65_535),
+    "a time of 65,536": with_one_long_time(20, 5, 65_536),
     "equal times of 24,576 on one machine": equal(20, 1, 24_576),
-    "short jobs first on the first machine":
-        shop_of(48, 2, [100 * job for job in range(48)] + [4_700 - 100 * job for job in range(48)]),
-    "times of 0 and 4,000": shop_of(40, 8, [4_000 * (cell % 3 % 2) for cell in range(320)]),
-    "times from 2,000 to 2,100": shop_of(60, 12, [2_000 + cell * 37 % 101 for cell in range(720)]),
     "40 jobs": drawn(40, 6, 30),
     "21 jobs on 11 machines": drawn(21, 11, 500),
     "22 jobs on 20 machines": drawn(22, 20, 1_000),
