@@ -169,7 +169,7 @@ impl Tables {
     }
 }
 
-// The tables of a wavefront, which have a copy of the instance, if it serves the instance.
+// The tables of the wavefront that serves an instance, which has a copy of the instance.
 fn lanes_of(alloc: Global, instance: &Instance) -> Result<Option<PreparedLanes>, CallFault>
     ensures made { IfOk result (λ made. IfSome made (λ lanes. lanes ≡ instance.now.shop)) }
     ensures memory { IfErr result (λ why. why ≡ CallFault.Memory) }
