@@ -1,5 +1,5 @@
 -- The tables of an insertion, capped, are as the recurrences say, and the sums of all machines are the makespans.
-use Rattle.std.proofs.Common.{ℕ, zero, suc, ◌≡◌, ◌+◌, ◌-◌, ◌*◌, ◌<◌, ◌≤◌, List, length, insert, refl, ap, ◌∙◌, sym, arith}
+use Rattle.std.proofs.Common.{ℕ, zero, suc, ◌≡◌, ◌+◌, ◌*◌, ◌<◌, ◌≤◌, List, length, insert, refl, ap, ◌∙◌, sym, arith}
 use Rattle.std.proofs.Common.{inl, inr, max}
 use Rattle.std.proofs.Math.Nat.{mul-le-mul_right}
 use Rattle.std.proofs.lemmas.Bool.{cases_lt}

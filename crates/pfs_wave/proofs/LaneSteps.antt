@@ -1,5 +1,5 @@
 -- A lane of vectors that are combined.
-use Rattle.std.proofs.Common.{ℕ, ◌≡◌, ◌*◌, ◌+◌, ◌<◌, List, max, length, get_or, ap, arith}
+use Rattle.std.proofs.Common.{ℕ, ◌≡◌, ◌<◌, List, max, length, get_or, arith}
 use Rattle.std.specs.Simd.Lanes.{zip2}
 use Rattle.pfs_wave.specs.Lanes.{capped_add}
 use Rattle.pfs_wave.specs.Private.Blocks.{later}

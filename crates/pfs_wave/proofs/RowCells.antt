@@ -1,13 +1,13 @@
 -- The vectors of a shop's jobs.
 use Rattle.std.proofs.Common.{◌≡◌, ◌≢◌, ℕ, zero, suc, ◌+◌, ◌*◌, ◌<◌, ◌≤◌, List, [], ◌∷◌, length, map, get_or, slice_set}
-use Rattle.std.proofs.Common.{replicate, ap, ◌∙◌, sym, refl, arith, inl, inr}
+use Rattle.std.proofs.Common.{replicate, ap, ◌∙◌, refl, arith, inl, inr}
 use Rattle.std.proofs.lemmas.Bool.{cases_lt}
 use Rattle.std.proofs.lemmas.List.{get_or-replicate, length-set}
 use Rattle.pfs_base.specs.FlowShop.{FlowShop, time_of}
 use Rattle.pfs_wave.specs.Lanes.{zeros}
 use Rattle.pfs_wave.specs.Private.Blocks.{HasRows, IsRow, step_of}
 use Rattle.pfs_wave.specs.Wavefront.{on_machine}
-use Rattle.pfs_wave.proofs.SkewedTimes.{put_here, put_there, vector_inside}
+use Rattle.pfs_wave.proofs.SkewedTimes.{put_here, put_there}
 use Rattle.pfs_wave.proofs.Steps.{zeros-get_or}
 
 -- a lane of eight

@@ -4,7 +4,7 @@ use Rattle.std.proofs.Common.{◌∙◌, sym, arith, inl, inr}
 use Rattle.std.specs.Simd.Lanes.{zip2}
 use Rattle.std.proofs.lemmas.Bool.{cases_lt}
 use Rattle.std.proofs.lemmas.Simd.{get_or-zip2}
-use Rattle.std.proofs.lemmas.List.{length-drop, length-append, get_or_append_left, get_or_past, get_or-append_right}
+use Rattle.std.proofs.lemmas.List.{length-drop, get_or_append_left, get_or_past, get_or-append_right}
 use Rattle.std.proofs.lemmas.List.{get_or-replicate, length-replicate}
 use Rattle.std.proofs.lemmas.Grind.{get_or_after_one}
 use Rattle.pfs_wave.specs.Lanes.{capped, capped_add, zeros}

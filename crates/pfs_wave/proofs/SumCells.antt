@@ -1,6 +1,6 @@
 -- The pass of the heads, the inserted rows and the sums, one vector after the other.
-use Rattle.std.proofs.Common.{ℕ, zero, suc, ◌≡◌, ◌+◌, ◌-◌, ◌*◌, ◌<◌, ◌≤◌, List, [], length, map, get_or, slice_set, max}
-use Rattle.std.proofs.Common.{ap, ◌∙◌, sym, arith, inl, inr, refl, subst}
+use Rattle.std.proofs.Common.{ℕ, zero, suc, ◌≡◌, ◌+◌, ◌-◌, ◌*◌, ◌<◌, ◌≤◌, List, length, map, get_or, slice_set, max}
+use Rattle.std.proofs.Common.{ap, ◌∙◌, sym, arith, inl, inr, subst}
 use Rattle.std.proofs.lemmas.Bool.{cases_lt}
 use Rattle.std.proofs.lemmas.List.{get_or-set_same, get_or-set_other, length-set}
 use Rattle.pfs_wave.specs.Lanes.{capped_add}
@@ -206,9 +206,9 @@ step_summed lanes count rows step t heads inserted sum head k so all = record {
 -- ---- the pass, after some steps
 
 pub record AreSumsFilled (count rows step : ℕ) (t : TablesOfCells) (heads : Vectors) (inserted sum sums : List ℕ) : Type 0
-    where
-  pub summed : AreSummed count rows step t heads inserted sum
-  pub kept : (place : ℕ) → place ≤ rows → place + 7 < step → get_or sums (place + 7) 0 ≡ t.sum place (8 * count)
+  where
+    pub summed : AreSummed count rows step t heads inserted sum
+    pub kept : (place : ℕ) → place ≤ rows → place + 7 < step → get_or sums (place + 7) 0 ≡ t.sum place (8 * count)
 
 module _ (cap count rows : ℕ) (t : TablesOfCells) (are : AreTables cap rows t) where
   pub sums_filled_none : (heads : Vectors) (inserted sum sums : List ℕ)

@@ -8,7 +8,6 @@ use borrow.Rule.Slice.PartMut.{put_mid}
 use Rattle.pfs_wave.specs.Lanes.{zeros}
 use Rattle.pfs_wave.specs.Private.Blocks.{Cells, Vectors, HoldCells, IsColumn, IsStep, later, step_of, vectors_of}
 use Rattle.pfs_wave.specs.Private.Recurrences.{AreTails}
-use Rattle.pfs_wave.proofs.PutParts.{put_long}
 use Rattle.pfs_wave.proofs.Steps.{zeros-get_or}
 use Rattle.pfs_wave.proofs.StepTables.{set_same, set_other, step_after, part_written, part_kept}
 

@@ -99,7 +99,13 @@ impl Narrow {
     /// insertion is known to fit in them, and else in wide ones. `total` is the job's total time. It is not inlined, so
     /// that a search over it stays small enough to be inlined.
     #[inline(never)]
-    pub fn best_or_wide(&mut self, wide: &mut Wave, seq: &Seq, job: usize, total: u64) -> Placed<u64>
+    pub fn best_or_wide(
+        &mut self,
+        wide: &mut Wave,
+        seq: &Seq,
+        job: usize,
+        total: u64,
+    ) -> Placed<u64>
         requires size { seq.now.size ≡ self.old.blocks.jobs }
         requires wide { (blocks_of wide.old).jobs ≡ self.old.blocks.jobs }
         requires job { job < seq.now.size }

@@ -45,9 +45,7 @@ fn blends_before<V: Band, const N: usize>(
 {
     let mut last = Blends::none();
     for earlier in row.saturating_sub(7)..row {
-        last = last
-            .push(vector_of::<V, N>(rows, order, earlier, k))
-            .next;
+        last = last.push(vector_of::<V, N>(rows, order, earlier, k)).next;
     }
     last
 }

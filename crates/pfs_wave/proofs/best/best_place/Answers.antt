@@ -1,16 +1,11 @@
-use Rattle.std.proofs.Common.{ℕ, suc, ◌≡◌, ◌+◌, ◌-◌, ◌*◌, ◌<◌, ◌≤◌, List, length, map, take, drop, get_or, ap, ◌∙◌}
+use Rattle.std.proofs.Common.{suc, ◌≡◌, ◌+◌, ◌-◌, ◌*◌, ◌≤◌, length, map, take, drop, get_or, ap, ◌∙◌}
 use Rattle.std.proofs.Common.{arith, inl, inr}
 use Rattle.std.proofs.Math.Nat.{mul-le-mul_right}
 use Rattle.std.proofs.lemmas.Bool.{cases_lt}
 use Rattle.std.proofs.lemmas.List.{length-drop, length-take-le}
-use Rattle.pfs_base.specs.FlowShop.{FlowShop, time_of}
-use Rattle.pfs_insert.specs.Insertion.{makespan_with}
-use Rattle.pfs_wave.specs.Lanes.{capped}
-use Rattle.pfs_wave.specs.Private.Blocks.{AreTimes, IsRow, vectors_of}
-use Rattle.pfs_wave.specs.Wavefront.{on_machine, padded_time}
+use Rattle.pfs_wave.specs.Wavefront.{padded_time}
 use Rattle.pfs_wave.proofs.BestFound.{found, number_of_part}
 use Rattle.pfs_wave.proofs.CappedCells.{capped_cells, capped_tables, capped_tails, no_tail, whole_sum, tail_cell}
-use Rattle.pfs_wave.proofs.best.best_place.Given as given
 use Rattle.pfs_wave.proofs.best.best_place.Goals as goal
 
 pub returns-clause-best : goal.returns-clause-best

@@ -1,4 +1,4 @@
-use Rattle.std.proofs.Common.{◌*◌, refl, arith}
+use Rattle.std.proofs.Common.{refl, arith}
 use Rattle.pfs_base.specs.FlowShop.{time_of}
 use Rattle.pfs_wave.specs.Wavefront.{on_machine}
 use Rattle.pfs_wave.proofs.RowCells.{job_more}

@@ -1,4 +1,4 @@
-use Rattle.std.proofs.Common.{suc, ◌≡◌, ◌-◌, map, max, get_or, length, ap, ◌∙◌, refl, arith}
+use Rattle.std.proofs.Common.{◌-◌, map, max, get_or, ap, ◌∙◌, refl, arith}
 use Rattle.pfs_wave.specs.Lanes.{capped_add}
 use Rattle.pfs_wave.specs.Private.Blocks.{vectors_of}
 use Rattle.pfs_wave.proofs.LaneSteps.{combined}

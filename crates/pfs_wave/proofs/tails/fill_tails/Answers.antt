@@ -1,6 +1,6 @@
-use Rattle.std.proofs.Common.{◌+◌, ◌-◌, ◌*◌, length, map, take, drop, ◌∙◌, refl, arith}
+use Rattle.std.proofs.Common.{◌+◌, ◌-◌, ◌*◌, map, take, drop, ◌∙◌, refl, arith}
 use Rattle.std.proofs.lemmas.List.{length-replicate}
-use Rattle.pfs_wave.specs.Private.Blocks.{vectors_of, step_of}
+use Rattle.pfs_wave.specs.Private.Blocks.{vectors_of}
 use Rattle.pfs_wave.proofs.PutParts.{put_long}
 use Rattle.pfs_wave.proofs.StepTables.{part_read, step_after}
 use Rattle.pfs_wave.proofs.TailCells.{tails_filled_none, tails_filled_more}

@@ -1,7 +1,7 @@
-use Rattle.std.proofs.Common.{suc, ◌≡◌, ◌-◌, map, get_or, length, ap, ◌∙◌, sym, refl, arith, subst}
+use Rattle.std.proofs.Common.{suc, ◌-◌, map, get_or, length, ap, ◌∙◌, sym, refl, arith}
 use Rattle.pfs_wave.specs.Private.Blocks.{vectors_of}
 use Rattle.pfs_wave.proofs.StepTables.{read, read_as}
-use Rattle.pfs_wave.proofs.TailCells.{column_as, later_same, step_tails_none, step_tails_more}
+use Rattle.pfs_wave.proofs.TailCells.{later_same, step_tails_none, step_tails_more}
 use Rattle.pfs_wave.proofs.tails.step_tails.Goals as goal
 
 pub loop-passed-init : goal.loop-passed-init

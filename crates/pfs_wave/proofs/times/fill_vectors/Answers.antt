@@ -1,4 +1,4 @@
-use Rattle.std.proofs.Common.{◌≡◌, ◌+◌, ◌-◌, ◌*◌, ◌/◌, ◌<◌, length, map, ◌∙◌, refl, arith, subst}
+use Rattle.std.proofs.Common.{◌≡◌, ◌+◌, ◌-◌, ◌*◌, ◌/◌, length, map, ◌∙◌, refl, arith, subst}
 use Rattle.pfs_wave.specs.Private.Blending.{AreBlends, past_at}
 use Rattle.pfs_wave.specs.Private.HeldRows.{rows_at}
 use Rattle.pfs_wave.specs.Private.SkewedBand.{IsFilled}

@@ -1,6 +1,6 @@
-use Rattle.std.proofs.Common.{ℕ, ◌≡◌, ◌+◌, ◌-◌, ◌*◌, ◌<◌, ◌≤◌, length, ap, ◌∙◌, sym, refl, arith, get_or}
+use Rattle.std.proofs.Common.{◌≡◌, ◌+◌, ◌-◌, ◌*◌, ◌≤◌, length, ap, ◌∙◌, refl, arith, get_or}
 use Rattle.std.proofs.Math.Nat.{mul-le-mul_right}
-use Rattle.pfs_wave.proofs.SkewedTimes.{copied, unchanged, vector_inside}
+use Rattle.pfs_wave.proofs.SkewedTimes.{copied, unchanged}
 use Rattle.pfs_wave.proofs.StepTables.{step_after}
 use Rattle.pfs_wave.proofs.times.move_back.Goals as goal
 
@@ -41,22 +41,25 @@ returns-clause-moved g c some longer =
     let table = c.args.times.now in
     let made = c.copy_within.new.self in
     let long = c.copy_within.ensures.len in
-    let is = c.copy_within.ensures.by_index in
-    (refl, refl, λ k k_lt. record {
-      moved = λ step le lt.
-          let s = step - moved in
-          let at = ap (λ n. n * count) (let e : step ≡ moved + s = omega arith in e) in
-          let from = ap (λ n. n * count) (let e : step - by ≡ first + s = omega arith in e) in
-          let after = step_after count step (new + 8) lt in
-          let source = step_after count (step - by) (new + 8) (omega arith) in
-          let here : first * count + (step * count + k - moved * count) ≡ (step - by) * count + k = omega arith in
-          copied lanes table made (step * count + k) ((step - by) * count + k)
-          (λ d. is.0 (step * count + k) d (omega arith) (omega arith) ∙ ap (λ i. get_or table i d) here)
-          (omega arith) (omega arith);
-      before = λ step lt.
-          let after = step_after count step moved lt in
-          unchanged lanes table made (step * count + k) (λ d. is.1 (step * count + k) d (omega arith)) long;
-      after = λ step le.
-          let more : (new + 8) * count ≤ step * count = mul-le-mul_right count le in
-          unchanged lanes table made (step * count + k) (λ d. is.2 (step * count + k) d (omega arith)) long;
-    })
+    let is = c.copy_within.ensures.by_index in (
+      refl,
+      refl,
+      λ k k_lt. record {
+        moved = λ step le lt.
+            let s = step - moved in
+            let at = ap (λ n. n * count) (let e : step ≡ moved + s = omega arith in e) in
+            let from = ap (λ n. n * count) (let e : step - by ≡ first + s = omega arith in e) in
+            let after = step_after count step (new + 8) lt in
+            let source = step_after count (step - by) (new + 8) (omega arith) in
+            let here : first * count + (step * count + k - moved * count) ≡ (step - by) * count + k = omega arith in
+            copied lanes table made (step * count + k) ((step - by) * count + k)
+            (λ d. is.0 (step * count + k) d (omega arith) (omega arith) ∙ ap (λ i. get_or table i d) here)
+            (omega arith) (omega arith);
+        before = λ step lt.
+            let after = step_after count step moved lt in
+            unchanged lanes table made (step * count + k) (λ d. is.1 (step * count + k) d (omega arith)) long;
+        after = λ step le.
+            let more : (new + 8) * count ≤ step * count = mul-le-mul_right count le in
+            unchanged lanes table made (step * count + k) (λ d. is.2 (step * count + k) d (omega arith)) long;
+      },
+    )

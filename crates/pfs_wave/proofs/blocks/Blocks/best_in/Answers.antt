@@ -1,4 +1,4 @@
-use Rattle.std.proofs.Common.{◌≡◌, ◌+◌, ◌-◌, ◌*◌, ◌<◌, length, map, take, drop, get_or, ap, ◌∙◌, refl, arith}
+use Rattle.std.proofs.Common.{◌≡◌, ◌+◌, ◌-◌, ◌*◌, length, map, take, drop, get_or, ap, ◌∙◌, refl, arith}
 use Rattle.std.proofs.lemmas.List.{take_at}
 use Rattle.pfs_base.specs.FlowShop.{time_of}
 use Rattle.pfs_wave.specs.Private.Blocks.{AreTimes, IsRow, vectors_in, vectors_of}
@@ -29,8 +29,11 @@ invariant_of-self g c =
       few = was.few;
       rows = was.rows;
       holds =
-          rw (take_at order (drop (length order) inside.order.items) inside.order.len order_long,
-          take_at times (drop (length times) inside.times.items) inside.times.len times_long, count) holds;
+          rw (
+            take_at order (drop (length order) inside.order.items) inside.order.len order_long,
+            take_at times (drop (length times) inside.times.items) inside.times.len times_long,
+            count,
+          ) holds;
       tails = rw (take_at tails (drop (length tails) inside.tails.items) inside.tails.len tails_long)
           (c.best_place-found.ensures.tails ∙ ap length c.deref_mut-3.ensures.value ∙ was.tails);
       sums = rw (take_at sums (drop (length sums) inside.sums.items) inside.sums.len sums_long)
@@ -64,7 +67,10 @@ returns-clause-best g c shop has other among short =
     λ lane k lt k_lt.
     ap (λ v. get_or v lane 0) (part_read lanes count c.args.job (c.args.job * count) n inside.rows.items refl k (omega arith))
     ∙ has_rows.jobs_are c.args.job (omega (arith, c.requires.job, has.jobs)) lane k lt k_lt in
-    let found = rw (c.deref-2.ensures.value, c.deref-3.ensures.value,
-    take_at times (drop (length times) inside.times.items) inside.times.len times_long) at c.best_place-found.ensures.best in
+    let found = rw (
+      c.deref-2.ensures.value,
+      c.deref-3.ensures.value,
+      take_at times (drop (length times) inside.times.items) inside.times.len times_long,
+    ) at c.best_place-found.ensures.best in
     let few_machines = rw (← ap (λ b. b.lanes) view, c.requires.count) at has.few in
     rw c.from.ensures (found shop jobs c.args.job has.some few_machines refl times_are job_is other among short)

@@ -1,4 +1,4 @@
-use Rattle.std.proofs.Common.{◌≡◌, ◌+◌, ◌*◌, length, map, ap, ◌∙◌, sym, arith}
+use Rattle.std.proofs.Common.{◌+◌, ◌*◌, length, map, ap, ◌∙◌, sym, arith}
 use Rattle.std.proofs.lemmas.List.{length-replicate}
 use Rattle.pfs_wave.specs.Private.Blocks.{vectors_in}
 use Rattle.pfs_wave.proofs.HeldLemmas.{holding_none, resized_none}

@@ -1,4 +1,4 @@
-use Rattle.std.proofs.Common.{◌<◌, length, refl, arith, ap}
+use Rattle.std.proofs.Common.{length, refl, arith, ap}
 use Rattle.pfs_order.proofs.Published.Sequences.{length-lt-size}
 use Rattle.pfs_wave.proofs.PartLaws.{appended_law}
 use Rattle.pfs_wave.proofs.narrow.Narrow.best_or_wide.Goals as goal
