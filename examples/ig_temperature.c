@@ -50,12 +50,11 @@ static void shuffle(void) {
 
 /* Moves each job of `found` to its best place, in random order, until the makespan doesn't decrease any more. */
 static uint64_t improve(uint64_t makespan) {
-    uint64_t before;
-    do {
+    for (uint64_t before = UINT64_MAX; makespan < before;) {
         before = makespan;
         shuffle();
         check("local search", pfs_local_search(&instance, list, jobs, 1, found, jobs, &makespan));
-    } while (makespan < before);
+    }
     return makespan;
 }
 

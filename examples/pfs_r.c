@@ -41,8 +41,8 @@ SEXP pfs_r_makespan(SEXP times, SEXP order) {
 
 SEXP pfs_r_neh(SEXP times) {
     struct pfs_instance instance = {NULL};
+    uint32_t *found = (uint32_t *)R_alloc((size_t)xlength(times) + 1, sizeof *found);
     size_t jobs = prepare(times, &instance);
-    uint32_t *found = (uint32_t *)R_alloc(jobs, sizeof *found);
     uint64_t makespan, cells;
     end(&instance, pfs_neh(&instance, found, jobs, &makespan, &cells));
     SEXP order = PROTECT(allocVector(INTSXP, (R_xlen_t)jobs));

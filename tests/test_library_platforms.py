@@ -13,8 +13,12 @@ PROGRAM = """#include <pfs.h>
 
 int main(void) {
     uint32_t times[] = {3, 2, 2, 5, 4, 1}, order[3];
+    struct pfs_instance instance = {NULL};
     uint64_t makespan = 0, cells;
-    int number = pfs_neh(times, 6, 3, 2, order, 3, &makespan, &cells);
+    int number = pfs_prepare(times, 6, 3, 2, &instance);
+    if (number == PFS_OK)
+        number = pfs_neh(&instance, order, 3, &makespan, &cells);
+    pfs_release(&instance);
     return printf("%d, makespan %d\\n", number, (int)makespan) < 0;
 }
 """

@@ -1,5 +1,5 @@
-"""An instance is prepared by the library once, on its first call, and released with the object. Copies, pickled ones
-and forked processes prepare their own, and threads on one instance wait for each other."""
+"""An instance is prepared by the library once, on its first call, and released with the object. Copies, pickled ones,
+forked processes and calls at the same time in several threads prepare their own."""
 import copy
 import gc
 import os
@@ -58,7 +58,7 @@ def test_a_copy_prepares_its_own(counted: dict[str, int], again: Callable[[pfs.I
     assert other.makespan(range(12)) == due and counted == {"pfs_prepare": 2, "pfs_release": 1}
 
 
-def test_threads_on_one_instance_wait_for_each_other() -> None:
+def test_threads_on_one_instance_have_the_same_results() -> None:
     """Also on its first call."""
     shop = pfs.generate(30, 5, 1)
     due, place, found = (pfs.generate(30, 5, 1).makespan(range(30)), pfs.generate(30, 5, 1).best_place(range(29), 29),
@@ -72,10 +72,31 @@ def test_threads_on_one_instance_wait_for_each_other() -> None:
         assert all(threads.map(many, range(8)))
 
 
+def test_threads_on_one_instance_do_not_wait_for_each_other(counted: dict[str, int],
+                                                            monkeypatch: pytest.MonkeyPatch) -> None:
+    """A call returns while another one is made, for which it prepares the instance once more."""
+    shop, begun, ended = pfs.generate(12, 4, 1), threading.Event(), threading.Event()
+    due, real = shop.makespan(range(12)), _library.library.pfs_rounds
+
+    def waiting(*given: Any) -> int:
+        begun.set()
+        assert ended.wait(30)
+        return int(real(*given))
+
+    monkeypatch.setattr(_library.library, "pfs_rounds", waiting)
+    with ThreadPoolExecutor(1) as threads:
+        found = threads.submit(shop.solve, 1)
+        assert begun.wait(30)
+        assert [shop.makespan(range(12)) for _ in range(3)] == [due] * 3 and counted["pfs_prepare"] == 2
+        ended.set()
+        assert found.result().rounds == 1
+    assert shop.makespan(range(12)) == due and counted["pfs_prepare"] == 2
+
+
 @pytest.mark.skipif(not hasattr(os, "fork"), reason="needs fork")
 @pytest.mark.filterwarnings("ignore:This process.*multi-threaded:DeprecationWarning")
 def test_a_forked_process_prepares_its_own_instance() -> None:
-    """Also while another thread makes a call, which holds the lock and the instance then."""
+    """Also while another thread makes a call."""
     shop, stop = pfs.generate(200, 20, 1), threading.Event()
     due = shop.makespan(range(200))
     search = threading.Thread(target=lambda: shop.solve(100_000, stop=stop))
@@ -89,7 +110,7 @@ def test_a_forked_process_prepares_its_own_instance() -> None:
         time.sleep(0.01)
     stop.set()
     search.join()
-    assert ended == (child, 0), "the child waits for a lock, or has another result"
+    assert ended == (child, 0), "the child waits, or has another result"
 
 
 def test_nothing_is_printed_when_python_ends_with_an_instance(tmp_path: pathlib.Path) -> None:

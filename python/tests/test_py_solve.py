@@ -718,6 +718,12 @@ def test_without_a_start_the_others_are_inserted_as_neh_does(times: plainly.Tabl
     assert shop.solve(0, hold=[0]).order.tolist() == order
 
 
+def test_no_round_of_a_search_that_holds_jobs_increases_the_makespan() -> None:
+    shop = pfs.Instance(pfs.generate(20, 8, 4).times % 4)
+    makespans = [shop.solve(rounds, hold=[3], take=2).makespan for rounds in range(60)]
+    assert makespans == sorted(makespans, reverse=True) and len(set(makespans)) > 1
+
+
 def test_a_search_that_holds_jobs_is_continued() -> None:
     """After an interruption, and in parts of any length."""
     shop = pfs.generate(50, 10, 4)

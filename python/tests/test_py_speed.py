@@ -47,9 +47,9 @@ def ready():
 
 def typed():
     own, count = as_uint32_bytes(others)
-    place, makespan, prepared = c_size_t(), c_uint64(), shop._ready()
-    with prepared.lock:
-        _library.library.pfs_insert(prepared.address, own, count, job, byref(place), byref(makespan))
+    place, makespan, prepared = c_size_t(), c_uint64(), shop._taken()
+    _library.library.pfs_insert(prepared.address, own, count, job, byref(place), byref(makespan))
+    shop._prepared.append(prepared)
     return pfs.Place(place.value, makespan.value)
 
 assert typed() == ready()

@@ -27,18 +27,6 @@ _pfs_makespan = c.quick_makespan
 _pfs_insert = c.quick_insert
 # Three times as fast as calling the class of a named tuple.
 _new_tuple = tuple.__new__
-# Buffers for the results of a call: a place and a makespan, with their addresses. A call removes a buffer from this
-# list and appends it again when it is done, so no two threads use the same one.
-_free: list[tuple[c_size_t, c_uint64, Any, Any]] = []
-
-
-def _free_buffer() -> tuple[c_size_t, c_uint64, Any, Any]:
-    """Return a buffer that no other call uses, a new one if none is free."""
-    try:
-        return _free.pop()
-    except IndexError:
-        place, makespan = c_size_t(), c_uint64()
-        return place, makespan, byref(place), byref(makespan)
 
 
 class Place(NamedTuple):
@@ -136,8 +124,8 @@ class Instance:
         # An array over `bytes` can't be made writable.
         self._data = own.tobytes()
         self._times: Order = np.frombuffer(own.astype(np.int64).tobytes(), dtype=np.int64).reshape(own.shape)
-        # What the library has prepared, from the first call on.
-        self._prepared: Prepared | None = None
+        # What the library has prepared: one from the first call on, and as many as there were calls at once.
+        self._prepared: list[Prepared] = []
         self.name = str(name)
         self.job_names = names_of(job_names, self.jobs, "job_names")
         self.machine_names = names_of(machine_names, self.machines, "machine_names")
@@ -183,19 +171,22 @@ class Instance:
     def __reduce__(self) -> tuple[Any, ...]:
         return _instance_of, (np.array(self.times), self._metadata())
 
-    def _ready(self) -> Prepared:
-        """Return what the library has prepared in this process. If two threads prepare it at once, one of the two is
-        kept, and the other is released after the call."""
-        prepared = self._prepared
-        if prepared is None or not prepared.is_own():
-            prepared = self._prepared = Prepared(self._data, self.jobs, self.machines)
+    def _taken(self) -> Prepared:
+        """Return what the library has prepared in this process and no other call uses, or prepare the instance again. A
+        call appends it to the list again when it is done. So threads neither wait for each other nor share one."""
+        try:
+            prepared = self._prepared.pop()
+            while not prepared.is_own():
+                prepared = self._prepared.pop()
+        except IndexError:
+            prepared = Prepared(self._data, self.jobs, self.machines)
         return prepared
 
     def _call(self, name: str, *arguments: Any) -> int:
         """Call a function of the library on the prepared instance, and return its number."""
-        prepared = self._ready()
-        with prepared.lock:
-            number: int = getattr(c.library, name)(prepared.address, *arguments)
+        prepared = self._taken()
+        number: int = getattr(c.library, name)(prepared.address, *arguments)
+        self._prepared.append(prepared)
         return number
 
     def job_name(self, job: int) -> str:
@@ -225,14 +216,13 @@ class Instance:
             If it isn't a list of distinct jobs. The message says which element is wrong.
         """
         jobs, count = as_uint32_bytes(order, "order", self.job_names)
-        found, prepared = _free_buffer(), self._ready()
-        with prepared.lock:
-            number = _pfs_makespan(prepared.address, jobs, LENGTHS[count] if count < SHORT else c_size_t(count),
-                                   found[3])
+        prepared = self._taken()
+        number = _pfs_makespan(prepared.address, jobs, LENGTHS[count] if count < SHORT else c_size_t(count),
+                               prepared.to_makespan)
+        makespan: int = prepared.makespan.value
+        self._prepared.append(prepared)
         if number:
             raise jobs_error(number, self.jobs, jobs)
-        makespan: int = found[1].value
-        _free.append(found)
         return makespan
 
     def check(self, order: Jobs, stated: int | None = None) -> Check:
@@ -397,17 +387,16 @@ class Instance:
         jobs, count = as_uint32_bytes(sequence, "sequence")
         if type(job) is not int or not 0 <= job < self.jobs:
             job = checked_int(job, "job", 0, self.jobs - 1)
-        found, prepared = _free_buffer(), self._ready()
-        with prepared.lock:
-            number = _pfs_insert(prepared.address, jobs, LENGTHS[count] if count < SHORT else c_size_t(count), job,
-                                 found[2], found[3])
+        prepared = self._taken()
+        number = _pfs_insert(prepared.address, jobs, LENGTHS[count] if count < SHORT else c_size_t(count), job,
+                             prepared.to_place, prepared.to_makespan)
+        best = _new_tuple(Place, (prepared.place.value, prepared.makespan.value))
+        self._prepared.append(prepared)
         if number:
             fault = jobs_error(number, self.jobs, jobs, "sequence")
             if number == c.REPEATED and fault.args == (c.message(number),):
                 raise ValueError(f"job {job} is already in the sequence")
             raise fault
-        best = _new_tuple(Place, (found[0].value, found[1].value))
-        _free.append(found)
         return best
 
     def places(self, sequence: Jobs, job: int) -> Order:

@@ -1,14 +1,14 @@
 """The shared library, loaded with ctypes: the functions and constants of `pfs.h`.
 
 A ctypes call releases the GIL, so other threads run during the call. Therefore its inputs are `bytes`, which are
-immutable, its outputs are arrays that are allocated for the call, and a prepared instance has a lock.
+immutable, its outputs are arrays that are allocated for the call, and no two calls at once use the same prepared
+instance.
 """
 from __future__ import annotations
 
 import ctypes
 import os
 import pathlib
-import threading
 from ctypes import byref, c_char_p, c_int, c_size_t, c_uint32, c_uint64, c_void_p
 from typing import Any, Final
 
@@ -140,8 +140,8 @@ class Handle(ctypes.Structure):
 
 
 class Prepared:
-    """An instance that the library has prepared, and a lock that a caller holds during each call on it. It is released
-    when it is no longer used.
+    """An instance that the library has prepared, with memory for the results of the calls that methods make most often.
+    It is released when it is no longer used.
 
     A process may fork while another thread makes a call. So a forked process prepares its instances again, and does not
     touch the memory of the old ones."""
@@ -151,10 +151,8 @@ class Prepared:
 
     def __init__(self, times: bytes, jobs: int, machines: int) -> None:
         self.made = Prepared.forks
-        # A signal handler may make a call on the instance, too.
-        self.lock = threading.RLock()
-        self.handle = Handle()
-        self.address = byref(self.handle)
+        self.handle, self.place, self.makespan = Handle(), c_size_t(), c_uint64()
+        self.address, self.to_place, self.to_makespan = byref(self.handle), byref(self.place), byref(self.makespan)
         done(library.pfs_prepare(times, jobs * machines, jobs, machines, self.address))
 
     def is_own(self) -> bool:
