@@ -87,7 +87,7 @@ def test_a_killed_program_leaves_no_part_of_an_instance(scripts: pathlib.Path, p
     """Under the name of an instance there is a whole one or none."""
     program = write_script(folder / "pfs", "#!/bin/sh\ncase $* in *' 379008056') echo half; kill -9 $$;; esac\n"
                            f"exec {pfs.path} \"$@\"\n")
-    words = [scripts / "pfs-experiments", "taillard", "--pfs"]
+    words: list[str | pathlib.Path] = [scripts / "pfs-experiments", "taillard", "--pfs"]
     got = run_tool([*words, program, "shops"], folder)
     assert got.status != 0, "the script says nothing of the program that was killed"
     whole = sorted(path.name for path in (folder / "shops").iterdir() if path.suffix != ".new")
