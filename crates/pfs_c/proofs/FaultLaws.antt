@@ -1,10 +1,10 @@
 -- Arguments have no fault exactly if they are right.
-use Rattle.std.proofs.Common.{◌≡◌, ℕ, ◌*◌, ◌&&◌, Bool, true, false, List, [], ◌∷◌, length, refl, None, get_or, nat_le}
+use Rattle.std.proofs.Common.{◌≡◌, ℕ, ◌*◌, ◌&&◌, Bool, true, false, [], ◌∷◌, length, refl, None, get_or, nat_le}
 use Rattle.std.proofs.Common.{◌≤◌, nat_eq, arith}
 use Rattle.std.proofs.lemmas.Bool.{leb-true}
 use Rattle.std.proofs.lemmas.Bool.Decides.{nat_tests}
 use Rattle.std.proofs.lemmas.List.Sums.{AllPass-from_list_all, list_all-from_AllPass}
-use Rattle.pfs_base.specs.FlowShop.{AreSizes, IsWithin}
+use Rattle.pfs_base.specs.FlowShop.{AreSizes}
 use Rattle.pfs_base.specs.Limits.{limits}
 use Rattle.pfs_base.specs.declared.limits.TheConstants.{MOST_JOBS, MOST_MACHINES, LONGEST_TIME}
 use Rattle.pfs_order.proofs.Published.Sequences.{IsSequence-cons}

@@ -19,7 +19,6 @@ use Rattle.pfs_base.specs.FlowShop.{FlowShop}
 use Rattle.pfs_base.specs.Paths.{makespan}
 use Rattle.pfs_order.specs.Sequence.{IsSequence}
 use Rattle.pfs_order.proofs.Published.Sequences.{IsSequence-insert, IsSequence-moved, IsSequence-permutation}
-use Rattle.pfs_order.proofs.Published.Sequences.{length-le-size}
 use Rattle.pfs_insert.specs.Insertion.{best_place}
 use Rattle.pfs_search.specs.Neh.{with_jobs}
 use Rattle.pfs_c.specs.declared.numbers.CallFault.{CallFault}
@@ -126,14 +125,10 @@ members_out sequence list i within absent =
 
 -- ---- what the calls find
 
--- jobs that are inserted are in range, and no more than all
+-- jobs that are inserted are in range
 pub more_small : (size : ℕ) (first more : List ℕ) → IsSequence size (first ++ more) → All (λ job. job < size) more
 more_small size first more together k d lt = rw (get_or-append-add first more k d) at
     (together.in_range (length first + k) d (omega (arith, length-append {A = ℕ}, lt)))
-
-pub more_few : (size : ℕ) (first more : List ℕ) → IsSequence size (first ++ more) → length more ≤ size
-more_few size first more together =
-    omega (arith, length-append {A = ℕ}, length-le-size size (first ++ more) together)
 
 with_jobs_distinct : (shop : FlowShop) (size : ℕ) (more jobs : List ℕ) → IsSequence size (more ++ jobs)
     → IsSequence size (with_jobs shop jobs more)

@@ -1,10 +1,9 @@
 -- Jobs of a list that leave their places for their best ones in turn.
-use Rattle.std.proofs.Common.{◌≡◌, ℕ, zero, suc, ◌+◌, ◌-◌, ◌*◌, ◌<◌, ◌≤◌, ◌^◌, ◌++◌, List, [], ◌∷◌, length, filter}
+use Rattle.std.proofs.Common.{◌≡◌, ℕ, zero, suc, ◌+◌, ◌<◌, ◌≤◌, ◌++◌, List, [], ◌∷◌, length, filter}
 use Rattle.std.proofs.Common.{not}
 use Rattle.std.proofs.Common.{get_or, take, insert, remove, eqb, refl, ap, sym, ◌∙◌, add-one, arith}
 use Rattle.std.proofs.Common.{All, Contains}
 use Rattle.std.specs.List.Sorted.{IsPermutation}
-use Rattle.std.proofs.Math.Nat.{mul-le-mul, mul-le-mul_right}
 use Rattle.std.proofs.lemmas.Bool.{ne_eqb}
 use Rattle.std.proofs.lemmas.List.{get_or_default, take_more}
 use Rattle.std.proofs.lemmas.List.Edits.{length-insert, length-remove}
@@ -13,7 +12,6 @@ use Rattle.std.proofs.lemmas.List.Sorted.{Contains-permutation, IsPermutation-ap
 use Rattle.std.proofs.lemmas.List.Sorted.{IsPermutation-refl, IsPermutation-remove, IsPermutation-trans}
 use Rattle.std.proofs.lemmas.List.Sums.{fold_push}
 use Rattle.pfs_base.specs.FlowShop.{FlowShop}
-use Rattle.pfs_base.specs.declared.limits.TheConstants.{MOST_JOBS, MOST_MACHINES, MOST_PASSES}
 use Rattle.pfs_base.specs.Paths.{makespan}
 use Rattle.pfs_order.specs.Sequence.{IsSequence, all_jobs}
 use Rattle.pfs_order.proofs.Published.Sequences.{IsSequence-head, IsSequence-moved, IsSequence-permutation}
@@ -128,30 +126,6 @@ visits_suc shop list (suc passes) jobs = visits_suc shop list passes (visited sh
 pub visits_more : (shop : FlowShop) (list : List ℕ) (passes : ℕ) (jobs : List ℕ)
     → after_visits shop list (passes + 1) jobs ≡ visited shop list (after_visits shop list passes jobs)
 visits_more shop list passes jobs = rw add-one (visits_suc shop list passes jobs)
-
--- ---- what is counted
-
-pub insertion_few : (count jobs machines : ℕ) → count ≤ jobs → (4 * count - 2) * machines ≤ 4 * jobs * machines
-insertion_few count jobs machines few = mul-le-mul_right machines (omega arith)
-
--- one more of a number of equal parts is within all
-pub part_within : (i count part : ℕ) → i < count → i * part + part ≤ count * part
-part_within i count part within =
-    let fits : (i + 1) * part ≤ count * part = mul-le-mul_right part (omega arith) in omega (arith, fits)
-
--- passes are counted within the limits
-pub visits_room : (counted done passes count jobs machines : ℕ) → counted ≤ done * (count * (4 * jobs * machines))
-    → done < passes → passes ≤ MOST_PASSES → count ≤ jobs → jobs ≤ MOST_JOBS → machines ≤ MOST_MACHINES
-    → counted + count * (4 * jobs * machines) < 2 ^ 64
-visits_room counted done passes count jobs machines low lt few fewer few_jobs few_machines =
-    let pass : ℕ = count * (4 * jobs * machines) in
-    let rows : 4 * jobs ≤ 4 * MOST_JOBS = omega arith in
-    let wide : 4 * jobs * machines ≤ 4 * MOST_JOBS * MOST_MACHINES = mul-le-mul rows few_machines in
-    let short : count ≤ MOST_JOBS = omega arith in
-    let long : pass ≤ MOST_JOBS * (4 * MOST_JOBS * MOST_MACHINES) = mul-le-mul short wide in
-    let next : done + 1 ≤ MOST_PASSES = omega arith in
-    let all : (done + 1) * pass ≤ MOST_PASSES * (MOST_JOBS * (4 * MOST_JOBS * MOST_MACHINES)) = mul-le-mul next long in
-    omega (arith, all, low)
 
 -- ---- laws
 

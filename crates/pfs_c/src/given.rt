@@ -255,17 +255,6 @@ pub(crate) fn instance_of(
     Instance::of_times(alloc, jobs, machines, times, notes).or(Err(CallFault::Memory))
 }
 
-/// Makes a sequence of validated jobs. It allocates once, and returns `Memory` if that fails; it has no other error.
-pub(crate) fn sequence_of(alloc: Global, size: usize, jobs: &[u32]) -> Result<Seq, CallFault>
-    requires some { 1 ≤ size }
-    requires few { size ≤ MOST_JOBS }
-    requires sequence { IsSequence size jobs.now }
-    ensures made { IfOk result (λ made. made ≡ record { size = size; jobs = jobs.now }) }
-    ensures memory { IfErr result (λ why. why ≡ CallFault.Memory) }
-{
-    Seq::from_jobs(alloc, size, jobs).or(Err(CallFault::Memory))
-}
-
 /// Makes an order of validated jobs, which are all jobs. It allocates once, and returns `Memory` if that fails; it has
 /// no other error.
 pub(crate) fn order_of(alloc: Global, jobs: &[u32]) -> Result<Order, CallFault>
@@ -275,7 +264,8 @@ pub(crate) fn order_of(alloc: Global, jobs: &[u32]) -> Result<Order, CallFault>
     ensures made { IfOk result (λ made. made ≡ jobs.now) }
     ensures memory { IfErr result (λ why. why ≡ CallFault.Memory) }
 {
-    match Order::from_seq(sequence_of(alloc, jobs.len(), jobs)?) {
+    let sequence = Seq::from_jobs(alloc, jobs.len(), jobs).or(Err(CallFault::Memory))?;
+    match Order::from_seq(sequence) {
         Ok(order) => Ok(order),
         Err(_) => unreachable!(),
     }

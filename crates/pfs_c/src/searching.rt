@@ -1,5 +1,5 @@
 //! NEH and the rounds of a search, for C.
-ghost use Rattle.std.specs.Prelude.{◌≡◌, ◌≢◌, ◌+◌, ◌≤◌, length, IfOk, IfSome};
+ghost use Rattle.std.specs.Prelude.{◌≡◌, ◌≢◌, length, IfOk, IfSome};
 ghost use Rattle.pfs_search.specs.Solution.{IsImproved};
 ghost use Rattle.pfs_c.specs.Numbers.{Returns};
 ghost use Rattle.pfs_c.specs.Searching.{IsNeh, rounds_fault, take_fault, count_fault};

@@ -1,4 +1,4 @@
-use Rattle.std.proofs.Common.{◌≡◌, ◌+◌, ◌-◌, ◌++◌, ℕ, length, drop, ap, refl, subst, ◌∙◌, arith}
+use Rattle.std.proofs.Common.{◌++◌, ℕ, length, drop, ap, refl, subst, ◌∙◌, arith}
 use Rattle.std.proofs.lemmas.List.{length-append, length-drop, take_at}
 use Rattle.pfs_base.specs.FlowShop.{FlowShop}
 use Rattle.pfs_order.specs.Sequence.{IsSequence}
