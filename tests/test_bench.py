@@ -1,7 +1,7 @@
 """Functions over any bench that must not compile, and why. A function over any bench computes with times only by calls
-of the bench, which counts them: it can't add lengths, take a length or a time for a number, or copy the bench. Over a
-bench of lanes it can't add lanes or read them in the tables or the bench. A function that has its sum from the bench
-is in `crates/pfs_tests`, where it is proved."""
+of the bench, which counts them: it can't add lengths, take a length or a time for a number, or copy the bench. A
+function over a bench of lanes can't read them. A function that has its sum from the bench is in `crates/pfs_tests`,
+where it is proved."""
 import pathlib
 import re
 import shutil
@@ -48,29 +48,14 @@ pub fn copy<B: Bench>(bench: &B) -> Result<B, std::alloc::AllocError> {
 }
 # The same over a bench of lanes.
 REFUSED_LANES = {
-    "adds_lanes": ("""/// The sum of two rows of lanes.
-pub fn sum<B: LaneBench>(_bench: &B, a: B::Lanes, b: B::Lanes) -> B::Lanes {
-    a + b
+    "reads_lanes": ("""/// Whether a bench has lanes of 16 bits too.
+pub fn is_mixed(bench: &MeteredLanes) -> bool {
+    bench.narrow.is_some()
 }
-""", "error[invalid-operand-type]: `+` cannot be applied to `<B as LaneBench>::Lanes`"),
-    "reads_tails": ("""/// The tails of the first step.
-pub fn tails<B: LaneBench>(_bench: &B, tables: &Tables<B::Lanes>) -> B::Lanes {
-    tables.tails[0].again()
+""", "error[private-field]: field `narrow` of struct `MeteredLanes` is private"),
 }
-""", "error[private-field]: field `tails` of struct `Tables` is private"),
-    "reads_sums": ("""/// The number of sums.
-pub fn sums<B: LaneBench>(_bench: &B, tables: &Tables<B::Lanes>) -> usize {
-    tables.sums.len()
-}
-""", "error[private-field]: field `sums` of struct `Tables` is private"),
-    "reads_skewed_times": ("""/// The last time of the first step.
-pub fn time<B: LaneBench>(bench: &B) -> u16 {
-    bench.skewed.times()[0].last()
-}
-""", "error[unknown-field]: no field `skewed` on type `&B`"),
-}
-LANES_HEAD = """//! A function over any bench of lanes.
-use pfs_wave::{LaneBench, Lanes, Tables};
+LANES_HEAD = """//! A function over a bench of lanes.
+use pfs_wave::MeteredLanes;
 
 """
 

@@ -9,10 +9,10 @@ from support.needs import tool
 from support.program import Program
 
 
-# Functions that compute no cell: the choice of the jobs to remove, the ranking, and the whole search, also of a method
-# or a width, which has its bench as a value.
+# Functions that compute no cell: the choice of the jobs to remove, the ranking, and the whole search, also by rows,
+# which has its bench as a value.
 WITHOUT_CELLS = {"greedy::take_jobs", "rankings::rank_jobs", "rankings::sort_jobs", "solution::solve",
-                 "solution::solve_by_rows", "solution::solve_in_width", "solution::solve_in_lanes"}
+                 "solution::solve_by_rows", "solution::solve_in_lanes"}
 
 
 @pytest.mark.parametrize("module", ["pfs_audit::recurrence", "pfs_base::metered", "pfs_insert", "pfs_search"])
@@ -34,10 +34,8 @@ def loops(pfs: Program, loop: str) -> list[str] | None:
     return re.findall(rf"^[0-9a-f]+ <pfs_wave::{loop}\b.*>:\n((?:.+\n)+)", done.stdout, re.MULTILINE)
 
 
-# The numbers of instances of the loops. The program has seven widths with lanes of 16 bits, with lanes of 16 bits for
-# reduced times, and with lanes of 32 bits; two, two and four of these are computed one band after the other.
-LOOPS = {"times::fill_times": 21, "kernels::fill_tails": 13, "kernels::fill_sums": 13, "wide_steps::fill_tails": 8,
-         "wide_steps::fill_sums": 8}
+# The loops. The program has an instance of each for seven numbers of vectors, with lanes of 16 and of 32 bits.
+LOOPS = ["times::fill_times", "tails::fill_tails", "sums::fill_sums"]
 
 
 def calls(body: str) -> list[tuple[str, bool]]:
@@ -60,12 +58,12 @@ def calls(body: str) -> list[tuple[str, bool]]:
 
 @pytest.mark.parametrize("loop", LOOPS)
 def test_a_loop_of_a_wavefront_calls_nothing(pfs: Program, loop: str) -> None:
-    """Functions with bands in memory clear rows by `memset` before their loops, and copy a row by `memcpy` after them.
-    A program without symbols can't be tested and passes."""
+    """Before its loop a function clears a long array of vectors by `memset`. A program without symbols can't be tested
+    and passes."""
     functions = loops(pfs, loop)
     if functions is None:
         return
-    assert len(functions) == LOOPS[loop]
+    assert len(functions) == 14
     for body in functions:
         for call, again in calls(body):
-            assert not again and loop.startswith("wide_steps") and re.search(r"<mem(set|cpy)@plt>$", call), call
+            assert not again and call.endswith("<memset@plt>"), call

@@ -1,7 +1,7 @@
-"""Instances at the limits of a wavefront. It needs at least 8 jobs and, with more than 24 lanes, a cell for a third of
-the lanes that it computes. The product of the longest time and the number of operations on a path is less than 65,535
-with lanes of 16 bits, and less than 2^31 - 1 with lanes of 32 bits. Searches are compared with those of the second
-program."""
+"""Instances at the limits of a wavefront. It needs at least 8 jobs. A step has 1, 2, 3, 5, 8, 13 or 26 vectors of 8
+lanes, the fewest with a lane for each machine. The product of the longest time and the number of operations on a path
+is less than 65,535 with lanes of 16 bits, and less than 2^31 - 1 with lanes of 32 bits. Searches are compared with those
+of the second program."""
 import pathlib
 from random import Random
 
@@ -49,8 +49,8 @@ def with_one_long_time(jobs: int, machines: int, time: int) -> Instance:
 SHOPS: dict[str, Instance] = {
     **{f"{jobs} jobs on {machines} machines, times to {most}": drawn(jobs, machines, most)
        for jobs in (7, 8, 9) for machines in (1, 7, 8, 9, 15, 16, 17, 23, 24, 25) for most in (2, 99)},
-    **{f"{jobs} jobs on {machines} machines": drawn(jobs, machines, 99) for jobs, machines in (
-        (45, 25), (46, 25), (19, 40), (20, 40), (31, 64), (32, 64), (51, 104), (52, 104))},
+    **{f"{jobs} jobs on {machines} machines, times to {most}": drawn(jobs, machines, most) for most in (99, 100_000)
+       for jobs, machines in ((46, 25), (19, 40), (20, 41), (12, 64), (13, 65), (40, 104), (9, 105), (8, 200))},
     "times of 0": equal(9, 5, 0),
     "a longest path of 65,534": equal(8, 7, 4_681),
     "a longest path of 65,535 with 16 jobs": equal(16, 2, 3_855),
@@ -69,39 +69,25 @@ SHOPS: dict[str, Instance] = {
     # 2^31 - 1 is prime, so no instance has a longest path of it.
     "a longest path of 2^31 - 2": equal(16, 3, 119_304_647),
     "a longest path of 2^31": equal(16, 1, 134_217_728),
-    "15 jobs for 8 lanes of 32 bits": drawn(15, 5, 1_000_000),
-    "16 jobs for 8 lanes of 32 bits": drawn(16, 5, 1_000_000),
-    "31 jobs for 16 lanes of 32 bits": drawn(31, 12, 1_000_000),
-    "32 jobs for 16 lanes of 32 bits": drawn(32, 12, 1_000_000),
-    "79 jobs for 40 lanes of 32 bits": drawn(79, 25, 1_000_000),
-    "80 jobs for 40 lanes of 32 bits": drawn(80, 25, 1_000_000),
+    "lanes of 32 bits on 5 machines": drawn(15, 5, 1_000_000),
+    "lanes of 32 bits on 12 machines": drawn(32, 12, 1_000_000),
     "one time of 10^9": with_one_long_time(9, 5, 1_000_000_000),
     "16 jobs, in all 65,534": shop_of(16, 1, [4_096] * 14 + [4_095] * 2),
     "16 jobs, in all 65,535": shop_of(16, 1, [4_096] * 15 + [4_095]),
     "makespans from 5,000 to 100,000": drawn(24, 3, 8_000),
     "makespans to 70,000 on 9 machines": drawn(40, 9, 3_000),
     "a long job in lanes of 32 bits": with_long_job(24, 8, 6_000),
-    # A mixed bench has lanes of 16 bits where 8 mean times are at most 24,576, no time is more than 32,767 above the
-    # mean time, and the mean time and what a job's times are less are at most 16,384 together.
-    "8 mean times are 24,576": equal(16, 8, 3_072),
-    "8 mean times are 24,584": equal(16, 8, 3_073),
-    "a time is 32,767 above the mean time": shop_of(24, 3, [1_000] * 71 + [34_228]),
-    "a time is 32,768 above the mean time": shop_of(24, 3, [1_000] * 71 + [34_229]),
-    "a time and the mean are 8,192 apart": shop_of(16, 1, [0] + [8_738] * 14 + [8_740]),
-    "a time and the mean are 8,193 apart": shop_of(16, 1, [0] + [8_739] * 14 + [8_742]),
+    # A search in lanes of 32 bits also has lanes of 16 bits where no time is above 65,535.
+    "a time of 65,535": with_one_long_time(20, 5, 65_535),
+    "a time of 65,536": with_one_long_time(20, 5, 65_536),
     "equal times of 24,576 on one machine": equal(20, 1, 24_576),
-    "short jobs first on the first machine":
-        shop_of(48, 2, [100 * job for job in range(48)] + [4_700 - 100 * job for job in range(48)]),
-    "times of 0 and 4,000": shop_of(40, 8, [4_000 * (cell % 3 % 2) for cell in range(320)]),
-    "times from 2,000 to 2,100": shop_of(60, 12, [2_000 + cell * 37 % 101 for cell in range(720)]),
     "40 jobs": drawn(40, 6, 30),
     "21 jobs on 11 machines": drawn(21, 11, 500),
     "22 jobs on 20 machines": drawn(22, 20, 1_000),
 }
 
-# For these numbers of machines the least number of jobs that a wavefront serves, with times in lanes of 16 and of 32
-# bits, and more jobs, for lanes of 32 bits. They are too large for the second program.
-LARGE = [(70, 41), (119, 65), (405, 105), (111, 200), (128, 41), (208, 65), (416, 139)]
+# Sizes for each number of vectors from 8 on, which are too large for the second program.
+LARGE = [(70, 41), (119, 65), (405, 105), (111, 200)]
 
 
 def cubes_of(shop: Instance) -> int:

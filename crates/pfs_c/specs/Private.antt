@@ -1,5 +1,4 @@
 -- Definitions for contracts of private functions and for proofs only: no promise to users depends on them.
 pub mod Handle
-pub mod Kept
 pub mod Outcomes
 pub mod Rows

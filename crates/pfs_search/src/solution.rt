@@ -1,7 +1,7 @@
 //! The order that a search finds, and the order that some of its rounds find from a given one.
 ghost use Rattle.std.specs.Prelude.{◌≡◌, ◌<◌, ◌^◌, length, IfOk, IfErr};
 ghost use Rattle.pfs_base.specs.Paths.{makespan as makespan_of};
-ghost use Rattle.pfs_wave.specs.Served.{IsServed, lanes_of};
+ghost use Rattle.pfs_wave.specs.Served.{IsServed};
 ghost use Rattle.pfs_search.specs.Solution.{InLimits, IsFound, IsImproved};
 ghost use Rattle.pfs_search.specs.Private.Steps.{IsFoundBy, IsImprovedBy, MayContinue, MayStart, UnlessMemory};
 
@@ -13,9 +13,7 @@ use pfs_audit::makespan;
 use pfs_base::{Bench, Instance, Length, Shop, Span};
 use pfs_insert::{HeadsTails, Inserter};
 use pfs_order::Order;
-use pfs_wave::{
-    Bits16, Bits32, LaneSize, MeteredLanes, Method, MixedLanes, Wavefront, Width, method_for,
-};
+use pfs_wave::{MeteredLanes, Wavefront, is_served};
 use rand_core::SeedableRng;
 use rand_pcg::Pcg32;
 use std::alloc::Global;
@@ -34,7 +32,7 @@ pub struct Solution {
 /// NEH's order (Nawaz, Enscore, Ham 1983), followed by rounds of iterated greedy (Ruiz, Stützle 2007). Each round
 /// removes `rounds.take` jobs, chosen by the next random words of Pcg32 for the seed, inserts each at its best place,
 /// and makes `rounds.passes` passes. Best places are found by heads and tails (Taillard 1990): along anti-diagonals
-/// where a wavefront serves the instance (`method_for`), and else by rows. The function reserves all memory before NEH
+/// where a wavefront serves the instance (`is_served`), and else by rows. The function reserves all memory before NEH
 /// begins. It returns `Memory` with `done` 0 where that fails, and no other error.
 pub fn solve(alloc: Global, instance: &Instance, rounds: Rounds) -> Result<Solution, SearchFault>
     requires limits { InLimits instance.now.shop 0 rounds }
@@ -43,10 +41,10 @@ pub fn solve(alloc: Global, instance: &Instance, rounds: Rounds) -> Result<Solut
     ensures short { IfOk result (λ found. found.makespan < 10 ^ 18) }
     ensures fault { IfErr result (λ fault. fault ≡ SearchFault.Memory 0) }
 {
-    match method_for(instance) {
-        Method::HeadsTails => solve_by_rows(alloc, instance, rounds),
-        Method::Wavefront16(width) => { solve_in_width::<Bits16>(alloc, instance, width, rounds) }
-        Method::Wavefront32(width) => { solve_in_width::<Bits32>(alloc, instance, width, rounds) }
+    if is_served(instance) {
+        solve_in_lanes(alloc, instance, rounds)
+    } else {
+        solve_by_rows(alloc, instance, rounds)
     }
 }
 
@@ -69,14 +67,10 @@ pub fn improve(
     ensures fault { IfErr result (λ fault. fault ≡ SearchFault.Memory 0) }
 {
     let start = measure(alloc, instance, order)?;
-    match method_for(instance) {
-        Method::HeadsTails => improve_by_rows(alloc, instance, start, first, rounds),
-        Method::Wavefront16(width) => {
-            improve_in_width::<Bits16>(alloc, instance, width, start, first, rounds)
-        }
-        Method::Wavefront32(width) => improve_in_width::<Bits32>(
-            alloc, instance, width, start, first, rounds,
-        ),
+    if is_served(instance) {
+        improve_in_lanes(alloc, instance, start, first, rounds)
+    } else {
+        improve_by_rows(alloc, instance, start, first, rounds)
     }
 }
 
@@ -102,46 +96,21 @@ fn solve_by_rows(
     })
 }
 
-// `solve` by a wavefront of a given width and size of lanes, on a mixed bench.
-fn solve_in_width<S: LaneSize>(
-    alloc: Global,
-    instance: &Instance,
-    width: Width,
-    rounds: Rounds,
-) -> Result<Solution, SearchFault>
-    requires served { IsServed instance.now.shop (lanes_of width) S.Band.CAP }
-    requires limits { InLimits instance.now.shop 0 rounds }
-    ensures { UnlessMemory result (λ found.
-        IsFoundBy instance.now.shop rounds found.order found.makespan found.cells) }
-{
-    match width {
-        Width::Lanes8 => solve_in_lanes::<S::Lanes8>(alloc, instance, rounds),
-        Width::Lanes16 => solve_in_lanes::<S::Lanes16>(alloc, instance, rounds),
-        Width::Lanes24 => solve_in_lanes::<S::Lanes24>(alloc, instance, rounds),
-        Width::Lanes40 => solve_in_lanes::<S::Lanes40>(alloc, instance, rounds),
-        Width::Lanes64 => solve_in_lanes::<S::Lanes64>(alloc, instance, rounds),
-        Width::Lanes104 => solve_in_lanes::<S::Lanes104>(alloc, instance, rounds),
-        Width::Lanes208 => solve_in_lanes::<S::Lanes208>(alloc, instance, rounds),
-    }
-}
-
 // `solve` by a wavefront.
-fn solve_in_lanes<L: MixedLanes>(
+fn solve_in_lanes(
     alloc: Global,
     instance: &Instance,
     rounds: Rounds,
 ) -> Result<Solution, SearchFault>
-    requires served { IsServed instance.now.shop L.WIDTH L.Band.CAP }
+    requires served { IsServed instance.now.shop 2147483647 }
     requires limits { InLimits instance.now.shop 0 rounds }
     ensures { UnlessMemory result (λ found.
         IsFoundBy instance.now.shop rounds found.order found.makespan found.cells) }
 {
-    let Ok(mut bench) = MeteredLanes::<L>::mixed(alloc, instance) else {
+    let Ok(mut bench) = MeteredLanes::mixed(alloc, instance) else {
         return Err(SearchFault::Memory { done: 0 });
     };
-    let Ok(inserter) = Wavefront::new(alloc, &bench) else {
-        return Err(SearchFault::Memory { done: 0 });
-    };
+    let inserter = Wavefront::new(&bench);
     let found = search(alloc, &mut bench, inserter, rounds)?;
     Ok(Solution {
         order: found.order,
@@ -174,50 +143,23 @@ fn improve_by_rows(
     })
 }
 
-// `improve` by a wavefront of a given width and size of lanes, on a mixed bench, from an order and its makespan.
-fn improve_in_width<S: LaneSize>(
-    alloc: Global,
-    instance: &Instance,
-    width: Width,
-    start: Kept<Span>,
-    first: u32,
-    rounds: Rounds,
-) -> Result<Solution, SearchFault>
-    requires served { IsServed instance.now.shop (lanes_of width) S.Band.CAP }
-    requires start { MayContinue instance.now.shop start.order start.span first rounds }
-    ensures { UnlessMemory result (λ found.
-        IsImprovedBy instance.now.shop start.order first rounds found.order found.makespan found.cells) }
-{
-    match width {
-        Width::Lanes8 => improve_in_lanes::<S::Lanes8>(alloc, instance, start, first, rounds),
-        Width::Lanes16 => improve_in_lanes::<S::Lanes16>(alloc, instance, start, first, rounds),
-        Width::Lanes24 => improve_in_lanes::<S::Lanes24>(alloc, instance, start, first, rounds),
-        Width::Lanes40 => improve_in_lanes::<S::Lanes40>(alloc, instance, start, first, rounds),
-        Width::Lanes64 => improve_in_lanes::<S::Lanes64>(alloc, instance, start, first, rounds),
-        Width::Lanes104 => improve_in_lanes::<S::Lanes104>(alloc, instance, start, first, rounds),
-        Width::Lanes208 => improve_in_lanes::<S::Lanes208>(alloc, instance, start, first, rounds),
-    }
-}
-
 // `improve` by a wavefront, from an order and its makespan.
-fn improve_in_lanes<L: MixedLanes>(
+fn improve_in_lanes(
     alloc: Global,
     instance: &Instance,
     start: Kept<Span>,
     first: u32,
     rounds: Rounds,
 ) -> Result<Solution, SearchFault>
-    requires served { IsServed instance.now.shop L.WIDTH L.Band.CAP }
+    requires served { IsServed instance.now.shop 2147483647 }
     requires start { MayContinue instance.now.shop start.order start.span first rounds }
     ensures { UnlessMemory result (λ found.
         IsImprovedBy instance.now.shop start.order first rounds found.order found.makespan found.cells) }
 {
-    let Ok(mut bench) = MeteredLanes::<L>::mixed(alloc, instance) else {
+    let Ok(mut bench) = MeteredLanes::mixed(alloc, instance) else {
         return Err(SearchFault::Memory { done: 0 });
     };
-    let Ok(wavefront) = Wavefront::new(alloc, &bench) else {
-        return Err(SearchFault::Memory { done: 0 });
-    };
+    let wavefront = Wavefront::new(&bench);
     let shorter = continue_search(alloc, &mut bench, wavefront, start, first, rounds)?;
     Ok(Solution {
         order: shorter.order,

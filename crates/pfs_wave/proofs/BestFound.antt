@@ -1,16 +1,14 @@
 -- The best place of a job, from the lanes of the sums.
-use Rattle.std.proofs.Common.{◌≡◌, ℕ, ◌+◌, ◌-◌, ◌<◌, ◌≤◌, List, length, map, take, drop, get_or, ap, ◌∙◌, sym}
-use Rattle.std.proofs.Common.{arith, inl, inr}
-use Rattle.std.proofs.lemmas.Bool.{cases_lt}
+use Rattle.std.proofs.Common.{◌≡◌, ℕ, ◌+◌, ◌<◌, ◌≤◌, List, length, map, take, drop, get_or, ap, ◌∙◌, sym}
+use Rattle.std.proofs.Common.{arith}
 use Rattle.std.proofs.lemmas.List.{get_or-take, get_or-drop, take-map, drop-map}
 use Rattle.std.specs.List.{slice_index_or}
 use Rattle.pfs_base.specs.FlowShop.{FlowShop}
-use Rattle.pfs_insert.specs.Insertion.{makespan_with, IsFirstLeast}
+use Rattle.pfs_insert.specs.Insertion.{makespan_with}
 use Rattle.pfs_insert.specs.Inserter.{IsBestPlace}
 use Rattle.pfs_insert.proofs.Published.BestPlaces.{best_place_found}
-use Rattle.pfs_wave.specs.Lanes.{LaneRule, capped, Rows, sums_at}
+use Rattle.pfs_wave.specs.Lanes.{capped}
 use Rattle.pfs_wave.specs.Least.{IsLeastSoFar}
-use Rattle.pfs_wave.specs.Wavefront.{FitsLanes, step_count}
 use Rattle.pfs_wave.proofs.CappedLeast.{capped_least_law}
 
 -- a number of a part of a list
@@ -20,36 +18,6 @@ number_of_part number all first count at lt =
     ap (λ l. get_or l at 0) (sym (take-map number count (drop first all)) ∙ ap (take count)
     (sym (drop-map number first all)))
     ∙ get_or-take count (drop first (map number all)) at 0 lt ∙ get_or-drop first (map number all) at 0
-
--- `row` is the row of sums after all steps, and `value` is the value at each place
-module _ (rule : LaneRule) (shop : FlowShop) (order : List ℕ) (width : ℕ) (times tails : Rows)
-    (job_times row filled sums : List ℕ) (value : ℕ → ℕ) (fits : FitsLanes shop width)
-    (are : (place lane : ℕ) → place ≤ length order → lane < width → shop.machines ≤ lane + 1
-    → place + lane < step_count shop order
-    → slice_index_or (sums_at rule times tails job_times width (place + lane + 1)) lane 0 ≡ value place)
-    (row_is : row ≡ sums_at rule times tails job_times width (step_count shop order))
-    (filled_are : (step : ℕ) → step < step_count shop order
-    → slice_index_or filled step 0 ≡ slice_index_or (sums_at rule times tails job_times width (step + 1)) (width - 1) 0)
-    (kept : (place : ℕ) → place + width ≤ step_count shop order
-    → slice_index_or sums place 0 ≡ slice_index_or filled (place + (width - 1)) 0)
-    (taken : (place : ℕ) → place < length order + 1 → step_count shop order < place + width
-    → slice_index_or sums place 0 ≡ slice_index_or row (step_count shop order - 1 - place) 0) where
-  pub sum_at : (place : ℕ) → place < length order + 1 → slice_index_or sums place 0 ≡ value place
-  sum_at place lt =
-      let some = fits.some in
-      let few = fits.few in
-      let steps = step_count shop order in
-      elim (cases_lt steps (place + width)) [
-        | inl late ↦
-            let lane = steps - 1 - place in
-            let all : steps ≡ place + lane + 1 = omega arith in
-            taken place lt late ∙ ap (λ r. slice_index_or r lane 0) row_is
-            ∙ ap (λ n. slice_index_or (sums_at rule times tails job_times width n) lane 0) all
-            ∙ are place lane (omega arith) (omega arith) (omega arith) (omega arith)
-        | inr early ↦
-            kept place early ∙ filled_are (place + (width - 1)) (omega arith)
-            ∙ are place (width - 1) (omega arith) (omega arith) (omega arith) (omega arith)
-      ]
 
 module _ (shop : FlowShop) (order : List ℕ) (job : ℕ) (sums : List ℕ) where
   -- where the makespan with the job at another place is below the cap, the first place of the least sum is the best
@@ -69,26 +37,3 @@ module _ (shop : FlowShop) (order : List ℕ) (job : ℕ) (sums : List ℕ) wher
       let capped_is = capped_least_law cap (makespan_with shop order job) (λ at. slice_index_or sums at 0)
       (length order + 1) place sum_at first (omega (arith, other_is, no_more, short)) in
       best_place_found shop order job capped_is.0 (here ∙ capped_is.1)
-
-  -- where each sum is a makespan less the same number, the first place of the least sum is the best place
-  pub found_less : (more less : ℕ) → ((place : ℕ) → place < length order + 1
-      → slice_index_or sums place 0 + more ≡ makespan_with shop order job place + less)
-      → {count place least : ℕ} → IsLeastSoFar (λ place. slice_index_or sums place 0) count place least
-      → count ≡ length order + 1 → IsBestPlace shop order job place (least + more - less)
-  found_less more less sum_at {count} {place} {least} so_far many =
-      let here = so_far.value_is in
-      let sums_first = rw many at so_far.first in
-      let inside : place < length order + 1 = sums_first.within in
-      let at_place = sum_at place inside in
-      let first : IsFirstLeast (makespan_with shop order job) (length order + 1) place = record {
-        within = inside;
-        least = λ other lt.
-            let other_is = sum_at other lt in
-            let no_more = sums_first.least other lt in
-            omega arith;
-        first = λ other lt.
-            let other_is = sum_at other (omega arith) in
-            let more = sums_first.first other lt in
-            omega arith;
-      } in
-      best_place_found shop order job first (omega arith)

@@ -1,63 +1,57 @@
 -- Skewed times that are kept from one sequence to the next.
-use Rattle.std.proofs.Common.{inl, inr, max, ◌≡◌, ℕ, zero, suc, ◌+◌, ◌-◌, ◌<◌, ◌≤◌, List, [], ◌++◌, length, take}
-use Rattle.std.proofs.Common.{get_or}
-use Rattle.std.proofs.Common.{replicate, ap, ◌∙◌, sym, refl, arith}
-use Rattle.std.proofs.lemmas.Bool.{cases_lt}
+use Rattle.std.proofs.Common.{inl, inr, max, ◌≡◌, ℕ, zero, suc, ◌+◌, ◌-◌, ◌*◌, ◌<◌, ◌≤◌, List, [], ◌++◌, length, take}
+use Rattle.std.proofs.Common.{get_or, replicate, map, ap, ◌∙◌, sym, refl, arith}
+use Rattle.std.proofs.lemmas.Bool.{cases_lt, lt-ltb, le-ltb}
 use Rattle.std.proofs.lemmas.List.{get_or-take, get_or-replicate, get_or_default, get_or_past, length-take-le}
-use Rattle.std.proofs.lemmas.List.{length-replicate, same_lists}
+use Rattle.std.proofs.lemmas.List.{length-replicate, same_lists, take-map}
 use Rattle.std.specs.List.{All}
 use Rattle.pfs_base.specs.FlowShop.{FlowShop}
-use Rattle.pfs_wave.specs.Lanes.{rows_of, zeros}
-use Rattle.pfs_wave.specs.Reduced.{AreReduced}
-use Rattle.pfs_wave.specs.Private.ReducedRows.{HasReducedRows}
-use Rattle.pfs_wave.specs.Wavefront.{AreSkewed, HasRows}
-use Rattle.pfs_wave.specs.Private.HeldRows.{IsPadded, IsKept, HoldLanes, HoldOutside, AreMoved, IsHolding, row_lane}
-use Rattle.pfs_wave.proofs.SkewedTimes.{are_skewed, are_reduced}
+use Rattle.pfs_wave.specs.Lanes.{Rows, zeros}
+use Rattle.pfs_wave.specs.Private.Blocks.{AreTimes, Cells, HasRows, step_of}
+use Rattle.pfs_wave.specs.Private.HeldRows.{AreMoved, HoldLanes, HoldOutside, IsHolding, IsKept, IsPadded, column, rows_at}
+use Rattle.pfs_wave.specs.Wavefront.{padded_time}
+use Rattle.pfs_wave.proofs.SkewedTimes.{vector_inside}
 
-module _ {rows : List (List ℕ)} {len : ℕ} {order : List ℕ} {width : ℕ} {times : List (List ℕ)}
-    (holding : IsHolding rows len order width times) where
+module _ {count jobs : ℕ} {rows : List (List ℕ)} {len : ℕ} {order : List ℕ} {times : List (List ℕ)}
+    (holding : IsHolding count jobs rows len order times) where
   -- the sequence has `len` jobs
   pub held_len : length (take len order) ≡ len
   held_len = length-take-le len order (omega (arith, holding.some, holding.steps))
 
-  pub padded_take : (none : ℕ) → none + 1 ≡ length rows → IsPadded order (take len order) none
-  padded_take none is row inside =
+  pub padded_take : IsPadded order (take len order) jobs
+  padded_take row inside =
       elim (cases_lt row len) [
-        | inl before ↦ get_or_default order row 0 none inside ∙ sym (get_or-take len order row none before)
+        | inl before ↦ get_or_default order row 0 jobs inside ∙ sym (get_or-take len order row jobs before)
         | inr after ↦
-            let rest = holding.rest row after inside in
             let long = held_len in
-            let here : get_or order row 0 ≡ none = omega (arith, rest, is) in
-            here ∙ sym (get_or_past (take len order) row none (omega (arith, long)))
+            holding.rest row after inside ∙ sym (get_or_past (take len order) row jobs (omega (arith, long)))
       ]
 
-  jobs_below : (jobs : ℕ) → length rows ≡ jobs + 1 → All (λ job. job < jobs) (take len order)
-  jobs_below jobs count row d lt =
+  -- its times are those of the shop
+  pub holding_times : (shop : FlowShop) (steps : ℕ) → jobs ≡ shop.jobs → HasRows shop count rows → steps ≤ length order
+      → AreTimes count steps (padded_time shop (take len order)) times
+  holding_times shop steps jobs_is has few =
       let long = held_len in
-      let inside : row < len = omega (arith, long) in
       let some = holding.some in
-      let steps = holding.steps in
-      let all : row < length order = omega (arith, some, steps) in
-      let here : get_or (take len order) row d ≡ get_or order row 0 =
-      get_or-take len order row d inside ∙ get_or_default order row d 0 all in
-      omega (arith, here, holding.jobs_in row inside, count)
-
-  pub holding_skewed : (shop : FlowShop) → shop.machines ≤ width → HasRows shop width rows
-      → AreSkewed shop (take len order) width (rows_of times)
-  holding_skewed shop fits has =
-      let long = held_len in
-      are_skewed shop rows order (take len order) width times has (jobs_below shop.jobs has.count)
-      (padded_take shop.jobs (sym has.count))
-      holding.all_times (omega (arith, long, holding.some, holding.steps, holding.all_times)) holding.wide holding.lanes
-
-  pub holding_reduced : (shop : FlowShop) (reduction : ℕ) → shop.machines ≤ width
-      → HasReducedRows shop reduction width rows
-      → AreReduced shop (take len order) reduction width (rows_of times)
-  holding_reduced shop reduction fits has =
-      let long = held_len in
-      are_reduced shop rows order (take len order) reduction width times has (jobs_below shop.jobs has.count)
-      (padded_take shop.jobs (sym has.count))
-      holding.all_times (omega (arith, long, holding.some, holding.steps, holding.all_times)) holding.wide holding.lanes
+      let all = holding.steps in
+      record {
+        cells_are = λ step lt k k_lt row lane lane_lt here.
+            ap (λ s. get_or (step_of count times s k) lane 0) (sym here)
+            ∙ (holding.lanes k k_lt).times_are row lane lane_lt (omega arith)
+            ∙ elim (cases_lt row len) [
+              | inl some_job ↦
+                  let job = get_or order row 0 in
+                  let job_lt = holding.jobs_in row some_job in
+                  let taken : get_or (take len order) row 0 ≡ job = get_or-take len order row 0 some_job in
+                  has.jobs_are job (omega arith) lane k lane_lt k_lt
+                  ∙ rw (lt-ltb row (length (take len order)) (omega arith), taken) refl
+              | inr none ↦
+                  ap (λ j. get_or (step_of count rows j k) lane 0) (holding.rest row none (omega arith) ∙ jobs_is)
+                  ∙ has.none lane k lane_lt k_lt ∙ rw (le-ltb row (length (take len order)) (omega arith)) refl
+            ];
+        none_before = λ step lt lane k lane_lt k_lt early.
+            (holding.lanes k k_lt).none_before step lane early lane_lt (omega arith);
+      }
 
 -- the front of the written rows is the sequence
 pub taken_is : (order seq : List ℕ) (none : ℕ) → IsPadded order seq none → length seq ≤ length order
@@ -71,68 +65,63 @@ taken_is order seq none padded enough =
     ∙ padded row (omega arith) ∙ get_or_default seq row none d inside)
 
 -- all jobs and the padding are numbers of rows
-pub padded_in : (seq others : List ℕ) (rows none : ℕ) → none + 1 ≡ rows → All (λ job. job + 1 < rows) seq
-    → IsPadded others seq none → All (λ row. row < rows) others
-padded_in seq others rows none last jobs padded row d lt =
+pub padded_in : (seq others : List ℕ) (jobs : ℕ) → All (λ job. job < jobs) seq → IsPadded others seq jobs
+    → All (λ row. row ≤ jobs) others
+padded_in seq others jobs below padded row d lt =
     let here = get_or_default others row d 0 lt in
     elim (cases_lt row (length seq)) [
       | inl inside ↦
-          let job = jobs row none inside in
+          let job = below row jobs inside in
           omega (arith, here, padded row lt, job)
       | inr after ↦
-          let rest = get_or_past seq row none after in
+          let rest = get_or_past seq row jobs after in
           omega (arith, here, padded row lt, rest)
     ]
 
 -- another sequence is written, and its times are skewed
-pub holding_more : {rows : List (List ℕ)} {len : ℕ} {order : List ℕ} {width : ℕ} {times : List (List ℕ)}
-    (seq others : List ℕ) (new : List (List ℕ)) (none : ℕ) → IsHolding rows len order width times → none + 1
-    ≡ length rows
-    → All (λ job. job + 1 < length rows) seq → length seq < length rows → length others ≡ length order
-    → IsPadded others seq none → length new ≡ length times
-    → ((step : ℕ) → step < length new → length (rows_of new step) ≡ width) → HoldLanes rows others 0 width new
-    → IsHolding rows (length seq) others width new
-holding_more {rows} {len} {order} {width} {times} seq others new none old last jobs few steps padded all wide lanes
-    = record {
-      some = few;
-      steps = omega (arith, old.steps, steps);
-      rows_in = padded_in seq others (length rows) none last jobs padded;
-      jobs_in = λ row lt.
-          let inside : row < length others = omega (arith, few, old.steps, steps) in
-          let here = get_or_default seq row none 0 lt in
-          omega (arith, padded row inside, here, jobs row 0 lt);
-      rest = λ row after inside.
-          let rest = get_or_past seq row none after in
-          omega (arith, padded row inside, rest);
-      all_times = omega (arith, old.all_times, steps, all);
-      wide = wide;
-      lanes = lanes;
-    }
+pub holding_more : {count jobs : ℕ} {rows : List (List ℕ)} {len : ℕ} {order : List ℕ} {times : List (List ℕ)}
+    (seq others : List ℕ) (new : List (List ℕ)) → IsHolding count jobs rows len order times
+    → All (λ job. job < jobs) seq → length seq ≤ jobs → length others ≡ length order → IsPadded others seq jobs
+    → length new ≡ length times
+    → ((k : ℕ) → k < count → HoldLanes (rows_at count rows others k) (length others) (column count new k))
+    → IsHolding count jobs rows (length seq) others new
+holding_more {count} {jobs} {rows} {len} {order} {times} seq others new old below few steps padded all lanes = record {
+  some = few;
+  steps = omega (arith, old.steps, steps);
+  rows_in = padded_in seq others jobs below padded;
+  jobs_in = λ row lt.
+      let inside : row < length others = omega (arith, few, old.steps, steps) in
+      let here = get_or_default seq row jobs 0 lt in
+      omega (arith, padded row inside, here, below row 0 lt);
+  rest = λ row after inside. padded row inside ∙ get_or_past seq row jobs after;
+  all_times = all ∙ old.all_times ∙ ap (λ n. n * count) (sym steps);
+  lanes = lanes;
+}
 
 -- an empty list, resized
-none_taken : (count : ℕ) (rest : List ℕ) → take count [] ++ rest ≡ rest
+none_taken : {X : Type 0} (count : ℕ) (rest : List X) → take count [] ++ rest ≡ rest
 none_taken zero rest = refl
 none_taken (suc count) rest = refl
 
-pub resized_none : (items : List ℕ) (count len value : ℕ) → items ≡ [] → len ≡ 0
+pub resized_none : {X : Type 0} (items : List X) (count len : ℕ) (value : X) → items ≡ [] → len ≡ 0
     → take count items ++ replicate (count - len) value ≡ replicate count value
 resized_none items count len value none is =
     let all : count - len ≡ count = omega arith in
     ap (λ l. take count l ++ replicate (count - len) value) none ∙ none_taken count (replicate (count - len) value)
     ∙ ap (λ n. replicate n value) all
 
--- a row of the new order has the times of a row of the order before, where both have the same job
-same_row : (rows : List (List ℕ)) (order others : List ℕ) (row other lane : ℕ) → get_or order other 0
-    ≡ get_or others row 0
-    → row_lane rows order other lane ≡ row_lane rows others row lane
-unfolding row_lane
-same_row rows order others row other lane same = ap (λ job. get_or (get_or rows job []) lane 0) same
-
 -- the skewed times that are right for the new sequence already
-module _ (rows : List (List ℕ)) (order others held seq : List ℕ) (none front back width : ℕ) (times new : List (List ℕ))
-    (old : HoldLanes rows order 0 width times) (kept : IsKept held seq front back)
-    (was : IsPadded order held none) (is : IsPadded others seq none)
-    (steps : length times ≡ length order) (same_steps : length others ≡ length order) where
+module _ (count : ℕ) (rows : List (List ℕ)) (order others held seq : List ℕ) (none front back k : ℕ) (times new : Rows)
+    (old : HoldLanes (rows_at count rows order k) (length order) times) (kept : IsKept held seq front back)
+    (was : IsPadded order held none) (is : IsPadded others seq none) (same_steps : length others ≡ length order) where
+  abbrev to_skew : Rows
+  to_skew = rows_at count rows others k
+
+  -- a row of the new order has the times of a row of the order before, where both have the same job
+  same_row : (row other lane : ℕ) → get_or order other 0 ≡ get_or others row 0
+      → get_or (rows_at count rows order k other) lane 0 ≡ get_or (to_skew row) lane 0
+  same_row row other lane same = ap (λ job. get_or (step_of count rows job k) lane 0) same
+
   -- rows with the same job
   same_job : (row other : ℕ) → row < length others → other < length order → get_or held other none ≡ get_or seq row none
       → get_or order other 0 ≡ get_or others row 0
@@ -169,32 +158,30 @@ module _ (rows : List (List ℕ)) (order others held seq : List ℕ) (none front
       ∙ sym (get_or_past seq row none past_seq))
 
   -- a sequence that keeps no row at its end
-  pub outside_none : HoldOutside rows others front (max (length held) (length seq)) (length times) 0 width times
+  pub outside_none : HoldOutside to_skew front (max (length held) (length seq)) (length others) (length others) times
   outside_none =
       let in_held = kept.in_held in
       record {
-        front = λ row lane before low lt inside.
-            old.times_are row lane low lt inside
-            ∙ same_row rows order others row row lane (front_job row before (omega arith));
-        back = λ row lane after low lt inside.
-            old.times_are row lane low lt inside
-            ∙ same_row rows order others row row lane (none_job row (omega arith) (omega arith) (omega arith));
-        later = λ row lane after low lt inside. absurd (omega arith);
-        none_before = old.none_before;
+        front = λ row lane before lt inside.
+            old.times_are row lane lt (omega arith) ∙ same_row row row lane (front_job row before (omega arith));
+        back = λ row lane after lt inside.
+            old.times_are row lane lt (omega arith)
+            ∙ same_row row row lane (none_job row (omega arith) (omega arith) (omega arith));
+        later = λ row lane after lt inside. absurd (omega arith);
+        none_before = λ step lane early lt inside. old.none_before step lane early lt (omega arith);
       }
 
   -- a sequence that is at most as long as the one before
   pub outside_kept : length seq ≤ length held
-      → HoldOutside rows others front (length held - back) (length times) 0 width times
+      → HoldOutside to_skew front (length held - back) (length others) (length others) times
   outside_kept no_more =
       let in_held = kept.in_held in
       record {
-        front = λ row lane before low lt inside.
-            old.times_are row lane low lt inside
-            ∙ same_row rows order others row row lane (front_job row before (omega arith));
-        back = λ row lane after low lt inside.
-            old.times_are row lane low lt inside
-            ∙ same_row rows order others row row lane
+        front = λ row lane before lt inside.
+            old.times_are row lane lt (omega arith) ∙ same_row row row lane (front_job row before (omega arith));
+        back = λ row lane after lt inside.
+            old.times_are row lane lt (omega arith)
+            ∙ same_row row row lane
             (elim (cases_lt (length seq) (length held)) [
               | inl shorter ↦
                   let no_back = kept.no_longer shorter in
@@ -204,97 +191,93 @@ module _ (rows : List (List ℕ)) (order others held seq : List ℕ) (none front
                   ap (λ n. get_or order n 0) (sym zero_by)
                   ∙ back_job row (omega arith) (omega arith) (omega arith) (omega arith)
             ]);
-        later = λ row lane after low lt inside. absurd (omega arith);
-        none_before = old.none_before;
+        later = λ row lane after lt inside. absurd (omega arith);
+        none_before = λ step lane early lt inside. old.none_before step lane early lt (omega arith);
       }
 
   -- a sequence that grew
-  module _ (longer : length held < length seq) (room : length seq + width ≤ length times)
-      (moved : AreMoved (length seq - back + width) (length seq + width) (length seq - length held) times new) where
-    at_later_steps : (row lane : ℕ) → length seq - back + width ≤ row + lane → lane < width → row + lane < length new
-        → get_or (get_or new (row + lane) []) lane 0 ≡ row_lane rows others row lane
+  module _ (longer : length held < length seq) (room : length seq + 8 ≤ length others)
+      (moved : AreMoved (length seq - back + 8) (length seq + 8) (length seq - length held) times new) where
+    at_later_steps : (row lane : ℕ) → length seq - back + 8 ≤ row + lane → lane < 8 → row + lane < length others
+        → get_or (new (row + lane)) lane 0 ≡ get_or (to_skew row) lane 0
     at_later_steps row lane after lt inside =
         let in_held = kept.in_held in
         let in_seq = kept.in_seq in
         let by = length seq - length held in
-        let all = moved.steps in
-        elim (cases_lt (row + lane) (length seq + width)) [
+        elim (cases_lt (row + lane) (length seq + 8)) [
           | inl within ↦
               let at : row + lane - by ≡ (row - by) + lane = omega arith in
               ap (λ l. get_or l lane 0) (moved.moved (row + lane) (omega arith) within)
-              ∙ ap (λ n. get_or (get_or times n []) lane 0) at
-              ∙ old.times_are (row - by) lane (omega arith) lt (omega arith)
-              ∙ same_row rows order others row (row - by) lane
-              (back_job row (omega arith) (omega arith) (omega arith) (omega arith))
+              ∙ ap (λ n. get_or (times n) lane 0) at
+              ∙ old.times_are (row - by) lane lt (omega arith)
+              ∙ same_row row (row - by) lane (back_job row (omega arith) (omega arith) (omega arith) (omega arith))
           | inr beyond ↦
               ap (λ l. get_or l lane 0) (moved.after (row + lane) beyond)
-              ∙ old.times_are row lane (omega arith) lt (omega arith)
-              ∙ same_row rows order others row row lane (none_job row (omega arith) (omega arith) (omega arith))
+              ∙ old.times_are row lane lt (omega arith)
+              ∙ same_row row row lane (none_job row (omega arith) (omega arith) (omega arith))
         ]
 
     pub outside_moved :
-        HoldOutside rows others front (length seq - back + width) (length seq - back + width) 0 width new
+        HoldOutside to_skew front (length seq - back + 8) (length seq - back + 8) (length others) new
     outside_moved =
         let in_held = kept.in_held in
         let in_seq = kept.in_seq in
-        let all = moved.steps in
         record {
-          front = λ row lane before low lt inside.
+          front = λ row lane before lt inside.
               ap (λ l. get_or l lane 0) (moved.before (row + lane) (omega arith))
-              ∙ old.times_are row lane low lt (omega arith)
-              ∙ same_row rows order others row row lane (front_job row before (omega arith));
-          back = λ row lane after low lt inside. at_later_steps row lane (omega arith) lt inside;
-          later = λ row lane after low lt inside. at_later_steps row lane after lt inside;
-          none_before = λ step lane early low lt inside.
+              ∙ old.times_are row lane lt (omega arith) ∙ same_row row row lane (front_job row before (omega arith));
+          back = λ row lane after lt inside. at_later_steps row lane (omega arith) lt inside;
+          later = λ row lane after lt inside. at_later_steps row lane after lt inside;
+          none_before = λ step lane early lt inside.
               ap (λ l. get_or l lane 0) (moved.before step (omega arith))
-              ∙ old.none_before step lane early low lt (omega arith);
+              ∙ old.none_before step lane early lt (omega arith);
         }
 
--- steps that are moved keep the width of a row
-pub moved_wide : (from to by width : ℕ) (times new : List (List ℕ)) → AreMoved from to by times new
-    → ((step : ℕ) → step < length times → length (rows_of times step) ≡ width) → (step : ℕ) → step < length new
-    → length (rows_of new step) ≡ width
-moved_wide from to by width times new moved wide step inside =
-    let same = moved.steps in
-    elim (cases_lt step from) [
-      | inl before ↦ ap length (moved.before step before) ∙ wide step (omega arith)
-      | inr later ↦ elim (cases_lt step to) [
-        | inl within ↦ ap length (moved.moved step later within) ∙ wide (step - by) (omega arith)
-        | inr after ↦ ap length (moved.after step after) ∙ wide step (omega arith)
-      ]
-    ]
-
--- before the first sequence, no row is skewed
-pub outside_begun : (rows : List (List ℕ)) (order : List ℕ) (steps width : ℕ) (times : List (List ℕ))
-    → times ≡ replicate steps (zeros width) → HoldOutside rows order 0 steps steps 0 width times
-outside_begun rows order steps width times is =
-    let long : length times ≡ steps = ap length is ∙ length-replicate steps (zeros width) in
-    record {
-      front = λ row lane before. absurd (omega arith);
-      back = λ row lane after le lt inside. absurd (omega arith);
-      later = λ row lane after le lt inside. absurd (omega arith);
-      none_before = λ step lane early le lt inside.
-          ap (λ t. get_or (get_or t step []) lane 0) is
-          ∙ ap (λ l. get_or l lane 0) (get_or-replicate steps step (zeros width) [] (omega arith))
-          ∙ get_or-replicate width lane 0 0 lt;
-    }
-
--- a sequence of no jobs, whose rows are all that of no job
-pub holding_none : (rows : List (List ℕ)) (jobs width steps : ℕ) (order : List ℕ) (times : List (List ℕ))
-    → length rows ≡ jobs + 1 → steps ≡ jobs + width → order ≡ replicate steps jobs
-    → length times ≡ steps → ((step : ℕ) → step < steps → length (get_or times step []) ≡ width)
-    → HoldLanes rows order 0 width times → IsHolding rows 0 order width times
-holding_none rows jobs width steps order times count steps_is order_is all wide lanes =
-    let order_long : length order ≡ steps = ap length order_is ∙ length-replicate steps jobs in
-    let job_is : (row d : ℕ) → row < steps → get_or order row d ≡ jobs =
-    λ row d lt. ap (λ l. get_or l row d) order_is ∙ get_or-replicate steps row jobs d lt in
+-- a sequence of no jobs
+pub holding_none : (count jobs : ℕ) (shop : FlowShop) (rows : List (List ℕ)) (order : List ℕ) (times : List (List ℕ))
+    → HasRows shop count rows → jobs ≡ shop.jobs → order ≡ replicate (jobs + 8) jobs
+    → times ≡ replicate ((jobs + 8) * count) (zeros 8) → IsHolding count jobs rows 0 order times
+holding_none count jobs shop rows order times has jobs_is order_is times_are =
+    let order_long : length order ≡ jobs + 8 = ap length order_is ∙ length-replicate (jobs + 8) jobs in
+    let job_is : (row d : ℕ) → row < jobs + 8 → get_or order row d ≡ jobs =
+    λ row d lt. ap (λ l. get_or l row d) order_is ∙ get_or-replicate (jobs + 8) row jobs d lt in
+    let zero : (step lane k : ℕ) → step < jobs + 8 → lane < 8 → k < count
+    → get_or (step_of count times step k) lane 0 ≡ 0 =
+    λ step lane k lt lane_lt k_lt.
+    ap (λ t. get_or (get_or t (step * count + k) []) lane 0) times_are
+    ∙ ap (λ l. get_or l lane 0) (get_or-replicate ((jobs + 8) * count) (step * count + k) (zeros 8) []
+    (vector_inside count (jobs + 8) step k ((jobs + 8) * count) lt k_lt refl))
+    ∙ get_or-replicate 8 lane 0 0 lane_lt in
     record {
       some = omega arith;
-      steps = omega arith;
+      steps = order_long;
       rows_in = λ row d lt. omega (arith, job_is row d (omega arith));
       jobs_in = λ row none_before. absurd (omega arith);
-      rest = λ row after inside. omega (arith, job_is row 0 (omega arith));
-      all_times = omega arith;
-      wide = λ step lt. wide step (omega arith);
-      lanes = lanes;
+      rest = λ row after inside. job_is row 0 (omega arith);
+      all_times = ap length times_are ∙ length-replicate ((jobs + 8) * count) (zeros 8)
+          ∙ ap (λ n. n * count) (sym order_long);
+      lanes = λ k k_lt. record {
+        times_are = λ row lane lt inside.
+            zero (row + lane) lane k (omega arith) lt k_lt ∙ sym (has.none lane k lt k_lt)
+            ∙ ap (λ j. get_or (step_of count rows j k) lane 0) (sym (job_is row 0 (omega arith) ∙ jobs_is));
+        none_before = λ step lane early lt inside. zero step lane k (omega arith) lt k_lt;
+      };
+    }
+
+-- the first steps of a table of times
+pub times_taken : {X : Type 0} (lanes : X → List ℕ) (count steps n : ℕ) (time : Cells) (table : List X)
+    → steps * count ≤ n → AreTimes count steps time (map lanes table)
+    → AreTimes count steps time (map lanes (take n table))
+times_taken lanes count steps n time table enough are =
+    let same : (step k : ℕ) → step < steps → k < count
+    → step_of count (map lanes (take n table)) step k ≡ step_of count (map lanes table) step k =
+    λ step k lt k_lt.
+    let inside = vector_inside count steps step k (steps * count) lt k_lt refl in
+    ap (λ l. get_or l (step * count + k) []) (sym (take-map lanes n table))
+    ∙ get_or-take n (map lanes table) (step * count + k) [] (omega arith) in
+    record {
+      cells_are = λ step lt k k_lt row lane lane_lt here.
+          ap (λ l. get_or l lane 0) (same step k lt k_lt) ∙ are.cells_are step lt k k_lt row lane lane_lt here;
+      none_before = λ step lt lane k lane_lt k_lt early.
+          ap (λ l. get_or l lane 0) (same step k lt k_lt) ∙ are.none_before step lt lane k lane_lt k_lt early;
     }

@@ -15,7 +15,7 @@ greatest_all [] k d lt = absurd (omega arith)
 greatest_all (x ∷ xs) zero d lt = omega (arith, greatest-cons x xs)
 greatest_all (x ∷ xs) (suc k) d lt = omega (arith, greatest-cons x xs, greatest_all xs k d (omega arith))
 
-module _ (shop : FlowShop) (width cap : ℕ) (served : IsServed shop width cap) where
+module _ (shop : FlowShop) (cap : ℕ) (served : IsServed shop cap) where
   pub served_path : (jobs : List ℕ) (job place : ℕ) → length jobs < shop.jobs → place ≤ length jobs
       → makespan_with shop jobs job place < cap
   served_path jobs job place few within =

@@ -1,187 +1,146 @@
--- Filled bands contain the skewed times of a sequence.
-use Rattle.std.proofs.Common.{inl, inr, min, ◌≡◌, ℕ, ◌+◌, ◌-◌, ◌<◌, ◌≤◌, List, [], length, drop, get_or, ap, ◌∙◌, sym}
-use Rattle.std.proofs.Common.{arith}
-use Rattle.std.proofs.lemmas.Bool.{cases_lt, lt-ltb, le-ltb}
-use Rattle.std.proofs.lemmas.List.{get_or-take, get_or-drop, get_or-replicate, get_or_default, get_or_past}
-use Rattle.std.specs.List.{All}
-use Rattle.pfs_base.specs.FlowShop.{FlowShop}
-use Rattle.pfs_wave.specs.Lanes.{rows_of}
-use Rattle.pfs_wave.specs.Reduced.{AreReduced, reduced_on, row_time}
-use Rattle.pfs_wave.specs.Private.ReducedRows.{HasReducedRows}
-use Rattle.pfs_wave.specs.Wavefront.{AreSkewed, HasRows, padded_time, step_count}
-use Rattle.pfs_wave.specs.Private.HeldRows.{IsPadded, HoldLanes, HoldOutside, row_lane}
-use Rattle.pfs_wave.specs.Private.SkewedBand.{IsBandFilled, band_rows, eight_from}
-use Rattle.pfs_wave.specs.Private.Blending.{past_at}
+-- The vectors of skewed times, filled a step at a time.
+use Rattle.std.proofs.Common.{inl, inr, min, ◌≡◌, ℕ, suc, ◌+◌, ◌*◌, ◌<◌, ◌≤◌, List, [], ◌∷◌, length, map}
+use Rattle.std.proofs.Common.{get_or, slice_set, ap, ◌∙◌, sym, refl, arith}
+use Rattle.std.proofs.lemmas.Bool.{cases_lt}
+use Rattle.std.proofs.lemmas.List.{get_or-map, get_or-set_same, get_or-set_other, get_or_past, length-map, length-set}
+use Rattle.std.proofs.lemmas.List.{map-set}
+use Rattle.std.proofs.lemmas.Nat.{mul-add-lt}
+use Rattle.pfs_wave.specs.Lanes.{Rows}
+use Rattle.pfs_wave.specs.Private.Blending.{past_at, diagonal}
+use Rattle.pfs_wave.specs.Private.Blocks.{step_of}
+use Rattle.pfs_wave.specs.Private.HeldRows.{HoldLanes, HoldOutside}
+use Rattle.pfs_wave.specs.Private.SkewedBand.{IsFilled}
 use Rattle.pfs_wave.proofs.PastRows.{diagonal_lane, past_is, past_none}
+use Rattle.pfs_wave.proofs.StepTables.{step_after}
 
-eight_lane : (lanes : List ℕ) (first part lane : ℕ) → part < 8 → first + part ≡ lane
-    → get_or (eight_from first lanes) part 0 ≡ get_or lanes lane 0
-eight_lane lanes first part lane few is =
-    get_or-take 8 (drop first lanes) part 0 few ∙ get_or-drop first lanes part 0 ∙ ap (λ l. get_or lanes l 0) is
-
-band_lane : (rows : List (List ℕ)) (order : List ℕ) (first row part lane : ℕ) → part < 8 → first + part ≡ lane
-    → get_or (band_rows rows order first row) part 0 ≡ row_lane rows order row lane
-unfolding band_rows row_lane
-band_lane rows order first row part lane few is =
-    eight_lane (get_or rows (get_or order row 0) []) first part lane few is
-
--- one more band contains the rows of the sequence
-module _ (rows : List (List ℕ)) (order : List ℕ) (first from to stop end width : ℕ) (old times : List (List ℕ))
-    (filled : IsBandFilled (band_rows rows order first) first from end old times)
-    (ends : min (min to (stop - first) + 7) (length old - first) ≤ end) where
-  low_lane : (step lane : ℕ) → lane < first → get_or (get_or times step []) lane 0 ≡ get_or (get_or old step []) lane 0
-  low_lane step lane lt =
-      sym (get_or-take first (get_or times step []) lane 0 lt) ∙ ap (λ l. get_or l lane 0) (filled.lower step)
-      ∙ get_or-take first (get_or old step []) lane 0 lt
-
-  high_lane : (step lane : ℕ) → first + 8 ≤ lane → get_or (get_or times step []) lane 0
-      ≡ get_or (get_or old step []) lane 0
-  high_lane step lane le =
-      let at : first + 8 + (lane - (first + 8)) ≡ lane = omega arith in
-      ap (λ n. get_or (get_or times step []) n 0) (sym at)
-      ∙ sym (get_or-drop (first + 8) (get_or times step []) (lane - (first + 8)) 0)
-      ∙ ap (λ l. get_or l (lane - (first + 8)) 0) (filled.upper step)
-      ∙ get_or-drop (first + 8) (get_or old step []) (lane - (first + 8)) 0
-      ∙ ap (λ n. get_or (get_or old step []) n 0) at
-
-  band_of : (step part lane : ℕ) → first + from ≤ step → step < first + end → part < 8 → first + part ≡ lane
-      → get_or (get_or times step []) lane 0 ≡ past_at (band_rows rows order first) (step + 1 - first) part part
-  band_of step part lane le lt few is =
-      sym (eight_lane (get_or times step []) first part lane few is)
-      ∙ ap (λ l. get_or l part 0) (filled.bands_are step le lt)
-      ∙ diagonal_lane (past_at (band_rows rows order first) (step + 1 - first)) part few
-
-  pub band_below : HoldLanes rows order 0 first old → HoldOutside rows order from to stop first width old
-      → first + 8 ≤ width
-      → HoldLanes rows order 0 (first + 8) times
-  band_below below outside fits =
-      let steps = filled.steps in
-      record {
-        times_are = λ row lane none lt inside.
-            elim (cases_lt lane first) [
-              | inl low ↦ low_lane (row + lane) lane low ∙ below.times_are row lane none low (omega arith)
-              | inr here ↦ elim (cases_lt (row + lane) (first + from)) [
-                | inl before ↦
-                    ap (λ l. get_or l lane 0) (filled.before (row + lane) before)
-                    ∙ outside.front row lane (omega arith) here (omega arith) (omega arith)
-                | inr later ↦ elim (cases_lt (row + lane) (first + end)) [
-                  | inl within ↦
-                      let part = lane - first in
-                      band_of (row + lane) part lane later within (omega arith) (omega arith)
-                      ∙ past_is (band_rows rows order first) part (row + lane + 1 - first) row part (omega arith)
-                      ∙ band_lane rows order first row part lane (omega arith) (omega arith)
-                  | inr after ↦
-                      ap (λ l. get_or l lane 0) (filled.after (row + lane) after)
-                      ∙ elim (cases_lt row to) [
-                        | inl early ↦ outside.later row lane (omega arith) here (omega arith) (omega arith)
-                        | inr past ↦ outside.back row lane past here (omega arith) (omega arith)
-                      ]
-                ]
-              ]
-            ];
-        none_before = λ step lane early none lt inside.
-            elim (cases_lt lane first) [
-              | inl low ↦ low_lane step lane low ∙ below.none_before step lane early none low (omega arith)
-              | inr here ↦ elim (cases_lt step (first + from)) [
-                | inl before ↦
-                    ap (λ l. get_or l lane 0) (filled.before step before)
-                    ∙ outside.none_before step lane early here (omega arith) (omega arith)
-                | inr later ↦ elim (cases_lt step (first + end)) [
-                  | inl within ↦
-                      let part = lane - first in
-                      band_of step part lane later within (omega arith) (omega arith)
-                      ∙ past_none (band_rows rows order first) part (step + 1 - first) part (omega arith)
-                  | inr after ↦
-                      ap (λ l. get_or l lane 0) (filled.after step after)
-                      ∙ outside.none_before step lane early here (omega arith) (omega arith)
-                ]
-              ]
-            ];
-      }
-
-  pub band_above : HoldOutside rows order from to stop first width old
-      → HoldOutside rows order from to stop (first + 8) width times
-  band_above outside =
-      let steps = filled.steps in
-      record {
-        front = λ row lane before le lt inside.
-            high_lane (row + lane) lane le ∙ outside.front row lane before (omega arith) lt (omega arith);
-        back = λ row lane after le lt inside.
-            high_lane (row + lane) lane le ∙ outside.back row lane after (omega arith) lt (omega arith);
-        later = λ row lane after le lt inside.
-            high_lane (row + lane) lane le ∙ outside.later row lane after (omega arith) lt (omega arith);
-        none_before = λ step lane early le lt inside.
-            high_lane step lane le ∙ outside.none_before step lane early (omega arith) lt (omega arith);
-      }
-
-pub hold_none : (rows : List (List ℕ)) (order : List ℕ) (times : List (List ℕ)) → HoldLanes rows order 0 0 times
-hold_none rows order times = record {
-  times_are = λ row lane from to inside. absurd (omega (arith, to));
-  none_before = λ step lane before from to inside. absurd (omega (arith, to));
-}
-
--- a lane of a row is a time of the shop, or 0 after the last row of the sequence
-row_lane_is : (shop : FlowShop) (rows : List (List ℕ)) (order jobs : List ℕ) (width : ℕ) → HasRows shop width rows
-    → All (λ job. job < shop.jobs) jobs → IsPadded order jobs shop.jobs → (row lane : ℕ) → row < length order
-    → lane < width
-    → row_lane rows order row lane ≡ padded_time shop jobs row lane
-unfolding row_lane
-row_lane_is shop rows order jobs width has below padded row lane inside lt =
-    elim (cases_lt row (length jobs)) [
-      | inl some ↦
-          let job_is : get_or order row 0 ≡ get_or jobs row 0 =
-          padded row inside ∙ get_or_default jobs row shop.jobs 0 some in
-          rw (lt-ltb row (length jobs) some, job_is)
-          ((has.jobs_are (get_or jobs row 0) (below row 0 some)).times_are lane lt)
-      | inr none ↦
-          let job_is : get_or order row 0 ≡ shop.jobs =
-          padded row inside ∙ get_or_past jobs row shop.jobs none in
-          rw (le-ltb row (length jobs) none, job_is, has.none) (get_or-replicate width lane 0 0 lt)
+-- two vectors of a table are at the same place only if they are the same
+pub same_vector : (count step other j k : ℕ) → j < count → k < count → step * count + j ≡ other * count + k
+    → (step ≡ other) × (j ≡ k)
+same_vector count step other j k j_lt k_lt is =
+    elim (cases_lt step other) [
+      | inl before ↦ absurd (omega (arith, step_after count step other before))
+      | inr le ↦ elim (cases_lt other step) [
+        | inl after ↦ absurd (omega (arith, step_after count other step after))
+        | inr ge ↦
+            let same : step ≡ other = omega arith in
+            (same, omega (arith, ap (λ s. s * count) same))
+      ]
     ]
 
--- a lane of a row is a reduced time of the shop, or a reduced 0 after the last row of the sequence
-reduced_lane_is : (shop : FlowShop) (rows : List (List ℕ)) (order jobs : List ℕ) (reduction width : ℕ)
-    → HasReducedRows shop reduction width rows
-    → All (λ job. job < shop.jobs) jobs → IsPadded order jobs shop.jobs → (row lane : ℕ) → row < length order
-    → lane < width
-    → row_lane rows order row lane ≡ reduced_on shop reduction (row_time shop jobs row) lane
-unfolding row_lane
-reduced_lane_is shop rows order jobs reduction width has below padded row lane inside lt =
-    elim (cases_lt row (length jobs)) [
-      | inl some ↦
-          let job_is : get_or order row 0 ≡ get_or jobs row 0 =
-          padded row inside ∙ get_or_default jobs row shop.jobs 0 some in
-          rw (lt-ltb row (length jobs) some, job_is)
-          ((has.jobs_are (get_or jobs row 0) (below row 0 some)).times_are lane lt)
-      | inr none ↦
-          let job_is : get_or order row 0 ≡ shop.jobs =
-          padded row inside ∙ get_or_past jobs row shop.jobs none in
-          rw (le-ltb row (length jobs) none, job_is) (has.none lane lt)
-    ]
+module _ {X : Type 0} (lanes : X → List ℕ) (count : ℕ) (table : List X) (row k at : ℕ) (new : X) (k_lt : k < count)
+    (at_is : at ≡ row * count + k) where
+  pub put_here : at < length table → step_of count (map lanes (slice_set table at new)) row k ≡ lanes new
+  put_here inside =
+      let long = length-map table lanes in
+      ap (λ i. get_or (map lanes (slice_set table at new)) i []) (sym at_is)
+      ∙ rw (map-set lanes table at new) (get_or-set_same (map lanes table) at (lanes new) [] (omega arith))
 
-pub are_reduced : (shop : FlowShop) (rows : List (List ℕ)) (order jobs : List ℕ) (reduction width : ℕ)
-    (times : List (List ℕ)) → HasReducedRows shop reduction width rows → All (λ job. job < shop.jobs) jobs
-    → IsPadded order jobs shop.jobs
-    → length times ≡ length order → step_count shop jobs ≤ length times
-    → ((step : ℕ) → step < length times → length (get_or times step []) ≡ width) → HoldLanes rows order 0 width times
-    → AreReduced shop jobs reduction width (rows_of times)
-are_reduced shop rows order jobs reduction width times has below padded steps enough wide hold = record {
-  lanes = λ step lt. wide step (omega arith);
-  times_are = λ row lane lt inside.
-      hold.times_are row lane (omega arith) lt (omega arith)
-      ∙ reduced_lane_is shop rows order jobs reduction width has below padded row lane (omega arith) lt;
-  none_before = λ step lane inside before lt. hold.none_before step lane before (omega arith) lt (omega arith);
+  pub put_there : (step j : ℕ) → j < count → ((step ≡ row) × (j ≡ k) → ⊥)
+      → step_of count (map lanes (slice_set table at new)) step j ≡ step_of count (map lanes table) step j
+  put_there step j j_lt other =
+      rw (map-set lanes table at new)
+      (get_or-set_other (map lanes table) at (step * count + j) (lanes new) []
+      (λ is. other (same_vector count step row j k j_lt k_lt (is ∙ at_is))))
+
+pub filled_none : (count k : ℕ) (rows : Rows) (from : ℕ) (times : List (List ℕ))
+    → IsFilled count k rows from from times times
+filled_none count k rows from times = record {
+  long = refl;
+  filled = λ step le lt. absurd (omega arith);
+  before = λ step lt. refl;
+  after = λ step le. refl;
+  others = λ step j lt other. refl;
 }
 
-pub are_skewed : (shop : FlowShop) (rows : List (List ℕ)) (order jobs : List ℕ) (width : ℕ) (times : List (List ℕ))
-    → HasRows shop width rows → All (λ job. job < shop.jobs) jobs → IsPadded order jobs shop.jobs
-    → length times ≡ length order → step_count shop jobs ≤ length times
-    → ((step : ℕ) → step < length times → length (get_or times step []) ≡ width) → HoldLanes rows order 0 width times
-    → AreSkewed shop jobs width (rows_of times)
-are_skewed shop rows order jobs width times has below padded steps enough wide hold = record {
-  lanes = λ step lt. wide step (omega arith);
+-- one more step is filled
+pub filled_more : {X : Type 0} (lanes : X → List ℕ) (count k : ℕ) (rows : Rows) (from row at to : ℕ)
+    (old : List (List ℕ)) (times : List X) {written : List X} (new : X)
+    → IsFilled count k rows from row old (map lanes times) → k < count → at ≡ row * count + k → to ≡ row + 1
+    → from ≤ row → at < length times → written ≡ slice_set times at new → lanes new ≡ diagonal (past_at rows (row + 1))
+    → IsFilled count k rows from to old (map lanes written)
+filled_more lanes count k rows from row at to old times new so_far k_lt at_is to_is later inside is new_is =
+    let here = put_here lanes count times row k at new k_lt at_is inside in
+    let there = put_there lanes count times row k at new k_lt at_is in
+    rw is (record {
+      long = length-map (slice_set times at new) lanes ∙ length-set times at new ∙ sym (length-map times lanes)
+          ∙ so_far.long;
+      filled = λ step le lt.
+          elim (cases_lt step row) [
+            | inl earlier ↦ there step k k_lt (λ same. omega (arith, same.0)) ∙ so_far.filled step le earlier
+            | inr last ↦
+                let same : step ≡ row = omega arith in
+                let next : row + 1 ≡ suc row = omega arith in
+                rw same (here ∙ new_is ∙ ap (λ n. diagonal (past_at rows n)) next)
+          ];
+      before = λ step lt. there step k k_lt (λ same. omega (arith, same.0)) ∙ so_far.before step lt;
+      after = λ step le. there step k k_lt (λ same. omega (arith, same.0)) ∙ so_far.after step (omega arith);
+      others = λ step j lt other. there step j lt (λ same. other same.1) ∙ so_far.others step j lt other;
+    })
+
+-- a vector of the steps contains the rows of the sequence
+pub hold_filled : (rows : Rows) (from to stop end steps : ℕ) (old times : Rows)
+    → ((step : ℕ) → from ≤ step → step < end → times step ≡ diagonal (past_at rows (suc step)))
+    → ((step : ℕ) → step < from → times step ≡ old step) → ((step : ℕ) → end ≤ step → times step ≡ old step)
+    → min (min to stop + 7) steps ≤ end → HoldOutside rows from to stop steps old → HoldLanes rows steps times
+hold_filled rows from to stop end steps old times filled before after ends outside = record {
   times_are = λ row lane lt inside.
-      hold.times_are row lane (omega arith) lt (omega arith)
-      ∙ row_lane_is shop rows order jobs width has below padded row lane (omega arith) lt;
-  none_before = λ step lane inside before lt. hold.none_before step lane before (omega arith) lt (omega arith);
+      elim (cases_lt (row + lane) from) [
+        | inl early ↦ ap (λ l. get_or l lane 0) (before (row + lane) early) ∙ outside.front row lane (omega arith) lt inside
+        | inr later ↦ elim (cases_lt (row + lane) end) [
+          | inl within ↦
+              ap (λ l. get_or l lane 0) (filled (row + lane) later within)
+              ∙ diagonal_lane (past_at rows (suc (row + lane))) lane lt
+              ∙ past_is rows lane (suc (row + lane)) row lane (omega arith)
+          | inr past ↦
+              ap (λ l. get_or l lane 0) (after (row + lane) past)
+              ∙ elim (cases_lt row to) [
+                | inl changed ↦ outside.later row lane (omega arith) lt inside
+                | inr kept ↦ outside.back row lane kept lt inside
+              ]
+        ]
+      ];
+  none_before = λ step lane early lt inside.
+      elim (cases_lt step from) [
+        | inl earlier ↦ ap (λ l. get_or l lane 0) (before step earlier) ∙ outside.none_before step lane early lt inside
+        | inr later ↦ elim (cases_lt step end) [
+          | inl within ↦
+              ap (λ l. get_or l lane 0) (filled step later within) ∙ diagonal_lane (past_at rows (suc step)) lane lt
+              ∙ past_none rows lane (suc step) lane (omega arith)
+          | inr past ↦ ap (λ l. get_or l lane 0) (after step past) ∙ outside.none_before step lane early lt inside
+        ]
+      ];
 }
+
+-- the same table
+pub hold_as : (rows : Rows) (steps : ℕ) {these others : Rows} → ((step : ℕ) → these step ≡ others step)
+    → HoldLanes rows steps others → HoldLanes rows steps these
+hold_as rows steps same hold = record {
+  times_are = λ row lane lt inside. ap (λ l. get_or l lane 0) (same (row + lane)) ∙ hold.times_are row lane lt inside;
+  none_before = λ step lane early lt inside.
+      ap (λ l. get_or l lane 0) (same step) ∙ hold.none_before step lane early lt inside;
+}
+
+-- ---- vectors that are copied
+
+module _ {X : Type 0} (lanes : X → List ℕ) where
+  pub copied : (old new : List X) (i j : ℕ) → ((d : X) → get_or new i d ≡ get_or old j d) → i < length new
+      → j < length old → get_or (map lanes new) i [] ≡ get_or (map lanes old) j []
+  copied old [] i j same inside from = absurd (omega (arith, inside))
+  copied old (x ∷ new) i j same inside from =
+      get_or-map lanes (x ∷ new) i x [] inside ∙ ap lanes (same x) ∙ sym (get_or-map lanes old j x [] from)
+
+  pub unchanged : (old new : List X) (i : ℕ) → ((d : X) → get_or new i d ≡ get_or old i d) → length new ≡ length old
+      → get_or (map lanes new) i [] ≡ get_or (map lanes old) i []
+  unchanged old new i same long =
+      elim (cases_lt i (length new)) [
+        | inl inside ↦ copied old new i i same inside (omega arith)
+        | inr past ↦
+            let new_long = length-map new lanes in
+            let old_long = length-map old lanes in
+            get_or_past (map lanes new) i [] (omega arith) ∙ sym (get_or_past (map lanes old) i [] (omega arith))
+      ]
+
+-- a vector of a step is inside a table of as many steps
+pub vector_inside : (count steps step k long : ℕ) → step < steps → k < count → long ≡ steps * count
+    → step * count + k < long
+vector_inside count steps step k long lt k_lt is = omega (arith, mul-add-lt step count k steps lt k_lt)

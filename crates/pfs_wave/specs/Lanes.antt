@@ -1,8 +1,5 @@
--- Numbers that stop at a cap, the greatest number of a lane, and the steps of a wavefront of any width. The lanes of a
--- step are one list here, for any number of vectors in the code.
-use Rattle.std.specs.Prelude.{ℕ, zero, suc, ◌+◌, ◌-◌, List, [], ◌∷◌, ◌++◌, min, max, drop, replicate}
-use Rattle.std.specs.List.{slice_index_or}
-use Rattle.std.specs.Simd.Lanes.{zip2}
+-- Numbers that stop at a cap, the greatest number of a lane.
+use Rattle.std.specs.Prelude.{ℕ, ◌+◌, List, min, replicate}
 
 -- the number, or the cap where it is greater
 abbrev pub capped : ℕ → ℕ → ℕ
@@ -11,67 +8,9 @@ capped cap n = min n cap
 abbrev pub capped_add : ℕ → ℕ → ℕ → ℕ
 capped_add cap a b = capped cap (a + b)
 
--- how lanes are computed: the sum of two lanes, and the value of the lanes of heads and tails before the first step
-pub record LaneRule : Type 0 where
-  pub add : ℕ → ℕ → ℕ
-  pub start : ℕ
-
--- lanes that begin with 0 and stop at the cap
-abbrev pub capped_rule : ℕ → LaneRule
-capped_rule cap = record { add = capped_add cap; start = 0 }
-
 -- the lanes of each step, by the number of the step
 abbrev pub Rows : Type 0
 Rows = ℕ → List ℕ
 
 abbrev pub zeros : ℕ → List ℕ
 zeros width = replicate width 0
-
--- lanes before the first step
-abbrev pub starts : LaneRule → ℕ → List ℕ
-starts rule width = replicate width rule.start
-
--- the tails of a step from those of the step after it: the greater of lane l and lane l + 1, plus the time of lane l;
--- `carry` is the lane after the last one
-abbrev pub tails_step : LaneRule → ℕ → List ℕ → List ℕ → List ℕ
-tails_step rule carry below times =
-    zip2 rule.add (zip2 max (drop 1 below ++ (carry ∷ [])) below) times
-
--- the heads of a step: the greater of lane l - 1 of `before`, `carry` in the first lane, and lane l of `above`, plus
--- the time of lane l
-abbrev pub heads_step : LaneRule → ℕ → List ℕ → List ℕ → List ℕ → List ℕ
-heads_step rule carry before above times = zip2 rule.add (zip2 max (carry ∷ before) above) times
-
--- the sums of a step: in lane l the greater of lane l - 1 of the sums before, `carry` in the first lane, and the sum of
--- lane l of the inserted rows and lane l of the tails
-abbrev pub sums_step : LaneRule → ℕ → List ℕ → List ℕ → List ℕ → List ℕ
-sums_step rule carry before inserted tail = zip2 max (carry ∷ before) (zip2 rule.add inserted tail)
-
--- the lanes of tails `left` steps before the end of `steps` steps
-unfoldable pub tails_at : LaneRule → Rows → ℕ → ℕ → ℕ → List ℕ
-tails_at rule times width steps zero = starts rule width
-tails_at rule times width steps (suc left) =
-    tails_step rule 0 (tails_at rule times width steps left) (times (steps - suc left))
-
--- the lanes of heads after a number of steps
-unfoldable pub heads_at : LaneRule → Rows → ℕ → ℕ → List ℕ
-heads_at rule times width zero = starts rule width
-heads_at rule times width (suc row) =
-    heads_step rule 0 (heads_at rule times width row) (heads_at rule times width row) (times row)
-
--- the lanes of inserted rows after a number of steps
-unfoldable pub inserted_at : LaneRule → Rows → List ℕ → ℕ → ℕ → List ℕ
-inserted_at rule times job width zero = zeros width
-inserted_at rule times job width (suc row) =
-    heads_step rule 0 (inserted_at rule times job width row) (heads_at rule times width row) job
-
--- the lanes of sums of inserted rows and tails after a number of steps: in each lane the greatest sum of the place's
--- machines so far
-unfoldable pub sums_at : LaneRule → Rows → Rows → List ℕ → ℕ → ℕ → List ℕ
-sums_at rule times tails job width zero = zeros width
-sums_at rule times tails job width (suc row) =
-    sums_step rule 0 (sums_at rule times tails job width row) (inserted_at rule times job width (suc row)) (tails row)
-
--- the rows of a table, by their numbers; a row after the last has 0 lanes
-abbrev pub rows_of : List (List ℕ) → Rows
-rows_of table step = slice_index_or table step []

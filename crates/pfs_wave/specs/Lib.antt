@@ -2,7 +2,5 @@ pub mod Lanes
 pub mod Least
 pub mod Parts
 pub mod Private
-pub mod Reduced
 pub mod Served
-pub mod Tables
 pub mod Wavefront

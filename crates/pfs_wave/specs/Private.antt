@@ -1,9 +1,7 @@
 pub mod Blending
+pub mod Blocks
 pub mod HeldRows
-pub mod Lacks
 pub mod Narrow
+pub mod Recurrences
 pub mod SkewedBand
-pub mod ReducedRows
-pub mod ShopTimes
-pub mod WideRows
-pub mod WideSteps
+pub mod Waves

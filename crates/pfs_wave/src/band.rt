@@ -1,14 +1,14 @@
 //! Bands of eight lanes.
-ghost use Rattle.std.specs.Prelude.{◌≡◌, ℕ, ◌+◌, ◌-◌, ◌<◌, ◌≤◌, ◌^◌, ◌∷◌, [], ◌++◌, List, length, map, max, min};
+ghost use Rattle.std.specs.Prelude.{◌≡◌, ℕ, ◌-◌, ◌<◌, ◌≤◌, ◌^◌, ◌∷◌, [], ◌++◌, List, length, map, max};
 ghost use Rattle.std.specs.Prelude.{take, drop};
 ghost use Rattle.std.specs.List.{All, slice_index_or};
-ghost use Rattle.std.specs.Simd.Lanes.{chunk, zip2};
-ghost use Rattle.pfs_wave.specs.Lanes.{LaneRule, capped_rule, starts, zeros};
+ghost use Rattle.std.specs.Simd.Lanes.{zip2};
+ghost use Rattle.pfs_wave.specs.Lanes.{capped_add, zeros};
 ghost use Rattle.pfs_wave.specs.Least.{IsLeastSoFar};
 
 use crate::least::Found;
 
-/// Eight lanes, each a number up to `CAP`. `RULE` says how two lanes are added, and where heads and tails begin.
+/// Eight lanes, each a number up to `CAP`. Sums stop there.
 pub trait Band: Copy + Drop {
     /// The number of a lane.
     type Number: Copy + Drop;
@@ -21,8 +21,6 @@ pub trait Band: Copy + Drop {
 
     ghost CAP: { ℕ };
 
-    ghost RULE: { LaneRule };
-
     /// The greatest value of a lane.
     const CAP: u32;
 
@@ -30,24 +28,10 @@ pub trait Band: Copy + Drop {
     fn zeros() -> Self
         ensures { lanes result ≡ zeros 8 };
 
-    /// A band of heads or tails before the first step.
-    fn start() -> Self
-        ensures { lanes result ≡ starts RULE 8 };
-
-    /// A copy of the band, from one register to another.
-    fn copied(self) -> Self
-        ensures { lanes result ≡ lanes self };
-
     /// A band of eight times.
     fn from_times(times: [u32; 8]) -> Self
         requires { All (λ time. time ≤ CAP) times }
         ensures { lanes result ≡ times };
-
-    /// The eight times from a place on, each at most the limit in its lane.
-    fn load(times: &[u32], at: usize, limits: Self) -> Self
-        requires inside { at + 8 ≤ length times.now }
-        requires short { All (λ time. time ≤ CAP) times.now }
-        ensures { lanes result ≡ zip2 min (chunk at 8 times.now) (lanes limits) };
 
     /// Moves each lane to the next one. Lane 0 is the last lane of `carry`.
     fn up(self, carry: Self) -> Self
@@ -61,9 +45,9 @@ pub trait Band: Copy + Drop {
     fn greater(self, other: Self) -> Self
         ensures { lanes result ≡ zip2 max (lanes self) (lanes other) };
 
-    /// The sum of each lane, by the rule.
+    /// The sum of each lane, or `CAP` where the sum is greater.
     fn sum(self, other: Self) -> Self
-        ensures { lanes result ≡ zip2 RULE.add (lanes self) (lanes other) };
+        ensures { lanes result ≡ zip2 (capped_add CAP) (lanes self) (lanes other) };
 
     /// The odd lanes of `other`, and the even lanes of `self`.
     fn odd_from(self, other: Self) -> Self
@@ -110,9 +94,4 @@ pub trait Band: Copy + Drop {
             result.place result.sum };
 
     ghost eight: { (band : Self) → length (lanes band) ≡ 8 };
-}
-
-/// Lanes that contain numbers as they are. Heads and tails begin with 0, and sums stop at `CAP`.
-pub trait CappedBand: Band {
-    ghost capped: { Self.RULE ≡ capped_rule Self.CAP };
 }

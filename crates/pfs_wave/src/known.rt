@@ -1,5 +1,5 @@
 //! A sequence whose makespan is known.
-ghost use Rattle.std.specs.Prelude.{◌≡◌, ◌<◌, ◌≤◌, ◌↔◌, length, Contains, IsTrue, IfOk, []};
+ghost use Rattle.std.specs.Prelude.{◌≡◌, ◌+◌, ◌<◌, ◌≤◌, ◌↔◌, length, Contains, IsTrue, IfOk, []};
 ghost use Rattle.pfs_wave.specs.Parts.{IsPart};
 ghost use Rattle.pfs_wave.specs.Private.Narrow.{known_with};
 
@@ -47,20 +47,13 @@ impl Known {
         self.span
     }
 
-    /// The number of jobs of the sequence.
+    /// Whether these jobs are those of the sequence, or some of them left out, and the makespan plus this time is below
+    /// 65,535.
     #[inline(always)]
-    pub fn len(&self) -> usize
-        ensures { result ≡ length self.now.seq.jobs }
+    pub fn has_room(&self, jobs: &[usize], time: u64) -> bool
+        ensures { IsTrue result ↔ ((self.now.span + time < 65535) × IsPart jobs.now self.now.seq.jobs) }
     {
-        self.seq.len()
-    }
-
-    /// Whether these jobs are those of the sequence, or some of them left out.
-    #[inline(always)]
-    pub fn has_part(&self, jobs: &[usize]) -> bool
-        ensures { IsTrue result ↔ IsPart jobs.now self.now.seq.jobs }
-    {
-        is_part(jobs, self.seq.as_slice())
+        self.span.saturating_add(time) < 65_535 && is_part(jobs, self.seq.as_slice())
     }
 
     /// Makes it a sequence with a job at its best place.

@@ -1,30 +1,6 @@
-//! Laws of the definitions: which values the lanes of a wavefront contain.
-ghost use Rattle.pfs_wave.specs.Wavefront.{TailsLaw, HeadsLaw, InsertedRowsLaw, SumsLaw};
+//! Laws of the definitions.
 ghost use Rattle.pfs_wave.specs.Wavefront.{CappedLeastLaw, LongestWithLaw};
 ghost use Rattle.pfs_wave.specs.Parts.{PartLaw, AppendedLaw};
-ghost use Rattle.pfs_wave.specs.Reduced.{ReducibleLaw};
-ghost use Rattle.pfs_wave.specs.Reduced.{ReducedTailsLaw, ReducedHeadsLaw, ReducedInsertedRowsLaw, ReducedSumsLaw};
-
-/// The lanes of tails contain the tails of the sequence, capped.
-pub fn tails()
-    ensures { TailsLaw }
-{}
-
-/// The lanes of heads contain the heads of the sequence, capped.
-pub fn heads()
-    ensures { HeadsLaw }
-{}
-
-/// The lanes of inserted rows contain the heads of the inserted job at each place, capped.
-pub fn inserted_rows()
-    ensures { InsertedRowsLaw }
-{}
-
-/// In each step, the lanes of sums from the last machine's on contain the makespans with the job at the lanes' places,
-/// capped.
-pub fn sums()
-    ensures { SumsLaw }
-{}
 
 /// The first place of the least capped value, where that is below the cap, is the first place of the least value.
 pub fn least()
@@ -45,31 +21,4 @@ pub fn parts()
 /// With a job after all others the makespan grows by at most the job's total time.
 pub fn appended()
     ensures { AppendedLaw }
-{}
-
-/// An insertion whose times lack little, on the first and last machine and in each job, and whose makespan can't be
-/// long, fits in lanes of reduced times.
-pub fn reducible()
-    ensures { ReducibleLaw }
-{}
-
-/// The lanes of tails contain the tails of the sequence, reduced.
-pub fn reduced_tails()
-    ensures { ReducedTailsLaw }
-{}
-
-/// The lanes of heads contain the heads of the sequence, reduced.
-pub fn reduced_heads()
-    ensures { ReducedHeadsLaw }
-{}
-
-/// The lanes of inserted rows contain the heads of the inserted job at each place, reduced.
-pub fn reduced_inserted_rows()
-    ensures { ReducedInsertedRowsLaw }
-{}
-
-/// In each step, the lanes of sums from the last machine's on contain the makespans with the job at the lanes' places,
-/// reduced.
-pub fn reduced_sums()
-    ensures { ReducedSumsLaw }
 {}

@@ -2,7 +2,6 @@
 ghost use Rattle.std.specs.Prelude.{◌≡◌, ℕ, ◌+◌, ◌*◌, ◌^◌, ◌≤◌, ◌<◌, length, map};
 ghost use Rattle.std.specs.List.{slice_index_or};
 ghost use Rattle.pfs_wave.specs.Least.{IsLeastSoFar};
-ghost use Rattle.pfs_wave.specs.Reduced.{lane_value};
 
 /// A place, and its sum.
 #[derive(Clone, Copy, Debug, PartialEq, Eq)]
@@ -58,31 +57,5 @@ pub fn first_least_long(sums: &[u32]) -> Found
     Found {
         place: (least % 65536) as usize,
         sum: (least / 65536) as u32,
-    }
-}
-
-// Such a key for sums of reduced times.
-#[inline(always)]
-fn reduced_key(place: usize, sum: i16) -> u32
-    requires { place < 2 ^ 16 }
-    ensures { result ≡ lane_value sum * 65536 + place }
-{
-    (i32::from(sum) + 32768) as u32 * 65536 + place as u32
-}
-
-/// The first place of the least sum of reduced times.
-pub fn first_least_reduced(sums: &[i16]) -> Found
-    requires some { 1 ≤ length sums.now }
-    requires few { length sums.now ≤ 2 ^ 16 }
-    ensures { IsLeastSoFar (λ place. slice_index_or (map lane_value sums.now) place 0) (length sums.now)
-        result.place result.sum }
-{
-    let mut least = reduced_key(0, sums[0]);
-    for place in 1..sums.len() {
-        least = least.min(reduced_key(place, sums[place]));
-    }
-    Found {
-        place: (least % 65536) as usize,
-        sum: least / 65536,
     }
 }

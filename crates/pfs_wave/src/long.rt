@@ -2,9 +2,8 @@
 ghost use Rattle.std.proofs.Common.{refl};
 ghost use Rattle.std.specs.Prelude.{◌≡◌, ℕ, ◌≤◌, length};
 ghost use Rattle.std.specs.List.{All};
-ghost use Rattle.pfs_wave.specs.Lanes.{capped_rule};
 
-use crate::band::{Band, CappedBand};
+use crate::band::Band;
 use crate::least::{Found, first_least_long};
 use std::simd::prelude::*;
 
@@ -25,8 +24,6 @@ impl Band for Long {
 
     ghost CAP = { 2147483647 };
 
-    ghost RULE = { capped_rule 2147483647 };
-
     const CAP: u32 = 2147483647;
 
     ghost eight = { λ band. band.eight };
@@ -39,28 +36,9 @@ impl Band for Long {
     }
 
     #[inline(always)]
-    fn start() -> Long {
-        Band::zeros()
-    }
-
-    #[inline(always)]
-    fn copied(self) -> Long {
-        Long {
-            values: self.values,
-        }
-    }
-
-    #[inline(always)]
     fn from_times(times: [u32; 8]) -> Long {
         Long {
             values: u32x8::from_array(times),
-        }
-    }
-
-    #[inline(always)]
-    fn load(times: &[u32], at: usize, limits: Long) -> Long {
-        Long {
-            values: u32x8::from_slice(&times[at..]).simd_min(limits.values),
         }
     }
 
@@ -142,8 +120,4 @@ impl Band for Long {
     fn first_least(sums: &[u32]) -> Found {
         first_least_long(sums)
     }
-}
-
-impl CappedBand for Long {
-    ghost capped = { refl };
 }

@@ -1,19 +1,15 @@
 //! A bench over an instance that also computes in lanes.
-ghost use Rattle.std.specs.Prelude.{◌≡◌, ◌<◌, Contains, IfOk};
+ghost use Rattle.std.specs.Prelude.{◌≡◌, ◌+◌, ◌<◌, ◌^◌, length, Contains, IfOk};
 ghost use Rattle.pfs_base.specs.Limits.{limits};
 ghost use Rattle.pfs_base.specs.FlowShop.{IsWithin};
 ghost use Rattle.pfs_insert.specs.Inserter.{IsBestPlace};
+ghost use Rattle.pfs_insert.specs.Insertion.{heads_tails_cost};
 ghost use Rattle.pfs_wave.specs.Private.Narrow.{HasNarrow};
+ghost use Rattle.pfs_wave.specs.Private.Waves.{Serves};
 ghost use Rattle.pfs_wave.specs.Served.{IsServed};
-ghost use Rattle.pfs_wave.specs.Wavefront.{HasRows};
 
-use crate::band::Band;
-use crate::bench::LaneBench;
-use crate::insertion::best_in_tables;
-use crate::lanes::{Lanes, MixedLanes};
 use crate::narrow::{Narrow, narrow_lanes};
-use crate::skewed::SkewedTimes;
-use crate::tables::Tables;
+use crate::wave::Wave;
 use pfs_base::{Bench, Instance, Length, Metered, Shop, Span};
 use pfs_insert::Placed;
 use pfs_order::Seq;
@@ -21,47 +17,46 @@ use std::alloc::{AllocError, Global};
 use std::marker::Model;
 
 /// A metered bench over an instance that a wavefront serves, with the times of each job in lanes. A mixed bench also
-/// has narrow lanes, of 16 bits for reduced times, for the insertions whose values are known to fit in them.
+/// has narrow lanes, of 16 bits, for the insertions whose makespans are known to fit in them.
 #[derive(Drop)]
-pub struct MeteredLanes<'a, L: MixedLanes> {
+pub struct MeteredLanes<'a> {
     bench: Metered<'a>,
-    skewed: SkewedTimes<L>,
-    narrow: Option<Narrow<L::Narrow>>,
+    wave: Wave,
+    narrow: Option<Narrow>,
     ghost within: { IsWithin limits (⟦<Metered<'static> as Bench>⟧.shop bench) },
-    ghost served: { IsServed (⟦<Metered<'static> as Bench>⟧.shop bench) L.WIDTH L.Band.CAP },
-    ghost rows: { HasRows (⟦<Metered<'static> as Bench>⟧.shop bench) L.WIDTH skewed.rows },
-    ghost tables: { HasNarrow (⟦<Metered<'static> as Bench>⟧.shop bench) L.Narrow.WIDTH narrow },
+    ghost serves: { Serves (⟦<Metered<'static> as Bench>⟧.shop bench) wave },
+    ghost tables: { HasNarrow (⟦<Metered<'static> as Bench>⟧.shop bench) narrow },
 }
 
-impl<'a, L: MixedLanes> MeteredLanes<'a, L> {
+impl<'a> MeteredLanes<'a> {
     /// A bench over an instance, with a count of 0 cells. It reserves memory for the rows of its jobs and for the times
     /// of a sequence, and returns `AllocError` where that fails.
-    pub fn new(alloc: Global, instance: &'a Instance) -> Result<MeteredLanes<'a, L>, AllocError>
-        requires { IsServed instance.now.shop L.WIDTH L.Band.CAP }
-        ensures shop { IfOk result (λ made. ⟦<MeteredLanes<'a, L> as Bench>⟧.shop made ≡ instance.now.shop) }
-        ensures counted { IfOk result (λ made. ⟦<MeteredLanes<'a, L> as Bench>⟧.counted made ≡ 0) }
+    pub fn new(alloc: Global, instance: &'a Instance) -> Result<MeteredLanes<'a>, AllocError>
+        requires { IsServed instance.now.shop 2147483647 }
+        ensures shop { IfOk result (λ made. ⟦<MeteredLanes<'a> as Bench>⟧.shop made ≡ instance.now.shop) }
+        ensures counted { IfOk result (λ made. ⟦<MeteredLanes<'a> as Bench>⟧.counted made ≡ 0) }
     {
-        let skewed = SkewedTimes::new(alloc, instance)?;
+        let wave = Wave::new(alloc, instance)?;
         Ok(MeteredLanes {
             bench: instance.metered(),
-            skewed,
+            wave,
             narrow: None,
         })
     }
 
     /// A mixed bench over an instance, with a count of 0 cells, for one insertion after another. It has narrow lanes
-    /// where its own have more bits and insertions often fit in narrow ones (`IsOftenReducible`). It also reserves the
-    /// memory of these insertions, and returns `AllocError` where allocation fails.
-    pub fn mixed(alloc: Global, instance: &'a Instance) -> Result<MeteredLanes<'a, L>, AllocError>
-        requires { IsServed instance.now.shop L.WIDTH L.Band.CAP }
-        ensures shop { IfOk result (λ made. ⟦<MeteredLanes<'a, L> as Bench>⟧.shop made ≡ instance.now.shop) }
-        ensures counted { IfOk result (λ made. ⟦<MeteredLanes<'a, L> as Bench>⟧.counted made ≡ 0) }
+    /// where its own have more bits and all times fit in 16. It also reserves the memory of these insertions, and returns
+    /// `AllocError` where allocation fails.
+    pub fn mixed(alloc: Global, instance: &'a Instance) -> Result<MeteredLanes<'a>, AllocError>
+        requires { IsServed instance.now.shop 2147483647 }
+        ensures shop { IfOk result (λ made. ⟦<MeteredLanes<'a> as Bench>⟧.shop made ≡ instance.now.shop) }
+        ensures counted { IfOk result (λ made. ⟦<MeteredLanes<'a> as Bench>⟧.counted made ≡ 0) }
     {
-        let skewed = SkewedTimes::new(alloc, instance)?;
-        let narrow = narrow_lanes(alloc, instance, L::Band::CAP)?;
+        let wave = Wave::new(alloc, instance)?;
+        let narrow = narrow_lanes(alloc, instance)?;
         Ok(MeteredLanes {
             bench: instance.metered(),
-            skewed,
+            wave,
             narrow,
         })
     }
@@ -69,28 +64,50 @@ impl<'a, L: MixedLanes> MeteredLanes<'a, L> {
     // The best place for a job in a sequence, and the makespan with the job there, in the narrow lanes where they serve
     // the insertion. It counts no cells.
     #[inline(always)]
-    fn find(&mut self, seq: &Seq, job: usize, tables: &mut Tables<L>) -> Placed<u64>
-        requires size { seq.now.size ≡ (⟦<MeteredLanes<'a, L> as Bench>⟧.shop self.old).jobs }
-        requires job { job < (⟦<MeteredLanes<'a, L> as Bench>⟧.shop self.old).jobs }
+    fn find(&mut self, seq: &Seq, job: usize) -> Placed<u64>
+        requires size { seq.now.size ≡ (⟦<MeteredLanes<'a> as Bench>⟧.shop self.old).jobs }
+        requires job { job < (⟦<MeteredLanes<'a> as Bench>⟧.shop self.old).jobs }
         requires absent { Contains seq.now.jobs job → ⊥ }
-        requires tables { tables.old.jobs ≡ (⟦<MeteredLanes<'a, L> as Bench>⟧.shop self.old).jobs }
-        ensures best { IsBestPlace (⟦<MeteredLanes<'a, L> as Bench>⟧.shop self.old) seq.now.jobs job
+        ensures best { IsBestPlace (⟦<MeteredLanes<'a> as Bench>⟧.shop self.old) seq.now.jobs job
             result.place result.span }
-        ensures tables { tables.new.jobs ≡ tables.old.jobs }
-        ensures counted { ⟦<MeteredLanes<'a, L> as Bench>⟧.counted self.new
-            ≡ ⟦<MeteredLanes<'a, L> as Bench>⟧.counted self.old }
-        ensures shop { ⟦<MeteredLanes<'a, L> as Bench>⟧.shop self.new
-            ≡ ⟦<MeteredLanes<'a, L> as Bench>⟧.shop self.old }
+        ensures counted { ⟦<MeteredLanes<'a> as Bench>⟧.counted self.new
+            ≡ ⟦<MeteredLanes<'a> as Bench>⟧.counted self.old }
+        ensures shop { ⟦<MeteredLanes<'a> as Bench>⟧.shop self.new
+            ≡ ⟦<MeteredLanes<'a> as Bench>⟧.shop self.old }
     {
-        let machines = self.bench.machines();
-        // Benches of 16-bit lanes are compiled without this branch.
-        if 65_535 < L::Band::CAP {
-            if let Some(narrow) = &mut self.narrow {
-                let total = self.bench.total(job);
-                return narrow.best_or_wide(&mut self.skewed, tables, seq, job, total);
-            }
+        if let Some(narrow) = &mut self.narrow {
+            let total = self.bench.total(job);
+            return narrow.best_or_wide(&mut self.wave, seq, job, total);
         }
-        best_in_tables(&mut self.skewed, tables, seq.as_slice(), job, machines)
+        self.wave.best(seq.as_slice(), job)
+    }
+
+    /// The best place for a job that is not in the sequence, and the makespan with the job there. It counts a cell for
+    /// each tail and each head of the sequence, and for each value of the inserted row and each sum at each place, of
+    /// each job and machine. Lanes that contain no value of a table are not counted, and putting times in the lanes'
+    /// order is not counted either, since it computes no sum.
+    #[inline(always)]
+    pub fn best_place(&mut self, seq: &Seq, job: usize) -> Placed<Span>
+        requires size { seq.now.size ≡ (⟦<MeteredLanes<'a> as Bench>⟧.shop self.old).jobs }
+        requires job { job < (⟦<MeteredLanes<'a> as Bench>⟧.shop self.old).jobs }
+        requires absent { Contains seq.now.jobs job → ⊥ }
+        requires room { ⟦<MeteredLanes<'a> as Bench>⟧.counted self.old + heads_tails_cost (length seq.now.jobs + 1)
+            (⟦<MeteredLanes<'a> as Bench>⟧.shop self.old).machines < 2 ^ 64 }
+        ensures best { IsBestPlace (⟦<MeteredLanes<'a> as Bench>⟧.shop self.old) seq.now.jobs job
+            result.place result.span }
+        ensures counted { ⟦<MeteredLanes<'a> as Bench>⟧.counted self.new
+            ≡ ⟦<MeteredLanes<'a> as Bench>⟧.counted self.old + heads_tails_cost (length seq.now.jobs + 1)
+            (⟦<MeteredLanes<'a> as Bench>⟧.shop self.old).machines }
+        ensures shop { ⟦<MeteredLanes<'a> as Bench>⟧.shop self.new
+            ≡ ⟦<MeteredLanes<'a> as Bench>⟧.shop self.old }
+    {
+        let cells = (4 * seq.len() as u64 + 2) * self.bench.machines() as u64;
+        self.bench.count(cells);
+        let best = self.find(seq, job);
+        Placed {
+            place: best.place,
+            span: self.bench.length(best.span),
+        }
     }
 
     /// The length as a number, for printing. It counts no cells.
@@ -101,7 +118,7 @@ impl<'a, L: MixedLanes> MeteredLanes<'a, L> {
     }
 }
 
-impl<'a, L: MixedLanes> Bench for MeteredLanes<'a, L> {
+impl<'a> Bench for MeteredLanes<'a> {
     type Span = Span;
 
     ghost shop = { λ b. ⟦<Metered<'static> as Bench>⟧.shop b.bench };
@@ -149,23 +166,8 @@ impl<'a, L: MixedLanes> Bench for MeteredLanes<'a, L> {
     }
 }
 
-impl<L: MixedLanes> Shop for MeteredLanes<'_, L> {
+impl Shop for MeteredLanes<'_> {
     fn total(&self, job: usize) -> u64 {
         self.bench.total(job)
-    }
-}
-
-impl<'a, L: MixedLanes> LaneBench for MeteredLanes<'a, L> {
-    type Lanes = L;
-
-    #[inline(always)]
-    fn best_place(&mut self, seq: &Seq, job: usize, tables: &mut Tables<L>) -> Placed<Span> {
-        let cells = (4 * seq.len() as u64 + 2) * self.bench.machines() as u64;
-        self.bench.count(cells);
-        let best = self.find(seq, job, tables);
-        Placed {
-            place: best.place,
-            span: self.bench.length(best.span),
-        }
     }
 }

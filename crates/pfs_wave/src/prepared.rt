@@ -4,11 +4,7 @@ ghost use Rattle.std.specs.List.{All};
 ghost use Rattle.pfs_insert.specs.Inserter.{IsBestPlace};
 ghost use Rattle.pfs_wave.specs.Served.{IsServed};
 
-use crate::band::Band;
-use crate::insertion::best_in_tables;
-use crate::lanes::CappedLanes;
-use crate::skewed::SkewedTimes;
-use crate::tables::Tables;
+use crate::wave::Wave;
 use pfs_base::Instance;
 use pfs_insert::Placed;
 use std::alloc::{AllocError, Global};
@@ -16,48 +12,43 @@ use std::marker::Model;
 
 /// An instance that a wavefront serves, with its times in lanes and the tables of an insertion.
 #[derive(Drop)]
-pub struct PreparedLanes<L: CappedLanes> {
+pub struct PreparedLanes {
     instance: Instance,
-    skewed: SkewedTimes<L>,
-    tables: Tables<L>,
-    // The jobs of a sequence, as `SkewedTimes` takes them.
+    wave: Wave,
+    // The jobs of a sequence, as `Wave` takes them.
     sequence: Vec<usize>,
 }
 
-impl<L: CappedLanes> Model for PreparedLanes<L> {
+impl Model for PreparedLanes {
     ghost use Rattle.std.specs.Prelude.{◌≡◌, length};
     ghost use Rattle.pfs_base.specs.FlowShop.{FlowShop};
-    ghost use Rattle.pfs_wave.specs.Served.{IsServed};
-    ghost use Rattle.pfs_wave.specs.Wavefront.{HasRows};
+    ghost use Rattle.pfs_wave.specs.Private.Waves.{Serves, blocks_of};
 
     ghost Value = { FlowShop };
 
     ghost view = { λ a. a.instance.shop };
 
     ghost invariant = { λ a. record {
-      served : IsServed a.instance.shop L.WIDTH L.Band.CAP;
-      rows : HasRows a.instance.shop L.WIDTH a.skewed.rows;
-      tables : a.tables.jobs ≡ a.instance.shop.jobs;
+      serves : Serves a.instance.shop a.wave;
+      jobs : (blocks_of a.wave).jobs ≡ a.instance.shop.jobs;
       room : length a.sequence.items ≡ a.instance.shop.jobs;
     } };
 }
 
-impl<L: CappedLanes> PreparedLanes<L> {
+impl PreparedLanes {
     /// Prepares an instance. It reserves all memory of an insertion, and returns `AllocError` where that fails.
-    pub fn new(alloc: Global, instance: Instance) -> Result<PreparedLanes<L>, AllocError>
-        requires { IsServed instance.shop L.WIDTH L.Band.CAP }
+    pub fn new(alloc: Global, instance: Instance) -> Result<PreparedLanes, AllocError>
+        requires { IsServed instance.shop 2147483647 }
         ensures { IfOk result (λ made. made ≡ instance.shop) }
     {
         let jobs = instance.jobs();
-        let skewed = SkewedTimes::new(alloc, &instance)?;
-        let tables = Tables::new(alloc, jobs)?;
+        let wave = Wave::new(alloc, &instance)?;
         let mut sequence = Vec::new(alloc);
         sequence.reserve_exact(jobs)?;
         sequence.resize(jobs, 0)?;
         Ok(PreparedLanes {
             instance,
-            skewed,
-            tables,
+            wave,
             sequence,
         })
     }
@@ -72,9 +63,7 @@ impl<L: CappedLanes> PreparedLanes<L> {
         ensures shop { self.new ≡ self.old }
     {
         copy_jobs(sequence, &mut self.sequence);
-        let jobs = &self.sequence[..sequence.len()];
-        let machines = self.instance.machines();
-        best_in_tables(&mut self.skewed, &mut self.tables, jobs, job, machines)
+        self.wave.best(&self.sequence[..sequence.len()], job)
     }
 }
 

@@ -1,196 +1,106 @@
-//! The times of a shop's jobs in lanes.
-ghost use Rattle.std.specs.Prelude.{◌≡◌, ◌+◌, ◌<◌, ◌≤◌, ◌^◌, length, map, IfOk};
-ghost use Rattle.std.specs.List.{All, range_with_len};
+//! The times of a shop's jobs in vectors.
+ghost use Rattle.std.specs.Prelude.{◌≡◌, ℕ, ◌+◌, ◌*◌, ◌<◌, ◌≤◌, ◌≢◌, ◌^◌, length, map, replicate, IfOk};
+ghost use Rattle.std.specs.List.{All, slice_index_or};
 ghost use Rattle.pfs_base.specs.FlowShop.{time_of};
-ghost use Rattle.pfs_wave.specs.Private.ShopTimes.{HoldFirst, lane_sum, limited_time, value_on};
-ghost use Rattle.pfs_wave.specs.Reduced.{reduced_rule};
-ghost use Rattle.pfs_wave.specs.Private.ReducedRows.{HasReducedRows};
-ghost use Rattle.pfs_wave.specs.Wavefront.{HasRows, IsJobRow, on_machine};
+ghost use Rattle.pfs_wave.specs.Lanes.{zeros};
+ghost use Rattle.pfs_wave.specs.Private.Blocks.{HasRows, IsRow, step_of};
+ghost use Rattle.pfs_wave.specs.Wavefront.{on_machine};
 
 use crate::band::Band;
-use crate::lanes::Lanes;
-use pfs_base::{Instance, MOST_JOBS};
+use crate::vectors::put;
+use pfs_base::Instance;
 use std::alloc::{AllocError, Global};
 
-// The time of a job on the machine of a lane, and 0 in a lane after the last machine.
-fn lane_time(instance: &Instance, job: usize, lane: usize) -> u32
+// The time of a job on a machine, and 0 after the last machine.
+#[inline(always)]
+fn lane_time(instance: &Instance, job: usize, machine: usize) -> u32
     requires job { job < instance.now.shop.jobs }
-    ensures { result ≡ on_machine instance.now.shop (time_of instance.now.shop job) lane }
+    ensures { result ≡ on_machine instance.now.shop (time_of instance.now.shop job) machine }
 {
-    if lane < instance.machines() {
-        instance.time(job, lane)
+    if machine < instance.machines() {
+        instance.time(job, machine)
     } else {
         0
     }
 }
 
-// The times of a job in the eight lanes from `first` on.
-fn eight_times<B: Band>(instance: &Instance, job: usize, first: usize) -> B
+// Vector k of a job's times: lane l has the time on machine l * count + k.
+fn job_vector<V: Band>(instance: &Instance, job: usize, count: usize, k: usize) -> V
     requires job { job < instance.now.shop.jobs }
-    requires short { All (λ time. time ≤ B.CAP) instance.now.shop.times }
-    requires few { first < 2 ^ 32 }
-    ensures { B.lanes result
-        ≡ map (on_machine instance.now.shop (time_of instance.now.shop job)) (range_with_len first 8) }
+    requires short { All (λ time. time ≤ V.CAP) instance.now.shop.times }
+    requires count { count < 2 ^ 16 }
+    requires k { k < count }
+    ensures { (lane : ℕ) → lane < 8 → slice_index_or (V.lanes result) lane 0
+        ≡ on_machine instance.now.shop (time_of instance.now.shop job) (lane * count + k) }
 {
-    B::from_times([
-        lane_time(instance, job, first),
-        lane_time(instance, job, first + 1),
-        lane_time(instance, job, first + 2),
-        lane_time(instance, job, first + 3),
-        lane_time(instance, job, first + 4),
-        lane_time(instance, job, first + 5),
-        lane_time(instance, job, first + 6),
-        lane_time(instance, job, first + 7),
+    V::from_times([
+        lane_time(instance, job, k),
+        lane_time(instance, job, count + k),
+        lane_time(instance, job, 2 * count + k),
+        lane_time(instance, job, 3 * count + k),
+        lane_time(instance, job, 4 * count + k),
+        lane_time(instance, job, 5 * count + k),
+        lane_time(instance, job, 6 * count + k),
+        lane_time(instance, job, 7 * count + k),
     ])
 }
 
-// `job_row`, lane by lane.
-#[inline(never)]
-fn row_by_lanes<L: Lanes>(instance: &Instance, job: usize) -> L
+// Writes the vectors of a job.
+fn fill_job<V: Band>(rows: &mut [V], instance: &Instance, job: usize, count: usize)
     requires job { job < instance.now.shop.jobs }
-    requires short { All (λ time. time ≤ L.Band.CAP) instance.now.shop.times }
-    ensures { IsJobRow instance.now.shop job L.WIDTH (L.lanes result) }
+    requires short { All (λ time. time ≤ V.CAP) instance.now.shop.times }
+    requires few { count ≤ 26 }
+    requires inside { job * count + count ≤ length rows.old }
+    ensures length { length rows.new ≡ length rows.old }
+    ensures job { IsRow count (on_machine instance.now.shop (time_of instance.now.shop job))
+        (step_of count (map V.lanes rows.new) job) }
+    ensures others { (other k : ℕ) → k < count → other ≢ job
+        → step_of count (map V.lanes rows.new) other k ≡ step_of count (map V.lanes rows.old) other k }
 {
-    let mut row = L::none();
-    for band in 0..L::WIDTH / 8 {
-        row.put_band(band, eight_times(instance, job, 8 * band));
-    }
-    row
-}
-
-// A value in the lane of a machine, and 0 in a lane after the last machine.
-#[inline(always)]
-fn lane_value(value: u32, machines: usize, lane: usize) -> u32
-    ensures value { result ≡ value_on value machines lane }
-    ensures small { result ≤ value }
-{
-    if lane < machines { value } else { 0 }
-}
-
-// The eight lanes from `first` on, with a value in those of the machines.
-fn eight_values<B: Band>(value: u32, machines: usize, first: usize) -> B
-    requires small { value ≤ B.CAP }
-    requires few { first < 2 ^ 32 }
-    ensures { B.lanes result ≡ map (value_on value machines) (range_with_len first 8) }
-{
-    B::from_times([
-        lane_value(value, machines, first),
-        lane_value(value, machines, first + 1),
-        lane_value(value, machines, first + 2),
-        lane_value(value, machines, first + 3),
-        lane_value(value, machines, first + 4),
-        lane_value(value, machines, first + 5),
-        lane_value(value, machines, first + 6),
-        lane_value(value, machines, first + 7),
-    ])
-}
-
-// A value in the lanes of the machines, and 0 in the lanes after the last machine.
-fn machines_row<L: Lanes>(value: u32, machines: usize) -> L
-    requires { value ≤ L.Band.CAP }
-    ensures { HoldFirst (value_on value machines) L.WIDTH (L.lanes result) L.WIDTH }
-{
-    let mut row = L::none();
-    for band in 0..L::WIDTH / 8 {
-        row.put_band(band, eight_values(value, machines, 8 * band));
-    }
-    row
-}
-
-// The times from a place on, one in each lane and at most the limit of the lane.
-#[inline(always)]
-fn limited_row<L: Lanes>(times: &[u32], at: usize, limits: &L) -> L
-    requires inside { at + L.WIDTH ≤ length times.now }
-    requires short { All (λ time. time ≤ L.Band.CAP) times.now }
-    ensures { HoldFirst (limited_time times.now at (L.lanes limits.now)) L.WIDTH (L.lanes result) L.WIDTH }
-{
-    let mut row = L::none();
-    for band in 0..L::WIDTH / 8 {
-        let first = 8 * band;
-        row.put_band(band, L::Band::load(times, at + first, limits.band(band)));
-    }
-    row
-}
-
-// The times of a job in the lanes of its machines. A time is loaded for each lane, in the lanes after the last machine
-// from the jobs after it, and limited to 0 there. For the last jobs there are too few times.
-#[inline(always)]
-fn job_row<L: Lanes>(instance: &Instance, job: usize, limits: &L) -> L
-    requires job { job < instance.now.shop.jobs }
-    requires short { All (λ time. time ≤ L.Band.CAP) instance.now.shop.times }
-    requires limits { HoldFirst (value_on L.Band.CAP instance.now.shop.machines) L.WIDTH (L.lanes limits.now) L.WIDTH }
-    ensures { IsJobRow instance.now.shop job L.WIDTH (L.lanes result) }
-{
-    let times = instance.times();
-    let at = job * instance.machines();
-    if at + L::WIDTH <= times.len() {
-        limited_row(times, at, limits)
-    } else {
-        row_by_lanes(instance, job)
+    for k in 0..count {
+        put(rows, job * count + k, job_vector(instance, job, count, k));
     }
 }
 
-/// Makes the rows of an instance: for each job its times, in the lanes of its machines, and 0 in the lanes after the
-/// last machine; and after these rows a row of zeros. It reserves memory once, and returns `AllocError` where that
-/// fails.
-pub fn shop_rows<L: Lanes>(alloc: Global, instance: &Instance) -> Result<Vec<L>, AllocError>
-    requires machines { instance.now.shop.machines ≤ L.WIDTH }
-    requires short { All (λ time. time ≤ L.Band.CAP) instance.now.shop.times }
-    ensures count { IfOk result (λ rows. length rows.items ≡ instance.now.shop.jobs + 1) }
-    ensures few { IfOk result (λ rows. length rows.items ≤ MOST_JOBS + 1) }
-    ensures rows { IfOk result (λ rows. HasRows instance.now.shop L.WIDTH (map L.lanes rows.items)) }
+// Writes the vectors of all jobs over vectors of zeros.
+fn fill_rows<V: Band>(rows: &mut [V], instance: &Instance, count: usize)
+    requires short { All (λ time. time ≤ V.CAP) instance.now.shop.times }
+    requires few { count ≤ 26 }
+    requires zeros { map V.lanes rows.old ≡ replicate (instance.now.shop.jobs * count + count) (zeros 8) }
+    ensures length { length rows.new ≡ length rows.old }
+    ensures rows { HasRows instance.now.shop count (map V.lanes rows.new) }
 {
-    let jobs = instance.jobs();
-    let mut rows = Vec::new(alloc);
-    rows.reserve_exact(jobs + 1)?;
-    let limits = machines_row(L::Band::CAP, instance.machines());
-    for job in 0..jobs {
-        rows.push_reserved(job_row(instance, job, &limits));
+    for job in 0..instance.jobs() {
+        fill_job(rows, instance, job, count);
     }
-    rows.push_reserved(L::none());
-    Ok(rows)
 }
 
-// The sum of two rows in each lane, by the rule of the lanes.
-#[inline(always)]
-fn row_sum<L: Lanes>(row: &L, other: &L) -> L
-    ensures { HoldFirst (lane_sum L.Band.RULE (L.lanes row.now) (L.lanes other.now)) L.WIDTH (L.lanes result) L.WIDTH }
-{
-    let mut sums = L::none();
-    for band in 0..L::WIDTH / 8 {
-        sums.put_band(band, row.band(band).sum(other.band(band)));
-    }
-    sums
-}
-
-/// Makes the rows of an instance for times that are less by `reduction`: as `shop_rows`, with reduced times, also in
-/// the last row. It reserves memory once, and returns `AllocError` where that fails.
-pub fn reduced_rows<L: Lanes>(
+/// The times of each job of an instance in `count` vectors, and after them as many vectors of zeros. It reserves memory
+/// once, and returns `AllocError` where that fails.
+pub fn shop_rows<V: Band>(
     alloc: Global,
     instance: &Instance,
-    reduction: u32,
-) -> Result<Vec<L>, AllocError>
-    requires machines { instance.now.shop.machines ≤ L.WIDTH }
-    requires short { All (λ time. time ≤ L.Band.CAP) instance.now.shop.times }
-    requires some { 1 ≤ reduction }
-    requires few { reduction ≤ 65536 }
-    requires cap { 65536 ≤ L.Band.CAP + reduction }
-    ensures count { IfOk result (λ rows. length rows.items ≡ instance.now.shop.jobs + 1) }
-    ensures few { IfOk result (λ rows. length rows.items ≤ MOST_JOBS + 1) }
-    ensures rows { L.Band.RULE ≡ reduced_rule → reduction ≤ 32768
-        → All (λ time. time ≤ 32767 + reduction) instance.now.shop.times
-        → IfOk result (λ rows. HasReducedRows instance.now.shop reduction L.WIDTH (map L.lanes rows.items)) }
+    count: usize,
+) -> Result<Vec<V>, AllocError>
+    requires short { All (λ time. time ≤ V.CAP) instance.now.shop.times }
+    requires few { count ≤ 26 }
+    ensures long { IfOk result (λ rows. length rows.items ≡ instance.now.shop.jobs * count + count) }
+    ensures rows { IfOk result (λ rows. HasRows instance.now.shop count (map V.lanes rows.items)) }
 {
-    let jobs = instance.jobs();
-    let mut rows = Vec::new(alloc);
-    rows.reserve_exact(jobs + 1)?;
-    let machines = instance.machines();
-    let limits = machines_row(L::Band::CAP, machines);
-    let less = machines_row(65536 - reduction, machines);
-    for job in 0..jobs {
-        let row = job_row(instance, job, &limits);
-        rows.push_reserved(row_sum(&row, &less));
-    }
-    rows.push_reserved(row_sum(&L::none(), &less));
+    let mut rows = zero_vectors(alloc, instance.jobs() * count + count)?;
+    fill_rows(&mut rows, instance, count);
     Ok(rows)
+}
+
+/// As many vectors of zeros. It returns `AllocError` where allocation fails.
+pub fn zero_vectors<V: Band>(alloc: Global, count: usize) -> Result<Vec<V>, AllocError>
+    ensures count { IfOk result (λ made. length made.items ≡ count) }
+    ensures zeros { IfOk result (λ made. map V.lanes made.items ≡ replicate count (zeros 8)) }
+{
+    let mut vectors = Vec::new(alloc);
+    vectors.reserve_exact(count)?;
+    for _vector in 0..count {
+        vectors.push_reserved(V::zeros());
+    }
+    Ok(vectors)
 }

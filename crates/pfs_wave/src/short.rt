@@ -2,9 +2,9 @@
 ghost use Rattle.std.proofs.Common.{refl};
 ghost use Rattle.std.specs.Prelude.{◌≡◌, ℕ, ◌≤◌, length, min};
 ghost use Rattle.std.specs.Simd.Lanes.{Each1, zip2};
-ghost use Rattle.pfs_wave.specs.Lanes.{capped_add, capped_rule};
+ghost use Rattle.pfs_wave.specs.Lanes.{capped_add};
 
-use crate::band::{Band, CappedBand};
+use crate::band::Band;
 use crate::least::{Found, first_least};
 use std::simd::prelude::*;
 
@@ -23,23 +23,6 @@ fn saturating_sum(a: u16x8, b: u16x8) -> u16x8
     a.saturating_add(b)
 }
 
-// The lesser value of each lane.
-#[inline(always)]
-fn lesser(a: u16x8, b: u16x8) -> u16x8
-    ensures { result ≡ zip2 min a b }
-{
-    a.simd_min(b)
-}
-
-// The same values in lanes of 16 bits.
-#[inline(always)]
-fn narrowed(v: u32x8) -> u16x8
-    requires short { Each1 (λ value. value ≤ 65535) v }
-    ensures { result ≡ v }
-{
-    v.cast::<u16>()
-}
-
 impl Band for Short {
     type Number = u16;
 
@@ -49,8 +32,6 @@ impl Band for Short {
 
     ghost CAP = { 65535 };
 
-    ghost RULE = { capped_rule 65535 };
-
     const CAP: u32 = 65535;
 
     ghost eight = { λ band. band.eight };
@@ -59,18 +40,6 @@ impl Band for Short {
     fn zeros() -> Short {
         Short {
             values: u16x8::splat(0),
-        }
-    }
-
-    #[inline(always)]
-    fn start() -> Short {
-        Band::zeros()
-    }
-
-    #[inline(always)]
-    fn copied(self) -> Short {
-        Short {
-            values: self.values,
         }
     }
 
@@ -87,14 +56,6 @@ impl Band for Short {
                 times[6] as u16,
                 times[7] as u16,
             ]),
-        }
-    }
-
-    #[inline(always)]
-    fn load(times: &[u32], at: usize, limits: Short) -> Short {
-        let eight = narrowed(u32x8::from_slice(&times[at..]));
-        Short {
-            values: lesser(eight, limits.values),
         }
     }
 
@@ -176,8 +137,4 @@ impl Band for Short {
     fn first_least(sums: &[u16]) -> Found {
         first_least(sums)
     }
-}
-
-impl CappedBand for Short {
-    ghost capped = { refl };
 }

@@ -1,15 +1,15 @@
-//! The skewed times of a sequence. Each band is filled on its own: the first row reaches band b after 8 * b steps.
-ghost use Rattle.std.specs.Prelude.{◌≡◌, ℕ, ◌+◌, ◌-◌, ◌*◌, ◌<◌, ◌≤◌, ◌^◌, length, map, max, min};
+//! The skewed times of a sequence: at each step, lane l of vector k has lane l of vector k of the row that is l rows
+//! back. Each of the vectors is skewed on its own.
+ghost use Rattle.std.specs.Prelude.{◌≡◌, ℕ, suc, ◌+◌, ◌-◌, ◌*◌, ◌<◌, ◌≤◌, ◌^◌, length, map, max, min};
 ghost use Rattle.std.specs.List.{All};
-ghost use Rattle.pfs_wave.specs.Lanes.{rows_of};
-ghost use Rattle.pfs_wave.specs.Private.HeldRows.{AreMoved, HoldLanes, HoldOutside};
+ghost use Rattle.pfs_wave.specs.Private.HeldRows.{AreMoved, HoldLanes, HoldOutside, column, rows_at};
 ghost use Rattle.pfs_wave.specs.Private.Blending.{AreBlends, past_at};
-ghost use Rattle.pfs_wave.specs.Private.SkewedBand.{IsBandFilled, band_rows};
+ghost use Rattle.pfs_wave.specs.Private.SkewedBand.{IsFilled};
 
 use crate::band::Band;
 use crate::blends::Blends;
 use crate::changes::Kept;
-use crate::lanes::Lanes;
+use crate::vectors::put;
 
 /// The rows from `from` to before `to`, at the steps before `end`.
 #[derive(Clone, Copy, Debug, PartialEq, Eq)]
@@ -19,154 +19,160 @@ pub struct Changed {
     pub end: usize,
 }
 
-// One band of a row of the sequence.
+// Vector k of a row of the sequence.
 #[inline(always)]
-fn band_of_row<L: Lanes>(rows: &[L], order: &[usize], row: usize, band: usize) -> L::Band
-    requires jobs { All (λ job. job < length rows.now) order.now }
-    requires band { 8 * band + 8 ≤ L.WIDTH }
+fn vector_of<V: Band, const N: usize>(rows: &[V], order: &[usize], row: usize, k: usize) -> V
+    requires jobs { All (λ job. job * N + N ≤ length rows.now) order.now }
+    requires k { k < N }
     requires row { row < length order.now }
-    ensures { L.Band.lanes result ≡ band_rows (map L.lanes rows.now) order.now (8 * band) row }
+    ensures { V.lanes result ≡ rows_at N (map V.lanes rows.now) order.now k row }
 {
-    let job = order[row];
-    rows[job].band(band)
+    rows[order[row] * N + k]
 }
 
 // What the blends keep of the rows before a row. They need at most seven of these.
 #[inline(always)]
-fn blends_before<L: Lanes>(rows: &[L], order: &[usize], row: usize, band: usize) -> Blends<L::Band>
-    requires jobs { All (λ job. job < length rows.now) order.now }
-    requires band { 8 * band + 8 ≤ L.WIDTH }
+fn blends_before<V: Band, const N: usize>(
+    rows: &[V],
+    order: &[usize],
+    row: usize,
+    k: usize,
+) -> Blends<V>
+    requires jobs { All (λ job. job * N + N ≤ length rows.now) order.now }
+    requires k { k < N }
     requires row { row ≤ length order.now }
-    ensures { AreBlends L.Band.lanes (past_at (band_rows (map L.lanes rows.now) order.now (8 * band)) row) result }
+    ensures { AreBlends V.lanes (past_at (rows_at N (map V.lanes rows.now) order.now k) row) result }
 {
     let mut last = Blends::none();
     for earlier in row.saturating_sub(7)..row {
-        last = last.push(band_of_row(rows, order, earlier, band)).next;
+        last = last.push(vector_of::<V, N>(rows, order, earlier, k)).next;
     }
     last
 }
 
-// The row before which the band from lane `first` on is filled, of at most `room` rows. The steps of the seven rows
-// after those that changed contain these too. The number of rows is rounded up to fours where there is room: then no row
-// is left after the turns of the loop, whose number seldom changes from one sequence to the next.
+// The row before which vectors are filled, of at most `room` rows. The steps of the seven rows after those that changed
+// contain these too. The number of rows is rounded up to fours where there is room: then no row is left after the turns
+// of the loop, whose number seldom changes from one sequence to the next.
 #[inline(always)]
-fn band_end(changed: Changed, first: usize, room: usize) -> usize
+fn filled_end(changed: Changed, room: usize) -> usize
     requires from { changed.from ≤ changed.to }
-    requires steps { first + changed.from ≤ changed.end }
+    requires steps { changed.from ≤ changed.end }
     requires room { changed.from ≤ room }
     requires few { changed.to + 10 < 2 ^ 64 }
     ensures from { changed.from ≤ result }
-    ensures enough { min (min changed.to (changed.end - first) + 7) room ≤ result }
+    ensures enough { min (min changed.to changed.end + 7) room ≤ result }
     ensures within { result ≤ room }
 {
-    let to = changed.to.min(changed.end - first);
+    let to = changed.to.min(changed.end);
     let end = (to + 7).min(room);
     let fours = changed.from + (end - changed.from + 3) / 4 * 4;
     if fours <= room { fours } else { end }
 }
 
-// Fills one band of the steps of these rows. With four rows in each turn of the loop the blends stay in registers and
-// are not copied.
+// Fills vector k of the steps from `from` to before `to`. With four rows in each turn of the loop the blends stay in
+// registers and are not copied.
 #[inline(always)]
-fn fill_band<L: Lanes>(rows: &[L], order: &[usize], times: &mut [L], filled: Changed, band: usize)
-    requires jobs { All (λ job. job < length rows.now) order.now }
-    requires band { 8 * band + 8 ≤ L.WIDTH }
-    requires from { filled.from ≤ filled.to }
-    requires room { 8 * band + filled.to ≤ length order.now }
-    requires steps { length times.old ≡ length order.now }
-    ensures filled { IsBandFilled (band_rows (map L.lanes rows.now) order.now (8 * band)) (8 * band)
-        filled.from filled.to (map L.lanes times.old) (map L.lanes times.new) }
+fn fill_vectors<V: Band, const N: usize>(
+    rows: &[V],
+    order: &[usize],
+    times: &mut [V],
+    from: usize,
+    to: usize,
+    k: usize,
+)
+    requires jobs { All (λ job. job * N + N ≤ length rows.now) order.now }
+    requires k { k < N }
+    requires from { from ≤ to }
+    requires room { to ≤ length order.now }
+    requires small { length order.now * N + N < 2 ^ 32 }
+    requires steps { length times.old ≡ length order.now * N }
+    ensures filled { IsFilled N k (rows_at N (map V.lanes rows.now) order.now k) from to (map V.lanes times.old)
+        (map V.lanes times.new) }
 {
-    let first = 8 * band;
-    let mut last = blends_before(rows, order, filled.from, band);
-    let turns = (filled.to - filled.from) / 4;
+    let mut last = blends_before::<V, N>(rows, order, from, k);
+    let turns = (to - from) / 4;
     for turn in 0..turns {
-        let row = filled.from + 4 * turn;
-        let step = first + row;
-        let a = last.push(band_of_row(rows, order, row, band));
-        let b = a.next.push(band_of_row(rows, order, row + 1, band));
-        let c = b.next.push(band_of_row(rows, order, row + 2, band));
-        let d = c.next.push(band_of_row(rows, order, row + 3, band));
+        let row = from + 4 * turn;
+        let a = last.push(vector_of::<V, N>(rows, order, row, k));
+        let b = a.next.push(vector_of::<V, N>(rows, order, row + 1, k));
+        let c = b.next.push(vector_of::<V, N>(rows, order, row + 2, k));
+        let d = c.next.push(vector_of::<V, N>(rows, order, row + 3, k));
         last = d.next;
-        times[step].put_band(band, a.row);
-        times[step + 1].put_band(band, b.row);
-        times[step + 2].put_band(band, c.row);
-        times[step + 3].put_band(band, d.row);
+        put(times, row * N + k, a.row);
+        put(times, (row + 1) * N + k, b.row);
+        put(times, (row + 2) * N + k, c.row);
+        put(times, (row + 3) * N + k, d.row);
     }
-    for row in filled.from + 4 * turns..filled.to {
-        let one = last.push(band_of_row(rows, order, row, band));
+    for row in from + 4 * turns..to {
+        let one = last.push(vector_of::<V, N>(rows, order, row, k));
         last = one.next;
-        times[first + row].put_band(band, one.row);
+        put(times, row * N + k, one.row);
     }
 }
 
-/// Skews the rows of a sequence that changed: lane l of step x gets lane l of the row of times of the job at row x - l,
-/// and 0 where there is no such row. The other rows are skewed already.
+/// Skews the rows of a sequence that changed. The other rows are skewed already.
 #[inline(never)]
-pub fn fill_times<L: Lanes>(rows: &[L], order: &[usize], times: &mut [L], changed: Changed)
-    requires jobs { All (λ job. job < length rows.now) order.now }
+pub fn fill_times<V: Band, const N: usize>(
+    rows: &[V],
+    order: &[usize],
+    times: &mut [V],
+    changed: Changed,
+)
+    requires jobs { All (λ job. job * N + N ≤ length rows.now) order.now }
     requires from { changed.from ≤ changed.to }
     requires to { changed.to ≤ length order.now }
-    requires room { changed.from + L.WIDTH ≤ length order.now }
-    requires end { changed.from + L.WIDTH ≤ changed.end }
-    requires steps { length times.old ≡ length order.now }
+    requires end { changed.from ≤ changed.end }
+    requires small { length order.now * N + N < 2 ^ 32 }
+    requires steps { length times.old ≡ length order.now * N }
     ensures steps { length times.new ≡ length times.old }
-    ensures wide { (step : ℕ)
-        → length (rows_of (map L.lanes times.new) step) ≡ length (rows_of (map L.lanes times.old) step) }
-    ensures held { HoldOutside (map L.lanes rows.now) order.now changed.from changed.to changed.end 0 L.WIDTH
-        (map L.lanes times.old)
-        → HoldLanes (map L.lanes rows.now) order.now 0 L.WIDTH (map L.lanes times.new) }
+    ensures held { (k : ℕ) → k < N
+        → HoldOutside (rows_at N (map V.lanes rows.now) order.now k) changed.from changed.to changed.end
+        (length order.now) (column N (map V.lanes times.old) k)
+        → HoldLanes (rows_at N (map V.lanes rows.now) order.now k) (length order.now)
+        (column N (map V.lanes times.new) k) }
 {
-    for band in 0..L::WIDTH / 8 {
-        let first = 8 * band;
-        let filled = Changed {
-            from: changed.from,
-            to: band_end(changed, first, order.len() - first),
-            end: order.len(),
-        };
-        fill_band(rows, order, times, filled, band);
-    }
-}
-
-/// Moves the steps from `from` to before `to`: each becomes a copy of the one `by` steps before it.
-#[inline(never)]
-pub fn move_steps<L: Lanes>(times: &mut [L], from: usize, to: usize, by: usize)
-    requires from { from ≤ to }
-    requires to { to ≤ length times.old }
-    requires by { by ≤ from }
-    ensures { AreMoved from to by (map L.lanes times.old) (map L.lanes times.new) }
-{
-    for step in (from..to).rev() {
-        times[step] = times[step - by].again();
+    let end = filled_end(changed, order.len());
+    for k in 0..N {
+        fill_vectors::<V, N>(rows, order, times, changed.from, end, k);
     }
 }
 
 /// Moves the rows that are kept at the end of a sequence that grew from `old` to `new` jobs to their new steps. Returns
-/// the rows that are not right yet. A step has rows of both parts up to WIDTH steps after the first row that moves, so
+/// the rows that are not right yet. A step has rows of both parts up to eight steps after the first row that moves, so
 /// the function moves only the steps after that.
 #[inline(always)]
-pub fn move_back<L: Lanes>(times: &mut [L], old: usize, new: usize, kept: Kept) -> Changed
+pub fn move_back<V: Band, const N: usize>(
+    times: &mut [V],
+    old: usize,
+    new: usize,
+    kept: Kept,
+    steps: usize,
+) -> Changed
     requires old { kept.back ≤ old }
-    requires new { new + L.WIDTH ≤ length times.old }
-    requires old_room { old + L.WIDTH ≤ length times.old }
+    requires new { new + 8 ≤ steps }
+    requires old_room { old + 8 ≤ steps }
+    requires small { steps * N + N < 2 ^ 32 }
+    requires steps { length times.old ≡ steps * N }
+    ensures steps { length times.new ≡ length times.old }
     ensures from { result.from ≡ kept.front }
-    ensures none { kept.back ≡ 0 → (result.to ≡ max old new) × (result.end ≡ length times.old)
-        × (map L.lanes times.new ≡ map L.lanes times.old) }
-    ensures kept { new ≤ old → (result.to ≡ old - kept.back) × (result.end ≡ length times.old)
-        × (map L.lanes times.new ≡ map L.lanes times.old) }
-    ensures moved { 0 < kept.back → old < new → (result.to ≡ new - kept.back + L.WIDTH)
-        × (result.end ≡ new - kept.back + L.WIDTH)
-        × AreMoved (new - kept.back + L.WIDTH) (new + L.WIDTH) (new - old) (map L.lanes times.old)
-        (map L.lanes times.new) }
+    ensures none { kept.back ≡ 0 → (result.to ≡ max old new) × (result.end ≡ steps) × (times.new ≡ times.old) }
+    ensures kept { new ≤ old → (result.to ≡ old - kept.back) × (result.end ≡ steps) × (times.new ≡ times.old) }
+    ensures moved { 0 < kept.back → old < new → (result.to ≡ new - kept.back + 8) × (result.end ≡ new - kept.back + 8)
+        × ((k : ℕ) → k < N → AreMoved (new - kept.back + 8) (new + 8) (new - old)
+        (column N (map V.lanes times.old) k) (column N (map V.lanes times.new) k)) }
 {
     let from = kept.front;
     if kept.back == 0 || new <= old {
         let to = old.max(new) - kept.back;
-        let end = times.len();
-        return Changed { from, to, end };
+        return Changed {
+            from,
+            to,
+            end: steps,
+        };
     }
-    let moved = new - kept.back + L::WIDTH;
-    move_steps(times, moved, new + L::WIDTH, new - old);
+    let moved = new - kept.back + 8;
+    let first = old - kept.back + 8;
+    times.copy_within(first * N..(old + 8) * N, moved * N);
     Changed {
         from,
         to: moved,

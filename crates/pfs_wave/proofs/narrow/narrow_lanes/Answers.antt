@@ -2,11 +2,11 @@ use Rattle.std.proofs.Common.{arith}
 use Rattle.pfs_wave.proofs.ServedPaths.{greatest_all}
 use Rattle.pfs_wave.proofs.narrow.narrow_lanes.Goals as goal
 
-pub new-requires-clause-short : goal.new-requires-clause-short
-new-requires-clause-short g c k d lt =
+pub new-requires : goal.new-requires
+new-requires c k d lt =
     omega (
       arith,
       greatest_all c.args.instance.now.shop.times k d lt,
-      c.if-longest_time-reduction.true,
+      c.if-longest_time-le65535.true,
       c.longest_time.ensures,
     )

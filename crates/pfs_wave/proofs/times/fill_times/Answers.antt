@@ -1,66 +1,48 @@
-use Rattle.std.proofs.Common.{◌≡◌, ◌≤◌, ◌*◌, ◌+◌, ◌-◌, map, min, length, subst, sym, ◌∙◌, refl, arith}
+use Rattle.std.proofs.Common.{inl, inr, ◌≡◌, length, map, ◌∙◌, sym, subst, arith}
+use Rattle.std.proofs.lemmas.Bool.{cases_lt}
 use Rattle.std.proofs.lemmas.List.{length-map}
-use Rattle.pfs_wave.specs.Private.HeldRows.{HoldLanes, HoldOutside}
-use Rattle.pfs_wave.proofs.SkewedTimes.{hold_none, band_below, band_above}
+use Rattle.pfs_wave.specs.Private.HeldRows.{HoldLanes, HoldOutside, column, rows_at}
+use Rattle.pfs_wave.proofs.SkewedTimes.{hold_as, hold_filled}
 use Rattle.pfs_wave.proofs.times.fill_times.Goals as goal
 
-pub loop-band-init : goal.loop-band-init
-loop-band-init g c =
-    let lanes = g.L.Lanes.lanes in
-    record {
-      steps = refl;
-      wide = λ step. refl;
-      below = λ outside. hold_none (map lanes c.args.rows.now) c.args.order.now (map lanes c.args.times.now);
-      above = λ outside. outside;
-    }
-
-pub loop-band-preserved : goal.loop-band-preserved
-loop-band-preserved g c =
-    let lanes = g.L.Lanes.lanes in
-    let width = g.L.Lanes.WIDTH in
-    let rows = map lanes c.args.rows.now in
+pub loop-k-preserved : goal.loop-k-preserved
+loop-k-preserved g c =
+    let lanes = g.V.Band.lanes in
+    let count = g.row.N in
+    let all = map lanes c.args.rows.now in
     let order = c.args.order.now in
-    let from = c.args.changed.from in
-    let to = c.args.changed.to in
-    let stop = c.args.changed.end in
-    let band = c.loop-band.band in
-    let old = map lanes c.loop-band.times in
-    let times = map lanes c.fill_band.new.times in
-    let filled = c.fill_band.ensures.filled in
-    let so_far = c.loop-band.invariant in
-    let whole = g.met.L.Lanes.whole in
-    let is = c.WIDTH-band-end.ensures in
-    let inside = c.loop-band-test.true in
-    let fits : 8 * band + 8 ≤ width = omega arith in
-    let next : 8 * band + 8 ≡ 8 * (band + 1) = omega arith in
-    let end = c.band_end.result in
-    let steps : length c.args.order.now ≡ length old =
-    sym c.requires.steps ∙ sym so_far.steps ∙ sym (length-map c.loop-band.times lanes) in
-    let ends : min (min to (stop - 8 * band) + 7) (length old - 8 * band) ≤ end =
-    rw steps at c.band_end.ensures.enough in
+    let steps = length order in
+    let k = c.loop-k.k in
+    let inside = c.loop-k-test.true in
+    let so_far = c.loop-k.invariant in
+    let filled = c.fill_vectors.ensures.filled in
+    let old = map lanes c.args.times.now in
+    let new = map lanes c.fill_vectors.new.times in
+    let changed = c.args.changed in
+    let ends = c.filled_end-end.ensures.enough in
     record {
-      steps = sym (length-map c.fill_band.new.times lanes) ∙ filled.steps ∙ length-map c.loop-band.times lanes
-          ∙ so_far.steps;
-      wide = λ step. filled.wide step ∙ so_far.wide step;
-      below = λ outside.
-          subst (λ n. HoldLanes rows order 0 n times) next
-          (band_below rows order (8 * band) from to stop end width old times filled ends (so_far.below outside)
-          (so_far.above outside) fits);
-      above = λ outside.
-          subst (λ n. HoldOutside rows order from to stop n width times) next
-          (band_above rows order (8 * band) from to stop end width old times filled ends (so_far.above outside));
+      long = sym (length-map c.fill_vectors.new.times lanes) ∙ filled.long ∙ length-map c.loop-k.times lanes
+          ∙ so_far.long;
+      done = λ j lt outside.
+          elim (cases_lt j k) [
+            | inl earlier ↦
+                hold_as (rows_at count all order j) steps
+                (λ step. filled.others step j (omega arith) (λ same. omega arith)) (so_far.done j earlier outside)
+            | inr here ↦
+                let same : k ≡ j = omega arith in
+                subst (λ i. HoldOutside (rows_at count all order i) changed.from changed.to changed.end steps (column count old i)
+                → HoldLanes (rows_at count all order i) steps (column count new i)) same
+                (λ out.
+                hold_filled (rows_at count all order k) changed.from changed.to changed.end c.filled_end-end.result steps
+                (column count old k) (column count new k) filled.filled
+                (λ step early. filled.before step early ∙ so_far.rest step k inside (omega arith))
+                (λ step late. filled.after step late ∙ so_far.rest step k inside (omega arith)) ends out) outside
+          ];
+      rest = λ step j lt le.
+          filled.others step j lt (λ same. omega arith) ∙ so_far.rest step j lt (omega arith);
     }
 
 pub returns-clause-held : goal.returns-clause-held
-returns-clause-held g c outside =
-    let lanes = g.L.Lanes.lanes in
-    let whole = g.met.L.Lanes.whole in
-    let is = c.WIDTH-band-end.ensures in
-    let end = c.loop-band.auto.band-end in
-    let last = c.loop-band-test.false in
-    let all : 8 * c.loop-band.band ≡ g.L.Lanes.WIDTH = omega arith in
-    subst (λ n. HoldLanes (map lanes c.args.rows.now) c.args.order.now 0 n (map lanes c.loop-band.times)) all
-    (c.loop-band.invariant.below outside)
-
-pub returns-clause-wide : goal.returns-clause-wide
-returns-clause-wide g c = c.loop-band.invariant.wide
+returns-clause-held g c k lt outside =
+    let end = c.loop-k-test.false in
+    c.loop-k.invariant.done k (omega arith) outside

@@ -1,21 +1,19 @@
-use Rattle.std.proofs.Common.{ℕ, ◌≡◌, ◌*◌, map, length}
-use Rattle.pfs_wave.specs.Lanes.{rows_of}
-use Rattle.pfs_wave.specs.Private.HeldRows.{HoldLanes, HoldOutside}
+use Rattle.std.proofs.Common.{ℕ, ◌≡◌, ◌<◌, ◌≤◌, map, length}
+use Rattle.pfs_wave.specs.Private.Blocks.{step_of}
+use Rattle.pfs_wave.specs.Private.HeldRows.{HoldLanes, HoldOutside, column, rows_at}
 use Rattle.pfs_wave.proofs.times.fill_times.Given as goal
 
--- the bands so far contain the rows of the sequence; those after them are unchanged
-abbrev pub invariant-loop-band : goal.invariant-loop-band
-invariant-loop-band g l =
-    let lanes = g.L.Lanes.lanes in
-    let width = g.L.Lanes.WIDTH in
-    let rows = map lanes l.rows in
+-- the vectors so far contain the rows of the sequence; those after them are unchanged
+abbrev pub invariant-loop-k : goal.invariant-loop-k
+invariant-loop-k g l =
+    let lanes = g.V.Band.lanes in
+    let count = g.row.N in
     let old = map lanes l.fn.times in
     let times = map lanes l.times in
     record {
-      steps : length l.times ≡ length l.fn.times;
-      wide : (step : ℕ) → length (rows_of times step) ≡ length (rows_of old step);
-      below : HoldOutside rows l.order l.changed.from l.changed.to l.changed.end 0 width old
-          → HoldLanes rows l.order 0 (8 * l.band) times;
-      above : HoldOutside rows l.order l.changed.from l.changed.to l.changed.end 0 width old
-          → HoldOutside rows l.order l.changed.from l.changed.to l.changed.end (8 * l.band) width times;
+      long : length l.times ≡ length l.fn.times;
+      done : (j : ℕ) → j < l.k → HoldOutside (rows_at count (map lanes l.rows) l.order j) l.changed.from l.changed.to
+          l.changed.end (length l.order) (column count old j)
+          → HoldLanes (rows_at count (map lanes l.rows) l.order j) (length l.order) (column count times j);
+      rest : (step j : ℕ) → j < count → l.k ≤ j → step_of count times step j ≡ step_of count old step j;
     }

@@ -1,0 +1,241 @@
+-- The pass of the tails, one vector after the other.
+use Rattle.std.proofs.Common.{ℕ, suc, ◌≡◌, ◌≢◌, ◌+◌, ◌-◌, ◌*◌, ◌<◌, ◌≤◌, List, [], length, map, get_or, slice_set, ap, ◌∙◌}
+use Rattle.std.proofs.Common.{sym, arith, inl, inr, subst, replicate}
+use Rattle.std.proofs.lemmas.Bool.{cases_lt}
+use Rattle.std.proofs.lemmas.List.{get_or_past, get_or-map, get_or-replicate, length-set, length-replicate}
+use Rattle.std.proofs.lemmas.Nat.{mul-add-lt}
+use borrow.Rule.Slice.PartMut.{put_mid}
+use Rattle.pfs_wave.specs.Lanes.{zeros}
+use Rattle.pfs_wave.specs.Private.Blocks.{Cells, Vectors, HoldCells, IsColumn, IsStep, later, step_of, vectors_of}
+use Rattle.pfs_wave.specs.Private.Recurrences.{AreTails}
+use Rattle.pfs_wave.proofs.Steps.{zeros-get_or}
+use Rattle.pfs_wave.proofs.StepTables.{set_same, set_other, step_after, part_written, part_kept}
+
+pub later_same : (cap : ℕ) {a b c d s t : ℕ} → a ≡ c → b ≡ d → s ≡ t → later cap a b s ≡ later cap c d t
+later_same cap p q r = cc
+
+pub machine_inside : (count lane k : ℕ) → lane < 8 → k < count → lane * count + k < 8 * count
+machine_inside count lane k lt k_lt = omega (arith, mul-add-lt lane count k 8 lt k_lt)
+
+-- the same lanes
+pub column_as : (count step : ℕ) (cell : Cells) (k : ℕ) {v w : List ℕ} → v ≡ w → IsColumn count step cell k w
+    → IsColumn count step cell k v
+column_as count step cell k is held row lane lt all = ap (λ l. get_or l lane 0) is ∙ held row lane lt all
+
+-- the lanes of a new vector, as `next_value` makes them
+abbrev pub IsNext : ℕ → List ℕ → List ℕ → List ℕ → List ℕ → Type 0
+IsNext cap beside above time new =
+    (lane : ℕ) → lane < 8 → get_or new lane 0 ≡ later cap (get_or beside lane 0) (get_or above lane 0) (get_or time lane 0)
+
+-- and as `second_value` makes them
+abbrev pub IsSecond : ℕ → List ℕ → List ℕ → List ℕ → List ℕ → List ℕ → List ℕ → Type 0
+IsSecond cap beside above time next_above next_time new =
+    (lane : ℕ) → lane < 8 → get_or new lane 0
+    ≡ later cap (later cap (get_or beside lane 0) (get_or above lane 0) (get_or time lane 0)) (get_or next_above lane 0)
+    (get_or next_time lane 0)
+
+-- ---- a vector
+
+module _ (cap count : ℕ) (time tail : Cells) (are : AreTails cap count time tail) (step : ℕ) where
+  pub tail_carried : (first carry : List ℕ) → length first ≡ 8 → IsColumn count (suc step) tail 0 first
+      → ((lane : ℕ) → lane < 8 → get_or carry lane 0 ≡ get_or first (suc lane) 0)
+      → IsColumn count step tail count carry
+  tail_carried first carry long is moved row lane lt all =
+      elim (cases_lt (suc lane) 8) [
+        | inl more ↦
+            let here : suc lane * count + 0 ≡ lane * count + count = omega arith in
+            moved lane lt ∙ is row (suc lane) more (omega arith) ∙ ap (tail row) here
+        | inr last ↦
+            let seven : lane ≡ 7 = omega arith in
+            let here : 8 * count ≡ lane * count + count = rw seven (omega arith) in
+            moved lane lt ∙ get_or_past first (suc lane) 0 (omega arith) ∙ sym (are.none row) ∙ ap (tail row) here
+      ]
+
+  pub tail_more : (k : ℕ) (beside above now new : List ℕ) → k < count → IsColumn count step tail (suc k) beside
+      → IsColumn count (suc step) tail k above → IsColumn count step time k now → IsNext cap beside above now new
+      → IsColumn count step tail k new
+  tail_more k beside above now new k_lt p q r is row lane lt all =
+      let machine = lane * count + k in
+      let next : lane * count + suc k ≡ suc machine = omega arith in
+      is lane lt
+      ∙ later_same cap (p row lane lt all ∙ ap (tail row) next) (q (suc row) lane lt (omega arith)) (r row lane lt all)
+      ∙ sym (are.next row machine (machine_inside count lane k lt k_lt))
+
+  pub tail_second : (k : ℕ) (beside above now next_above next_now new : List ℕ) → suc k < count
+      → IsColumn count step tail (suc (suc k)) beside → IsColumn count (suc step) tail (suc k) above
+      → IsColumn count step time (suc k) now → IsColumn count (suc step) tail k next_above
+      → IsColumn count step time k next_now → IsSecond cap beside above now next_above next_now new
+      → IsColumn count step tail k new
+  tail_second k beside above now next_above next_now new k_lt p q r s t is row lane lt all =
+      let first = lane * count + suc k in
+      let machine = lane * count + k in
+      let next : first ≡ suc machine = omega arith in
+      let after : lane * count + suc (suc k) ≡ suc first = omega arith in
+      is lane lt
+      ∙ later_same cap (later_same cap (p row lane lt all ∙ ap (tail row) after) (q (suc row) lane lt (omega arith))
+      (r row lane lt all)
+      ∙ sym (are.next row first (machine_inside count lane (suc k) lt k_lt)) ∙ ap (tail row) next)
+      (s (suc row) lane lt (omega arith)) (t row lane lt all)
+      ∙ sym (are.next row machine (machine_inside count lane k lt (omega arith)))
+
+-- ---- a step: the last vectors, as many as have passed, have their cells; `row` has them too
+
+pub record AreTailsSoFar {X : Type 0} (lanes : X → List ℕ) (count step : ℕ) (tail : Cells) (rows row : List X)
+    (now : List ℕ) (passed : ℕ) : Type 0 where
+  pub now_is : IsColumn count step tail (count - passed) now
+  pub done : (k : ℕ) → k < count → count ≤ k + passed → IsColumn count step tail k (vectors_of (map lanes rows) k)
+  pub row_done : (k : ℕ) → k < count → count ≤ k + passed → IsColumn count step tail k (vectors_of (map lanes row) k)
+
+pub record AreStepTails {X : Type 0} (lanes : X → List ℕ) (cap count : ℕ) (times after : Vectors) (rows row : List X)
+    (now : List ℕ) (passed : ℕ) : Type 0 where
+  pub long : length rows ≡ count
+  pub row_long : length row ≡ count
+  pub rest : (k : ℕ) → k + passed < count → vectors_of (map lanes rows) k ≡ after k
+  pub cells : (time tail : Cells) (step : ℕ) → AreTails cap count time tail → IsStep count step time times
+      → IsStep count (suc step) tail after → AreTailsSoFar lanes count step tail rows row now passed
+
+module _ {X : Type 0} (lanes : X → List ℕ) (cap count : ℕ) (times after : Vectors) (some : 1 ≤ count) where
+  pub step_tails_none : (rows row : List X) (first carry : List ℕ) → length rows ≡ count → length row ≡ count
+      → ((k : ℕ) → k < count → vectors_of (map lanes rows) k ≡ after k) → first ≡ after 0 → length first ≡ 8
+      → ((lane : ℕ) → lane < 8 → get_or carry lane 0 ≡ get_or first (suc lane) 0)
+      → AreStepTails lanes cap count times after rows row carry 0
+  step_tails_none rows row first carry long row_long same first_is eight moved = record {
+    long = long;
+    row_long = row_long;
+    rest = λ k lt. same k (omega arith);
+    cells = λ time tail step are times_are after_are. record {
+      now_is = subst (λ j. IsColumn count step tail j carry) (omega arith)
+          (tail_carried cap count time tail are step first carry eight
+          (column_as count (suc step) tail 0 first_is (after_are 0 (omega arith))) moved);
+      done = λ k lt le. absurd (omega arith);
+      row_done = λ k lt le. absurd (omega arith);
+    };
+  }
+
+  module _ (rows row : List X) (now : List ℕ) (passed k : ℕ) (new : X) (carry second : List ℕ)
+      (so_far : AreStepTails lanes cap count times after rows row now passed) (lt : passed < count)
+      (k_is : k ≡ count - 1 - passed)
+      (carried : (lane : ℕ) → lane < 8 → get_or carry lane 0 ≡ get_or (after 0) (suc lane) 0)
+      (eight : length (after 0) ≡ 8)
+      (second_is : 2 ≤ count → IsSecond cap carry (after (count - 1)) (times (count - 1)) (after (count - 2))
+      (times (count - 2)) second)
+      (one : passed ≡ 1 → lanes new ≡ second)
+      (more : passed ≢ 1 → IsNext cap now (vectors_of (map lanes rows) k) (times k) (lanes new)) where
+    new_is : (time tail : Cells) (step : ℕ) → AreTails cap count time tail → IsStep count step time times
+        → IsStep count (suc step) tail after → IsColumn count step tail k (lanes new)
+    new_is time tail step are times_are after_are =
+        let next : passed ≢ 1 → IsColumn count step tail k (lanes new) =
+        λ other.
+        let beside : count - passed ≡ suc k = omega arith in
+        tail_more cap count time tail are step k now (vectors_of (map lanes rows) k) (times k) (lanes new) (omega arith)
+        (subst (λ j. IsColumn count step tail j now) beside
+        (so_far.cells time tail step are times_are after_are).now_is)
+        (column_as count (suc step) tail k (so_far.rest k (omega arith)) (after_are k (omega arith))) (times_are k (omega arith)) (more other) in
+        elim (cases_lt passed 1) [
+          | inl none ↦ next (λ is. omega arith)
+          | inr some_passed ↦ elim (cases_lt 1 passed) [
+            | inl many ↦ next (λ is. omega arith)
+            | inr few ↦
+                let is_one : passed ≡ 1 = omega arith in
+                let here : k ≡ count - 2 = omega arith in
+                let before : suc (count - 2) ≡ count - 1 = omega arith in
+                let all : suc (suc (count - 2)) ≡ count = omega arith in
+                subst (λ j. IsColumn count step tail j (lanes new)) (sym here) (column_as count step tail (count - 2) (one is_one)
+                (tail_second cap count time tail are step (count - 2) carry (after (count - 1)) (times (count - 1))
+                (after (count - 2)) (times (count - 2)) second (omega arith)
+                (subst (λ j. IsColumn count step tail j carry) (sym all) (tail_carried cap count time tail are step
+                (after 0) carry eight (after_are 0 (omega arith)) carried))
+                (subst (λ j. IsColumn count (suc step) tail j (after (count - 1))) (sym before)
+                (after_are (count - 1) (omega arith)))
+                (subst (λ j. IsColumn count step time j (times (count - 1))) (sym before)
+                (times_are (count - 1) (omega arith)))
+                (after_are (count - 2) (omega arith)) (times_are (count - 2) (omega arith)) (second_is (omega arith))))
+          ]
+        ]
+
+    wrote : (table : List X) (step : ℕ) (tail : Cells) → length table ≡ count
+        → ((j : ℕ) → j < count → count ≤ j + passed → IsColumn count step tail j (vectors_of (map lanes table) j))
+        → IsColumn count step tail k (lanes new) → (j : ℕ) → j < count → count ≤ j + (passed + 1)
+        → IsColumn count step tail j (vectors_of (map lanes (slice_set table k new)) j)
+    wrote table step tail long done next j inside le =
+        elim (cases_lt k j) [
+          | inl after_k ↦ column_as count step tail j (set_other lanes table k new j (omega arith)) (done j inside (omega arith))
+          | inr before ↦
+              let same : j ≡ k = omega arith in
+              subst (λ i. IsColumn count step tail i (vectors_of (map lanes (slice_set table k new)) i)) (sym same)
+              (column_as count step tail k (set_same lanes table k new (omega arith)) next)
+        ]
+
+    pub step_tails_more : AreStepTails lanes cap count times after (slice_set rows k new) (slice_set row k new)
+        (lanes new) (passed + 1)
+    step_tails_more = record {
+      long = length-set rows k new ∙ so_far.long;
+      row_long = length-set row k new ∙ so_far.row_long;
+      rest = λ j less. set_other lanes rows k new j (omega arith) ∙ so_far.rest j (omega arith);
+      cells = λ time tail step are times_are after_are.
+          let so = so_far.cells time tail step are times_are after_are in
+          let next = new_is time tail step are times_are after_are in
+          let now_at : k ≡ count - (passed + 1) = omega arith in
+          record {
+            now_is = subst (λ j. IsColumn count step tail j (lanes new)) now_at next;
+            done = wrote rows step tail so_far.long so.done next;
+            row_done = wrote row step tail so_far.row_long so.row_done next;
+          };
+    }
+
+-- ---- the pass: the last steps have their cells
+
+pub record AreTailsFilled {X : Type 0} (lanes : X → List ℕ) (count steps : ℕ) (tail : Cells) (tails now : List X)
+    (left : ℕ) : Type 0 where
+  pub now_is : IsStep count (steps - left) tail (vectors_of (map lanes now))
+  pub tails_are : (step : ℕ) → step < steps → steps ≤ step + left
+      → IsStep count step tail (step_of count (map lanes tails) step)
+
+module _ {X : Type 0} (lanes : X → List ℕ) (count steps : ℕ) where
+  pub tails_filled_none : (tail : Cells) (zero : X) (tails : List X) → lanes zero ≡ zeros 8
+      → ((row lane k : ℕ) → lane < 8 → k < count → row + lane ≡ steps → tail row (lane * count + k) ≡ 0)
+      → AreTailsFilled lanes count steps tail tails (replicate count zero) 0
+  tails_filled_none tail zero tails none last = record {
+    now_is = λ k lt row lane lane_lt all.
+        let inside = length-replicate count zero in
+        ap (λ v. get_or v lane 0) (get_or-map lanes (replicate count zero) k zero [] (omega arith)
+        ∙ ap lanes (get_or-replicate count k zero zero lt) ∙ none)
+        ∙ zeros-get_or 8 lane lane_lt ∙ sym (last row lane k lane_lt lt (omega arith));
+    tails_are = λ step lt le. absurd (omega arith);
+  }
+
+  pub tails_filled_more : (cap : ℕ) (time tail : Cells) (times : List (List ℕ)) (tails now new written : List X)
+      (read : Vectors) (left step at n : ℕ) → AreTails cap count time tail → HoldCells count steps time times
+      → AreTailsFilled lanes count steps tail tails now left → left < steps → step ≡ steps - 1 - left
+      → length tails ≡ steps * count → at ≡ step * count → n ≡ count → length written ≡ count
+      → ((k : ℕ) → k < count → read k ≡ step_of count times step k)
+      → ((time tail : Cells) (step : ℕ) → AreTails cap count time tail → IsStep count step time read
+      → IsStep count (suc step) tail (vectors_of (map lanes now))
+      → IsStep count step tail (vectors_of (map lanes new)))
+      → ((time tail : Cells) (step : ℕ) → AreTails cap count time tail → IsStep count step time read
+      → IsStep count (suc step) tail (vectors_of (map lanes now))
+      → IsStep count step tail (vectors_of (map lanes written)))
+      → AreTailsFilled lanes count steps tail (put_mid at n tails written) new (left + 1)
+  tails_filled_more cap time tail times tails now new written read left step at n are held so_far lt step_is long at_is
+      n_is written_long read_is made wrote =
+      let room = step_after count step steps (omega arith) in
+      let now_step : steps - left ≡ suc step = omega arith in
+      let next_step : step ≡ steps - (left + 1) = omega arith in
+      let now_is = subst (λ s. IsStep count s tail (vectors_of (map lanes now))) now_step so_far.now_is in
+      let time_is : IsStep count step time read =
+      λ k less. column_as count step time k (read_is k less) (held step (omega arith) k less) in
+      record {
+        now_is = subst (λ s. IsStep count s tail (vectors_of (map lanes new))) next_step
+            (made time tail step are time_is now_is);
+        tails_are = λ other less end k inside.
+            elim (cases_lt step other) [
+              | inl later ↦
+                  column_as count other tail k (part_kept lanes count step at n tails at_is written n_is (omega arith) written_long other k
+                  later) (so_far.tails_are other less (omega arith) k inside)
+              | inr here ↦
+                  let same : step ≡ other = omega arith in
+                  subst (λ s. IsColumn count s tail k (step_of count (map lanes (put_mid at n tails written)) s k)) same
+                  (column_as count step tail k (part_written lanes count step at n tails at_is written n_is (omega arith) written_long k
+                  inside) (wrote time tail step are time_is now_is k inside))
+            ];
+      }

@@ -1,8 +1,0 @@
-use Rattle.std.proofs.Common.{map}
-use Rattle.std.specs.List.{slice_index_or}
-use Rattle.pfs_wave.specs.Reduced.{lane_value}
-use Rattle.pfs_wave.proofs.LeastKey.{IsLeastKey}
-use Rattle.pfs_wave.proofs.least.first_least_reduced.Given as goal
-
-abbrev pub invariant-loop-place : goal.invariant-loop-place
-invariant-loop-place l = IsLeastKey (λ place. slice_index_or (map lane_value l.sums) place 0) l.place l.least

@@ -1,0 +1,72 @@
+use Rattle.std.proofs.Common.{◌-◌, map, max, get_or, ap, ◌∙◌, refl, arith}
+use Rattle.pfs_wave.specs.Lanes.{capped_add}
+use Rattle.pfs_wave.specs.Private.Blocks.{vectors_of}
+use Rattle.pfs_wave.proofs.LaneSteps.{combined}
+use Rattle.pfs_wave.proofs.StepTables.{read, read_as}
+use Rattle.pfs_wave.proofs.SumCells.{step_sums_none, step_sums_more, step_summed}
+use Rattle.pfs_wave.proofs.TailCells.{later_same}
+use Rattle.pfs_wave.proofs.sums.step_sums.Goals as goal
+
+pub loop-k-init : goal.loop-k-init
+loop-k-init g c =
+    let lanes = g.V.Band.lanes in
+    let before = c.args.before.now in
+    let heads = c.args.heads.now in
+    let last = c.index-heads.result in
+    let some = c.requires.some in
+    let long = c.type_inv.heads in
+    let inserted = c.from_before-inserted.ensures in
+    let sum = c.from_before-sum.ensures in
+    let head = c.from_before-head.ensures in
+    step_sums_none lanes g.V.Band.CAP g.row.N (vectors_of (map lanes c.args.times.now))
+    (vectors_of (map lanes c.args.tails.now)) (vectors_of (map lanes c.args.job.now)) some
+    (vectors_of (map lanes heads)) (lanes before.inserted) (lanes before.sum) heads
+    (lanes (get_or heads (g.row.N - 1) last)) (lanes c.from_before-inserted.result) (lanes c.from_before-sum.result)
+    (lanes c.from_before-head.result) (read lanes heads (g.row.N - 1) last (omega arith))
+    (record { first = inserted.first; next = inserted.next }) (record { first = sum.first; next = sum.next })
+    (record { first = head.first; next = head.next }) long (λ k. refl)
+
+pub loop-k-preserved : goal.loop-k-preserved
+loop-k-preserved g c =
+    let lanes = g.V.Band.lanes in
+    let cap = g.V.Band.CAP in
+    let eight = g.met.V.Band.eight in
+    let before = c.args.before.now in
+    let heads = c.loop-k.heads in
+    let k = c.loop-k.k in
+    let so_far = c.loop-k.invariant in
+    let long = so_far.long in
+    let inside = c.loop-k-test.true in
+    let times = c.args.times.now in
+    let tails = c.args.tails.now in
+    let job = c.args.job.now in
+    let same_times = c.requires.times in
+    let same_tails = c.requires.tails in
+    let same_job = c.type_inv.job in
+    let inserted = c.next_value-inserted.result in
+    let above = read lanes heads k c.index-heads-k.result (omega arith) in
+    let tail = read_as lanes tails k c.index-tails-k.result (omega arith) c.index-tails-k.is in
+    step_sums_more lanes cap g.row.N (vectors_of (map lanes times)) (vectors_of (map lanes tails))
+    (vectors_of (map lanes job)) c.requires.some (vectors_of (map lanes c.args.heads.now)) (lanes before.inserted)
+    (lanes before.sum) heads (lanes c.loop-k.inserted) (lanes c.loop-k.sum) (lanes c.loop-k.head) k
+    c.next_value-head.result (lanes inserted) (lanes c.greater-sum.result) so_far inside
+    (λ lane lt. c.next_value-inserted.ensures lane lt
+    ∙ later_same cap refl (ap (λ v. get_or v lane 0) above)
+    (ap (λ v. get_or v lane 0) (read lanes job k c.index-job-k.result (omega arith))))
+    (λ lane lt.
+    combined max (lanes c.loop-k.sum) (lanes c.sum.result) lane c.greater-sum.ensures (eight c.loop-k.sum)
+    (eight c.sum.result) lt
+    ∙ ap (max (get_or (lanes c.loop-k.sum) lane 0)) (combined (capped_add cap) (lanes inserted)
+    (lanes c.index-tails-k.result) lane c.sum.ensures (eight inserted) (eight c.index-tails-k.result) lt
+    ∙ ap (λ v. capped_add cap (get_or (lanes inserted) lane 0) (get_or v lane 0)) tail))
+    (λ lane lt. c.next_value-head.ensures lane lt
+    ∙ later_same cap refl (ap (λ v. get_or v lane 0) above)
+    (ap (λ v. get_or v lane 0) (read_as lanes times k c.index-times-k.result (omega arith) c.index-times-k.is)))
+
+pub returns-clause-cells : goal.returns-clause-cells
+returns-clause-cells g c t rows step are times_are none tails_are job_is summed =
+    let lanes = g.V.Band.lanes in
+    let outside = c.loop-k-test.false in
+    step_summed lanes g.row.N rows step t c.loop-k.heads (lanes c.loop-k.inserted) (lanes c.loop-k.sum)
+    (lanes c.loop-k.head) c.loop-k.k (c.loop-k.invariant.cells t rows step are times_are none tails_are job_is summed)
+    (omega arith)

@@ -1,0 +1,10 @@
+use Rattle.std.proofs.Common.{map}
+use Rattle.pfs_wave.specs.Private.Blocks.{vectors_of}
+use Rattle.pfs_wave.proofs.TailCells.{AreStepTails}
+use Rattle.pfs_wave.proofs.tails.step_tails.Given as goal
+
+abbrev pub invariant-loop-passed : goal.invariant-loop-passed
+invariant-loop-passed g l =
+    let lanes = g.V.Band.lanes in
+    AreStepTails lanes g.V.Band.CAP g.row.N (vectors_of (map lanes l.times)) (vectors_of (map lanes l.fn.tails)) l.tails
+    l.row (lanes l.tail) l.passed

@@ -1,0 +1,49 @@
+//! The passes of an insertion, and the best place.
+ghost use Rattle.std.specs.Prelude.{◌≡◌, ℕ, ◌+◌, ◌-◌, ◌*◌, ◌<◌, ◌≤◌, ◌^◌, List, length, map};
+ghost use Rattle.pfs_base.specs.FlowShop.{FlowShop, time_of};
+ghost use Rattle.pfs_insert.specs.Inserter.{IsBestPlace};
+ghost use Rattle.pfs_insert.specs.Insertion.{makespan_with};
+ghost use Rattle.pfs_wave.specs.Private.Blocks.{AreTimes, IsRow, vectors_of};
+ghost use Rattle.pfs_wave.specs.Wavefront.{on_machine, padded_time};
+
+use crate::band::Band;
+use crate::least::Found;
+use crate::sums::fill_sums;
+use crate::tails::fill_tails;
+
+/// The best place of a job in a sequence, and the makespan with the job there, from the skewed times of the sequence.
+/// There are as many steps more than jobs as `lanes` have machines.
+#[inline(always)]
+pub fn best_place<V: Band, const N: usize>(
+    lanes: usize,
+    steps: usize,
+    times: &[V],
+    job: &[V],
+    tails: &mut [V],
+    sums: &mut [V::Number],
+) -> Found
+    requires some { 1 ≤ N }
+    requires some_lanes { 1 ≤ lanes }
+    requires eight { lanes ≤ 8 }
+    requires steps { lanes ≤ steps }
+    requires few { steps ≤ 2 ^ 16 }
+    requires small { steps * N + N < 2 ^ 32 }
+    requires times { length times.now ≡ steps * N }
+    requires job { length job.now ≡ N }
+    requires tails { steps * N ≤ length tails.old }
+    requires sums { steps + 7 ≤ length sums.old }
+    ensures tails { length tails.new ≡ length tails.old }
+    ensures sums { length sums.new ≡ length sums.old }
+    ensures within { result.place + lanes ≤ steps }
+    ensures best { (shop : FlowShop) (jobs : List ℕ) (inserted : ℕ) → 1 ≤ shop.machines → shop.machines ≤ lanes * N
+        → length jobs + lanes ≡ steps → AreTimes N steps (padded_time shop jobs) (map V.lanes times.now)
+        → IsRow N (on_machine shop (time_of shop inserted)) (vectors_of (map V.lanes job.now))
+        → (other : ℕ) → other ≤ length jobs → makespan_with shop jobs inserted other < V.CAP
+        → IsBestPlace shop jobs inserted result.place result.sum }
+{
+    let tails = &mut tails[..steps * N];
+    let sums = &mut sums[..steps + 7];
+    fill_tails::<V, N>(steps, times, tails);
+    fill_sums::<V, N>(steps, times, tails, job, sums);
+    V::first_least(&sums[7..steps + 8 - lanes])
+}

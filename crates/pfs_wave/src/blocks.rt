@@ -1,0 +1,173 @@
+//! Insertions into sequences of an instance, in lanes of one size.
+ghost use Rattle.std.specs.Prelude.{◌≡◌, ℕ, ◌+◌, ◌*◌, ◌<◌, ◌≤◌, ◌^◌, length, IfOk};
+ghost use Rattle.std.specs.List.{All};
+ghost use Rattle.pfs_base.specs.FlowShop.{FlowShop};
+ghost use Rattle.pfs_insert.specs.Inserter.{IsBestPlace};
+ghost use Rattle.pfs_insert.specs.Insertion.{makespan_with};
+ghost use Rattle.pfs_wave.specs.Private.Blocks.{HasShop, vectors_in};
+
+use crate::band::Band;
+use crate::best::best_place;
+use crate::hold::hold;
+use crate::rows::{shop_rows, zero_vectors};
+use crate::width::Width;
+use pfs_base::{Instance, MOST_JOBS};
+use pfs_insert::Placed;
+use std::alloc::{AllocError, Global};
+use std::marker::Model;
+
+/// The times of an instance, the skewed times of the last sequence, and the tables of an insertion. A step has the same
+/// number of vectors of lanes in each of them, of which each lane has a block of machines.
+#[derive(Drop)]
+pub struct Blocks<V: Band> {
+    width: Width,
+    // The number of lanes that have machines.
+    lanes: usize,
+    jobs: usize,
+    // The vectors of each job, and after them vectors of zeros.
+    rows: Vec<V>,
+    // The number of jobs of the last sequence.
+    len: usize,
+    // The jobs of the last sequence, and after them, for each step, the number of the vectors of zeros.
+    order: Vec<usize>,
+    times: Vec<V>,
+    tails: Vec<V>,
+    sums: Vec<V::Number>,
+}
+
+impl<V: Band> Model for Blocks<V> {
+    ghost use Rattle.std.specs.Prelude.{◌≡◌, ◌+◌, ◌*◌, ◌≤◌, length, map};
+    ghost use Rattle.pfs_base.specs.declared.limits.TheConstants.{MOST_JOBS};
+    ghost use Rattle.pfs_wave.specs.Private.Blocks.{BlockRows, vectors_in};
+    ghost use Rattle.pfs_wave.specs.Private.HeldRows.{IsHolding};
+
+    ghost Value = { BlockRows };
+
+    ghost view = { λ a. record {
+      count = vectors_in a.width;
+      lanes = a.lanes;
+      jobs = a.jobs;
+      rows = map V.lanes a.rows.items;
+    } };
+
+    ghost invariant = { λ a. record {
+      some : 1 ≤ a.lanes;
+      eight : a.lanes ≤ 8;
+      few : a.jobs ≤ MOST_JOBS;
+      rows : length a.rows.items ≡ a.jobs * vectors_in a.width + vectors_in a.width;
+      holds : IsHolding (vectors_in a.width) a.jobs (map V.lanes a.rows.items) a.len a.order.items
+          (map V.lanes a.times.items);
+      tails : length a.tails.items ≡ (a.jobs + 8) * vectors_in a.width;
+      sums : length a.sums.items ≡ a.jobs + 15;
+    } };
+}
+
+// The number of lanes that have machines, where each has `count` of them.
+fn lanes_for(machines: usize, count: usize) -> usize
+    requires some { 1 ≤ machines }
+    requires few { machines ≤ 8 * count }
+    requires small { count < 2 ^ 16 }
+    ensures enough { machines ≤ result * count }
+    ensures some { 1 ≤ result }
+    ensures eight { result ≤ 8 }
+{
+    (machines + count - 1) / count
+}
+
+impl<V: Band> Blocks<V> {
+    /// The times of an instance, and a sequence of no jobs. It reserves all memory of an insertion, and returns
+    /// `AllocError` where that fails.
+    pub fn new(alloc: Global, instance: &Instance) -> Result<Blocks<V>, AllocError>
+        requires { All (λ time. time ≤ V.CAP) instance.now.shop.times }
+        ensures { IfOk result (λ made. HasShop instance.now.shop made) }
+    {
+        let jobs = instance.jobs();
+        let machines = instance.machines();
+        let width = Width::for_machines(machines);
+        let count = width.vectors();
+        let steps = jobs + 8;
+        let rows = shop_rows(alloc, instance, count)?;
+        let mut order = Vec::new(alloc);
+        order.reserve_exact(steps)?;
+        order.resize(steps, jobs)?;
+        let times = zero_vectors(alloc, steps * count)?;
+        let tails = zero_vectors(alloc, steps * count)?;
+        let mut sums = Vec::new(alloc);
+        sums.reserve_exact(jobs + 15)?;
+        sums.resize(jobs + 15, V::nothing())?;
+        Ok(Blocks {
+            width,
+            lanes: lanes_for(machines, count),
+            jobs,
+            rows,
+            len: 0,
+            order,
+            times,
+            tails,
+            sums,
+        })
+    }
+
+    /// The best place for a job in a sequence, and the makespan with the job there. It is the best place where the
+    /// makespan with the job at some place is below the greatest value of a lane.
+    #[inline(never)]
+    pub fn best(&mut self, sequence: &[usize], job: usize) -> Placed<u64>
+        requires jobs { All (λ other. other < self.old.jobs) sequence.now }
+        requires few { length sequence.now ≤ self.old.jobs }
+        requires job { job < self.old.jobs }
+        ensures within { result.place ≤ length sequence.now }
+        ensures best { (shop : FlowShop) → HasShop shop self.old
+            → (other : ℕ) → other ≤ length sequence.now → makespan_with shop sequence.now job other < V.CAP
+            → IsBestPlace shop sequence.now job result.place result.span }
+        ensures same { self.new ≡ self.old }
+    {
+        match self.width {
+            Width::One => self.best_in::<1>(sequence, job),
+            Width::Two => self.best_in::<2>(sequence, job),
+            Width::Three => self.best_in::<3>(sequence, job),
+            Width::Five => self.best_in::<5>(sequence, job),
+            Width::Eight => self.best_in::<8>(sequence, job),
+            Width::Thirteen => self.best_in::<13>(sequence, job),
+            Width::TwentySix => self.best_in::<26>(sequence, job),
+        }
+    }
+
+    // `best` for this number of vectors.
+    #[inline(always)]
+    fn best_in<const N: usize>(&mut self, sequence: &[usize], job: usize) -> Placed<u64>
+        requires count { self.old.count ≡ N }
+        requires some { 1 ≤ N }
+        requires many { N ≤ 26 }
+        requires jobs { All (λ other. other < self.old.jobs) sequence.now }
+        requires few { length sequence.now ≤ self.old.jobs }
+        requires job { job < self.old.jobs }
+        ensures within { result.place ≤ length sequence.now }
+        ensures best { (shop : FlowShop) → HasShop shop self.old
+            → (other : ℕ) → other ≤ length sequence.now → makespan_with shop sequence.now job other < V.CAP
+            → IsBestPlace shop sequence.now job result.place result.span }
+        ensures same { self.new ≡ self.old }
+    {
+        hold::<V, N>(
+            &self.rows,
+            &mut self.order,
+            &mut self.times,
+            self.jobs,
+            self.len,
+            sequence,
+        );
+        self.len = sequence.len();
+        let steps = sequence.len() + self.lanes;
+        let found = best_place::<V, N>(
+            self.lanes,
+            steps,
+            &self.times[..steps * N],
+            &self.rows[job * N..job * N + N],
+            &mut self.tails,
+            &mut self.sums,
+        );
+        Placed {
+            place: found.place,
+            span: u64::from(found.sum),
+        }
+    }
+}

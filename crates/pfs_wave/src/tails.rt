@@ -1,0 +1,92 @@
+//! The pass of the tails.
+ghost use Rattle.std.specs.Prelude.{◌≡◌, ℕ, suc, ◌+◌, ◌-◌, ◌*◌, ◌<◌, ◌≤◌, ◌≢◌, ◌^◌, length, map};
+ghost use Rattle.std.specs.List.{slice_index_or};
+ghost use Rattle.pfs_wave.specs.Private.Blocks.{Cells, HoldCells, IsStep, later, vectors_of};
+ghost use Rattle.pfs_wave.specs.Private.Recurrences.{AreTails};
+
+use crate::band::Band;
+use crate::vectors::{array_of, from_after, next_value, second_value};
+
+// The second vector of a step, if there is one, from what the step after it leaves for the first vector.
+#[inline(always)]
+fn second_tail<V: Band, const N: usize>(carry: V, after: &[V; N], times: &[V]) -> V
+    requires { length times.now ≡ N }
+    ensures { 2 ≤ N → (lane : ℕ) → lane < 8 → slice_index_or (V.lanes result) lane 0
+        ≡ later V.CAP (later V.CAP (slice_index_or (V.lanes carry) lane 0)
+        (slice_index_or (vectors_of (map V.lanes after.now) (N - 1)) lane 0)
+        (slice_index_or (vectors_of (map V.lanes times.now) (N - 1)) lane 0))
+        (slice_index_or (vectors_of (map V.lanes after.now) (N - 2)) lane 0)
+        (slice_index_or (vectors_of (map V.lanes times.now) (N - 2)) lane 0) }
+{
+    if N < 2 {
+        return carry;
+    }
+    second_value(
+        carry,
+        after[N - 1],
+        times[N - 1],
+        after[N - 2],
+        times[N - 2],
+    )
+}
+
+// The next vector of a step, of which as many have `passed`.
+#[inline(always)]
+fn next_tail<V: Band>(passed: usize, second: V, tail: V, above: V, time: V) -> V
+    ensures second { passed ≡ 1 → V.lanes result ≡ V.lanes second }
+    ensures next { passed ≢ 1 → (lane : ℕ) → lane < 8 → slice_index_or (V.lanes result) lane 0
+        ≡ later V.CAP (slice_index_or (V.lanes tail) lane 0) (slice_index_or (V.lanes above) lane 0)
+        (slice_index_or (V.lanes time) lane 0) }
+{
+    if passed == 1 {
+        second
+    } else {
+        next_value(tail, above, time)
+    }
+}
+
+// The tails of a step, in place of those of the step after it. They are written to `row` too.
+#[inline(always)]
+fn step_tails<V: Band, const N: usize>(tails: &mut [V; N], times: &[V], row: &mut [V])
+    requires some { 1 ≤ N }
+    requires times { length times.now ≡ N }
+    requires row { length row.old ≡ N }
+    ensures length { length tails.new ≡ N }
+    ensures row_length { length row.new ≡ N }
+    ensures tails { (time tail : Cells) (step : ℕ) → AreTails V.CAP N time tail
+        → IsStep N step time (vectors_of (map V.lanes times.now))
+        → IsStep N (suc step) tail (vectors_of (map V.lanes tails.old))
+        → IsStep N step tail (vectors_of (map V.lanes tails.new)) }
+    ensures row { (time tail : Cells) (step : ℕ) → AreTails V.CAP N time tail
+        → IsStep N step time (vectors_of (map V.lanes times.now))
+        → IsStep N (suc step) tail (vectors_of (map V.lanes tails.old))
+        → IsStep N step tail (vectors_of (map V.lanes row.new)) }
+{
+    let mut tail = from_after(tails[0]);
+    let second = second_tail(tail, tails, times);
+    for passed in 0..N {
+        let k = N - 1 - passed;
+        tail = next_tail(passed, second, tail, tails[k], times[k]);
+        tails[k] = tail;
+        row[k] = tail;
+    }
+}
+
+/// Fills the tails of all steps, from the last step to the first.
+#[inline(never)]
+pub fn fill_tails<V: Band, const N: usize>(steps: usize, times: &[V], tails: &mut [V])
+    requires some { 1 ≤ N }
+    requires small { steps * N + N < 2 ^ 32 }
+    requires times { length times.now ≡ steps * N }
+    requires tails { length tails.old ≡ steps * N }
+    ensures length { length tails.new ≡ length tails.old }
+    ensures tails { (time tail : Cells) → AreTails V.CAP N time tail
+        → ((row lane k : ℕ) → lane < 8 → k < N → row + lane ≡ steps → tail row (lane * N + k) ≡ 0)
+        → HoldCells N steps time (map V.lanes times.now) → HoldCells N steps tail (map V.lanes tails.new) }
+{
+    let mut now = [V::zeros(); N];
+    for left in 0..steps {
+        let at = (steps - 1 - left) * N;
+        step_tails(&mut now, &times[at..at + N], &mut tails[at..at + N]);
+    }
+}

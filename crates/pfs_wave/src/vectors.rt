@@ -1,0 +1,74 @@
+//! What the passes do with the vectors of a step.
+ghost use Rattle.std.specs.Prelude.{◌≡◌, ℕ, suc, ◌<◌, length, map, slice_set};
+ghost use Rattle.std.specs.List.{slice_index_or};
+ghost use Rattle.pfs_wave.specs.Private.Blocks.{later, vectors_of};
+
+use crate::band::Band;
+
+/// As many vectors as the array has.
+#[inline(always)]
+pub fn array_of<V: Band, const N: usize>(vectors: &[V]) -> [V; N]
+    requires { length vectors.now ≡ N }
+    ensures length { length result ≡ N }
+    ensures vectors { (k : ℕ) → k < N
+        → vectors_of (map V.lanes result) k ≡ vectors_of (map V.lanes vectors.now) k }
+{
+    let mut array = [V::zeros(); N];
+    for k in 0..N {
+        array[k] = vectors[k];
+    }
+    array
+}
+
+/// The next value of each lane of a table, from the values beside and above it.
+#[inline(always)]
+pub fn next_value<V: Band>(beside: V, above: V, time: V) -> V
+    ensures { (lane : ℕ) → lane < 8 → slice_index_or (V.lanes result) lane 0
+        ≡ later V.CAP (slice_index_or (V.lanes beside) lane 0) (slice_index_or (V.lanes above) lane 0)
+        (slice_index_or (V.lanes time) lane 0) }
+{
+    beside.greater(above).sum(time)
+}
+
+/// The value after two more vectors. Capped sums are associative, so it is computed from both times, and waits for
+/// `beside` by three operations in place of four.
+#[inline(always)]
+pub fn second_value<V: Band>(beside: V, above: V, time: V, next_above: V, next_time: V) -> V
+    ensures { (lane : ℕ) → lane < 8 → slice_index_or (V.lanes result) lane 0
+        ≡ later V.CAP (later V.CAP (slice_index_or (V.lanes beside) lane 0) (slice_index_or (V.lanes above) lane 0)
+        (slice_index_or (V.lanes time) lane 0)) (slice_index_or (V.lanes next_above) lane 0)
+        (slice_index_or (V.lanes next_time) lane 0) }
+{
+    let greater = beside.greater(above);
+    let both = time.sum(next_time);
+    let without = next_above.sum(next_time);
+    greater.sum(both).greater(without)
+}
+
+/// Each lane from the lane before it, and 0 in the first one.
+#[inline(always)]
+pub fn from_before<V: Band>(vector: V) -> V
+    ensures first { slice_index_or (V.lanes result) 0 0 ≡ 0 }
+    ensures next { (lane : ℕ) → suc lane < 8
+        → slice_index_or (V.lanes result) (suc lane) 0 ≡ slice_index_or (V.lanes vector) lane 0 }
+{
+    vector.up(V::zeros())
+}
+
+/// Each lane from the lane after it, and 0 in the last one.
+#[inline(always)]
+pub fn from_after<V: Band>(vector: V) -> V
+    ensures { (lane : ℕ) → lane < 8
+        → slice_index_or (V.lanes result) lane 0 ≡ slice_index_or (V.lanes vector) (suc lane) 0 }
+{
+    vector.down(V::zeros())
+}
+
+/// Writes one vector of a table.
+#[inline(always)]
+pub fn put<V: Band>(table: &mut [V], at: usize, vector: V)
+    requires { at < length table.old }
+    ensures { table.new ≡ slice_set table.old at vector }
+{
+    table[at] = vector;
+}

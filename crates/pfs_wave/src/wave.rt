@@ -1,0 +1,54 @@
+//! Insertions into sequences of an instance, in lanes of 16 or 32 bits.
+ghost use Rattle.std.specs.Prelude.{◌≡◌, ◌<◌, ◌≤◌, length, IfOk};
+ghost use Rattle.std.specs.List.{All};
+ghost use Rattle.pfs_base.specs.FlowShop.{FlowShop};
+ghost use Rattle.pfs_insert.specs.Inserter.{IsBestPlace};
+ghost use Rattle.pfs_wave.specs.Private.Waves.{Serves, blocks_of};
+ghost use Rattle.pfs_wave.specs.Served.{IsServed};
+
+use crate::blocks::Blocks;
+use crate::long::Long;
+use crate::served::fits_short;
+use crate::short::Short;
+use pfs_base::Instance;
+use pfs_insert::Placed;
+use std::alloc::{AllocError, Global};
+
+/// The insertions of an instance, in the smallest lanes that every path of the instance fits in.
+#[derive(Drop)]
+pub(crate) enum Wave {
+    Short(Blocks<Short>),
+    Long(Blocks<Long>),
+}
+
+impl Wave {
+    /// Prepares an instance. It reserves all memory of an insertion, and returns `AllocError` where that fails.
+    pub fn new(alloc: Global, instance: &Instance) -> Result<Wave, AllocError>
+        requires { IsServed instance.now.shop 2147483647 }
+        ensures { IfOk result (λ made. Serves instance.now.shop made) }
+    {
+        if fits_short(instance) {
+            Ok(Wave::Short(Blocks::new(alloc, instance)?))
+        } else {
+            Ok(Wave::Long(Blocks::new(alloc, instance)?))
+        }
+    }
+
+    /// The best place for a job in a sequence of fewer than all jobs, and the makespan with the job there. It allocates
+    /// nothing.
+    #[inline(always)]
+    pub fn best(&mut self, sequence: &[usize], job: usize) -> Placed<u64>
+        requires jobs { All (λ other. other < (blocks_of self.old).jobs) sequence.now }
+        requires few { length sequence.now < (blocks_of self.old).jobs }
+        requires job { job < (blocks_of self.old).jobs }
+        ensures within { result.place ≤ length sequence.now }
+        ensures best { (shop : FlowShop) → Serves shop self.old
+            → IsBestPlace shop sequence.now job result.place result.span }
+        ensures same { self.new ≡ self.old }
+    {
+        match self {
+            Wave::Short(blocks) => blocks.best(sequence, job),
+            Wave::Long(blocks) => blocks.best(sequence, job),
+        }
+    }
+}
