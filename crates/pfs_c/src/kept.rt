@@ -105,7 +105,7 @@ impl Model for Tables {
     ghost use Rattle.std.specs.Prelude.{◌≡◌, ◌+◌, ◌*◌, length, IfSome};
     ghost use Rattle.pfs_base.specs.FlowShop.{FlowShop, IsWithin};
     ghost use Rattle.pfs_base.specs.Limits.{limits};
-    
+
     ghost Value = { FlowShop };
 
     ghost view = { λ a. a.instance.shop };
