@@ -507,7 +507,7 @@ def test_over_ssh_another_program_is_run(ssh_server: Server, experiment: Experim
 
 
 def test_a_wrong_makespan_of_another_program_fails_and_isnt_made_again(experiment: Experiment) -> None:
-    """Nor is a run whose program crashed, whatever its method is called."""
+    """Nor is a run whose program crashed. The method may be called `solve`."""
     plan = 'seeds = [1, 2, 3]\nmethod = "solve"\ncommand = "./mine {instance} {seed}"\n'
     with_other(experiment, ONLY_B + plan)
     assert experiment.run().status == 1
@@ -649,7 +649,7 @@ def test_what_gnu_parallel_leaves_has_no_lock(number: signal.Signals, experiment
 
 
 def test_an_earlier_start_writes_into_no_file_of_a_later_one(made: Experiment) -> None:
-    """A run that goes on after its start was killed has its file open."""
+    """A run that continues after its start was killed has its file open."""
     (made.runs / "results" / "2").write_text("")
     with open(made.runs / "results" / "2", "w") as earlier:
         assert made.run() == Done(0, "", SIX)

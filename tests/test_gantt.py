@@ -635,8 +635,8 @@ def test_a_missing_module_is_named_with_its_package(scripts: pathlib.Path, folde
     (folder / "table").write_text(THREE)
     got = run_tool([scripts / "pfs-gantt", "table", "picture.svg"], folder,
                    env=dict(os.environ, PYTHONPATH=str(folder / "without"), PYTHONDONTWRITEBYTECODE="1"))
-    assert got == Done(2, "", f"pfs-gantt: No module named '{module}': install NumPy and matplotlib "
-                               "(Debian: python3-matplotlib)\n")
+    assert got == Done(2, "", f"pfs-gantt: a picture needs {module} (Debian: python3-{module}; "
+                              "pip install 'pfs[charts]')\n")
     assert not (folder / "picture.svg").exists()
 
 

@@ -10,6 +10,7 @@ import tomllib
 
 import pytest
 from support.files import generated
+from support.needs import tool
 from support.program import Program, Ran
 from support.tools import csv_rows, output_of, run_tool, write_script
 
@@ -86,10 +87,13 @@ def test_a_killed_program_leaves_no_part_of_an_instance(scripts: pathlib.Path, p
     """Under the name of an instance there is a whole one or none."""
     program = write_script(folder / "pfs", "#!/bin/sh\ncase $* in *' 379008056') echo half; kill -9 $$;; esac\n"
                            f"exec {pfs.path} \"$@\"\n")
-    got = run_tool([scripts / "pfs-experiments", "taillard", "--pfs", program, "shops"], folder)
+    words: list[str | pathlib.Path] = [scripts / "pfs-experiments", "taillard", "--pfs"]
+    got = run_tool([*words, program, "shops"], folder)
     assert got.status != 0, "the script says nothing of the program that was killed"
     whole = sorted(path.name for path in (folder / "shops").iterdir() if path.suffix != ".new")
     assert whole == ["ta001"], "a part of ta002 has the name of the whole instance"
+    run_tool([tool("prlimit"), "--fsize=100", *words, pfs.path, "small"], folder)
+    assert list((folder / "small").iterdir()) == [], "a part of ta001, for which there was no room"
 
 
 def test_best_known_makespans_are_of_all_instances(best_known: dict[str, int], listed: Listed) -> None:

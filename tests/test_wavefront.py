@@ -1,7 +1,7 @@
 """Instances at the limits of a wavefront. It needs at least 8 jobs. A step has 1, 2, 3, 5, 8, 13 or 26 vectors of 8
 lanes, the fewest with a lane for each machine. The product of the longest time and the number of operations on a path
-is less than 65,535 with lanes of 16 bits, and less than 2^31 - 1 with lanes of 32 bits. Searches are compared with those
-of the second program."""
+is less than 65,535 with lanes of 16 bits, and less than 2^31 - 1 with lanes of 32 bits. Searches are compared with
+those of the second program."""
 import pathlib
 from random import Random
 

@@ -846,7 +846,8 @@ def test_what_cant_be_written_loses_no_order(folder: pathlib.Path, options: list
     (["--schedule", "none/out.csv"], "pfs: [Errno 2] No such file or directory: 'none/out.csv'\n"),
     (["--chart", "none/out.svg"], "pfs: [Errno 2] No such file or directory: 'none/out.svg'\n"),
     (["--chart", "ok.html", "--chart", "none/out.html"], "pfs: [Errno 2] No such file or directory: 'none/out.html'\n"),
-    (["--chart", "no-matplotlib.svg"], "pfs: plot needs matplotlib (Debian: python3-matplotlib)\n"),
+    (["--chart", "no-matplotlib.svg"],
+     "pfs: plot needs matplotlib (Debian: python3-matplotlib; pip install 'pfs[charts]')\n"),
 ])
 def test_what_cant_be_written_is_reported_before_the_search(folder: pathlib.Path, options: list[str],
                                                             error: str) -> None:

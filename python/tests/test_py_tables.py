@@ -415,7 +415,7 @@ def test_workbooks_need_openpyxl(tmp_path: pathlib.Path, monkeypatch: pytest.Mon
     monkeypatch.setitem(modules, "openpyxl", None)
     path = tmp_path / "plan.xlsx"
     path.write_bytes(b"PK\x03\x04")
-    needed = r"needs openpyxl \(Debian: python3-openpyxl\), or use CSV instead$"
+    needed = r"needs openpyxl \(Debian: python3-openpyxl; pip install 'pfs\[workbooks\]'\)$"
     with pytest.raises(ImportError, match=needed):
         pfs.read_csv(path)
     with pytest.raises(ImportError, match=needed):

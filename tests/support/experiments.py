@@ -155,9 +155,12 @@ class Experiment(NamedTuple):
         return {run[0]: started.count((run[4], run[7], run[8], run[1])) for run in runs}
 
     def done(self) -> set[str]:
-        """The numbers of the runs that have a whole result."""
-        results = (self.runs / "results").glob("[0-9]*")
-        return {path.name for path in results if path.name.isdigit() and path.read_text().endswith(",ok\n")}
+        """The numbers of the runs that have a whole result. A start removes those that are not whole."""
+        found = set()
+        for path in (self.runs / "results").glob("[0-9]*"):
+            with suppress(FileNotFoundError):
+                found |= {path.name} if path.name.isdigit() and path.read_text().endswith(",ok\n") else set()
+        return found
 
     def left(self) -> list[str]:
         """The processes that starts have left in the folder of the runs."""

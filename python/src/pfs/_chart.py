@@ -15,6 +15,7 @@ from pfs import _drawing
 from pfs._atomic import atomic_write
 from pfs._calendar import Calendar, Clock, day_of, text_of
 from pfs._names import CLOCK, shown
+from pfs._optional import optional
 from pfs._validate import checked_int
 
 if TYPE_CHECKING:
@@ -106,19 +107,10 @@ def counted(count: int) -> list[str]:
     return [str(number) for number in range(count)]
 
 
-def require_matplotlib() -> Any:
-    """Import matplotlib, or raise an error that says how to install it."""
-    try:
-        import matplotlib
-    except ImportError:
-        raise ImportError("plot needs matplotlib (Debian: python3-matplotlib)") from None
-    return matplotlib
-
-
 def drawn(table: _drawing.Table, look: _drawing.Look, path: str | os.PathLike[str] | None, ending: str | None,
           frame: Frame) -> Any:
     """Draw the figure, and save it if there is a path. The settings of matplotlib don't change."""
-    matplotlib = require_matplotlib()
+    matplotlib = optional("matplotlib", "plot")
     logger = logging.getLogger("matplotlib")
     level = logger.level
     try:

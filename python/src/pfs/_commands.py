@@ -16,19 +16,19 @@ from typing import Any, NoReturn, TextIO
 
 from pfs import _library as c
 from pfs._calendar import Calendar, Clock, begin_of, dates_of, days_of, shifts_of, text_of as date_text
-from pfs._chart import ending_of, require_matplotlib
+from pfs._chart import ending_of
 from pfs._faults import Fault, TableFault
 from pfs._files import read, read_order
 from pfs._held import HeldSearch, by_total, insert_after
 from pfs._instance import Instance
 from pfs._names import CLOCK, amount, shown
+from pfs._optional import optional
 from pfs._orders import FoundOrder, numbers_by_name, order_in
 from pfs._search import ROUNDS, Pace, Search, limit_of
 from pfs._solution import Solution
 from pfs._state import State, StateFault
 from pfs._tables import described, table_of
 from pfs._version import VERSION
-from pfs._workbooks import openpyxl_for
 
 # Exit statuses, the same as those of the program.
 REFUSED, USAGE, SYSTEM = 2, 3, 4
@@ -253,7 +253,7 @@ def check_outputs(inputs: Sequence[str | None], schedule: str | None, charts: Se
     if ending not in SCHEDULES:
         raise ValueError(f"{schedule}: the name of a schedule ends with .csv or .xlsx")
     if ending == ".xlsx":
-        openpyxl_for("writing a workbook")
+        optional("openpyxl", "writing a workbook")
     read = {os.path.realpath(path) for path in inputs if path is not None and os.path.isfile(path)}
     for path in filter(None, [schedule, *charts]):
         if os.path.realpath(path) in read:
@@ -261,7 +261,7 @@ def check_outputs(inputs: Sequence[str | None], schedule: str | None, charts: Se
         if not os.path.isdir(os.path.dirname(path) or "."):
             raise FileNotFoundError(errno.ENOENT, os.strerror(errno.ENOENT), path)
     if endings - {"html"}:
-        require_matplotlib()
+        optional("matplotlib", "plot")
 
 
 def listed(shop: Instance, best: Solution, clock: Clock | None = None) -> str:

@@ -14,6 +14,7 @@ from typing import NoReturn
 
 from pfs import _drawing as chart
 from pfs._atomic import atomic_write
+from pfs._optional import optional
 
 # The most pixels of a PNG, so that it fits into memory.
 MOST_PIXELS = 100_000_000
@@ -120,6 +121,8 @@ def parse_args() -> argparse.Namespace:
 
 def draw() -> None:
     args = parse_args()
+    for module in ("numpy", "matplotlib"):
+        optional(module, "a picture")
     extension = os.path.splitext(args.picture)[1][1:]
     if extension not in ("svg", "png", "pdf"):
         raise GanttError(f"{args.picture}: the name of a picture must end with .svg, .png or .pdf")
@@ -152,10 +155,7 @@ def shown(text: str) -> str:
 def main() -> int:
     try:
         draw()
-    except ImportError as error:
-        print(f"pfs-gantt: {error}: install NumPy and matplotlib (Debian: python3-matplotlib)", file=sys.stderr)
-        return 2
-    except (GanttError, OSError, UnicodeDecodeError) as error:
+    except (GanttError, ImportError, OSError, UnicodeDecodeError) as error:
         print(f"pfs-gantt: {shown(str(error))}", file=sys.stderr)
         return 2
     return 0

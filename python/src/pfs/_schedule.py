@@ -13,6 +13,7 @@ from pfs._atomic import atomic_write, text_cell
 from pfs._calendar import Calendar, Clock, text_of
 from pfs._drawing import critical_path
 from pfs._names import CLOCK, amount
+from pfs._optional import optional
 from pfs._validate import Order
 from pfs._workbooks import write_workbook
 
@@ -155,10 +156,7 @@ class Schedule:
            0        0      2    5
            0        1      7    9
         """
-        try:
-            import pandas
-        except ImportError:
-            raise ImportError("to_frame needs pandas (Debian: python3-pandas)") from None
+        pandas = optional("pandas", "to_frame")
         jobs, machines = self.starts.shape
         job_of, machine_of = self.order.repeat(machines), np.tile(np.arange(machines), jobs)
         shop = self.instance

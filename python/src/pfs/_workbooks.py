@@ -13,6 +13,7 @@ from pfs import _library as c
 from pfs._atomic import atomic_write
 from pfs._faults import TableFault
 from pfs._names import shown
+from pfs._optional import optional
 
 # Days count from the first date in workbooks, and from the other one up to February 1900, which had 29 days there.
 FIRST_DAY, FIRST_OF_1900 = datetime.datetime(1899, 12, 30), datetime.datetime(1899, 12, 31)
@@ -20,18 +21,9 @@ FIRST_DAY, FIRST_OF_1900 = datetime.datetime(1899, 12, 30), datetime.datetime(18
 MOST_ROWS = 1_048_576
 
 
-def openpyxl_for(what: str) -> Any:
-    """Import openpyxl, or raise an error that says how to install it."""
-    try:
-        import openpyxl
-    except ImportError:
-        raise ImportError(f"{what} needs openpyxl (Debian: python3-openpyxl), or use CSV instead") from None
-    return openpyxl
-
-
 def csv_of(content: bytes, path: str) -> str:
     """Return the sheet with which a workbook opens as CSV with commas and decimal points."""
-    openpyxl = openpyxl_for(f"{path}: reading a workbook")
+    openpyxl = optional("openpyxl", f"{path}: reading a workbook")
     try:
         with zipfile.ZipFile(io.BytesIO(content)) as archive:
             size = sum(part.file_size for part in archive.infolist())
@@ -71,7 +63,7 @@ def text_in(value: Any) -> str:
 
 def write_workbook(path: str | os.PathLike[str], rows: Iterable[Sequence[Any]]) -> None:
     """Write rows of texts, numbers and dates as a workbook. A text is never a formula."""
-    openpyxl = openpyxl_for("writing a workbook")
+    openpyxl = optional("openpyxl", "writing a workbook")
     book = openpyxl.Workbook()
     sheet = book.active
     for line, row in enumerate(rows, 1):

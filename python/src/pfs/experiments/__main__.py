@@ -15,7 +15,7 @@ from typing import NoReturn
 
 from pfs.experiments import ExperimentError, plain
 
-# Where the program is searched for: on the path, and beside pfs-experiments.
+# Where the program is searched for: on the path, and in the folder of pfs-experiments.
 PROGRAMS = f"{os.environ.get('PATH', os.defpath)}:{os.path.dirname(os.path.abspath(sys.argv[0]))}"
 
 

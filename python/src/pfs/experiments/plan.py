@@ -80,7 +80,7 @@ def are_numbers(numbers: object, types: tuple[type, ...], least: float, most: fl
 
 
 def command_of(path: str, plan: dict[str, Any]) -> dict[str, Any]:
-    """Returns the words of the command of another program, and the files that it needs, as paths from the plan's
+    """Returns the command line of another program, and the files that it needs, as paths from the plan's
     folder. The program itself is one of them if it is a path from there."""
     if not plan.get("command") or "method" not in plan:
         raise ExperimentError(f"{path}: command needs method, the name of the program, and files needs command")

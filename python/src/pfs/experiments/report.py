@@ -4,7 +4,6 @@ from __future__ import annotations
 
 import argparse
 import csv
-import importlib
 import io
 import itertools
 import logging
@@ -15,6 +14,7 @@ from typing import TYPE_CHECKING, Any, NamedTuple
 
 from pfs._atomic import text_cell
 from pfs._benchmarks import best_known, canonical, taillard_rows
+from pfs._optional import optional
 from pfs.experiments import ExperimentError, plain
 from pfs.experiments.fair import SETTING, common, made_of
 from pfs.experiments.plan import MOST_MAKESPAN, reference_for, reference_of, rows_of
@@ -51,11 +51,7 @@ def report(args: argparse.Namespace) -> int:
     """Writes the tables and the plots."""
     logging.getLogger("matplotlib").setLevel(logging.ERROR)
     for name in ("matplotlib", "pandas", "scipy"):
-        try:
-            importlib.import_module(name)
-        except ImportError as error:
-            raise ImportError(f"{error}: a report needs {name} (Debian: python3-{name}; "
-                              "pip install 'pfs[charts]')") from None
+        optional(name, "a report")
     from pfs.experiments import plots, statistics
     reported = read(args.csv, args.reference)
     done = reported.runs.dropna(subset=["makespan"])

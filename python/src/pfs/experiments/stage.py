@@ -32,7 +32,7 @@ KEY = ["file", "block", "rounds", "time_factor", "take", "passes", "seed", "repe
 OF_ROUNDS = ["take", "passes", "seed"]
 # What `pfs generate 1 1 1` prints.
 ONE_JOB = b"1 1 1 0 0\nprocessing times :\n1\n"
-# Seconds after which a program that is no pfs is killed.
+# Seconds after which a program that doesn't behave like pfs is killed.
 PATIENCE = 20
 
 
