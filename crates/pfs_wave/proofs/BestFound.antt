@@ -7,8 +7,8 @@ use Rattle.pfs_base.specs.FlowShop.{FlowShop}
 use Rattle.pfs_insert.specs.Insertion.{makespan_with}
 use Rattle.pfs_insert.specs.Inserter.{IsBestPlace}
 use Rattle.pfs_insert.proofs.Published.BestPlaces.{best_place_found}
-use Rattle.pfs_wave.specs.Lanes.{capped}
-use Rattle.pfs_wave.specs.Least.{IsLeastSoFar}
+use Rattle.pfs_wave.specs.Wavefront.{capped}
+use Rattle.pfs_wave.specs.Private.Least.{IsLeastSoFar}
 use Rattle.pfs_wave.proofs.CappedLeast.{capped_least_law}
 
 -- a number of a part of a list

@@ -1,7 +1,7 @@
 -- The blends of one vector of a sequence, a row at a time.
 use Rattle.std.proofs.Common.{inl, inr, ◌≡◌, suc, ℕ, ◌+◌, ◌-◌, ◌≤◌, List, ◌∙◌, sym, refl, arith, add-one}
 use Rattle.std.proofs.lemmas.Bool.{cases_lt}
-use Rattle.pfs_wave.specs.Lanes.{Rows}
+use Rattle.pfs_wave.specs.Private.Lanes.{Rows}
 use Rattle.pfs_wave.specs.Private.Blending.{Past, AreBlends, pushed, past_at, diagonal, each_back}
 use Rattle.pfs_wave.proofs.PastRows.{past_is, past_none}
 use Rattle.pfs_wave.specs.declared.blends.Blends.{Blends}

@@ -9,10 +9,11 @@ use Rattle.pfs_base.proofs.Published.Heads.{head}
 use Rattle.pfs_base.proofs.Published.Heaviest.{greatest_to}
 use Rattle.pfs_insert.specs.Exchange.{heaviest_back}
 use Rattle.pfs_insert.specs.Insertion.{makespan_with}
-use Rattle.pfs_wave.specs.Lanes.{capped, capped_add}
-use Rattle.pfs_wave.specs.Private.Blocks.{Cells, later}
+use Rattle.pfs_wave.specs.Private.Lanes.{capped_add}
+use Rattle.pfs_wave.specs.Wavefront.{capped}
+use Rattle.pfs_wave.specs.Private.Blocks.{Cells, next_cell}
 use Rattle.pfs_wave.specs.Private.Recurrences.{AreTables, AreTails, TablesOfCells}
-use Rattle.pfs_wave.specs.Wavefront.{machine_at, on_machine, padded_time}
+use Rattle.pfs_wave.specs.Private.Padded.{machine_at, on_machine, padded_time}
 use Rattle.pfs_wave.proofs.PaddedTables.{on_padding, padded_back, padded_back_step, padded_none, padded_head}
 use Rattle.pfs_wave.proofs.PaddedTables.{padded_head_first, padded_head_step, padded_inserted_first}
 use Rattle.pfs_wave.proofs.PaddedTables.{padded_inserted_step, padded_sum_first, padded_sum_step, padded_sum_last}
@@ -55,17 +56,17 @@ module _ (cap : ℕ) (shop : FlowShop) (jobs : List ℕ) where
         (machine_at shop machine)
 
     -- by a number of machines
-    abbrev head_of : Cells
-    head_of place zero = 0
-    head_of place (suc machine) = capped cap (padded_head shop some jobs place machine)
+    abbrev head_cell : Cells
+    head_cell place zero = 0
+    head_cell place (suc machine) = capped cap (padded_head shop some jobs place machine)
 
-    abbrev inserted_of : Cells
-    inserted_of place zero = 0
-    inserted_of place (suc machine) = capped cap (inserted_at_machine place machine)
+    abbrev inserted_cell : Cells
+    inserted_cell place zero = 0
+    inserted_cell place (suc machine) = capped cap (inserted_at_machine place machine)
 
-    abbrev sum_of : Cells
-    sum_of place zero = 0
-    sum_of place (suc machine) = capped cap (sum_at_machine place machine)
+    abbrev sum_cell : Cells
+    sum_cell place zero = 0
+    sum_cell place (suc machine) = capped cap (sum_at_machine place machine)
 
     abbrev job_time : ℕ → ℕ
     job_time = on_machine shop (time_of shop job)
@@ -74,18 +75,18 @@ module _ (cap : ℕ) (shop : FlowShop) (jobs : List ℕ) where
     capped_cells = record {
       time = padded_time shop jobs;
       tail = tail_cell;
-      head = head_of;
-      inserted = inserted_of;
-      sum = sum_of;
+      head = head_cell;
+      inserted = inserted_cell;
+      sum = sum_cell;
       job = job_time;
     }
 
-    first_head : (machines : ℕ) → head_of 0 machines ≡ 0
+    first_head : (machines : ℕ) → head_cell 0 machines ≡ 0
     first_head zero = refl
     first_head (suc machine) = sym (capped_none cap)
 
-    next_head : (row machine : ℕ) → row < length jobs → head_of (suc row) (suc machine)
-        ≡ later cap (head_of (suc row) machine) (head_of row (suc machine)) (padded_time shop jobs row machine)
+    next_head : (row machine : ℕ) → row < length jobs → head_cell (suc row) (suc machine)
+        ≡ next_cell cap (head_cell (suc row) machine) (head_cell row (suc machine)) (padded_time shop jobs row machine)
     next_head row zero lt =
         let above = padded_head shop some jobs row 0 in
         let here = padded_head_first shop some jobs row lt in
@@ -98,8 +99,8 @@ module _ (cap : ℕ) (shop : FlowShop) (jobs : List ℕ) where
         ∙ sym (capped_step cap (capped cap beside) (capped cap above) beside above
         (padded_time shop jobs row (suc machine)) refl refl)
 
-    next_inserted : (place machine : ℕ) → place ≤ length jobs → inserted_of place (suc machine)
-        ≡ later cap (inserted_of place machine) (head_of place (suc machine)) (job_time machine)
+    next_inserted : (place machine : ℕ) → place ≤ length jobs → inserted_cell place (suc machine)
+        ≡ next_cell cap (inserted_cell place machine) (head_cell place (suc machine)) (job_time machine)
     next_inserted place zero le =
         let above = padded_head shop some jobs place 0 in
         let here = padded_inserted_first shop some jobs job place le in
@@ -111,8 +112,8 @@ module _ (cap : ℕ) (shop : FlowShop) (jobs : List ℕ) where
         ap (capped cap) (padded_inserted_step shop some jobs job place le machine)
         ∙ sym (capped_step cap (capped cap beside) (capped cap above) beside above (job_time (suc machine)) refl refl)
 
-    next_sum : (place machine : ℕ) → place ≤ length jobs → sum_of place (suc machine)
-        ≡ max (sum_of place machine) (capped_add cap (inserted_of place (suc machine)) (tail_cell place machine))
+    next_sum : (place machine : ℕ) → place ≤ length jobs → sum_cell place (suc machine)
+        ≡ max (sum_cell place machine) (capped_add cap (inserted_cell place (suc machine)) (tail_cell place machine))
     next_sum place zero le =
         let front = inserted_at_machine place 0 in
         let back = padded_back shop jobs place 0 in
@@ -138,7 +139,7 @@ module _ (cap : ℕ) (shop : FlowShop) (jobs : List ℕ) where
     }
 
     pub whole_sum : (place machines : ℕ) → place ≤ length jobs → 1 ≤ machines → shop.machines ≤ machines
-        → sum_of place machines ≡ capped cap (makespan_with shop jobs job place)
+        → sum_cell place machines ≡ capped cap (makespan_with shop jobs job place)
     whole_sum place zero le any few = absurd (omega arith)
     whole_sum place (suc machine) le any few =
         ap (capped cap) (padded_sum_last shop some jobs job place le machine few)

@@ -6,10 +6,10 @@ use Rattle.std.proofs.lemmas.List.{get_or-take, get_or-replicate, get_or_default
 use Rattle.std.proofs.lemmas.List.{length-replicate, same_lists, take-map}
 use Rattle.std.specs.List.{All}
 use Rattle.pfs_base.specs.FlowShop.{FlowShop}
-use Rattle.pfs_wave.specs.Lanes.{Rows, zeros}
+use Rattle.pfs_wave.specs.Private.Lanes.{Rows, zeros}
 use Rattle.pfs_wave.specs.Private.Blocks.{AreTimes, Cells, HasRows, step_of}
 use Rattle.pfs_wave.specs.Private.HeldRows.{AreMoved, HoldLanes, HoldOutside, IsHolding, IsKept, IsPadded, column, rows_at}
-use Rattle.pfs_wave.specs.Wavefront.{padded_time}
+use Rattle.pfs_wave.specs.Private.Padded.{padded_time}
 use Rattle.pfs_wave.proofs.SkewedTimes.{vector_inside}
 
 module _ {count jobs : ℕ} {rows : List (List ℕ)} {len : ℕ} {order : List ℕ} {times : List (List ℕ)}

@@ -1,7 +1,7 @@
 -- The least key of the places so far.
 use Rattle.std.proofs.Common.{inl, inr, ◌≡◌, ℕ, ◌+◌, ◌*◌, ◌/◌, ◌%◌, ◌<◌, ◌≤◌, min, subst, refl, arith}
 use Rattle.std.proofs.lemmas.Bool.{cases_lt}
-use Rattle.pfs_wave.specs.Least.{IsLeastSoFar}
+use Rattle.pfs_wave.specs.Private.Least.{IsLeastSoFar}
 
 module _ (value : ℕ → ℕ) (count place best : ℕ) (so_far : IsLeastSoFar value count place best) where
   lower : value count < best → IsLeastSoFar value (count + 1) count (value count)

@@ -13,7 +13,7 @@ use Rattle.pfs_insert.specs.Exchange.{heaviest_front, heaviest_back}
 use Rattle.pfs_insert.specs.Insertion.{makespan_with}
 use Rattle.pfs_insert.proofs.Published.TableRows.{back_none, back_last, back_more, operation_at, exchange_law}
 use Rattle.pfs_insert.proofs.Published.TableRows.{same_heads}
-use Rattle.pfs_wave.specs.Wavefront.{on_machine, padded_time, machine_at}
+use Rattle.pfs_wave.specs.Private.Padded.{on_machine, padded_time, machine_at}
 
 -- ---- the greatest of some values, from the last of them
 

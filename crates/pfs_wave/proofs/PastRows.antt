@@ -1,6 +1,6 @@
 -- The rows pushed so far, and their diagonals.
 use Rattle.std.proofs.Common.{◌≡◌, ℕ, zero, suc, ◌+◌, ◌<◌, ◌≤◌, get_or, ap, refl, arith}
-use Rattle.pfs_wave.specs.Lanes.{Rows}
+use Rattle.pfs_wave.specs.Private.Lanes.{Rows}
 use Rattle.pfs_wave.specs.Private.Blending.{Past, past_at, diagonal}
 
 pub diagonal_lane : (past : Past) (lane : ℕ) → lane < 8 → get_or (diagonal past) lane 0 ≡ past lane lane

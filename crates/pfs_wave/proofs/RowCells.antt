@@ -4,9 +4,9 @@ use Rattle.std.proofs.Common.{replicate, ap, ◌∙◌, refl, arith, inl, inr}
 use Rattle.std.proofs.lemmas.Bool.{cases_lt}
 use Rattle.std.proofs.lemmas.List.{get_or-replicate, length-set}
 use Rattle.pfs_base.specs.FlowShop.{FlowShop, time_of}
-use Rattle.pfs_wave.specs.Lanes.{zeros}
+use Rattle.pfs_wave.specs.Private.Lanes.{zeros}
 use Rattle.pfs_wave.specs.Private.Blocks.{HasRows, IsRow, step_of}
-use Rattle.pfs_wave.specs.Wavefront.{on_machine}
+use Rattle.pfs_wave.specs.Private.Padded.{on_machine}
 use Rattle.pfs_wave.proofs.SkewedTimes.{put_here, put_there}
 use Rattle.pfs_wave.proofs.Steps.{zeros-get_or}
 

@@ -5,7 +5,7 @@ use Rattle.std.proofs.lemmas.Bool.{cases_lt}
 use Rattle.std.proofs.lemmas.List.{get_or-map, get_or-set_same, get_or-set_other, get_or_past, length-map, length-set}
 use Rattle.std.proofs.lemmas.List.{map-set}
 use Rattle.std.proofs.lemmas.Nat.{mul-add-lt}
-use Rattle.pfs_wave.specs.Lanes.{Rows}
+use Rattle.pfs_wave.specs.Private.Lanes.{Rows}
 use Rattle.pfs_wave.specs.Private.Blending.{past_at, diagonal}
 use Rattle.pfs_wave.specs.Private.Blocks.{step_of}
 use Rattle.pfs_wave.specs.Private.HeldRows.{HoldLanes, HoldOutside}

@@ -6,8 +6,8 @@ use Rattle.std.proofs.lemmas.List.{get_or_past}
 use Rattle.std.specs.List.{All}
 use Rattle.std.specs.Simd.Lanes.{zip2}
 use Rattle.pfs_base.specs.FlowShop.{FlowShop, time_of}
-use Rattle.pfs_wave.specs.Lanes.{capped_add}
-use Rattle.pfs_wave.specs.Wavefront.{on_machine}
+use Rattle.pfs_wave.specs.Private.Lanes.{capped_add}
+use Rattle.pfs_wave.specs.Private.Padded.{on_machine}
 use Rattle.pfs_wave.proofs.PaddedTables.{on_inside, on_padding}
 
 abbrev pub AreSmall : ℕ → List ℕ → Type 0

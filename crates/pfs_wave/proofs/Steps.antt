@@ -7,7 +7,8 @@ use Rattle.std.proofs.lemmas.Simd.{get_or-zip2}
 use Rattle.std.proofs.lemmas.List.{length-drop, get_or_append_left, get_or_past, get_or-append_right}
 use Rattle.std.proofs.lemmas.List.{get_or-replicate, length-replicate}
 use Rattle.std.proofs.lemmas.Grind.{get_or_after_one}
-use Rattle.pfs_wave.specs.Lanes.{capped, capped_add, zeros}
+use Rattle.pfs_wave.specs.Private.Lanes.{capped_add, zeros}
+use Rattle.pfs_wave.specs.Wavefront.{capped}
 
 pub capped_none : (cap : ℕ) → 0 ≡ capped cap 0
 capped_none cap = omega arith

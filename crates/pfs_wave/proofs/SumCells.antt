@@ -3,7 +3,7 @@ use Rattle.std.proofs.Common.{ℕ, zero, suc, ◌≡◌, ◌+◌, ◌-◌, ◌*�
 use Rattle.std.proofs.Common.{ap, ◌∙◌, sym, arith, inl, inr, subst}
 use Rattle.std.proofs.lemmas.Bool.{cases_lt}
 use Rattle.std.proofs.lemmas.List.{get_or-set_same, get_or-set_other, length-set}
-use Rattle.pfs_wave.specs.Lanes.{capped_add}
+use Rattle.pfs_wave.specs.Private.Lanes.{capped_add}
 use Rattle.pfs_wave.specs.Private.Blocks.{Cells, Vectors, AreTimes, HoldCells, IsNoneBefore, IsRow, IsStep, step_of, vectors_of}
 use Rattle.pfs_wave.specs.Private.Recurrences.{AreSummed, AreTables, TablesOfCells}
 use Rattle.pfs_wave.proofs.StepTables.{set_same, set_other}

@@ -5,13 +5,13 @@ use Rattle.std.proofs.lemmas.Bool.{cases_lt}
 use Rattle.std.proofs.lemmas.List.{get_or_past, get_or-map, get_or-replicate, length-set, length-replicate}
 use Rattle.std.proofs.lemmas.Nat.{mul-add-lt}
 use borrow.Rule.Slice.PartMut.{put_mid}
-use Rattle.pfs_wave.specs.Lanes.{zeros}
-use Rattle.pfs_wave.specs.Private.Blocks.{Cells, Vectors, HoldCells, IsColumn, IsStep, later, step_of, vectors_of}
+use Rattle.pfs_wave.specs.Private.Lanes.{zeros}
+use Rattle.pfs_wave.specs.Private.Blocks.{Cells, Vectors, HoldCells, IsColumn, IsStep, next_cell, step_of, vectors_of}
 use Rattle.pfs_wave.specs.Private.Recurrences.{AreTails}
 use Rattle.pfs_wave.proofs.Steps.{zeros-get_or}
 use Rattle.pfs_wave.proofs.StepTables.{set_same, set_other, step_after, part_written, part_kept}
 
-pub later_same : (cap : ℕ) {a b c d s t : ℕ} → a ≡ c → b ≡ d → s ≡ t → later cap a b s ≡ later cap c d t
+pub later_same : (cap : ℕ) {a b c d s t : ℕ} → a ≡ c → b ≡ d → s ≡ t → next_cell cap a b s ≡ next_cell cap c d t
 later_same cap p q r = cc
 
 pub machine_inside : (count lane k : ℕ) → lane < 8 → k < count → lane * count + k < 8 * count
@@ -25,13 +25,13 @@ column_as count step cell k is held row lane lt all = ap (λ l. get_or l lane 0)
 -- the lanes of a new vector, as `next_value` makes them
 abbrev pub IsNext : ℕ → List ℕ → List ℕ → List ℕ → List ℕ → Type 0
 IsNext cap beside above time new =
-    (lane : ℕ) → lane < 8 → get_or new lane 0 ≡ later cap (get_or beside lane 0) (get_or above lane 0) (get_or time lane 0)
+    (lane : ℕ) → lane < 8 → get_or new lane 0 ≡ next_cell cap (get_or beside lane 0) (get_or above lane 0) (get_or time lane 0)
 
 -- and as `second_value` makes them
 abbrev pub IsSecond : ℕ → List ℕ → List ℕ → List ℕ → List ℕ → List ℕ → List ℕ → Type 0
 IsSecond cap beside above time next_above next_time new =
     (lane : ℕ) → lane < 8 → get_or new lane 0
-    ≡ later cap (later cap (get_or beside lane 0) (get_or above lane 0) (get_or time lane 0)) (get_or next_above lane 0)
+    ≡ next_cell cap (next_cell cap (get_or beside lane 0) (get_or above lane 0) (get_or time lane 0)) (get_or next_above lane 0)
     (get_or next_time lane 0)
 
 -- ---- a vector

@@ -4,7 +4,7 @@ use Rattle.std.proofs.Common.{length, map, arith, rules, refl, ap, ◌∙◌}
 use Rattle.std.proofs.lemmas.Int.{ints}
 use Rattle.std.proofs.lemmas.Simd.{Each1-weaker}
 use Rattle.std.proofs.lemmas.Bool.Decides.{nat_tests}
-use Rattle.pfs_wave.specs.Lanes.{capped_add}
+use Rattle.pfs_wave.specs.Private.Lanes.{capped_add}
 use Rattle.pfs_wave.proofs.SmallLanes.{AreSmall, first_small, rest_small}
 use lib.Lanes.{top, zip2, sel_l, Each1}
 use borrow.Rule.Simd.Lanes.{Asks1, act1, act2}

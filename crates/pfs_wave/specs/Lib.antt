@@ -1,5 +1,3 @@
-pub mod Lanes
-pub mod Least
 pub mod Parts
 pub mod Private
 pub mod Served

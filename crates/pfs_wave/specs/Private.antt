@@ -1,7 +1,10 @@
 pub mod Blending
 pub mod Blocks
 pub mod HeldRows
+pub mod Lanes
+pub mod Least
 pub mod Narrow
+pub mod Padded
 pub mod Recurrences
 pub mod SkewedBand
 pub mod Waves

@@ -1,27 +1,12 @@
--- The times of a sequence, with machines of time 0 after the last machine, and bounds on makespans.
-use Rattle.std.specs.Prelude.{ℕ, ◌≡◌, ◌+◌, ◌-◌, ◌*◌, ◌<◌, ◌≤◌, List, min, length, nat_lt, if◌then◌else◌}
-use Rattle.std.specs.List.{slice_index_or, All}
+-- Numbers that stop at a cap, the greatest number of a lane, and a bound on makespans.
+use Rattle.std.specs.Prelude.{ℕ, ◌≡◌, ◌+◌, ◌*◌, ◌<◌, ◌≤◌, List, min, length}
+use Rattle.std.specs.List.{All}
 use Rattle.pfs_base.specs.FlowShop.{FlowShop}
-use Rattle.pfs_base.specs.Paths.{operation}
 use Rattle.pfs_insert.specs.Insertion.{makespan_with, IsFirstLeast}
-use Rattle.pfs_wave.specs.Lanes.{capped, Rows}
 
--- the value of a lane of a step
-abbrev pub lane_of : Rows → ℕ → ℕ → ℕ
-lane_of rows step lane = slice_index_or (rows step) lane 0
-
--- the value of a lane's machine, and 0 in the lanes after the last machine
-abbrev pub on_machine : FlowShop → (ℕ → ℕ) → ℕ → ℕ
-on_machine shop values lane = if nat_lt lane shop.machines then values lane else 0
-
--- the time at a row of the sequence and a lane, and 0 after the last row and after the last machine
-abbrev pub padded_time : FlowShop → List ℕ → ℕ → ℕ → ℕ
-padded_time shop jobs row lane =
-    if nat_lt row (length jobs) then on_machine shop (operation shop jobs row) lane else 0
-
--- the machine whose value a lane contains: the lane's own, or the last machine in the lanes after that
-abbrev pub machine_at : FlowShop → ℕ → ℕ
-machine_at shop lane = min lane (shop.machines - 1)
+-- the number, or the cap where it is greater
+abbrev pub capped : ℕ → ℕ → ℕ
+capped cap n = min n cap
 
 -- the first place of the least capped value, where that is below the cap, is the first place of the least value, and
 -- both values are the same

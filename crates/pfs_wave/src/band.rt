@@ -3,8 +3,8 @@ ghost use Rattle.std.specs.Prelude.{◌≡◌, ℕ, ◌-◌, ◌<◌, ◌≤◌,
 ghost use Rattle.std.specs.Prelude.{take, drop};
 ghost use Rattle.std.specs.List.{All, slice_index_or};
 ghost use Rattle.std.specs.Simd.Lanes.{zip2};
-ghost use Rattle.pfs_wave.specs.Lanes.{capped_add, zeros};
-ghost use Rattle.pfs_wave.specs.Least.{IsLeastSoFar};
+ghost use Rattle.pfs_wave.specs.Private.Lanes.{capped_add, zeros};
+ghost use Rattle.pfs_wave.specs.Private.Least.{IsLeastSoFar};
 
 use crate::least::Found;
 

@@ -4,7 +4,7 @@ ghost use Rattle.pfs_base.specs.FlowShop.{FlowShop, time_of};
 ghost use Rattle.pfs_insert.specs.Inserter.{IsBestPlace};
 ghost use Rattle.pfs_insert.specs.Insertion.{makespan_with};
 ghost use Rattle.pfs_wave.specs.Private.Blocks.{AreTimes, IsRow, vectors_of};
-ghost use Rattle.pfs_wave.specs.Wavefront.{on_machine, padded_time};
+ghost use Rattle.pfs_wave.specs.Private.Padded.{on_machine, padded_time};
 
 use crate::band::Band;
 use crate::least::Found;

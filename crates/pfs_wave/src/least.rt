@@ -1,7 +1,7 @@
 //! The first place of the least sum.
 ghost use Rattle.std.specs.Prelude.{◌≡◌, ℕ, ◌+◌, ◌*◌, ◌^◌, ◌≤◌, ◌<◌, length, map};
 ghost use Rattle.std.specs.List.{slice_index_or};
-ghost use Rattle.pfs_wave.specs.Least.{IsLeastSoFar};
+ghost use Rattle.pfs_wave.specs.Private.Least.{IsLeastSoFar};
 
 /// A place, and its sum.
 #[derive(Clone, Copy, Debug, PartialEq, Eq)]

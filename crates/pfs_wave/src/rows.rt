@@ -2,9 +2,9 @@
 ghost use Rattle.std.specs.Prelude.{◌≡◌, ℕ, ◌+◌, ◌*◌, ◌<◌, ◌≤◌, ◌≢◌, ◌^◌, length, map, replicate, IfOk};
 ghost use Rattle.std.specs.List.{All, slice_index_or};
 ghost use Rattle.pfs_base.specs.FlowShop.{time_of};
-ghost use Rattle.pfs_wave.specs.Lanes.{zeros};
+ghost use Rattle.pfs_wave.specs.Private.Lanes.{zeros};
 ghost use Rattle.pfs_wave.specs.Private.Blocks.{HasRows, IsRow, step_of};
-ghost use Rattle.pfs_wave.specs.Wavefront.{on_machine};
+ghost use Rattle.pfs_wave.specs.Private.Padded.{on_machine};
 
 use crate::band::Band;
 use crate::vectors::put;

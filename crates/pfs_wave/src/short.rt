@@ -2,7 +2,7 @@
 ghost use Rattle.std.proofs.Common.{refl};
 ghost use Rattle.std.specs.Prelude.{◌≡◌, ℕ, ◌≤◌, length, min};
 ghost use Rattle.std.specs.Simd.Lanes.{Each1, zip2};
-ghost use Rattle.pfs_wave.specs.Lanes.{capped_add};
+ghost use Rattle.pfs_wave.specs.Private.Lanes.{capped_add};
 
 use crate::band::Band;
 use crate::least::{Found, first_least};

@@ -1,7 +1,7 @@
 //! The pass of the tails.
 ghost use Rattle.std.specs.Prelude.{◌≡◌, ℕ, suc, ◌+◌, ◌-◌, ◌*◌, ◌<◌, ◌≤◌, ◌≢◌, ◌^◌, length, map};
 ghost use Rattle.std.specs.List.{slice_index_or};
-ghost use Rattle.pfs_wave.specs.Private.Blocks.{Cells, HoldCells, IsStep, later, vectors_of};
+ghost use Rattle.pfs_wave.specs.Private.Blocks.{Cells, HoldCells, IsStep, next_cell, vectors_of};
 ghost use Rattle.pfs_wave.specs.Private.Recurrences.{AreTails};
 
 use crate::band::Band;
@@ -12,7 +12,7 @@ use crate::vectors::{array_of, from_after, next_value, second_value};
 fn second_tail<V: Band, const N: usize>(carry: V, after: &[V; N], times: &[V]) -> V
     requires { length times.now ≡ N }
     ensures { 2 ≤ N → (lane : ℕ) → lane < 8 → slice_index_or (V.lanes result) lane 0
-        ≡ later V.CAP (later V.CAP (slice_index_or (V.lanes carry) lane 0)
+        ≡ next_cell V.CAP (next_cell V.CAP (slice_index_or (V.lanes carry) lane 0)
         (slice_index_or (vectors_of (map V.lanes after.now) (N - 1)) lane 0)
         (slice_index_or (vectors_of (map V.lanes times.now) (N - 1)) lane 0))
         (slice_index_or (vectors_of (map V.lanes after.now) (N - 2)) lane 0)
@@ -35,7 +35,7 @@ fn second_tail<V: Band, const N: usize>(carry: V, after: &[V; N], times: &[V]) -
 fn next_tail<V: Band>(passed: usize, second: V, tail: V, above: V, time: V) -> V
     ensures second { passed ≡ 1 → V.lanes result ≡ V.lanes second }
     ensures next { passed ≢ 1 → (lane : ℕ) → lane < 8 → slice_index_or (V.lanes result) lane 0
-        ≡ later V.CAP (slice_index_or (V.lanes tail) lane 0) (slice_index_or (V.lanes above) lane 0)
+        ≡ next_cell V.CAP (slice_index_or (V.lanes tail) lane 0) (slice_index_or (V.lanes above) lane 0)
         (slice_index_or (V.lanes time) lane 0) }
 {
     if passed == 1 {

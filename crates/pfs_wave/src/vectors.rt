@@ -1,7 +1,7 @@
 //! What the passes do with the vectors of a step.
 ghost use Rattle.std.specs.Prelude.{◌≡◌, ℕ, suc, ◌<◌, length, map, slice_set};
 ghost use Rattle.std.specs.List.{slice_index_or};
-ghost use Rattle.pfs_wave.specs.Private.Blocks.{later, vectors_of};
+ghost use Rattle.pfs_wave.specs.Private.Blocks.{next_cell, vectors_of};
 
 use crate::band::Band;
 
@@ -24,7 +24,7 @@ pub fn array_of<V: Band, const N: usize>(vectors: &[V]) -> [V; N]
 #[inline(always)]
 pub fn next_value<V: Band>(beside: V, above: V, time: V) -> V
     ensures { (lane : ℕ) → lane < 8 → slice_index_or (V.lanes result) lane 0
-        ≡ later V.CAP (slice_index_or (V.lanes beside) lane 0) (slice_index_or (V.lanes above) lane 0)
+        ≡ next_cell V.CAP (slice_index_or (V.lanes beside) lane 0) (slice_index_or (V.lanes above) lane 0)
         (slice_index_or (V.lanes time) lane 0) }
 {
     beside.greater(above).sum(time)
@@ -35,7 +35,7 @@ pub fn next_value<V: Band>(beside: V, above: V, time: V) -> V
 #[inline(always)]
 pub fn second_value<V: Band>(beside: V, above: V, time: V, next_above: V, next_time: V) -> V
     ensures { (lane : ℕ) → lane < 8 → slice_index_or (V.lanes result) lane 0
-        ≡ later V.CAP (later V.CAP (slice_index_or (V.lanes beside) lane 0) (slice_index_or (V.lanes above) lane 0)
+        ≡ next_cell V.CAP (next_cell V.CAP (slice_index_or (V.lanes beside) lane 0) (slice_index_or (V.lanes above) lane 0)
         (slice_index_or (V.lanes time) lane 0)) (slice_index_or (V.lanes next_above) lane 0)
         (slice_index_or (V.lanes next_time) lane 0) }
 {

@@ -1,7 +1,7 @@
 -- Rows of lanes, skewed by three blends.
 use Rattle.std.specs.Prelude.{ℕ, zero, suc, ◌≡◌, List, [], ◌∷◌}
 use Rattle.std.specs.List.{slice_index_or}
-use Rattle.pfs_wave.specs.Lanes.{Rows}
+use Rattle.pfs_wave.specs.Private.Lanes.{Rows}
 use Rattle.pfs_wave.specs.declared.blends.Blends.{Blends}
 
 -- the values of the rows so far, by the number of rows back from the last row and by lane

@@ -3,8 +3,8 @@
 use Rattle.std.specs.Prelude.{ℕ, ◌≡◌, ◌+◌, ◌*◌, ◌<◌, ◌≤◌, List, [], max}
 use Rattle.std.specs.List.{slice_index_or}
 use Rattle.pfs_base.specs.FlowShop.{FlowShop, time_of}
-use Rattle.pfs_wave.specs.Lanes.{capped_add}
-use Rattle.pfs_wave.specs.Wavefront.{on_machine}
+use Rattle.pfs_wave.specs.Private.Lanes.{capped_add}
+use Rattle.pfs_wave.specs.Private.Padded.{on_machine}
 use Rattle.pfs_wave.specs.declared.width.Width.{Width}
 use Rattle.pfs_wave.specs.declared.width.Width.TheVariants as width
 
@@ -50,8 +50,8 @@ IsRow count value vectors =
     (lane k : ℕ) → lane < 8 → k < count → slice_index_or (vectors k) lane 0 ≡ value (lane * count + k)
 
 -- the greater value plus the time, which stops at the cap
-abbrev pub later : ℕ → ℕ → ℕ → ℕ → ℕ
-later cap beside above time = capped_add cap (max beside above) time
+abbrev pub next_cell : ℕ → ℕ → ℕ → ℕ → ℕ
+next_cell cap beside above time = capped_add cap (max beside above) time
 
 -- ---- the rows of a shop
 

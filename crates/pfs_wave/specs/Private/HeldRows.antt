@@ -1,9 +1,9 @@
 -- The skewed times of a sequence, kept from one sequence to the next.
 use Rattle.std.specs.Prelude.{ℕ, ◌≡◌, ◌+◌, ◌-◌, ◌*◌, ◌<◌, ◌≤◌, List, length}
 use Rattle.std.specs.List.{slice_index_or, All}
-use Rattle.pfs_wave.specs.Lanes.{Rows}
+use Rattle.pfs_wave.specs.Private.Lanes.{Rows}
 use Rattle.pfs_wave.specs.Private.Blocks.{step_of}
-use Rattle.pfs_wave.specs.Wavefront.{lane_of}
+use Rattle.pfs_wave.specs.Private.Padded.{lane_of}
 
 -- the jobs of a sequence, and `none` in each row after them
 abbrev pub IsPadded : List ℕ → List ℕ → ℕ → Type 0

@@ -1,6 +1,6 @@
 -- One vector of the steps of skewed times.
 use Rattle.std.specs.Prelude.{ℕ, suc, ◌≡◌, ◌≢◌, ◌<◌, ◌≤◌, List, length}
-use Rattle.pfs_wave.specs.Lanes.{Rows}
+use Rattle.pfs_wave.specs.Private.Lanes.{Rows}
 use Rattle.pfs_wave.specs.Private.Blending.{past_at, diagonal}
 use Rattle.pfs_wave.specs.Private.Blocks.{step_of}
 

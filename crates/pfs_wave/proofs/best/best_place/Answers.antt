@@ -3,7 +3,7 @@ use Rattle.std.proofs.Common.{arith, inl, inr}
 use Rattle.std.proofs.Math.Nat.{mul-le-mul_right}
 use Rattle.std.proofs.lemmas.Bool.{cases_lt}
 use Rattle.std.proofs.lemmas.List.{length-drop, length-take-le}
-use Rattle.pfs_wave.specs.Wavefront.{padded_time}
+use Rattle.pfs_wave.specs.Private.Padded.{padded_time}
 use Rattle.pfs_wave.proofs.BestFound.{found, number_of_part}
 use Rattle.pfs_wave.proofs.CappedCells.{capped_cells, capped_tables, capped_tails, no_tail, whole_sum, tail_cell}
 use Rattle.pfs_wave.proofs.best.best_place.Goals as goal

@@ -1,6 +1,6 @@
 use Rattle.std.proofs.Common.{refl, arith}
 use Rattle.pfs_base.specs.FlowShop.{time_of}
-use Rattle.pfs_wave.specs.Wavefront.{on_machine}
+use Rattle.pfs_wave.specs.Private.Padded.{on_machine}
 use Rattle.pfs_wave.proofs.RowCells.{job_more}
 use Rattle.pfs_wave.proofs.rows.fill_job.Goals as goal
 

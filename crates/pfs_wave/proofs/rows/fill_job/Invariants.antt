@@ -1,5 +1,5 @@
 use Rattle.pfs_base.specs.FlowShop.{time_of}
-use Rattle.pfs_wave.specs.Wavefront.{on_machine}
+use Rattle.pfs_wave.specs.Private.Padded.{on_machine}
 use Rattle.pfs_wave.proofs.RowCells.{IsJobSoFar}
 use Rattle.pfs_wave.proofs.rows.fill_job.Given as goal
 

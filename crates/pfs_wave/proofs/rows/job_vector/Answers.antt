@@ -1,6 +1,6 @@
 use Rattle.std.proofs.Common.{ℕ, ◌≡◌, ◌+◌, ◌*◌, ◌≤◌, get_or, ap, ◌∙◌, subst, sym, arith}
 use Rattle.pfs_base.specs.FlowShop.{time_of}
-use Rattle.pfs_wave.specs.Wavefront.{on_machine}
+use Rattle.pfs_wave.specs.Private.Padded.{on_machine}
 use Rattle.pfs_wave.proofs.RowCells.{lane_of_eight}
 use Rattle.pfs_wave.proofs.SmallLanes.{eight_small, machine_small}
 use Rattle.pfs_wave.proofs.rows.job_vector.Goals as goal

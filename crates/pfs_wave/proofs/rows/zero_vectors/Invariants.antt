@@ -1,5 +1,5 @@
 use Rattle.std.proofs.Common.{◌≡◌, length, map, replicate}
-use Rattle.pfs_wave.specs.Lanes.{zeros}
+use Rattle.pfs_wave.specs.Private.Lanes.{zeros}
 use Rattle.pfs_wave.proofs.rows.zero_vectors.Given as goal
 
 abbrev pub invariant-loop-vector : goal.invariant-loop-vector

@@ -1,5 +1,5 @@
 use Rattle.std.proofs.Common.{◌-◌, map, max, get_or, ap, ◌∙◌, refl, arith}
-use Rattle.pfs_wave.specs.Lanes.{capped_add}
+use Rattle.pfs_wave.specs.Private.Lanes.{capped_add}
 use Rattle.pfs_wave.specs.Private.Blocks.{vectors_of}
 use Rattle.pfs_wave.proofs.LaneSteps.{combined}
 use Rattle.pfs_wave.proofs.StepTables.{read, read_as}

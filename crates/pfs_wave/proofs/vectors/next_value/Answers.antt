@@ -1,5 +1,5 @@
 use Rattle.std.proofs.Common.{max, get_or, ap, ◌∙◌}
-use Rattle.pfs_wave.specs.Lanes.{capped_add}
+use Rattle.pfs_wave.specs.Private.Lanes.{capped_add}
 use Rattle.pfs_wave.proofs.LaneSteps.{combined}
 use Rattle.pfs_wave.proofs.vectors.next_value.Goals as goal
 

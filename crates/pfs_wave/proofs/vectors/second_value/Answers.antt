@@ -1,5 +1,5 @@
 use Rattle.std.proofs.Common.{max, get_or, ◌∙◌}
-use Rattle.pfs_wave.specs.Lanes.{capped_add}
+use Rattle.pfs_wave.specs.Private.Lanes.{capped_add}
 use Rattle.pfs_wave.proofs.LaneSteps.{beside_is, combined}
 use Rattle.pfs_wave.proofs.vectors.second_value.Goals as goal
 

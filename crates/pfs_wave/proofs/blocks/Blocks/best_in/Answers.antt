@@ -2,7 +2,7 @@ use Rattle.std.proofs.Common.{◌≡◌, ◌+◌, ◌-◌, ◌*◌, length, map,
 use Rattle.std.proofs.lemmas.List.{take_at}
 use Rattle.pfs_base.specs.FlowShop.{time_of}
 use Rattle.pfs_wave.specs.Private.Blocks.{AreTimes, IsRow, vectors_in, vectors_of}
-use Rattle.pfs_wave.specs.Wavefront.{on_machine, padded_time}
+use Rattle.pfs_wave.specs.Private.Padded.{on_machine, padded_time}
 use Rattle.pfs_wave.proofs.HeldLemmas.{holding_times, times_taken}
 use Rattle.pfs_wave.proofs.StepTables.{part_read}
 use Rattle.pfs_wave.proofs.blocks.Blocks.best_in.Goals as goal

@@ -1,5 +1,5 @@
 use Rattle.std.proofs.Common.{length, ap, ◌∙◌, sym, subst, arith}
-use Rattle.pfs_wave.specs.Lanes.{capped_add}
+use Rattle.pfs_wave.specs.Private.Lanes.{capped_add}
 use Rattle.pfs_wave.proofs.Steps.{length-zip}
 use Rattle.pfs_wave.proofs.SmallLanes.{AreSmall, sum_small}
 use Rattle.pfs_wave.proofs.VectorLemmas.{long_sum_is}

@@ -1,9 +1,6 @@
--- Numbers that stop at a cap, the greatest number of a lane.
-use Rattle.std.specs.Prelude.{ℕ, ◌+◌, List, min, replicate}
-
--- the number, or the cap where it is greater
-abbrev pub capped : ℕ → ℕ → ℕ
-capped cap n = min n cap
+-- Numbers of lanes, whose sums stop at a cap, the greatest of them.
+use Rattle.std.specs.Prelude.{ℕ, ◌+◌, List, replicate}
+use Rattle.pfs_wave.specs.Wavefront.{capped}
 
 abbrev pub capped_add : ℕ → ℕ → ℕ → ℕ
 capped_add cap a b = capped cap (a + b)
