@@ -5,7 +5,6 @@ import argparse
 import contextlib
 import csv
 import fcntl
-import functools
 import io
 import os
 import pathlib
@@ -59,17 +58,22 @@ def run(args: argparse.Namespace) -> int:
 
 def parallel(folder: pathlib.Path, words: list[str]) -> None:
     """Runs GNU parallel, which handles SIGINT itself, and kills what it leaves. SIGTERM is passed to it as SIGINT. It
-    gets SIGINT too when this process is killed."""
-    one.set_process(one.PR_SET_CHILD_SUBREAPER, 1)
-    process = subprocess.Popen(words, cwd=folder, stdin=subprocess.DEVNULL, stdout=subprocess.DEVNULL,
-                               env=dict(os.environ, PARALLEL_SHELL="/bin/sh"),
-                               preexec_fn=functools.partial(one.set_process, one.PR_SET_PDEATHSIG, signal.SIGINT))
+    gets SIGINT too when this process is killed. Both signals wait until it has started."""
+    def begin() -> None:
+        one.set_process(one.PR_SET_PDEATHSIG, signal.SIGINT)
+        signal.pthread_sigmask(signal.SIG_UNBLOCK, stops)
 
     def interrupt(_number: int, _frame: FrameType | None) -> None:
         process.send_signal(signal.SIGINT)
 
+    stops = {signal.SIGINT, signal.SIGTERM}
+    signal.pthread_sigmask(signal.SIG_BLOCK, stops)
+    one.set_process(one.PR_SET_CHILD_SUBREAPER, 1)
+    process = subprocess.Popen(words, cwd=folder, stdin=subprocess.DEVNULL, stdout=subprocess.DEVNULL,
+                               env=dict(os.environ, PARALLEL_SHELL="/bin/sh"), preexec_fn=begin)
     signal.signal(signal.SIGINT, signal.SIG_IGN)
     signal.signal(signal.SIGTERM, interrupt)
+    signal.pthread_sigmask(signal.SIG_UNBLOCK, stops)
     process.wait()
     one.kill_descendants()
 
