@@ -117,13 +117,13 @@ static int prepare(void) {
     return pfs_prepare(TIMES, 6, 3, 2, shop);
 }
 
-/* Times of 1 of 100 jobs on 2 machines, which a wavefront serves, or of 8 on 25, which none serves. All orders are
+/* Times of 1 of 100 jobs on 2 machines, which a wavefront serves, or of 7 on 28, which none serves. All orders are
  * equally long, so each job is inserted at the front. */
 static int prepare_large(int is_served) {
     static uint32_t ones[200];
     for (size_t at = 0; at < COUNT(ones); ++at)
         ones[at] = 1;
-    return pfs_prepare(ones, COUNT(ones), is_served ? 100 : 8, is_served ? 2 : 25, shop);
+    return is_served ? pfs_prepare(ones, 200, 100, 2, shop) : pfs_prepare(ones, 196, 7, 28, shop);
 }
 
 /* Makes a valid call of the function of this name, and says what is due. */
@@ -173,7 +173,7 @@ static int call_named(const char *name) {
         return due_text("order 3\n2 1 3\nmakespan 10\n"),
                pfs_write_order(BEST, 3, 0, 10, out.text, sizeof out.text, &out.length);
     if (IS("insert_lanes") || IS("insert_rows"))
-        return due.place = 0, due.makespan = IS("insert_lanes") ? 4 : 27,
+        return due.place = 0, due.makespan = IS("insert_lanes") ? 4 : 30,
                pfs_insert(shop, NUMBERED, 2, 2, &out.place, &out.makespan);
     if (strncmp(name, "prepare", 7) != 0)
         exit(3);
