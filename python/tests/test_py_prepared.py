@@ -20,7 +20,8 @@ from pfs import _library
 
 @pytest.fixture
 def counted(monkeypatch: pytest.MonkeyPatch) -> dict[str, int]:
-    """The number of calls of these functions."""
+    """The number of calls of these functions. Instances of earlier tests are released before."""
+    gc.collect()
     counts = {"pfs_prepare": 0, "pfs_release": 0}
 
     def counting(name: str, real: Callable[..., Any]) -> Callable[..., Any]:
