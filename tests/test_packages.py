@@ -112,12 +112,13 @@ def test_made_again_all_has_the_same_bytes_and_is_signed(made: Made, tmp_path_fa
 
 
 def test_the_sums_are_signed_by_gnupg(top: pathlib.Path, folder: pathlib.Path, monkeypatch: pytest.MonkeyPatch) -> None:
+    gpg = tool("gpg")
     monkeypatch.setenv("GNUPGHOME", str(folder / "home"))
     monkeypatch.setenv("SIGN", "A Tester")
     (folder / "home").mkdir(mode=0o700)
     (folder / "SHA256SUMS").write_text("0123  a file\n")
     try:
-        words = [tool("gpg"), "--batch", "--quiet", "--passphrase", "", "--quick-generate-key", "A Tester", "ed25519"]
+        words = [gpg, "--batch", "--quiet", "--passphrase", "", "--quick-generate-key", "A Tester", "ed25519"]
         output_of(words, folder)
         assert imported(top / "tools" / "dist").sign(folder / "SHA256SUMS") == [folder / "SHA256SUMS.asc"]
         line = line_of_install("^gpg --verify .*$")
