@@ -56,7 +56,7 @@ INVALID = {
     "nested": "x = " + "[" * 5000 + "]" * 5000, "shops/": 'instances = ["shops/\\u0000"]\n',
     "time_factors": ALL + "time_factors = [nan]\n",
     "needs method": ALL + 'command = "a {instance}"\n', "must contain {instance}": MINE + 'command = "a"\n',
-    "{x}": MINE + 'command = "a {instance} {x}"\n', "needs time_factors": MINE + 'command = "a {instance} {seconds}"\n',
+    "{x}, but there are only {block}, {inst": MINE + 'command = "a {instance} {x}"\n', "needs time_factors": MINE + 'command = "a {instance} {seconds}"\n',
     "rounds is for pfs": MINE + 'rounds = [1]\ncommand = "a {instance}"\n',
     "no file matches a": MINE + 'command = "./a {instance}"\n', "files needs": MINE + 'files = ["shops/*"]\n',
     "/etc/passwd": MINE + 'command = "a {instance}"\nfiles = ["/etc/passwd"]\n',
@@ -385,6 +385,15 @@ def test_runs_by_time_take_their_time(experiment: Experiment, with_library: dict
     assert experiment.script("check", "out.csv") == Done(0, "out.csv: 12 orders audited, 0 of them wrong\n", "")
 
 
+def test_readmes_plan_for_files_in_or_librarys_layout(experiment: Experiment, with_library: dict[str, str]) -> None:
+    plan = re.search(r'```\n(instances = \["VFR.*?)```', README, re.DOTALL)
+    (experiment.folder / "VFR10_5_1_Gap.txt").write_text(
+        experiment.printed("convert", "--from", "taillard", "--to", "orlib", "shops/b"))
+    (experiment.folder / "best.csv").write_text("instance,makespan\nVFR10_5_1,20\n")
+    assert plan and experiment.plan(plan[1]).run(env=with_library).status == 0
+    assert experiment.columns("instance", "time_factor", "reference") == [("VFR10_5_1_Gap.txt", "30", "20")]
+
+
 TIMES = [at * at % 97 for at in range(1, 201)]
 
 
@@ -451,7 +460,7 @@ PROGRAM = r"""#!/bin/sh
 jobs=$(sed -n '2s/ .*//p' "$1")
 line=$(seq -s ' ' "$jobs")
 case $2 in
-1) echo "$line" ;;
+1) test "$4 $5 $6" = "a 20 5" && echo "$line" ;;
 2) test "$jobs" = 20 && makespan=1448 || makespan=1
    printf 'order %s\n%s\nmakespan %s\n' "$jobs" "$line" "$makespan" ;;
 3) kill -SEGV $$ ;;
@@ -461,20 +470,21 @@ case $2 in
 8) while :; do :; done & while :; do :; done ;;
 9) yes "$line" ;;
 10) echo "$line" | sed 's/ /, /g; s/$/,/' ;;
+11) echo '2 0 1' ;;
 esac
 """
 OTHER = """instances = ["shops/a"]
 time_factors = [10]
-seeds = [1, 2, 3, 4, 5, 6, 7, 8, 9, 10]
+seeds = [1, 2, 3, 4, 5, 6, 7, 8, 9, 10, 11]
 method = "mine"
-command = "./mine {instance} {seed} {seconds}"
+command = "./mine {instance} {seed} {seconds} {name} {jobs} {machines}"
 """
 STATUSES = [
     "ok", "ok", "command: signal 11", "command: exit 3, Traceback: something",
     "command: no order printed: 'the best order is 3 2 1'", "command: nothing printed",
     "check: exit 2, pfs: order file job repeated at place 2",
     r"command: took too long: \d+\.\d\d s of processor time instead of 0.5 s",
-    "command: more than 1,048,576 bytes printed", "ok",
+    "command: more than 1,048,576 bytes printed", "ok", "command: job 0: jobs count from 1",
 ]
 
 
@@ -485,9 +495,9 @@ def with_other(experiment: Experiment, plan: str = OTHER, program: str = PROGRAM
 
 def other_is_right(experiment: Experiment, got: Done) -> None:
     """The runs of the other program are in the CSV, with their orders or with what is wrong."""
-    assert (got.status, got.stderr.splitlines()[-1]) == (1, "out.csv: 10 runs, 7 of them failed, 0 still to run")
+    assert (got.status, got.stderr.splitlines()[-1]) == (1, "out.csv: 11 runs, 8 of them failed, 0 still to run")
     rows = experiment.columns("seed", "status", "method", "time_factor", "rounds", "take", "passes", "cells")
-    assert [row[0] for row in rows] == [str(seed) for seed in range(1, 11)]
+    assert [row[0] for row in rows] == [str(seed) for seed in range(1, 12)]
     assert [(row[1], wanted) for row, wanted in zip(rows, STATUSES) if not re.fullmatch(wanted, row[1])] == []
     assert {row[2:] for row in rows} == {("mine", "10", "", "", "", "")}
     assert experiment.script("check", "out.csv") == Done(0, "out.csv: 3 orders audited, 0 of them wrong\n", "")
@@ -512,8 +522,9 @@ def test_a_wrong_makespan_of_another_program_fails_and_isnt_made_again(experimen
     with_other(experiment, ONLY_B + plan)
     assert experiment.run().status == 1
     before = experiment.columns("seed", "status", "seconds")
-    assert [row[:2] for row in before] == [("1", "ok"), ("2", "check: exit 1, wrong makespan"),
-                                           ("3", "command: signal 11")]
+    makespan, = experiment.columns("makespan")[0]
+    assert [row[:2] for row in before] == [
+        ("1", "ok"), ("2", f"check: exit 1, wrong makespan, stated 1, computed {makespan}"), ("3", "command: signal 11")]
     assert experiment.run().status == 1
     assert experiment.columns("seed", "status", "seconds") == before
 
@@ -541,6 +552,7 @@ LINES = [
     ("0.1", f"{SLEEP} & {SLEEP} > /dev/null 2>&1 & sleep 0.1; echo 1", "1 2"), ("0.1", "sleep 1; echo 2", "2 0"),
     ("0.2", f"({SPIN} &); sleep 1000", r"took too long: [01]\.\d\d s of processor time instead of 0.2 s"),
     ("0.05", "for each in $(seq 200); do (for at in $(seq 9000); do :; done); done; echo 3", "took too long: .*"),
+    ("0.01", "python3 -c 'import time\nwhile time.process_time() < 0.3: pass'; echo 4", "4 0"),
     ("9", "kill -9 $$", "signal 9"),
 ]
 
@@ -569,14 +581,15 @@ FAILING = """"solve "*"--seed 1 "*) $pfs "$@" | sed 's/^makespan .*/makespan 1/'
 
 def test_the_csv_has_a_failed_run_with_its_status(experiment: Experiment) -> None:
     """A run that was killed is made by the next start, and the others are with --retry."""
-    statuses = ["ok", "check: exit 1, wrong makespan", "solve: signal 9", "solve: exit 4, no memory, perhaps",
-                "solve: no cells printed", "lost: exit 137, signal 0"]
+    wrong = "check: exit 1, wrong makespan, stated 1, computed"
+    statuses = ["ok", wrong, "solve: signal 9", "solve: exit 4, no memory, perhaps", "solve: no cells printed",
+                "lost: exit 137, signal 0"]
     program = experiment.replacement(FAILING)
     got = experiment.plan(HALF.replace("[1, 2, 3]", "[0, 1, 2, 3, 4, 5]")).run(program=program)
-    assert got == Done(1, "", "".join(f"shops/a (rounds 10, take 4, passes 0, seed {seed}) and 1 more failed: "
-                                      f"{statuses[seed]}\n" for seed in (1, 2, 3, 4, 5))
-                       + "out.csv: 12 runs, 10 of them failed, 0 still to run\n")
-    assert [row[-1] for row in experiment.rows()] == statuses * 2
+    assert (got.status, re.sub(r"(?<=computed) \d+", "", got.stderr)) == (1, "".join(
+        f"shops/a (rounds 10, take 4, passes 0, seed {seed}) and 1 more failed: {statuses[seed]}\n"
+        for seed in (1, 2, 3, 4, 5)) + "out.csv: 12 runs, 10 of them failed, 0 still to run\n")
+    assert [re.sub(r"(?<=computed) \d+", "", row[-1]) for row in experiment.rows()] == statuses * 2
     assert {row[8:-1] for row in experiment.rows() if row[-1] != "ok"} == {("",) * 4}, "results of runs that failed"
     (experiment.folder / "notes").unlink()
     (experiment.folder / "fixed").touch()

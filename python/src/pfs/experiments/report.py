@@ -26,16 +26,18 @@ if TYPE_CHECKING:
 GROUP = ["method", "jobs", "machines", "rounds", "take", "passes", "time_factor"]
 # The least and the greatest value of each column of numbers.
 WHOLE = {"jobs": 10 ** 6, "machines": 10 ** 6, "rounds": 10 ** 9, "take": 10 ** 6, "passes": 10 ** 6,
-         "makespan": MOST_MAKESPAN, "bound": MOST_MAKESPAN, "reference": MOST_MAKESPAN, "cells": 2 ** 64 - 1}
-RANGES = {"gap_percent": (-100, 1e20), "seconds": (0, 1e12), "time_factor": (0, 1e12),
+         "bound": MOST_MAKESPAN, "reference": MOST_MAKESPAN, "cells": 2 ** 64 - 1}
+RANGES = {"gap_percent": (-100, 1e20), "seconds": (0, 1e12), "time_factor": (0, 1e12), "makespan": (0, MOST_MAKESPAN),
           **{column: (0, most) for column, most in WHOLE.items()}}
 NUMBER = r" *-?[0-9]+(?:\.[0-9]*)?(?:[eE][+-]?[0-9]{1,3})? *"
 # How the values of a setting are named, where a method's settings differ in them.
 FORMS = {"rounds": "{:,.0f} rounds", "take": "take {:,.0f}", "passes": "passes {:.0f}",
          "time_factor": "time factor {:g}"}
 # The decimals of the columns of tables.
-DECIMALS = {"mean_seconds": "{:.4f}", "time_factor": "{:g}", "p": "{:.4g}", "p_holm": "{:.4g}"}
+DECIMALS = {"mean_seconds": "{:.4f}", "time_factor": "{:g}", "p": "{:.4g}", "p_holm": "{:.4g}",
+            **dict.fromkeys(("makespan", "best", "mean", "deviation"), "{:.15g}")}
 LATEX = {"\\": r"\textbackslash{}", "~": r"\textasciitilde{}", "^": r"\textasciicircum{}", "×": r"$\times$",
+         "<": r"\textless{}", ">": r"\textgreater{}", "|": r"\textbar{}", '"': "''",
          **{sign: f"\\{sign}" for sign in "&%$#_{}"}}
 # The most instances without a reference that a note lists, and the most pairs of methods without a common instance.
 MOST_NAMES, MOST_UNRELATED = 10, 5
@@ -53,7 +55,8 @@ def report(args: argparse.Namespace) -> int:
     for name in ("matplotlib", "pandas", "scipy"):
         optional(name, "a report")
     from pfs.experiments import plots, statistics
-    reported = read(args.csv, args.reference)
+    means = [path for path in args.csv if "rpd" in (columns := rows_of(path, [])[0]) and "instance" not in columns]
+    reported = read([path for path in args.csv if path not in means], args.reference)
     done = reported.runs.dropna(subset=["makespan"])
     shared, lacking = in_common(done[done["rpd"].notna()])
     compared = statistics.compared(done)
@@ -64,8 +67,13 @@ def report(args: argparse.Namespace) -> int:
         return 1
     if len(compared):
         shown.append(write_table(args.folder / "comparison", compared, statistics.NOTE))
+    write_text(args.folder / "instances.csv", csv_of(cells_of(by_instance(done))))
+    best = done[done["order"] != ""].sort_values(["instance", "makespan"], kind="stable").drop_duplicates("instance")
+    if len(best):
+        names = ["instance", "method", "makespan", "order"]
+        write_text(args.folder / "best.csv", csv_of(cells_of(best[names])))
     if len(shared):
-        write_sizes(shared, args.folder, " ".join(filter(None, ["Mean RPD, %.", lacking, unaudited(shared)])))
+        write_sizes(shared, [*map(published, means)], args.folder, lacking)
     elif lacking:
         print(f"pfs-experiments report: no table of sizes: {plain(lacking)}", file=sys.stderr)
     plots.plot(done, shared, args.folder, args.format, args.width, args.dpi, not args.no_title)
@@ -86,7 +94,8 @@ def read(paths: list[str], reference_path: str | None) -> Reported:
     stems = [pathlib.Path(path).stem for path in paths]
     runs = pd.concat([read_one(path, path if stems.count(stem) > 1 else stem) for path, stem in zip(paths, stems)],
                      ignore_index=True)
-    runs["audited"] = audits_of(paths)
+    runs["order"] = orders_of(paths)
+    runs["audited"] = runs["order"] != ""
     lasts = runs["instance"].map(canonical)
     if len(paths) > 1 and runs["instance"].groupby([runs["method"], lasts]).nunique().max() == 1:
         runs["instance"] = lasts
@@ -114,19 +123,22 @@ def read(paths: list[str], reference_path: str | None) -> Reported:
     return Reported(runs.fillna(dict.fromkeys(GROUP[1:], -1)), note)
 
 
-def audits_of(paths: list[str]) -> list[bool] | bool:
-    """Returns which rows have an order that was audited; none without the library."""
+def orders_of(paths: list[str]) -> list[str] | str:
+    """Returns the orders that were audited; none without the library."""
     try:
         from pfs.experiments import audit
     except ImportError:
-        return False
-    return audit.audits_of(paths)
+        return ""
+    return audit.orders_of(paths)
 
 
-def unaudited(runs: pd.DataFrame) -> str:
-    """Returns a sentence on the methods whose makespans are only stated."""
-    names = sorted(set(runs.loc[~runs["audited"], "method"]))
-    return f"Not audited, only stated: {', '.join(names)}." if names else ""
+def published(path: str) -> pd.DataFrame:
+    """Returns published means of the RPD, with a row for each size and a column for each method."""
+    import pandas as pd
+    read = pd.DataFrame(rows_of(path, ["jobs", "machines", "rpd"]))
+    means = pd.DataFrame({name: numbers_in(read[name], name, path) for name in ("jobs", "machines", "rpd")})
+    means["method"] = methods_of(read, pathlib.Path(path).stem)
+    return means.pivot_table(index=["jobs", "machines"], columns="method", values="rpd")
 
 
 def read_one(path: str, name: str) -> pd.DataFrame:
@@ -135,22 +147,32 @@ def read_one(path: str, name: str) -> pd.DataFrame:
     rows = rows_of(path, ["instance", "makespan"])
     read = pd.DataFrame(rows)
     failed = read.get("status", pd.Series("ok", read.index)).ne("ok") | read["makespan"].eq("")
-    runs = pd.DataFrame({"method": read.get("method", pd.Series("", read.index)).replace("", name),
-                         "instance": read["instance"], "seed": read.get("seed", pd.Series("", read.index))})
-    for column, (least, most) in RANGES.items():
+    runs = pd.DataFrame({"method": methods_of(read, name), "instance": read["instance"],
+                         "seed": read.get("seed", pd.Series("", read.index))})
+    for column in RANGES:
         texts = read.get(column, pd.Series("", read.index))
         if column in ("makespan", "cells", "gap_percent", "seconds"):
             texts = texts.mask(failed, "")
-        given = texts[texts != ""]
-        values = given.where(given.str.fullmatch(NUMBER)).astype(float)
-        wrong = given[~values.between(least, most) | ((column in WHOLE) & (values % 1 != 0))]
-        if len(wrong):
-            text = wrong.iloc[0]
-            raise ExperimentError(f"{path}: {text[:40]!r} is not a number of the column {column}, from {least:g} to "
-                                  f"{most:g}")
-        runs[column] = values.reindex(read.index)
+        runs[column] = numbers_in(texts, column, path)
     runs.loc[runs["time_factor"].notna(), "rounds"] = float("nan")
     return runs
+
+
+def methods_of(read: pd.DataFrame, name: str) -> Any:
+    """Returns the column `method`, with a name where it is empty or missing."""
+    return read["method"].replace("", name) if "method" in read else name
+
+
+def numbers_in(texts: pd.Series, column: str, path: str) -> pd.Series:
+    """Returns the numbers of a column. Empty cells are unknown."""
+    given = texts[texts != ""]
+    values = given.where(given.str.fullmatch(NUMBER)).astype(float)
+    least, most = RANGES.get(column, (-100, 1e20))
+    wrong = given[~values.between(least, most) | ((column in WHOLE) & (values % 1 != 0))]
+    for text in wrong[:1]:
+        raise ExperimentError(f"{path}: {text[:40]!r} is not a number of the column {column}, from {least:g} to "
+                              f"{most:g}")
+    return values.reindex(texts.index)
 
 
 def taillards_of(runs: pd.DataFrame) -> pd.Series:
@@ -206,22 +228,35 @@ def references(runs: pd.DataFrame, taillards: pd.Series, path: str | None) -> tu
 # Tables
 
 def table_of(runs: pd.DataFrame) -> pd.DataFrame:
-    """Returns the table by method, size and setting. It has a column of time factors if any run has one."""
-    keys = GROUP if (runs["time_factor"] >= 0).any() else GROUP[:-1]
-    table = runs.groupby(keys).agg(
+    """Returns the table by method, size and setting."""
+    table = runs.groupby(GROUP).agg(
         runs=("makespan", "count"), failed=("makespan", lambda spans: spans.isna().sum()), audited=("audited", "sum"),
         mean_rpd_percent=("rpd", "mean"), greatest_rpd_percent=("rpd", "max"), mean_gap_percent=("gap_percent", "mean"),
         greatest_gap_percent=("gap_percent", "max"), mean_seconds=("seconds", "mean"))
     return table.reset_index()
 
 
-def write_sizes(shared: pd.DataFrame, folder: pathlib.Path, note: str) -> None:
-    """Writes the mean RPD with a row for each size and a column for each setting, and the means of the columns."""
+def by_instance(done: pd.DataFrame) -> pd.DataFrame:
+    """Returns the table by instance and setting."""
+    return done.groupby(["instance", *GROUP]).agg(
+        runs=("makespan", "count"), best=("makespan", "min"), mean=("makespan", "mean"), deviation=("makespan", "std"),
+        mean_rpd_percent=("rpd", "mean")).reset_index()
+
+
+def write_sizes(shared: pd.DataFrame, published: list[pd.DataFrame], folder: pathlib.Path, lacking: str) -> None:
+    """Writes the mean RPD with a row for each size and a column for each setting, and the means of the columns. A
+    published column has a mean if it has all sizes."""
     means = shared.pivot_table(index=["jobs", "machines"], columns=SETTING, values="rpd")
+    means = means.set_axis(setting_names(list(means.columns)), axis=1)
+    for each in published:
+        means = means.join(each, rsuffix=" (published)")
     rows = [[size_name(size), *(cell("rpd", value) for value in row)]
             for size, row in zip(means.index, means.to_numpy())]
-    rows.append(["mean", *(cell("rpd", value) for value in means.mean())])
-    heads = ["jobs×machines", *setting_names(list(means.columns))]
+    rows.append(["mean", *(cell("rpd", value) for value in means.mean(skipna=False))])
+    heads = ["jobs×machines", *means.columns]
+    stated = sorted(set(shared.loc[~shared["audited"], "method"]).union(*published))
+    note = " ".join(["Mean RPD, %.", *filter(None, [lacking]),
+                     *([f"Not audited, only stated: {', '.join(stated)}."] if stated else [])])
     write_text(folder / "sizes.csv", csv_of([heads, *rows]))
     write_text(folder / "sizes.md", markdown_of([heads, *rows], markdown(note)))
     lines = [" & ".join(map(latex, row)) + r" \\" for row in [heads, *rows]]
@@ -233,15 +268,20 @@ def write_sizes(shared: pd.DataFrame, folder: pathlib.Path, note: str) -> None:
 
 def write_table(path: pathlib.Path, table: pd.DataFrame, note: str) -> str:
     """Writes a table as CSV and as Markdown, and returns the latter. There the names of the columns are words."""
-    table = table.drop(columns=[column for column in table if column.endswith("time_factor") and
-                                (table[column] == -1).all()])
-    rows = [[cell(column, value) for column, value in row.items()] for row in table.to_dict("records")]
-    write_text(path.with_suffix(".csv"), csv_of([list(table.columns), *rows]))
+    columns, *rows = cells_of(table)
+    write_text(path.with_suffix(".csv"), csv_of([columns, *rows]))
     heads = [column.replace("_percent", ", %").replace("mean_seconds", "mean time, s").replace("_", " ")
-             for column in table.columns]
+             for column in columns]
     text = markdown_of([heads, *rows], note)
     write_text(path.with_suffix(".md"), text)
     return text
+
+
+def cells_of(table: pd.DataFrame) -> list[list[str]]:
+    """Returns the names of the columns and the rows. Time factors are left out if no run has one."""
+    table = table.drop(columns=[column for column in table if column.endswith("time_factor") and
+                                (table[column] == -1).all()])
+    return [[*table], *([cell(*pair) for pair in row.items()] for row in table.to_dict("records"))]
 
 
 def cell(column: str, value: Any) -> str:

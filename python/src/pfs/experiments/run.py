@@ -47,7 +47,7 @@ def run(args: argparse.Namespace) -> int:
              "--results", "results/{1}"]
     words += ["--bar"] if sys.stderr.isatty() else []
     words += ["--sshloginfile", machines, "--basefile", experiment.stage] if machines else []
-    words += [*args.options, f"{experiment.stage}/one", *(f"{{{at}}}" for at in range(1, 10))]
+    words += [*args.options, f"{experiment.stage}/one", *(f"{{{at}}}" for at in range(1, len(stage.RUN) + 1))]
     parallel(experiment.folder, words)
     failed, left = gather(experiment, args.csv)
     if machines and left == 0:

@@ -24,8 +24,7 @@ from pfs.experiments.plan import Row, read_plan, reference_for, reference_of, ro
 PACKAGE = pathlib.Path(__file__).resolve().parent.parent
 # What plan.json has of a run: columns of the CSV, its number, the copy of its instance, and the seconds of a search by
 # time. Unknown values are empty, and hyphens in runs.tsv, which is made of it: a line for each number.
-RUN = ["number", "file", "layout", "block", "rounds", "limit", "take", "passes", "seed", "repetition", "time_factor",
-       "jobs", "machines", "instance"]
+RUN = list(one.Run._fields)
 # The columns that identify a run.
 KEY = ["file", "block", "rounds", "time_factor", "take", "passes", "seed", "repetition"]
 # Those that don't change a search of 0 rounds.
