@@ -23,7 +23,7 @@ from support.ssh import Server
 from support.terminals import Terminal
 from support.tools import Done, csv_rows, run_tool, wait_until, with_path, write_script
 
-ONE, SIX, EIGHT, TWELVE = (f"out.csv: {count} runs, 0 of them failed, 0 still to run\n" for count in (1, 6, 8, 12))
+SIX, TWELVE = (f"out.csv: {count} runs, 0 of them failed, 0 still to run\n" for count in (6, 12))
 README = (pathlib.Path(__file__).resolve().parent.parent / "experiments" / "README.md").read_text()
 on_slurm = pytest.mark.xdist_group("slurm")
 over_ssh = pytest.mark.xdist_group("ssh")
@@ -56,7 +56,8 @@ INVALID = {
     "nested": "x = " + "[" * 5000 + "]" * 5000, "shops/": 'instances = ["shops/\\u0000"]\n',
     "time_factors": ALL + "time_factors = [nan]\n",
     "needs method": ALL + 'command = "a {instance}"\n', "must contain {instance}": MINE + 'command = "a"\n',
-    "{x}, but there are only {block}, {inst": MINE + 'command = "a {instance} {x}"\n', "needs time_factors": MINE + 'command = "a {instance} {seconds}"\n',
+    "{x}, but there are only {block}, {instance}": MINE + 'command = "a {instance} {x}"\n',
+    "needs time_factors": MINE + 'command = "a {instance} {seconds}"\n',
     "rounds is for pfs": MINE + 'rounds = [1]\ncommand = "a {instance}"\n',
     "no file matches a": MINE + 'command = "./a {instance}"\n', "files needs": MINE + 'files = ["shops/*"]\n',
     "/etc/passwd": MINE + 'command = "a {instance}"\nfiles = ["/etc/passwd"]\n',
@@ -109,31 +110,27 @@ def test_an_interruption_at_the_start_prints_nothing(script: str, experiment: Ex
     assert got == Done(-signal.SIGINT, "", ""), "what an interruption prints"
 
 
-@pytest.mark.parametrize("path", ["shops", "plan.toml/out.csv", "x" * 255, "\udcff.csv"])
-def test_an_impossible_csv_is_rejected_before_the_first_run(path: str, experiment: Experiment) -> None:
-    assert_refused(experiment.run(path, program=experiment.replacement()))
-    assert experiment.started() == [] and sorted(os.listdir(experiment.folder)) == ["plan.toml", "program", "shops"]
+NO_PFS = {"prints nothing": "#!/bin/sh\n", "prints its words": "#!/bin/sh\necho \"$@\"\n",
+          "prints without end": "#!/bin/sh\nyes\n", "is a text": "some words\n", "is a binary": "\x7fELF"}
+# The program, if it isn't pfs, the command and the CSV, and what is said.
+REFUSED = {
+    **{f"the CSV {path[:20]!r}": ("", "run", path, "")
+       for path in ("shops", "plan.toml/out.csv", "x" * 255, "\udcff.csv")},
+    **{f"a program that {what}": (text, "run", "out.csv", "program is not pfs: ") for what, text in NO_PFS.items()},
+    "no GNU parallel": ("", "run", "alone.csv", "parallel is not installed (Debian: parallel)"),
+    "no Slurm": ("", "slurm", "alone.csv", "sbatch is not installed (Debian: slurm-client)"),
+}
 
 
-@pytest.mark.parametrize(("script", "missing"), [("run", "parallel is not installed (Debian: parallel)"),
-                                                 ("slurm", "sbatch is not installed (Debian: slurm-client)")])
-def test_a_missing_program_is_reported(script: str, missing: str, experiment: Experiment) -> None:
-    """Before anything is written."""
+@pytest.mark.parametrize(("text", "command", "path", "said"), REFUSED.values(), ids=REFUSED)
+def test_a_start_is_refused_before_anything_is_written(text: str, command: str, path: str, said: str,
+                                                       experiment: Experiment) -> None:
+    """Or is run: the replacement would note it."""
+    program = write_script(experiment.folder / "program", text) if text else experiment.replacement()
     before = sorted(os.listdir(experiment.folder))
-    assert_refused(experiment.script(script, "plan.toml", "out.csv", env={"PATH": str(experiment.folder)}), missing)
+    env = {"PATH": "/none"} if path == "alone.csv" else None
+    assert_refused(experiment.script(command, "plan.toml", path, program=program, env=env), said)
     assert sorted(os.listdir(experiment.folder)) == before
-
-
-NO_PFS = {"a program that prints nothing": "#!/bin/sh\n", "one that prints its words": "#!/bin/sh\necho \"$@\"\n",
-          "one that prints without end": "#!/bin/sh\nyes\n", "a text": "some words\n", "a binary": "\x7fELF"}
-
-
-@pytest.mark.parametrize("text", NO_PFS.values(), ids=NO_PFS)
-def test_a_program_that_is_not_pfs_is_rejected(text: str, experiment: Experiment) -> None:
-    """Before anything is written."""
-    program = write_script(experiment.folder / "program", text)
-    assert_refused(experiment.run(program=program), "program is not pfs: ")
-    assert sorted(os.listdir(experiment.folder)) == ["plan.toml", "program", "shops"]
 
 
 def test_pfs_is_found_beside_the_script_that_is_not_on_the_path(made: Experiment, scripts: pathlib.Path) -> None:
@@ -145,19 +142,15 @@ def test_pfs_is_found_beside_the_script_that_is_not_on_the_path(made: Experiment
 
 # Folders that are damaged, and small disks
 
-@pytest.mark.parametrize("data", [b"{", b"[]", b'{"places": 1}', b"[" * 100_000, b'{"layout": "\xff"}',
+@pytest.mark.parametrize("data", [None, b"{", b"[]", b'{"places": 1}', b"[" * 100_000, b'{"layout": "\xff"}',
                                   b'{"places": {}, "runs": [{"number": "2"}]}'])
-def test_a_damaged_plan_is_reported_on_one_line(data: bytes, made: Experiment) -> None:
-    before = (made.folder / "out.csv").read_text()
-    (made.runs / "plan.json").write_bytes(data)
-    assert_refused(made.plan(PLAN + "repetitions = 2\n").run(), "plan.json is damaged", "out.csv")
+def test_a_damaged_folder_is_reported_on_one_line(data: bytes | None, made: Experiment) -> None:
+    """Its plan, or it has no program."""
+    before, (stage,) = (made.folder / "out.csv").read_text(), made.runs.glob("pfs-experiment-*")
+    stage.rename(made.folder / "elsewhere") if data is None else (made.runs / "plan.json").write_bytes(data)
+    said = "no copy of the program" if data is None else "plan.json is damaged"
+    assert_refused(made.plan(PLAN + "repetitions = 2\n").run(), said, "out.csv")
     assert (made.folder / "out.csv").read_text() == before
-
-
-def test_a_folder_without_its_program_is_reported_on_one_line(made: Experiment) -> None:
-    stage, = made.runs.glob("pfs-experiment-*")
-    stage.rename(made.folder / "elsewhere")
-    assert_refused(made.run(), "no copy of the program")
 
 
 RESULTS = {
@@ -294,15 +287,6 @@ def test_each_order_is_kept_and_check_audits_it_again(made: Experiment) -> None:
     assert numbers == [1, 2, 4] and wrong[3].endswith(": the run has no order file"), wrong
     (made.folder / "old.csv").write_text("instance,makespan\na,1\n")
     assert_refused(made.script("check", "old.csv"), "pfs-experiments check: old.csv: no column rounds, take")
-
-
-def test_the_csv_has_the_reference_of_the_plan(made: Experiment) -> None:
-    """Also one that is named once all runs are made. It begins with a byte order mark."""
-    (made.folder / "best.csv").write_text("\N{BOM}instance,makespan,source\nb,12.0,a paper\nc,1,no paper\n")
-    assert made.plan(HALF + 'reference = "best.csv"\n').run() \
-        == Done(0, "", f"best.csv lacks 1 of 2 instances: shops/a\n{SIX}")
-    assert made.columns("instance", "reference", "source") \
-        == [("shops/a", "", "")] * 3 + [("shops/b", "12", "a paper")] * 3
 
 
 # What each plan begins as and grows to, and the rows of that.
@@ -460,7 +444,7 @@ PROGRAM = r"""#!/bin/sh
 jobs=$(sed -n '2s/ .*//p' "$1")
 line=$(seq -s ' ' "$jobs")
 case $2 in
-1) test "$4 $5 $6" = "a 20 5" && echo "$line" ;;
+1) echo "$line" ;;
 2) test "$jobs" = 20 && makespan=1448 || makespan=1
    printf 'order %s\n%s\nmakespan %s\n' "$jobs" "$line" "$makespan" ;;
 3) kill -SEGV $$ ;;
@@ -469,7 +453,7 @@ case $2 in
 7) echo '1 1 1' ;;
 8) while :; do :; done & while :; do :; done ;;
 9) yes "$line" ;;
-10) echo "$line" | sed 's/ /, /g; s/$/,/' ;;
+10) test "$4 $5 $6" = "a 20 5" && echo "$line" | sed 's/ /, /g; s/$/,/' ;;
 11) echo '2 0 1' ;;
 esac
 """
@@ -523,8 +507,8 @@ def test_a_wrong_makespan_of_another_program_fails_and_isnt_made_again(experimen
     assert experiment.run().status == 1
     before = experiment.columns("seed", "status", "seconds")
     makespan, = experiment.columns("makespan")[0]
-    assert [row[:2] for row in before] == [
-        ("1", "ok"), ("2", f"check: exit 1, wrong makespan, stated 1, computed {makespan}"), ("3", "command: signal 11")]
+    assert [row[1] for row in before] == ["ok", f"check: exit 1, wrong makespan, stated 1, computed {makespan}",
+                                          "command: signal 11"]
     assert experiment.run().status == 1
     assert experiment.columns("seed", "status", "seconds") == before
 
@@ -560,7 +544,7 @@ LINES = [
 @pytest.mark.parametrize(("seconds", "line", "wanted"), LINES, ids=[line[:30] for _, line, _ in LINES])
 def test_a_program_that_waits_or_takes_too_long_is_ended_with_all_that_it_has_started(
         seconds: str, line: str, wanted: str, folder: pathlib.Path) -> None:
-    code = ("import sys; from pfs.experiments import one; one.PATIENCE = 0.5\n"
+    code = ("import sys; from pfs.experiments import one; one.PATIENCE = 3\n"
             "try: text, _, left = one.run_command(['sh', '-c', sys.argv[2]], '.', float(sys.argv[1]))\n"
             "except one.Failed as failure: print(failure)\nelse: print(text.strip(), left)\n")
     env = dict(os.environ, PYTHONPATH=str(pathlib.Path(one.__file__).parents[2]))

@@ -46,8 +46,8 @@ out,20,5,100,4,0,4,1,0,1.961,3.960,4.000,7.000,0.5000
 out,100,10,0,4,0,0,1,0,,,,,
 out,100,10,100,4,0,1,0,0,0.000,0.000,0.000,0.000,2.0000
 """
-FILES = ["gap.png", "instances.csv", "means.png", "rpd.png", "seconds.png", "sizes.csv", "sizes.md", "sizes.tex", "table.csv",
-         "table.md", "time.png"]
+FILES = ["gap.png", "instances.csv", "means.png", "rpd.png", "seconds.png", "sizes.csv", "sizes.md", "sizes.tex",
+         "table.csv", "table.md", "time.png"]
 BAD = {
     "no rows": HEAD + "\n", "a gap that isn't a number": REPORTED.replace("10.0000", "x"),
     "rounds that are not whole": REPORTED.replace("20,5,0", "20,5,0.5"),
@@ -273,10 +273,13 @@ def test_orders_are_audited_where_the_instance_is_at_hand(scripts: pathlib.Path,
     wrong = {order: "wrong makespan: states 1449, takes 1448", order[:-3]: "job missing: job 20 is missing", "3 1 2":
              "wrong size: 3 jobs, but the instance has 20"}
 
+    def tool(*words: str) -> Done:
+        return run_tool([scripts / "pfs-experiments", *words], folder,
+                        env=dict(os.environ, PFS_LIBRARY=str(libpfs.path)))
+
     def report_of(text: str) -> Done:
         (folder / "out.csv").write_text(f"instance,seed,makespan,order\n{text}")
-        return run_tool([scripts / "pfs-experiments", "report", "out.csv", "report"], folder,
-                        env=dict(os.environ, PFS_LIBRARY=str(libpfs.path)))
+        return tool("report", "out.csv", "report")
 
     assert report_of(f"ta001,1,1448,{order}\nta001,2,1300,\ni,1,5,1 2\nta002,1,1400,gone/order\n").status == 0
     assert column(folder, "audited") == ["0", "1"] and column(folder, "runs") == ["1", "3"]
@@ -285,6 +288,7 @@ def test_orders_are_audited_where_the_instance_is_at_hand(scripts: pathlib.Path,
     assert "audited" not in (folder / "report" / "sizes.md").read_text()
     assert csv_rows(folder / "report" / "best.csv") == [dict(instance="ta001", method="out", makespan="1448",
                                                              order=order)], "the best order of each instance, once"
+    assert tool("audit", "report/best.csv").stdout.endswith(": 1 orders audited, 1 valid (0 optimal), 0 wrong\n")
     for text, why in wrong.items():
         assert report_of(f"ta002,1,1300,\nta001,1,1449,{text}\n") == Done(
             2, "", f"pfs-experiments report: out.csv: line 3, ta001: {why}\n")
@@ -303,9 +307,9 @@ def test_each_setting_of_a_method_is_compared_by_means_of_the_instances_that_bot
     assert rows == [("0", "4", "2", "0", "0", "2"), ("100", "4", "2", "1", "1", "0")]
     rows = [(row["method"], row["jobs"], row["runs"]) for row in csv_rows(folder / "report" / "table.csv")]
     assert ("second", "20", "3") in rows
-    names = ("instance", "rounds", "runs", "best", "mean", "deviation", "mean_rpd_percent")
-    assert ("a", "100", "2", "101", "103", f"{8 ** 0.5:.15g}", f"{200 / 101:.3f}") in [
-        tuple(row[name] for name in names) for row in csv_rows(folder / "report" / "instances.csv")]
+    row = csv_rows(folder / "report" / "instances.csv")[1]
+    assert [row[name] for name in ("instance", "rounds", "runs", "best", "mean", "deviation", "mean_rpd_percent")] == [
+        "a", "100", "2", "101", "103", f"{8 ** 0.5:.15g}", f"{200 / 101:.3f}"]
 
 
 def test_settings_of_one_method_are_compared(report: Reported, folder: pathlib.Path) -> None:
@@ -469,7 +473,7 @@ def done(folder: pathlib.Path) -> Callable[[str], Any]:
     """The runs of a CSV of this text that succeeded."""
     def read(text: str) -> Any:
         (folder / "out.csv").write_text(text)
-        return reports.read([str(folder / "out.csv")], None).runs.dropna(subset=["makespan"])
+        return reports.read([str(folder / "out.csv")], None)[0].dropna(subset=["makespan"])
     return read
 
 

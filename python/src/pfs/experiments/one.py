@@ -201,7 +201,7 @@ def by_command(words: list[str], run: Run) -> Found:
             copy = shutil.copyfile(os.path.join(HERE, run.file), os.path.join(own, "instance"))
             os.chmod(copy, 0o444)
             values = {**run._asdict(), "seconds": run.limit, "instance": copy, "name": os.path.basename(run.instance)}
-            words = [re.sub(r"\{(\w+)\}", lambda name: str(values[name[1]]), word) for word in words]
+            words = [re.sub(r"\{(\w+)\}", lambda name: str(values[str(name[1])]), word) for word in words]
             text, spent, left = run_command(words, os.path.join(HERE, "files"),
                                             None if run.limit == "-" else float(run.limit))
         order, jobs = order_of(text)

@@ -10,12 +10,12 @@ import logging
 import pathlib
 import re
 import sys
-from typing import TYPE_CHECKING, Any, NamedTuple
+from typing import TYPE_CHECKING, Any
 
 from pfs._atomic import text_cell
 from pfs._benchmarks import best_known, canonical, taillard_rows
 from pfs._optional import optional
-from pfs.experiments import ExperimentError, plain
+from pfs.experiments import ExperimentError, listed, plain
 from pfs.experiments.fair import SETTING, common, made_of
 from pfs.experiments.plan import MOST_MAKESPAN, reference_for, reference_of, rows_of
 from pfs.experiments.stage import write_text
@@ -39,14 +39,8 @@ DECIMALS = {"mean_seconds": "{:.4f}", "time_factor": "{:g}", "p": "{:.4g}", "p_h
 LATEX = {"\\": r"\textbackslash{}", "~": r"\textasciitilde{}", "^": r"\textasciicircum{}", "×": r"$\times$",
          "<": r"\textless{}", ">": r"\textgreater{}", "|": r"\textbar{}", '"': "''",
          **{sign: f"\\{sign}" for sign in "&%$#_{}"}}
-# The most instances without a reference that a note lists, and the most pairs of methods without a common instance.
-MOST_NAMES, MOST_UNRELATED = 10, 5
-
-
-class Reported(NamedTuple):
-    """The runs, and a note on the reference of their RPD. Unknown values of a setting are -1, other ones NaN."""
-    runs: pd.DataFrame
-    note: str
+# The most pairs of methods without a common instance that are reported.
+MOST_UNRELATED = 5
 
 
 def report(args: argparse.Namespace) -> int:
@@ -56,12 +50,12 @@ def report(args: argparse.Namespace) -> int:
         optional(name, "a report")
     from pfs.experiments import plots, statistics
     means = [path for path in args.csv if "rpd" in (columns := rows_of(path, [])[0]) and "instance" not in columns]
-    reported = read([path for path in args.csv if path not in means], args.reference)
-    done = reported.runs.dropna(subset=["makespan"])
+    runs, note = read([path for path in args.csv if path not in means], args.reference)
+    done = runs.dropna(subset=["makespan"])
     shared, lacking = in_common(done[done["rpd"].notna()])
     compared = statistics.compared(done)
     args.folder.mkdir(parents=True, exist_ok=True)
-    shown = [write_table(args.folder / "table", table_of(reported.runs), reported.note)]
+    shown = [write_table(args.folder / "table", table_of(runs), note)]
     if done.empty:
         print("pfs-experiments report: no run succeeded: nothing to plot", file=sys.stderr)
         return 1
@@ -88,8 +82,9 @@ def report(args: argparse.Namespace) -> int:
 
 # Reading
 
-def read(paths: list[str], reference_path: str | None) -> Reported:
-    """Reads the runs of all CSVs and computes their RPD. The size of an instance may come from any of the CSVs."""
+def read(paths: list[str], reference_path: str | None) -> tuple[pd.DataFrame, str]:
+    """Returns the runs of all CSVs with their RPD, and a note on their reference. Unknown values of a setting are -1,
+    other ones NaN. The size of an instance may come from any of the CSVs."""
     import pandas as pd
     stems = [pathlib.Path(path).stem for path in paths]
     runs = pd.concat([read_one(path, path if stems.count(stem) > 1 else stem) for path, stem in zip(paths, stems)],
@@ -110,17 +105,15 @@ def read(paths: list[str], reference_path: str | None) -> Reported:
     runs.loc[runs["reference"] == 0, "rpd"] = (runs["makespan"] * float("inf")).where(runs["makespan"] > 0, 0)
     runs["rpd"] = runs["rpd"].where(runs["rpd"] < float("inf"))
     lost = runs[runs["makespan"].notna() & runs["reference"].isna()]
-    names = list(dict.fromkeys(lost["instance"]))
+    names = list(map(markdown, lost["instance"].unique()))
     note = markdown(basis).replace(r"\`", "`")
     if names:
-        shown = ", ".join(map(markdown, names[:MOST_NAMES])) + (", .." if len(names) > MOST_NAMES else "")
-        note += f"\n{len(lost)} runs of {len(names)} instances have no reference, and no RPD: {shown}."
+        note += f"\n{len(lost)} runs of {len(names)} instances have no reference, and no RPD: {listed(names)}."
     below = runs[runs["makespan"] < runs["reference"]].groupby("instance")[["makespan", "reference"]].min()
     if len(below):
-        shown = ", ".join(f"{markdown(name)} {makespan:.0f} ({reference:.0f})"
-                          for name, makespan, reference in below[:MOST_NAMES].itertuples())
-        note += f"\nBelow the reference: {shown}{', ..' if len(below) > MOST_NAMES else ''}."
-    return Reported(runs.fillna(dict.fromkeys(GROUP[1:], -1)), note)
+        names = [f"{markdown(name)} {span:.15g} ({reference:.0f})" for name, span, reference in below.itertuples()]
+        note += f"\nBelow the reference: {listed(names)}."
+    return runs.fillna(dict.fromkeys(GROUP[1:], -1)), note
 
 
 def orders_of(paths: list[str]) -> list[str] | str:
@@ -198,8 +191,7 @@ def in_common(done: pd.DataFrame) -> tuple[pd.DataFrame, str]:
     kept, lacking = common(made_of(done))
     settings = list(dict.fromkeys(made.setting for made in made_of(done)))
     names = dict(zip(settings, setting_names(settings)))
-    parts = [f"{names[setting]} lacks runs of {', '.join(found[:MOST_NAMES])}{', ..' if found[MOST_NAMES:] else ''}"
-             for setting, found in lacking.items()]
+    parts = [f"{names[setting]} lacks runs of {listed(found)}" for setting, found in lacking.items()]
     return done[kept], f"Compared are the instances and seeds that all have: {'; '.join(parts)}." if parts else ""
 
 
@@ -214,11 +206,11 @@ def references(runs: pd.DataFrame, taillards: pd.Series, path: str | None) -> tu
                                                          for found in [reference_for(stated, name)] if found}),
         "the makespan in the column `reference`": done.groupby("instance")["reference"].transform("first"),
         "the best known makespan of Taillard's instance": taillards[done.index].map(best_known())}
-    found, used = done["reference"] * float("nan"), [name for name in kinds if path and path in name][:1]
+    found, used = done["reference"] * float("nan"), list[str]()
     for name, values in kinds.items():
-        if (found.isna() & values.notna()).any():
-            used += [] if name in used else [name]
-            found = found.fillna(values)
+        if (found.isna() & values.notna()).any() or (path and not used):
+            used.append(name)
+        found = found.fillna(values)
     if not used:
         best_of_runs = done.groupby("instance")["makespan"].transform("min")
         return best_of_runs.reindex(runs.index), "RPD: relative to the best makespan of any of these runs."
