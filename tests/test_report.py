@@ -118,14 +118,14 @@ def test_an_invalid_csv_is_rejected_and_nothing_is_left(text: str, report: Repor
 
 WORDS = ["out.csv", "none.csv report", "--format gif out.csv report", "--width 0 out.csv report",
          "--dpi x out.csv report", "out.csv out.csv", "out.csv out.csv/report", "--reference none out.csv report",
-         "--reference other.csv out.csv report", "out.csv other.csv report"]
+         "--reference other.csv out.csv report", "out.csv other.csv report", "means.csv report"]
 
 
 @pytest.mark.parametrize("words", WORDS)
 def test_words_are_refused_on_one_line(words: str, script: Reported, folder: pathlib.Path) -> None:
-    got = script(*words.split(), out=REPORTED, other="instance,length\na,1\n")
+    got = script(*words.split(), out=REPORTED, other="instance,length\na,1\n", means="jobs,machines,rpd\n2,2,1\n")
     assert (got.status, got.stdout, got.stderr.count("\n")) == (2, "", 1), got.stderr
-    assert sorted(os.listdir(folder)) == ["other.csv", "out.csv"]
+    assert sorted(os.listdir(folder)) == ["means.csv", "other.csv", "out.csv"]
 
 
 @pytest.mark.parametrize("module", ["matplotlib", "pandas", "scipy"])
@@ -289,6 +289,7 @@ def test_orders_are_audited_where_the_instance_is_at_hand(scripts: pathlib.Path,
     assert csv_rows(folder / "report" / "best.csv") == [dict(instance="ta001", method="out", makespan="1448",
                                                              order=order)], "the best order of each instance, once"
     assert tool("audit", "report/best.csv").stdout.endswith(": 1 orders audited, 1 valid (0 optimal), 0 wrong\n")
+    assert "line 2, ta001: the makespan of an order is whole" in report_of(f"ta001,1,1448.5,{order}\n").stderr
     for text, why in wrong.items():
         assert report_of(f"ta002,1,1300,\nta001,1,1449,{text}\n") == Done(
             2, "", f"pfs-experiments report: out.csv: line 3, ta001: {why}\n")

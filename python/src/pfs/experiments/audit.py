@@ -80,6 +80,8 @@ def audited_rows(path: str, rows: list[Row], own: dict[str, Instance], shelf: Sh
         if shop and row["makespan"] and row.get("status", "ok") == "ok":
             orders[at] = order_of(path, row.get("order", ""))
             shops[str(at)] = shop
+            if orders[at] and float(row["makespan"]) % 1:
+                raise ExperimentError(f"{path}: line {at + 2}, {row['instance']}: the makespan of an order is whole")
     table = [{"instance": str(at), "method": row.get("method", ""), "makespan": row["makespan"], "order": order}
              for at, (row, order) in enumerate(zip(rows, orders)) if order]
     for each in audited(table, shops) if table else []:

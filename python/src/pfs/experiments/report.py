@@ -23,7 +23,8 @@ from pfs.experiments.stage import write_text
 if TYPE_CHECKING:
     import pandas as pd
 
-GROUP = ["method", "jobs", "machines", "rounds", "take", "passes", "time_factor"]
+SIZE = ["jobs", "machines"]
+GROUP = ["method", *SIZE, "rounds", "take", "passes", "time_factor"]
 # The least and the greatest value of each column of numbers.
 WHOLE = {"jobs": 10 ** 6, "machines": 10 ** 6, "rounds": 10 ** 9, "take": 10 ** 6, "passes": 10 ** 6,
          "bound": MOST_MAKESPAN, "reference": MOST_MAKESPAN, "cells": 2 ** 64 - 1}
@@ -50,6 +51,8 @@ def report(args: argparse.Namespace) -> int:
         optional(name, "a report")
     from pfs.experiments import plots, statistics
     means = [path for path in args.csv if "rpd" in (columns := rows_of(path, [])[0]) and "instance" not in columns]
+    if len(means) == len(args.csv):
+        raise ExperimentError("published means are columns beside the runs of another CSV")
     runs, note = read([path for path in args.csv if path not in means], args.reference)
     done = runs.dropna(subset=["makespan"])
     shared, lacking = in_common(done[done["rpd"].notna()])
@@ -94,16 +97,13 @@ def read(paths: list[str], reference_path: str | None) -> tuple[pd.DataFrame, st
     lasts = runs["instance"].map(canonical)
     if len(paths) > 1 and runs["instance"].groupby([runs["method"], lasts]).nunique().max() == 1:
         runs["instance"] = lasts
-    sizes = runs.groupby("instance")[["jobs", "machines"]].transform("first")
-    runs[["jobs", "machines"]] = runs[["jobs", "machines"]].fillna(sizes)
+    runs[SIZE] = runs[SIZE].fillna(runs.groupby("instance")[SIZE].transform("first"))
     taillards = taillards_of(runs)
-    for at, column in enumerate(("jobs", "machines"), 1):
-        runs[column] = runs[column].fillna(taillards.map({row[0]: row[at] for row in taillard_rows()}))
-    check_bounds(runs, taillards)
-    runs["reference"], basis = references(runs, taillards, reference_path)
-    runs["rpd"] = 100 * (runs["makespan"] - runs["reference"]) / runs["reference"]
-    runs.loc[runs["reference"] == 0, "rpd"] = (runs["makespan"] * float("inf")).where(runs["makespan"] > 0, 0)
-    runs["rpd"] = runs["rpd"].where(runs["rpd"] < float("inf"))
+    runs[SIZE] = runs[SIZE].fillna(taillards[SIZE])
+    check_bounds(runs, taillards["bound"])
+    runs["reference"], basis = references(runs, taillards["best"], reference_path)
+    rpds = 100 * (runs["makespan"] - runs["reference"]) / runs["reference"]
+    runs["rpd"] = rpds.mask(runs["makespan"] == runs["reference"], 0).replace(float("inf"), float("nan"))
     lost = runs[runs["makespan"].notna() & runs["reference"].isna()]
     names = list(map(markdown, lost["instance"].unique()))
     note = markdown(basis).replace(r"\`", "`")
@@ -131,7 +131,7 @@ def published(path: str) -> pd.DataFrame:
     read = pd.DataFrame(rows_of(path, ["jobs", "machines", "rpd"]))
     means = pd.DataFrame({name: numbers_in(read[name], name, path) for name in ("jobs", "machines", "rpd")})
     means["method"] = methods_of(read, pathlib.Path(path).stem)
-    return means.pivot_table(index=["jobs", "machines"], columns="method", values="rpd")
+    return means.pivot_table(index=SIZE, columns="method", values="rpd")
 
 
 def read_one(path: str, name: str) -> pd.DataFrame:
@@ -168,19 +168,19 @@ def numbers_in(texts: pd.Series, column: str, path: str) -> pd.Series:
     return values.reindex(texts.index)
 
 
-def taillards_of(runs: pd.DataFrame) -> pd.Series:
-    """Returns for each run which of Taillard's instances it is of, by the name and the size, or an empty text."""
-    sizes = {name: (jobs, machines) for name, jobs, machines, *_ in taillard_rows()}
-    names = runs["instance"].map(canonical)
-    fits = [name in sizes and all(one != one or one == other for one, other in zip(size, sizes[name]))
-            for name, *size in zip(names, runs["jobs"], runs["machines"])]
-    return names.where(fits, "")
+def taillards_of(runs: pd.DataFrame) -> pd.DataFrame:
+    """Returns what is known of each run's instance if it is one of Taillard's, by its name and its size."""
+    import pandas as pd
+    table = pd.DataFrame(taillard_rows(), columns=["name", *SIZE, "seed", "bound"])
+    table["best"] = table["name"].map(best_known())
+    own = table.set_index("name").reindex(runs["instance"].map(canonical)).set_index(runs.index)
+    return own.where((runs[SIZE].isna() | (runs[SIZE] == own[SIZE])).all(axis=1))
 
 
 def check_bounds(runs: pd.DataFrame, taillards: pd.Series) -> None:
     """Rejects a makespan below the bound that a CSV has for its instance, or that of Taillard's instance."""
-    bounds = runs.groupby("instance")["bound"].transform("max").fillna(0)
-    bounds = bounds.combine(taillards.map({row[0]: row[-1] for row in taillard_rows()}).fillna(0), max)
+    bounds = runs.groupby("instance")["bound"].transform("max")
+    bounds = bounds.where(~(bounds < taillards), taillards).fillna(taillards)
     for _, run in runs[runs["makespan"] < bounds][:1].iterrows():
         raise ExperimentError(f"{run['method']}: the makespan {run['makespan']:.0f} of {run['instance']} is below the "
                               f"bound {bounds[run.name]:.0f}: no order has it")
@@ -205,7 +205,7 @@ def references(runs: pd.DataFrame, taillards: pd.Series, path: str | None) -> tu
         f"the makespan in {path}": done["instance"].map({name: found[0] for name in done["instance"].unique()
                                                          for found in [reference_for(stated, name)] if found}),
         "the makespan in the column `reference`": done.groupby("instance")["reference"].transform("first"),
-        "the best known makespan of Taillard's instance": taillards[done.index].map(best_known())}
+        "the best known makespan of Taillard's instance": taillards[done.index]}
     found, used = done["reference"] * float("nan"), list[str]()
     for name, values in kinds.items():
         if (found.isna() & values.notna()).any() or (path and not used):
@@ -238,7 +238,7 @@ def by_instance(done: pd.DataFrame) -> pd.DataFrame:
 def write_sizes(shared: pd.DataFrame, published: list[pd.DataFrame], folder: pathlib.Path, lacking: str) -> None:
     """Writes the mean RPD with a row for each size and a column for each setting, and the means of the columns. A
     published column has a mean if it has all sizes."""
-    means = shared.pivot_table(index=["jobs", "machines"], columns=SETTING, values="rpd")
+    means = shared.pivot_table(index=SIZE, columns=SETTING, values="rpd")
     means = means.set_axis(setting_names(list(means.columns)), axis=1)
     for each in published:
         means = means.join(each, rsuffix=" (published)")
