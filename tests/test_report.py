@@ -46,8 +46,8 @@ out,20,5,100,4,0,4,1,0,1.961,3.960,4.000,7.000,0.5000
 out,100,10,0,4,0,0,1,0,,,,,
 out,100,10,100,4,0,1,0,0,0.000,0.000,0.000,0.000,2.0000
 """
-FILES = ["gap.png", "means.png", "rpd.png", "seconds.png", "sizes.csv", "sizes.md", "sizes.tex", "table.csv",
-         "table.md", "time.png"]
+FILES = ["gap.png", "instances.csv", "means.png", "rpd.png", "seconds.png", "sizes.csv", "sizes.md", "sizes.tex",
+         "table.csv", "table.md", "time.png"]
 BAD = {
     "no rows": HEAD + "\n", "a gap that isn't a number": REPORTED.replace("10.0000", "x"),
     "rounds that are not whole": REPORTED.replace("20,5,0", "20,5,0.5"),
@@ -118,14 +118,14 @@ def test_an_invalid_csv_is_rejected_and_nothing_is_left(text: str, report: Repor
 
 WORDS = ["out.csv", "none.csv report", "--format gif out.csv report", "--width 0 out.csv report",
          "--dpi x out.csv report", "out.csv out.csv", "out.csv out.csv/report", "--reference none out.csv report",
-         "--reference other.csv out.csv report", "out.csv other.csv report"]
+         "--reference other.csv out.csv report", "out.csv other.csv report", "means.csv report"]
 
 
 @pytest.mark.parametrize("words", WORDS)
 def test_words_are_refused_on_one_line(words: str, script: Reported, folder: pathlib.Path) -> None:
-    got = script(*words.split(), out=REPORTED, other="instance,length\na,1\n")
+    got = script(*words.split(), out=REPORTED, other="instance,length\na,1\n", means="jobs,machines,rpd\n2,2,1\n")
     assert (got.status, got.stdout, got.stderr.count("\n")) == (2, "", 1), got.stderr
-    assert sorted(os.listdir(folder)) == ["other.csv", "out.csv"]
+    assert sorted(os.listdir(folder)) == ["means.csv", "other.csv", "out.csv"]
 
 
 @pytest.mark.parametrize("module", ["matplotlib", "pandas", "scipy"])
@@ -168,7 +168,8 @@ def test_a_csv_that_pandas_wrote_is_read(report: Reported, folder: pathlib.Path)
 NAMES = ["a|b", "<img src=x>", "two\nlines", "_x_", "[l](http://x)", "\x1b[31mred", "=1+1", "-1+1", "@SUM(1)", "$x^^$",
          "a&amp;b", "x" * 500, "`code`", "*bold*", "~~gone~~", "back\\slash"]
 ESCAPED = {"{x}": r"\{x\}", "50%": r"50\%", "a_b": r"a\_b", "#1": r"\#1", "$": r"\$", "a&b": r"a\&b",
-           "^": r"\textasciicircum{}", "~": r"\textasciitilde{}", "\\": r"\textbackslash{}"}
+           "^": r"\textasciicircum{}", "~": r"\textasciitilde{}", "\\": r"\textbackslash{}",
+           "<": r"\textless{}", ">": r"\textgreater{}", "|": r"\textbar{}", 'a"': "a''"}
 
 
 def test_names_stay_in_their_cells(script: Reported, folder: pathlib.Path) -> None:
@@ -272,16 +273,23 @@ def test_orders_are_audited_where_the_instance_is_at_hand(scripts: pathlib.Path,
     wrong = {order: "wrong makespan: states 1449, takes 1448", order[:-3]: "job missing: job 20 is missing", "3 1 2":
              "wrong size: 3 jobs, but the instance has 20"}
 
+    def tool(*words: str) -> Done:
+        return run_tool([scripts / "pfs-experiments", *words], folder,
+                        env=dict(os.environ, PFS_LIBRARY=str(libpfs.path)))
+
     def report_of(text: str) -> Done:
         (folder / "out.csv").write_text(f"instance,seed,makespan,order\n{text}")
-        return run_tool([scripts / "pfs-experiments", "report", "out.csv", "report"], folder,
-                        env=dict(os.environ, PFS_LIBRARY=str(libpfs.path)))
+        return tool("report", "out.csv", "report")
 
     assert report_of(f"ta001,1,1448,{order}\nta001,2,1300,\ni,1,5,1 2\nta002,1,1400,gone/order\n").status == 0
     assert column(folder, "audited") == ["0", "1"] and column(folder, "runs") == ["1", "3"]
     assert "Not audited, only stated: out." in (folder / "report" / "sizes.md").read_text()
-    assert report_of(f"ta001,1,1448,{order}\n").status == 0
+    assert report_of(f"ta001,1,1448,{order}\nta001,2,1448,{order}\n").status == 0
     assert "audited" not in (folder / "report" / "sizes.md").read_text()
+    assert csv_rows(folder / "report" / "best.csv") == [dict(instance="ta001", method="out", makespan="1448",
+                                                             order=order)], "the best order of each instance, once"
+    assert tool("audit", "report/best.csv").stdout.endswith(": 1 orders audited, 1 valid (0 optimal), 0 wrong\n")
+    assert "line 2, ta001: the makespan of an order is whole" in report_of(f"ta001,1,1448.5,{order}\n").stderr
     for text, why in wrong.items():
         assert report_of(f"ta002,1,1300,\nta001,1,1449,{text}\n") == Done(
             2, "", f"pfs-experiments report: out.csv: line 3, ta001: {why}\n")
@@ -300,6 +308,9 @@ def test_each_setting_of_a_method_is_compared_by_means_of_the_instances_that_bot
     assert rows == [("0", "4", "2", "0", "0", "2"), ("100", "4", "2", "1", "1", "0")]
     rows = [(row["method"], row["jobs"], row["runs"]) for row in csv_rows(folder / "report" / "table.csv")]
     assert ("second", "20", "3") in rows
+    row = csv_rows(folder / "report" / "instances.csv")[1]
+    assert [row[name] for name in ("instance", "rounds", "runs", "best", "mean", "deviation", "mean_rpd_percent")] == [
+        "a", "100", "2", "101", "103", f"{8 ** 0.5:.15g}", f"{200 / 101:.3f}"]
 
 
 def test_settings_of_one_method_are_compared(report: Reported, folder: pathlib.Path) -> None:
@@ -444,6 +455,18 @@ def test_the_table_of_sizes_has_a_column_for_each_method(report: Reported, folde
     assert r"mean & 1.750 & 3.500 \\" in tex and r"\begin{tabular}{lrr}" in tex
 
 
+def test_published_means_are_columns_of_the_table_of_sizes(report: Reported, folder: pathlib.Path) -> None:
+    """A makespan may be a mean too. A column that lacks a size has no mean."""
+    published = "jobs,machines,rpd,method\n20,5,0.04,P\n20,5,0.5,Q\n50,5,1.25,Q\n"
+    assert report(out="instance,jobs,machines,makespan,reference\na,20,5,100.5,100\nb,50,5,102,100\n",
+                  paper=published).status == 0
+    assert list(csv.reader(io.StringIO((folder / "report" / "sizes.csv").read_text()))) == [
+        ["jobs×machines", "out", "P", "Q"], ["20×5", "0.500", "0.040", "0.500"], ["50×5", "2.000", "", "1.250"],
+        ["mean", "1.250", "", "0.875"]]
+    assert "Not audited, only stated: P, Q, out." in (folder / "report" / "sizes.tex").read_text()
+    assert column(folder, "best", "instances") == ["100.5", "102"]
+
+
 # The plots
 
 @pytest.fixture
@@ -451,7 +474,7 @@ def done(folder: pathlib.Path) -> Callable[[str], Any]:
     """The runs of a CSV of this text that succeeded."""
     def read(text: str) -> Any:
         (folder / "out.csv").write_text(text)
-        return reports.read([str(folder / "out.csv")], None).runs.dropna(subset=["makespan"])
+        return reports.read([str(folder / "out.csv")], None)[0].dropna(subset=["makespan"])
     return read
 
 
@@ -524,6 +547,8 @@ def test_a_box_has_the_nanoseconds_a_cell_of_most_rounds(done: Callable[[str], A
     figure = cell_times(done(text), None)
     drawn = sorted({round(float(y), 6) for line in figure.axes[0].get_lines() for y in line.get_ydata()})
     assert drawn == [1, 2, 3, 4, 10] and "at 100 rounds" in figure._suptitle.get_text().replace("\n", " ")
+    by_time = cell_times(done("instance,jobs,machines,makespan,cells,seconds,time_factor\na,2,2,9,9,1,3\n"), None)
+    assert "cell of searches by time" in by_time._suptitle.get_text()
 
 
 def test_the_plot_of_means_has_intervals_of_students_distribution(done: Callable[[str], Any]) -> None:

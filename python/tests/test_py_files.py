@@ -304,7 +304,8 @@ def test_faults_of_instance_files(tmp_path: pathlib.Path, program: str, case: st
     with pytest.raises(pfs.FileFault) as fault:
         pfs.read(path, layout)
     assert (fault.value.name, fault.value.place, fault.value.text) == (name, place, got)
-    assert fault.value.path == str(path) and str(fault.value) == f"{path}: {got.removeprefix('pfs: ')}"
+    hint = f" ({fault.value.hint})" if fault.value.hint else ""
+    assert fault.value.path == str(path) and str(fault.value) == f"{path}: {got.removeprefix('pfs: ')}{hint}"
     assert isinstance(fault.value, ValueError)
     again = pickle.loads(pickle.dumps(fault.value))
     assert (str(again), again.place) == (str(fault.value), place)
@@ -346,6 +347,7 @@ def test_where_a_fault_is_and_what_may_be_wrong(case: str) -> None:
         with pytest.raises(pfs.FileFault) as fault:
             read()
         assert (fault.value.line, fault.value.column, fault.value.hint) == (line, column, hint)
+        assert str(fault.value).endswith(f" ({hint})" if hint else " times")
 
 
 def test_a_file_that_is_too_long(tmp_path: pathlib.Path) -> None:

@@ -244,7 +244,7 @@ def test_other_words_that_are_rejected() -> None:
 
 
 # Names of the functions that are called without types.
-QUICK = ("_pfs_makespan", "_pfs_insert")
+QUICK = ("_pfs_makespan", "_pfs_insert", "_pfs_insertions")
 SCALARS = (arrays.integer_dtypes() | arrays.unsigned_integer_dtypes() | arrays.floating_dtypes()
            | arrays.boolean_dtypes() | arrays.complex_number_dtypes() | arrays.unicode_string_dtypes()
            | arrays.byte_string_dtypes() | arrays.datetime64_dtypes())
