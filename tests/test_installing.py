@@ -169,10 +169,6 @@ def test_a_missing_program_is_built_and_no_older_one(copy: Copy, folder: pathlib
     os.utime(copy.top / PROGRAM, (NEW, NEW))
 
 
-def test_a_number_of_minutes_is_that_many(top: pathlib.Path) -> None:
-    assert "tests/fuzz.py --seconds $((60 * 5))\n" in output_of(["make", "-n", "fuzz", "MINUTES=5"], top)
-
-
 # What the program needs
 
 def test_the_page_names_the_c_library_that_the_program_needs(top: pathlib.Path, pfs: Program,
