@@ -31,6 +31,7 @@ LIBRARIES = "usr/lib/x86_64-linux-gnu"
 MODULES = "usr/lib/python3/dist-packages"
 PROGRAMS = ["pfs-experiments", "pfs-gantt", "pfs-plan"]
 INSTALL = (TOP / "docs" / "INSTALL.md").read_text()
+SYMBOLS = (TOP / "debian" / f"{LIBPFS}.symbols").read_text()
 
 
 class Made(NamedTuple):
@@ -298,7 +299,26 @@ def test_debians_tools_accept_the_packages(made: Made, folder: pathlib.Path) -> 
         assert (version, maintainer) == (number, "A Tester <tester@example.org>")
         assert needed <= set(depends.split(", "))
     output_of(["dpkg-deb", "--control", made.path(f"/{LIBPFS}_"), "library"], folder)
-    assert (folder / "library" / "shlibs").read_text() == f"libpfs {LIBPFS[6:]} {LIBPFS} (>= {VERSION}~)\n"
+    assert (folder / "library" / "symbols").read_text() == SYMBOLS
+
+
+def test_apt_installs_from_the_folder(made: Made, folder: pathlib.Path) -> None:
+    """By the page's line, in a dry run with lists of its own."""
+    line = line_of_install("^echo '(deb .*)' >").replace("/srv/pfs", str(made.folder))
+    (folder / "sources").write_text(f"{line}\n")
+    (folder / "lists" / "partial").mkdir(parents=True)
+    words = ["apt-get", "-oDir::Etc::SourceParts=/dev/null", "-oAPT::Sandbox::User=", f"-oDir::Cache={folder}",
+             f"-oDir::Etc::SourceList={folder}/sources", f"-oDir::State::Lists={folder}/lists"]
+    output_of([*words, "update"], folder)
+    got = output_of([*words, "--simulate", "--no-install-recommends", "install", "pfs", "python3-pfs"], folder)
+    assert {(name, f"{made.version()}-1") for name in PACKAGES if name != "libpfs-dev"} \
+        <= set(re.findall(r"^Inst (\S+) \((\S+) ", got, re.MULTILINE))
+
+
+def test_the_symbols_are_the_headers() -> None:
+    """A build of the packages compares them with the library's."""
+    header = re.findall(r"^(?:int|void|const char \*)\s*(pfs_\w+)\(", (TOP / "lib" / "pfs.h").read_text(), re.MULTILINE)
+    assert re.findall(r"^ (pfs_\w+)@PFS_1 [\d.]+$", SYMBOLS, re.MULTILINE) == sorted(header)
 
 
 @pytest.mark.usefixtures("matplotlib")
