@@ -48,7 +48,7 @@ class CommandLine(argparse.ArgumentParser):
     """A parser of command lines. An invalid command line ends with the status that the program has for it."""
 
     def error(self, message: str) -> NoReturn:
-        sys.exit(report(f"{self.format_usage()}pfs: {shown(message)}", USAGE))
+        sys.exit(report(f"pfs: {shown(message)} ({self.prog} --help lists what there is)", USAGE))
 
 
 class Stop:
@@ -491,6 +491,8 @@ def line_of(fault: Exception | str) -> str:
     """Return what is printed for an error. Arguments of the package for Python are named as options."""
     if isinstance(fault, MemoryError):
         return "pfs: no memory"
+    if isinstance(fault, OSError) and fault.strerror:
+        fault = f"{fault.filename}: {fault.strerror}" if fault.filename else fault.strerror
     text = ARGUMENT.sub(lambda found: OPTIONS[found[1]], shown(str(fault)))
     return f"pfs: {NUMBER_OPTION.sub('--', text)}"
 
