@@ -11,8 +11,8 @@
 ## make install-lib  installs the library for C alone. It proves and builds it first
 ## make uninstall  removes what these two have installed
 ## make docs       one site of the pages, the package for Python and the library's header: out/site/index.html
-## make dist       a tarball, Debian packages and a wheel for machines without the kit, in the folder DIST, with an SPDX
-##                 list and sums, which SIGN=KEY signs. It proves and builds the program and the library first
+## make dist       a tarball, Debian packages and a wheel for machines without the kit, in the folder DIST, which is an
+##                 archive for apt, with an SPDX list and sums, which SIGN=KEY signs. It proves and builds them first
 ## make wheel      the wheel of the package for Python alone, in the folder DIST
 ## make taillard   writes Taillard's 120 instances into experiments/out/taillard
 .PHONY: help try run check test fuzz install uninstall docs dist wheel taillard

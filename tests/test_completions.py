@@ -28,7 +28,7 @@ OFFERED = {
     "pfs-experiments re": {"report"},
     "pfs-experiments check --": {"--help", "--pfs"}, "pfs-experiments report --format ": {"png", "svg", "pdf"},
     "pfs-experiments run th": {"three"},
-    "pfs-gantt --": {"--help", "--critical", "--bound", "--unit", "--width", "--dpi", "--no-title"},
+    "pfs-gantt --": {"--help", "--critical", "--bound", "--unit", "--width", "--dpi", "--title"},
     "pfs-gantt th": {"three"},
     "pfs-plan --s": {"--seconds", "--seed", "--shift", "--schedule"}, "pfs-plan --decimal=": {"point", "comma"},
 }

@@ -484,9 +484,11 @@ def test_marks_of_time_dont_touch_each_other(drawn: Drawn) -> None:
         assert other.x - one.x > 0.6 * one.size * max(len(one.text), len(other.text)), (one, other)
 
 
-def test_no_title_is_none(gantt: Gantt, folder: pathlib.Path) -> None:
-    picture = picture_of(gantt, folder, "--no-title")
-    assert [letters for letters in picture.texts() if "jobs" in letters.text] == []
+@pytest.mark.parametrize(("words", "due"), [(["--no-title"], []), (["--title", ""], []),
+                                            (["--title", "jobs of $48$"], ["jobs of $48$"])])
+def test_the_title_is_the_one_given(gantt: Gantt, folder: pathlib.Path, words: list[str], due: list[str]) -> None:
+    picture = picture_of(gantt, folder, *words)
+    assert [letters.text for letters in picture.texts() if "jobs" in letters.text] == due
 
 
 @pytest.mark.parametrize("unit", ["$x_{$", "$x$", "\\$", "a < b & c", "\u00b5s"])

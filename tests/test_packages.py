@@ -1,6 +1,5 @@
 """The tarball, the Debian packages and the wheel are made twice, compared, unpacked and installed into empty folders,
 and the programs run there. All of it happens in a copy of the repository (support/installed.py)."""
-import datetime
 import email
 import gzip
 import hashlib
@@ -16,7 +15,7 @@ import zipfile
 from typing import Any, NamedTuple
 
 import pytest
-from support.installed import (LIBRARY, PLACES, PROGRAM, SHARED, TOP, VERSION, VERSIONED, Copy,
+from support.installed import (BETWEEN, LIBRARY, OLD, PLACES, PROGRAM, SHARED, TOP, VERSION, VERSIONED, Copy,
                                assert_completions_are_found, assert_runs, assert_same_files, assert_usual_modes,
                                files_below)
 from support.needs import require_module, tool
@@ -31,6 +30,7 @@ LIBRARIES = "usr/lib/x86_64-linux-gnu"
 MODULES = "usr/lib/python3/dist-packages"
 PROGRAMS = ["pfs-experiments", "pfs-gantt", "pfs-plan"]
 INSTALL = (TOP / "docs" / "INSTALL.md").read_text()
+SYMBOLS = (TOP / "debian" / f"{LIBPFS}.symbols").read_text()
 
 
 class Made(NamedTuple):
@@ -42,14 +42,6 @@ class Made(NamedTuple):
         """The one file whose name has this part, or begins with it after a slash."""
         [path] = [path for path in self.folder.iterdir() if part in f"/{path.name}"]
         return path
-
-    def version(self) -> str:
-        """The version of a commit that is not a release."""
-        time = datetime.datetime.fromtimestamp(self.time(), datetime.timezone.utc)
-        return f"{VERSION}+{time:%Y%m%d.%H%M%S}"
-
-    def time(self) -> int:
-        return int(self.copy.git("log", "-1", "--format=%ct"))
 
 
 def line_of_install(pattern: str) -> str:
@@ -99,7 +91,7 @@ def test_made_again_all_has_the_same_bytes_and_is_signed(made: Made, tmp_path_fa
     assert got.status == 0, got
     sums = [{path.name: hashlib.sha256(path.read_bytes()).hexdigest() for path in each.iterdir()}
             for each in (made.folder, folder)]
-    assert sums[1].pop("SHA256SUMS.sig") and sums[0] == sums[1]
+    assert sums[1].pop("SHA256SUMS.sig") and sums[0] == sums[1] and "Containerfile" in sums[0]
     (folder / "signers").write_text(f"pfs {(folder.parent / 'key.pub').read_text()}")
     lines = ["ssh-keygen -Y verify .*$", "sha256sum --check .*$"]
     for line in lines:
@@ -133,6 +125,7 @@ def test_the_sums_are_signed_by_gnupg(top: pathlib.Path, folder: pathlib.Path, m
 
 def source(copy: Copy, top: pathlib.Path, monkeypatch: pytest.MonkeyPatch, **env: str) -> Any:
     """What tools/dist of a source tree says of it."""
+    monkeypatch.delenv("SOURCE_DATE_EPOCH", raising=False)
     for name, value in (copy.env | env).items():
         monkeypatch.setenv(name, value)
     return imported(top / "tools" / "dist").source()
@@ -140,29 +133,22 @@ def source(copy: Copy, top: pathlib.Path, monkeypatch: pytest.MonkeyPatch, **env
 
 def test_a_release_is_its_tagged_commit_without_changes(copy: Copy, folder: pathlib.Path,
                                                         monkeypatch: pytest.MonkeyPatch) -> None:
-    """Also in an archive of it."""
-    head = copy.git("rev-parse", "HEAD")
-    assert source(copy, copy.top, monkeypatch, SOURCE_DATE_EPOCH="1000000000", TZ="Asia/Tokyo")[:3] \
-        == (f"{VERSION}+20010909.014640", head, 1_000_000_000)
+    """Also in an archive of it, and next to what examples of the pages leave."""
+    head, changed, left = copy.git("rev-parse", "HEAD"), "with changes that are not committed", copy.top / "report"
+    assert source(copy, copy.top, monkeypatch, TZ="Asia/Tokyo")[:3] == (BETWEEN, head, OLD)
     copy.git("tag", f"v{VERSION}")
+    left.touch()
     try:
         assert source(copy, copy.top, monkeypatch)[:2] == (VERSION, head)
-        for name in ("README.md", "crates/pfs_base/src/another.rt"):
-            text = (copy.top / name).read_text() if (copy.top / name).exists() else None
-            (copy.top / name).write_text("another text\n")
-            got = source(copy, copy.top, monkeypatch)
-            (copy.top / name).unlink() if text is None else (copy.top / name).write_text(text)
-            assert got.version != VERSION and got.commit == f"{head}, with changes that are not committed"
-        for made in ("three", "example.csv", "example.csv.d", "report"):
-            (copy.top / made).touch()
-        assert source(copy, copy.top, monkeypatch).commit == head, "what examples of the pages leave is no change"
+        for path in (copy.top / "README.md", copy.top / "crates" / "pfs_base" / "src" / "another.rt"):
+            path.write_text("another text\n")
+            assert source(copy, copy.top, monkeypatch)[:2] == (BETWEEN, f"{head}, {changed}")
+            path.unlink() if path.suffix == ".rt" else copy.git("checkout", "-q", path.name)
         output_of(["bash", "-c", f"git archive HEAD | tar -x -C {folder}"], copy.top, env=copy.env)
-        monkeypatch.delenv("SOURCE_DATE_EPOCH")
         assert source(copy, folder, monkeypatch)[:2] == (VERSION, f"{head}, in a source archive")
     finally:
         copy.git("tag", "-d", f"v{VERSION}")
-        for made in ("three", "example.csv", "example.csv.d", "report"):
-            (copy.top / made).unlink(missing_ok=True)
+        left.unlink()
 
 
 @pytest.mark.parametrize(("env", "said"), [
@@ -191,12 +177,11 @@ def test_a_source_tree_without_git_or_a_library(copy: Copy, folder: pathlib.Path
 def test_the_spdx_file_lists_what_is_installed_and_what_is_built_in(made: Made) -> None:
     bill = json.loads(made.path(".spdx.json").read_text())
     assert (bill["spdxVersion"], bill["dataLicense"], bill["SPDXID"]) == ("SPDX-2.3", "CC0-1.0", "SPDXRef-DOCUMENT")
-    time = datetime.datetime.fromtimestamp(made.time(), datetime.timezone.utc)
-    assert bill["creationInfo"]["created"] == time.strftime("%Y-%m-%dT%H:%M:%SZ")
+    assert bill["creationInfo"]["created"] == "2001-09-09T01:46:40Z"
     kit = made.copy.env["RT_VERSION"]
     crates = {"itoa", "rand_core", "rand_pcg", "thiserror"}
     assert {each["name"]: each["versionInfo"] for each in bill["packages"]} == {
-        "pfs": made.version(), "rattle-kit": kit, "libc6": ">= 2.34",
+        "pfs": BETWEEN, "rattle-kit": kit, "libc6": ">= 2.34",
         **dict.fromkeys({"clap"} | crates, f"port in {kit}")}
     assert made.copy.git("rev-parse", "HEAD") in bill["packages"][0]["sourceInfo"]
     wheel = made.path(".whl")
@@ -220,14 +205,14 @@ def test_the_spdx_file_lists_what_is_installed_and_what_is_built_in(made: Made) 
 def test_the_tarball_has_the_installed_files_and_runs(unpacked: pathlib.Path, made: Made, folder: pathlib.Path) -> None:
     """With its notices, its sums, and the commit and the kit. All is root's, as old as the commit."""
     with tarfile.open(made.path(".tar.gz")) as tar:
-        assert {(it.uid, it.gid, it.mtime) for it in tar.getmembers()} == {(0, 0, made.time())}
+        assert {(it.uid, it.gid, it.mtime) for it in tar.getmembers()} == {(0, 0, OLD)}
     assert_usual_modes(unpacked)
     assert_runs(unpacked / "bin" / "pfs", folder)
     found = files_below(unpacked)
     sums = found.pop("share/doc/pfs/SHA256SUMS").decode().splitlines()
     assert sums == [f"{hashlib.sha256(found[path]).hexdigest()}  {path}" for path in sorted(found)]
     assert found.pop("share/doc/pfs/PROVED").decode() == (
-        f"pfs {made.version()}\nproved at the commit {made.copy.git('rev-parse', 'HEAD')}\n"
+        f"pfs {BETWEEN}\nproved at the commit {made.copy.git('rev-parse', 'HEAD')}\n"
         f"with the kit {made.copy.env['RT_VERSION']}\n")
     assert found.pop("share/doc/pfs/NOTICES") == (made.copy.top / "debian" / "copyright").read_bytes()
     assert found.pop(VERSIONED[0]).decode().startswith("prefix=${pcfiledir}/../..\n") and found.pop(VERSIONED[1])
@@ -266,14 +251,14 @@ def test_the_packages_have_their_files_where_debian_looks(extracted: pathlib.Pat
     for package in PACKAGES:
         held = {name: found.pop(f"usr/share/doc/{package}/{name}") for name in DEBIAN_PAGES}
         assert gzip.decompress(held["changelog.gz"]) == (made.copy.top / "CHANGELOG.md").read_bytes()
-        assert gzip.decompress(held["changelog.Debian.gz"]).decode().startswith(f"pfs ({made.version()}-1) unstable;")
+        assert gzip.decompress(held["changelog.Debian.gz"]).decode().startswith(f"pfs ({BETWEEN}-1) unstable;")
         assert held["copyright"] == (made.copy.top / "debian" / "copyright").read_bytes()
     for path in [path for path in found if "/man/" in path]:
         found[path.removesuffix(".gz")] = gzip.decompress(found.pop(path))
     for path in ("usr/share/doc/pfs/PROVED", *(f"{LIBRARIES}/{name.removeprefix('lib/')}" for name in VERSIONED),
                  *(f"usr/bin/{name}" for name in PROGRAMS)):
         assert found.pop(path)
-    assert found.pop(f"{MODULES}/pfs/_version.py").decode().endswith(f'VERSION = "{made.version()}"\n')
+    assert found.pop(f"{MODULES}/pfs/_version.py").decode().endswith(f'VERSION = "{BETWEEN}"\n')
     found = {path: text for path, text in found.items() if ".dist-info/" not in path}
     wanted = {place: (made.copy.top / file).read_bytes() for place, file in places.items()}
     del wanted[f"{MODULES}/pfs/_version.py"]
@@ -288,7 +273,7 @@ def test_debians_tools_accept_the_packages(made: Made, folder: pathlib.Path) -> 
                     "initial-upload-closes-no-bugs,script-not-executable,unstripped-binary-or-object,"
                     "unstripped-static-library", *(made.path(f"/{package}_") for package in PACKAGES)], made.folder)
     assert (got.status, got.stdout) == (0, "")
-    number = f"{made.version()}-1"
+    number = f"{BETWEEN}-1"
     needs = {"pfs": {"libc6 (>= 2.34)"}, LIBPFS: set[str](), "libpfs-dev": {f"{LIBPFS} (= {number})"},
              "python3-pfs": {f"{LIBPFS} (>= {VERSION}~)", "python3-numpy", "python3:any (>= 3.10~)"}}
     for package, needed in needs.items():
@@ -298,7 +283,27 @@ def test_debians_tools_accept_the_packages(made: Made, folder: pathlib.Path) -> 
         assert (version, maintainer) == (number, "A Tester <tester@example.org>")
         assert needed <= set(depends.split(", "))
     output_of(["dpkg-deb", "--control", made.path(f"/{LIBPFS}_"), "library"], folder)
-    assert (folder / "library" / "shlibs").read_text() == f"libpfs {LIBPFS[6:]} {LIBPFS} (>= {VERSION}~)\n"
+    assert (folder / "library" / "symbols").read_text() == SYMBOLS
+
+
+def test_apt_installs_from_the_folder(made: Made, folder: pathlib.Path) -> None:
+    """By the page's line, in a dry run with lists of its own."""
+    line = line_of_install("^echo '(deb .*)' >").replace("/srv/pfs", str(made.folder))
+    (folder / "sources").write_text(f"{line}\n")
+    (folder / "lists" / "partial").mkdir(parents=True)
+    words = ["apt-get", "-oDir::Etc::SourceParts=/dev/null", "-oAPT::Sandbox::User=", f"-oDir::Cache={folder}",
+             f"-oDir::Etc::SourceList={folder}/sources", f"-oDir::State::Lists={folder}/lists"]
+    output_of([*words, "update"], folder)
+    got = output_of([*words, "--simulate", "--no-install-recommends", "install", "pfs", "python3-pfs"], folder)
+    assert {(name, f"{BETWEEN}-1") for name in PACKAGES if name != "libpfs-dev"} \
+        <= set(re.findall(r"^Inst (\S+) \((\S+) ", got, re.MULTILINE))
+    assert "release o=pfs" in output_of(["apt-cache", *words[1:], "policy"], folder)
+
+
+def test_the_symbols_are_the_headers() -> None:
+    """A build of the packages compares them with the library's."""
+    header = re.findall(r"^(?:int|void|const char \*)\s*(pfs_\w+)\(", (TOP / "lib" / "pfs.h").read_text(), re.MULTILINE)
+    assert re.findall(r"^ (pfs_\w+)@PFS_1 [\d.]+$", SYMBOLS, re.MULTILINE) == sorted(header)
 
 
 @pytest.mark.usefixtures("matplotlib")
@@ -310,7 +315,7 @@ def test_the_programs_of_the_packages_run(extracted: pathlib.Path, made: Made, f
     (folder / "times.csv").write_text("job [min],saw,drill\nchair,3,2\ntable,2,5\n")
     got = output_of(["pfs-plan", "times.csv", "--chart", "chart.html", "--chart", "chart.svg"], folder, env=env)
     assert got == "makespan 9 min\nbound 9 min\noptimal\n1 table\n2 chair\n"
-    assert output_of(["pfs-plan", "--version"], folder, env=env) == f"pfs {made.version()}\n"
+    assert output_of(["pfs-plan", "--version"], folder, env=env) == f"pfs {BETWEEN}\n"
     (folder / "table").write_text("table 1 1\n1 0 5\nmakespan 5\n")
     output_of(["pfs-gantt", "table", "gantt.svg"], folder, env=env)
     assert "<svg" in (folder / "gantt.svg").read_text() and (folder / "chart.html").stat().st_size > 10_000
@@ -338,7 +343,7 @@ def test_a_wheel_holds_the_package_and_the_library(wheel: dict[str, bytes], made
     found = {name: text for name, text in wheel.items() if not name.startswith("dist-info/")}
     wanted = {f"pfs/{name}": text for name, text in files_below(made.copy.top / "python" / "src" / "pfs").items()}
     wanted |= {f"pfs/{SHARED}": (made.copy.top / f"lib/out/{SHARED}").read_bytes(),
-               "pfs/_version.py": wanted["pfs/_version.py"].replace(VERSION.encode(), made.version().encode())}
+               "pfs/_version.py": wanted["pfs/_version.py"].replace(VERSION.encode(), BETWEEN.encode())}
     wanted |= {f"data/data/share/man/man1/{name}.1": (made.copy.top / "python" / f"{name}.1").read_bytes()
                for name in PROGRAMS}
     assert_same_files(found, wanted)
@@ -348,7 +353,7 @@ def test_what_a_wheel_says_of_itself(wheel: dict[str, bytes], made: Made) -> Non
     """It needs what the settings and README say, and has the licences of what is built into its library."""
     fields = email.message_from_string(wheel["dist-info/METADATA"].decode())
     project = tomllib.loads((made.copy.top / "python" / "pyproject.toml").read_text())["project"]
-    numbers = [list(map(int, re.findall(r"\d+", version))) for version in (fields["Version"], made.version())]
+    numbers = [list(map(int, re.findall(r"\d+", version))) for version in (fields["Version"], BETWEEN)]
     assert (fields["Name"], numbers[0]) == ("pfs", numbers[1])
     needed, due = ([re.sub("[ ()'\"]", "", str(each)) for each in lines] for lines in
                    (fields.get_all("Requires-Dist") or [], project["dependencies"]))
@@ -370,9 +375,9 @@ def test_pip_replaces_a_wheel_by_one_of_a_later_commit(made: Made, folder: pathl
     require_module("pip")
     env = {name: value for name, value in os.environ.items() if name not in ("PFS_LIBRARY", "PYTHONPATH")}
     output_of([sys.executable, "-m", "venv", "--system-site-packages", "--without-pip", "clean"], folder)
-    assert made.copy.make("wheel", f"DIST={folder}", SOURCE_DATE_EPOCH="1000000000").status == 0
+    assert made.copy.make("wheel", f"DIST={folder}", SOURCE_DATE_EPOCH="900000000").status == 0
     [older] = folder.glob("*.whl")
-    for wheel, version in ((older, f"{VERSION}+20010909.014640"), (made.path(".whl"), made.version())):
+    for wheel, version in ((older, f"{VERSION}+19980709.160000"), (made.path(".whl"), BETWEEN)):
         words = ["clean/bin/python3", "-m", "pip", "--disable-pip-version-check", "install", "-q", "--no-index"]
         output_of([*words, wheel], folder, env=env)
         assert output_of(["clean/bin/pfs-plan", "--version"], folder, env=env) == f"pfs {version}\n"

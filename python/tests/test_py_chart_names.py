@@ -69,6 +69,15 @@ def test_bars_have_names_or_places_of_a_key(chromium: str, tmp_path: pathlib.Pat
     assert f"{sign}2" in seen["screen"]["bars"].values() and seen["after"] == seen["screen"]
 
 
+def test_a_long_name_is_cut_where_its_bar_ends(chromium: str, tmp_path: pathlib.Path) -> None:
+    """After its place, and more of it on a longer bar. The key has all of it."""
+    name = "table of oak " * 30
+    seen = seen_of(chromium, plan([name, *NAMES[1:]]), tmp_path)
+    cut = [seen["screen"]["bars"][f"{machine} 0"] for machine in range(3)]
+    assert all(text[-1] == "\u2026" and f"1 {name}".startswith(text[:-1]) for text in cut)
+    assert 20 < len(cut[1]) < len(cut[0]) < len(cut[2]) and seen["paper"]["key"][0] == f"\u25a0 1 {name}"
+
+
 @pytest.mark.parametrize("names", [None, ["a", "b", "c", "d", "e"]])
 def test_no_key_without_names_or_where_all_fit(chromium: str, tmp_path: pathlib.Path, names: list[str] | None) -> None:
     times = TIMES if names is None else [[100, 100, 100]] * 5
@@ -187,6 +196,22 @@ def test_pictures_without_a_key() -> None:
     axes = matplotlib.figure.Figure(figsize=(12, 3)).subplots()
     bars, key, figure = texts_of(plan(), ax=axes)
     assert key == [] and set(bars) <= set(NAMES), "no place without a key"
+
+
+def test_names_fit_the_bars_next_to_long_names_of_machines() -> None:
+    pytest.importorskip("matplotlib")
+    made = pfs.Instance(TIMES, job_names=["0815-" * 30, *NAMES[1:]], machine_names=[*MACHINES[:2], "oven " * 30])
+    bars, _, figure = texts_of(made.schedule(ORDER))
+    assert figure.axes[0].get_yticklabels()[2].get_text() == ("oven " * 30)[:41] + "\u2026"
+    assert bars[0].startswith("1 0815-") and bars[0].endswith("\u2026")
+    figure.draw_without_rendering()
+    axis, schedule = figure.axes[0], made.schedule(ORDER)
+    spans = {((start + end) / 2, machine + 1): (start, end) for starts, ends in zip(schedule.starts, schedule.ends)
+             for machine, (start, end) in enumerate(zip(starts.tolist(), ends.tolist()))}
+    for text in axis.texts:
+        if text.get_text() != "idle":
+            (left, _), (right, _) = axis.transData.transform([(at, 0) for at in spans[text.get_position()]])
+            assert left <= text.get_window_extent().x0 and text.get_window_extent().x1 <= right, text
 
 
 def test_names_that_are_wider_than_a_picture_are_cut_in_its_key() -> None:

@@ -265,6 +265,8 @@ def test_width_dpi_and_title(tmp_path: pathlib.Path) -> None:
     for title, due in titles.items():
         assert a_schedule().plot(title=title).axes[0].get_title() == due
     assert a_schedule().plot().axes[0].get_title() == "3 jobs on 2 machines: makespan 10"
+    a_schedule().plot(tmp_path / "chart.html", title="KW <48>")
+    assert "<h1>KW &lt;48&gt;</h1>" in (tmp_path / "chart.html").read_text()
 
 
 def test_a_chart_on_axes_of_ones_own() -> None:

@@ -49,15 +49,16 @@ def test_no_module_is_imported_from_the_current_folder(words: list[str], tmp_pat
 
 
 def test_a_plan_is_printed(tmp_path: pathlib.Path) -> None:
-    done = run(tmp_path, "times.csv", "--chart", "plan.html")
+    done = run(tmp_path, "times.csv", "--chart", "plan.html", "--title", "Week 48")
     assert done.returncode == 0, done.stderr
     assert done.stdout == "makespan 9 min\nbound 9 min\noptimal\n1 table\n2 chair\n"
-    assert "2 jobs, 2 machines" in done.stderr and (tmp_path / "plan.html").exists()
+    assert "2 jobs, 2 machines" in done.stderr and "<title>Week 48</title>" in (tmp_path / "plan.html").read_text()
 
 
-def test_wrong_words_end_with_a_usage_text_that_names_the_program(tmp_path: pathlib.Path) -> None:
+def test_wrong_words_end_with_a_line_that_names_the_program(tmp_path: pathlib.Path) -> None:
     done = run(tmp_path, "--nothing", "times.csv")
-    assert (done.returncode, done.stdout) == (3, "") and done.stderr.startswith("usage: pfs-plan ")
+    assert (done.returncode, done.stdout) == (3, "") and done.stderr == \
+        "pfs: unrecognized arguments: --nothing (pfs-plan --help lists what there is)\n"
 
 
 @pytest.mark.parametrize("words", [["--version"], ["times.csv", "--version"]])

@@ -42,7 +42,9 @@ run) echo "$PWD" >> "$RT_NOTES"; test -e out/pfs || cp "$RT_PROGRAM" out/pfs ;;
 *) exit 9 ;;
 esac
 """
+# When the sources were committed and changed, and when the program was built; and the version between releases.
 OLD, NEW = 1_000_000_000, 1_100_000_000
+BETWEEN = f"{VERSION}+20010909.014640"
 
 
 class Copy(NamedTuple):
@@ -72,7 +74,8 @@ def environment(folder: pathlib.Path, pfs: Program) -> dict[str, str]:
     git = {"user.name": "A Tester", "user.email": "tester@example.org", "safe.directory": "*"}
     env = {"RT_VERSION": f"rattle-kit-7x logic {logic[1].decode()}", "RT_NOTES": str(folder / "notes"),
            "RT_PROGRAM": str(pfs.path), "GIT_CONFIG_GLOBAL": os.devnull, "GIT_CONFIG_NOSYSTEM": "1",
-           "GIT_CEILING_DIRECTORIES": str(folder), "GIT_CONFIG_COUNT": str(len(git))}
+           "GIT_CEILING_DIRECTORIES": str(folder), "GIT_CONFIG_COUNT": str(len(git)),
+           "GIT_COMMITTER_DATE": f"{OLD} +0900"}
     for number, (key, value) in enumerate(git.items()):
         env |= {f"GIT_CONFIG_KEY_{number}": key, f"GIT_CONFIG_VALUE_{number}": value}
     write_script(folder / "bin" / "rt", RT)

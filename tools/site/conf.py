@@ -11,7 +11,7 @@ sys.path.insert(0, str(TOP / "python" / "src"))
 
 project = "pfs"
 version = release = (TOP / "VERSION").read_text().strip()
-copyright = "the authors of pfs"
+copyright = "the pfs developers"
 extensions = ["myst_parser", "sphinx.ext.autodoc", "sphinx.ext.autosummary", "numpydoc"]
 autosummary_generate = False
 root_doc = "index"

@@ -70,19 +70,22 @@ def plot(schedule: Schedule, path: str | os.PathLike[str] | None, critical: bool
     frame = frame.checked()
     if ending == "html" and frame.ax is not None:
         raise ValueError("ax is for pictures: a page has no axes")
-    look = _drawing.Look(critical=critical, bound=shop.bound() if bound else None,
-                       unit=shown(unit or shop.unit or UNIT), decimals=shop.decimals, width=float(frame.width),
-                       dpi=frame.dpi, title=frame.title is True,
-                       key=shop.job_names is not None and frame.ax is None)
-    if clock is not None:
-        look = look._replace(scale=scale_of(clock), marks=clock.marks(schedule.makespan, most_marks(look.width)),
-                             breaks=clock.breaks(schedule.makespan), end=end_of(clock, schedule))
-    elif look.unit == CLOCK:
-        step = next((step for step in MINUTES if step * most_marks(look.width) >= schedule.makespan), MINUTES[-1])
-        look = look._replace(scale=f"time ({CLOCK})", marks=[(time, look.formatted(time)) for time in
-                                                            range(0, schedule.makespan + 1, step)])
     jobs, machines = ([shown(name) for name in names or counted(count)]
                       for names, count in ((shop.job_names, shop.jobs), (shop.machine_names, shop.machines)))
+    if ending != "html":
+        machines = [_drawing.shortened(name, int(frame.width / 4 / _drawing.NAME_DIGIT)) for name in machines]
+    look = _drawing.Look(critical=critical, bound=shop.bound() if bound else None,
+                       unit=shown(unit or shop.unit or UNIT), decimals=shop.decimals, width=float(frame.width),
+                       dpi=frame.dpi, title=shown(frame.title) if isinstance(frame.title, str) else frame.title,
+                       key=shop.job_names is not None and frame.ax is None,
+                       beside=_drawing.beside(machines))
+    if clock is not None:
+        look = look._replace(scale=scale_of(clock), marks=clock.marks(schedule.makespan, most_marks(look)),
+                             breaks=clock.breaks(schedule.makespan), end=end_of(clock, schedule))
+    elif look.unit == CLOCK:
+        step = next((step for step in MINUTES if step * most_marks(look) >= schedule.makespan), MINUTES[-1])
+        look = look._replace(scale=f"time ({CLOCK})", marks=[(time, look.formatted(time)) for time in
+                                                            range(0, schedule.makespan + 1, step)])
     table = _drawing.Table([job + 1 for job in schedule.order.tolist()], schedule.starts, schedule.ends, jobs, machines)
     if ending == "html":
         assert path is not None
@@ -118,11 +121,8 @@ def drawn(table: _drawing.Table, look: _drawing.Look, path: str | os.PathLike[st
             figure = _drawing.new_figure(table, look)
             if frame.ax is not None:
                 figure = frame.ax.figure
-                look = look._replace(width=frame.ax.get_window_extent().width / figure.dpi + _drawing.BESIDE)
+                look = look._replace(width=frame.ax.get_window_extent().width / figure.dpi + look.beside)
             _drawing.draw(SingleAxes(frame.ax) if frame.ax is not None else figure, table, look)
-            if isinstance(frame.title, str):
-                axes = frame.ax or figure.axes[0]
-                axes.set_title(shown(frame.title), parse_math=False)
             if path is not None:
                 atomic_write(path, _drawing.picture_of(figure, str(ending), look))
             return figure
@@ -145,9 +145,9 @@ def scale_of(clock: Clock) -> str:
     return "date and time" if clock.calendar.is_always else "date and time, in shifts only"
 
 
-def most_marks(width: float) -> int:
-    """How many dates a scale of this width has room for."""
-    return max(1, int((width - _drawing.BESIDE) / 1.1))
+def most_marks(look: _drawing.Look) -> int:
+    """How many dates a scale has room for."""
+    return max(1, int(look.plot_width / 1.1))
 
 
 def dates_of(clock: Clock, schedule: Schedule) -> dict[str, Any]:
@@ -195,11 +195,8 @@ def lists_of(table: _drawing.Table, look: _drawing.Look, schedule: Schedule, clo
 
 def page_of(table: _drawing.Table, look: _drawing.Look, name: str, more: dict[str, Any], lists: str) -> str:
     """The page: one file, that asks for nothing else. Its data has more than a picture needs."""
-    title = f"{table.jobs} jobs on {table.machines} machines: makespan {look.formatted(table.makespan)}"
-    title += f" {look.unit}" if look.unit not in (UNIT, CLOCK) else ""
-    title += f", end {look.end}" if look.end else ""
-    title += f", bound {look.formatted(look.bound)} (dashed)" if look.bound is not None else ""
-    title += ", critical path outlined" if look.critical else ""
+    title = _drawing.title_of(table, look, f" {look.unit}" if look.unit not in (UNIT, CLOCK) else "")
+    title = title if not name or title == look.title else f"{name}: {title}"
     fills = _drawing.colours(table.order)
     data = {
         "jobs": [table.label(job) for job in table.order],
@@ -218,7 +215,7 @@ def page_of(table: _drawing.Table, look: _drawing.Look, name: str, more: dict[st
         **more,
     }
     text = json.dumps(data, ensure_ascii=False, separators=(",", ":")).replace("<", "\\u003c")
-    return filled({"title": html.escape(f"{name}: {title}" if name else title), "data": text, "lists": lists})
+    return filled({"title": html.escape(title), "data": text, "lists": lists})
 
 
 def filled(values: dict[str, str]) -> str:

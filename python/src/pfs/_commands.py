@@ -48,7 +48,7 @@ class CommandLine(argparse.ArgumentParser):
     """A parser of command lines. An invalid command line ends with the status that the program has for it."""
 
     def error(self, message: str) -> NoReturn:
-        sys.exit(report(f"{self.format_usage()}pfs: {shown(message)}", USAGE))
+        sys.exit(report(f"pfs: {shown(message)} ({self.prog} --help lists what there is)", USAGE))
 
 
 class Stop:
@@ -179,7 +179,7 @@ def plan_command(given: argparse.Namespace) -> int:
         elif given.schedule is not None:
             mark = has_mark or delimiter == ";"
             outputs.append(lambda: shop.schedule(best).to_csv(given.schedule, delimiter, mark=mark, calendar=calendar))
-        outputs += [partial(draw, shop, best, chart, calendar) for chart in given.chart]
+        outputs += [partial(draw, shop, best, chart, calendar, given.title) for chart in given.chart]
         outputs.append(lambda: compare(given.compare, shop, other, best, clock))
         faults = [fault, *(failure_of(output) for output in outputs)]
     statuses = [report(line_of(each), SYSTEM) for each in faults if each is not None]
@@ -230,9 +230,9 @@ def tell(path: str, what: str, names: Sequence[str]) -> None:
         written(sys.stderr, f"{shown(path)}: {what}: {shown(', '.join(names))}\n")
 
 
-def draw(shop: Instance, best: Solution, chart: str, calendar: Calendar | None) -> None:
+def draw(shop: Instance, best: Solution, chart: str, calendar: Calendar | None, title: bool | str) -> None:
     """Write a chart of an order."""
-    shop.schedule(best).plot(chart, critical=True, bound=True, calendar=calendar)
+    shop.schedule(best).plot(chart, critical=True, bound=True, calendar=calendar, title=title)
 
 
 def calendar_of(given: argparse.Namespace) -> Calendar | None:
@@ -420,6 +420,7 @@ def add_output_words(plan: argparse._ArgumentGroup) -> None:
     plan.add_argument("--schedule", metavar="OUT.csv", help="when each operation starts and ends, as .csv or .xlsx")
     plan.add_argument("--chart", metavar="OUT.svg", action="append", default=[],
                       help="the chart, as .svg, .png, .pdf or a page .html; may be given more than once")
+    plan.add_argument("--title", default=True, metavar="TEXT", help="the title of charts, else what they show")
 
 
 def plan_words() -> CommandLine:
@@ -490,6 +491,8 @@ def line_of(fault: Exception | str) -> str:
     """Return what is printed for an error. Arguments of the package for Python are named as options."""
     if isinstance(fault, MemoryError):
         return "pfs: no memory"
+    if isinstance(fault, OSError) and fault.strerror:
+        fault = f"{fault.filename}: {fault.strerror}" if fault.filename else fault.strerror
     text = ARGUMENT.sub(lambda found: OPTIONS[found[1]], shown(str(fault)))
     return f"pfs: {NUMBER_OPTION.sub('--', text)}"
 

@@ -24,8 +24,9 @@ KEY_LETTERS = 7
 KEY_DIGIT = 0.64 * KEY_LETTERS / 72
 KEY_LINE = 0.14
 NARROW = 6
-# The space for the names of the machines at the left and the shares of idle time at the right.
-BESIDE = 1.5
+# The space for the shares of idle time at the right and for machines of ten letters at the left, and that of a letter.
+# Their names take at most a quarter of the width.
+BESIDE, NAME, NAME_DIGIT = 1.5, 10, 0.07
 IDLE = "#d9d9d9"
 # If there are more operations, or more jobs than pixels from left to right, the rows are one image.
 MANY = 20_000
@@ -74,12 +75,13 @@ class Table(NamedTuple):
 
 class Look(NamedTuple):
     """How a table is drawn. The width is in inches, and `dpi` is dots per inch. `decimals` is the number of decimals of
-    the times. A scale of dates has a title, `scale`, and marks, each a time and its text. With `key`, a bar that is too
-    short for its job's name has the job's place in the order, and a key below the rows has the names. Shifts and days
-    begin at `breaks`, each a time and the day or an empty text. `end` is the date of the end."""
+    the times. The title is this text, or says what is drawn. A scale of dates has a title, `scale`, and marks, each a
+    time and its text. With `key`, a bar that is too short for its job's name has the job's place in the order, and a
+    key below the rows has the names. Shifts and days begin at `breaks`, each a time and the day or an empty text. `end`
+    is the date of the end. `beside` is the space next to the rows."""
     width: float = 12.0
     dpi: int = 110
-    title: bool = True
+    title: bool | str = True
     critical: bool = False
     bound: int | None = None
     unit: str = "units of the instance"
@@ -89,6 +91,11 @@ class Look(NamedTuple):
     key: bool = False
     breaks: Sequence[tuple[float, str]] = ()
     end: str = ""
+    beside: float = BESIDE
+
+    @property
+    def plot_width(self) -> float:
+        return max(0.5, self.width - self.beside)
 
     def formatted(self, time: float) -> str:
         return amount(round(time), self.decimals, self.unit)
@@ -169,14 +176,19 @@ def row_height(table: Table) -> float:
     return min(0.42, max(0.05, HIGHEST_ROWS / table.machines))
 
 
+def beside(names: Sequence[str]) -> float:
+    """Return the space next to the rows of machines with these names."""
+    return BESIDE + NAME_DIGIT * max(0, max(map(len, names)) - NAME)
+
+
 def inches(table: Table, look: Look) -> float:
     """Return the length of a unit of time in the picture."""
-    return max(0.5, look.width - BESIDE) / max(1, table.makespan)
+    return look.plot_width / max(1, table.makespan)
 
 
 def is_image(table: Table, look: Look) -> bool:
     """Whether the rows are drawn as an image: there are very many operations, or more jobs than pixels in a row."""
-    return table.jobs * table.machines > MANY or table.jobs > max(0.5, look.width - BESIDE) * look.dpi
+    return table.jobs * table.machines > MANY or table.jobs > look.plot_width * look.dpi
 
 
 def draw(figure: Figure, table: Table, look: Look) -> None:
@@ -197,24 +209,26 @@ def draw(figure: Figure, table: Table, look: Look) -> None:
         draw_key(figure, table, look, fills)
     if look.title:
         size = 11 if look.width > NARROW else 9
-        axis.set_title(title_of(table, look, size), fontsize=size, linespacing=1.3)
+        unit = f" {look.unit}" if look.scale and look.unit != CLOCK else ""
+        text = textwrap.fill(title_of(table, look, unit), max(20, int(72 * (look.width - 0.9) / (0.56 * size))))
+        axis.set_title(text, fontsize=size, linespacing=1.3, parse_math=False)
     scales(axis, table, look)
 
 
-def title_of(table: Table, look: Look, size: int) -> str:
-    """Return the title, broken into lines that fit at this size of letters. A scale of dates doesn't have the unit."""
-    unit = f" {look.unit}" if look.scale and look.unit != CLOCK else ""
+def title_of(table: Table, look: Look, unit: str) -> str:
+    """Return the given title, or else what is drawn, with this unit of the makespan."""
+    if look.title and isinstance(look.title, str):
+        return look.title
     title = f"{table.jobs} jobs on {table.machines} machines: makespan {look.formatted(table.makespan)}{unit}"
     title += f", end {look.end}" if look.end else ""
     title += f", bound {look.formatted(look.bound)} (dashed)" if look.bound is not None else ""
-    title += ", critical path outlined" if look.critical else ""
-    return textwrap.fill(title, max(20, int(72 * (look.width - 0.9) / (0.56 * size))))
+    return title + (", critical path outlined" if look.critical else "")
 
 
 def draw_image(axis: Axis, table: Table, look: Look, fills: list[Colour]) -> None:
     """Draw all rows as one image. The colour of a pixel is the mean of the colours at its time, with idle time."""
     numpy = importlib.import_module("numpy")
-    width = max(1, int(max(0.5, look.width - BESIDE) * look.dpi))
+    width = max(1, int(look.plot_width * look.dpi))
     edges = numpy.linspace(0, table.makespan, width + 1)
     idle, shades = numpy.array(rgb_of(IDLE[1:])), numpy.array(fills)
     # ten lines per machine; the first and the last are the white between the rows
@@ -264,13 +278,20 @@ class Label(NamedTuple):
 
 
 def label_of(table: Table, look: Look, place: int, length: int) -> Label:
-    """Return the label of a bar of this length: the job's name, its place in the key or else its name in smaller
-    letters, or an empty one."""
+    """Return the label of a bar of this length: the job's name, its place in the key and the beginning of its name or
+    else its name in smaller letters, or an empty one."""
     room, name = inches(table, look) * length, table.label(table.order[place])
     if room > DIGIT * len(name) + 0.03:
         return Label(name)
-    text = sign_of(table) + str(place + 1) if look.key else name
+    text, most = sign_of(table) + str(place + 1) if look.key else name, int((room - 0.03) / KEY_DIGIT)
+    if look.key and most >= len(text) + 6:
+        text = shortened(f"{text} {name}", most)
     return Label(text, KEY_LETTERS, look.key) if room > KEY_DIGIT * len(text) + 0.02 else Label("")
+
+
+def shortened(text: str, most: int) -> str:
+    """Return the text, cut if it is longer than this."""
+    return text if len(text) <= most else f"{text[:most - 1].rstrip()}\u2026"
 
 
 def sign_of(table: Table) -> str:
@@ -290,8 +311,7 @@ def has_key(table: Table, look: Look) -> bool:
 def key_columns(table: Table, look: Look) -> list[list[str]]:
     """Return the places and names of all jobs, in columns of equal width."""
     most = max(8, int((look.width - 0.4) / KEY_DIGIT) - 4)
-    items = [f"{sign_of(table)}{place} {table.label(job)}" for place, job in enumerate(table.order, 1)]
-    items = [item if len(item) <= most else f"{item[:most - 1]}\u2026" for item in items]
+    items = [shortened(f"{sign_of(table)}{place} {table.label(job)}", most) for place, job in enumerate(table.order, 1)]
     columns = max(1, min(len(items), int((look.width - 0.4) / (KEY_DIGIT * (4 + max(map(len, items)))))))
     rows = math.ceil(len(items) / columns)
     return [items[at:at + rows] for at in range(0, len(items), rows)]

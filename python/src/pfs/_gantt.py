@@ -2,7 +2,7 @@
 time in grey. The table is read from the file TABLE or from standard input. The extension of PICTURE selects the format:
 SVG, PNG or PDF. Needs matplotlib (Debian: python3-matplotlib).
 
-usage: pfs-gantt [--critical] [--bound B] [--unit UNIT] [--width INCHES] [--dpi DPI] [--no-title] [TABLE] PICTURE"""
+usage: pfs-gantt [--critical] [--bound B] [--unit UNIT] [--width INCHES] [--dpi DPI] [--title TEXT] [TABLE] PICTURE"""
 from __future__ import annotations
 
 import argparse
@@ -99,7 +99,7 @@ def dots(text: str) -> int:
     return number(text)
 
 
-def unit(text: str) -> str:
+def printable(text: str) -> str:
     if not text.isprintable():
         raise argparse.ArgumentTypeError(f"{text!r} has characters that can't be printed")
     return text
@@ -110,10 +110,11 @@ def parse_args() -> argparse.Namespace:
     parser = CommandLine(usage=(__doc__ or "").partition("usage: ")[2])
     parser.add_argument("--critical", action="store_true", help="outline a critical path")
     parser.add_argument("--bound", type=number, help="draw a dashed line at this lower bound")
-    parser.add_argument("--unit", type=unit, default=defaults.unit, help="the unit of the times")
+    parser.add_argument("--unit", type=printable, default=defaults.unit, help="the unit of the times")
     parser.add_argument("--width", type=inches, default=defaults.width, help="the width of the picture, in inches")
     parser.add_argument("--dpi", type=dots, default=defaults.dpi, help="dots per inch of a PNG or an image of rows")
-    parser.add_argument("--no-title", action="store_true", help="draw no title")
+    parser.add_argument("--title", type=printable, default=True, help="the title; none if it is empty")
+    parser.add_argument("--no-title", dest="title", action="store_false", help=argparse.SUPPRESS)
     parser.add_argument("table", nargs="?", metavar="TABLE")
     parser.add_argument("picture", metavar="PICTURE")
     return parser.parse_args()
@@ -126,7 +127,7 @@ def draw() -> None:
     extension = os.path.splitext(args.picture)[1][1:]
     if extension not in ("svg", "png", "pdf"):
         raise GanttError(f"{args.picture}: the name of a picture must end with .svg, .png or .pdf")
-    look = chart.Look(args.width, args.dpi, not args.no_title, args.critical, args.bound, args.unit)
+    look = chart.Look(args.width, args.dpi, args.title, args.critical, args.bound, args.unit)
     source = open(args.table or 0, encoding="ascii", newline="", closefd=bool(args.table))
     with source:
         text = source.read(LONGEST + 1)

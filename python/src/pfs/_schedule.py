@@ -277,7 +277,7 @@ class Schedule:
         dpi : int
             The resolution of a PNG in dots per inch, 20 to 2,400.
         title : bool or str
-            Whether to draw a title, or your own title.
+            Whether to draw a title, or your own title. A page always has one.
         ax : matplotlib.axes.Axes, optional
             The axes to draw on. The size of their figure doesn't change.
         calendar : Calendar, optional
