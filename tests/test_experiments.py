@@ -143,7 +143,7 @@ def test_pfs_is_found_beside_the_script_that_is_not_on_the_path(made: Experiment
 # Folders that are damaged, and small disks
 
 @pytest.mark.parametrize("data", [None, b"{", b"[]", b'{"places": 1}', b"[" * 100_000, b'{"layout": "\xff"}',
-                                  b'{"places": {}, "runs": [{"number": "2"}]}'])
+                                  b'{"places": {}, "runs": [{"number": "2"}]}', b'{"places": {}, "runs": []}'])
 def test_a_damaged_folder_is_reported_on_one_line(data: bytes | None, made: Experiment) -> None:
     """Its plan, or it has no program."""
     before, (stage,) = (made.folder / "out.csv").read_text(), made.runs.glob("pfs-experiment-*")
@@ -239,7 +239,7 @@ def test_a_second_start_makes_nothing_again_and_a_smaller_plan_is_rejected(made:
 
 
 def test_layouts_blocks_takes_passes_and_repetitions(experiment: Experiment) -> None:
-    """And a file that isn't an instance, and one whose bound is 0, so that there is no gap."""
+    """And a file that isn't an instance, and one whose bound is 0, which has the gap 0."""
     experiment.plan('layout = "orlib"\ninstances = ["two.or", "bad.or", "zero.or"]\nblocks = [2, 1]\nrounds = [5]\n'
                     "takes = [2, 1]\npasses = [1]\nseeds = [7]\nrepetitions = 2\n")
     shops = [experiment.printed("convert", "--from", "taillard", "--to", "orlib", f"shops/{name}") for name in "ab"]
