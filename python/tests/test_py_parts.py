@@ -88,6 +88,7 @@ def test_a_sequence_is_taken_where_an_order_is() -> None:
 
 def test_neh_inserts_by_decreasing_totals() -> None:
     shop = pfs.taillard(1)
+    assert (shop.n_jobs, shop.n_machines) == (20, 5)
     neh = shop.neh()
     found = shop.insert_all([], (-shop.times.sum(axis=1)).argsort(kind="stable"))
     assert (found.jobs.tolist(), found.makespan) == (neh.order.tolist(), neh.makespan)

@@ -91,7 +91,7 @@ class Instance:
     times : numpy.ndarray
         The times, a read-only array of int64 and of shape (jobs, machines).
     jobs, machines : int
-        The number of jobs and of machines.
+        The number of jobs and of machines, also as ``n_jobs`` and ``n_machines``.
 
     Raises
     ------
@@ -150,6 +150,9 @@ class Instance:
     def machines(self) -> int:
         """The number of machines."""
         return self._times.shape[1]
+
+    # As other packages call them.
+    n_jobs, n_machines = jobs, machines
 
     def __repr__(self) -> str:
         return f"<Instance {self.name + ': ' if self.name else ''}{self.jobs} jobs, {self.machines} machines>"
