@@ -143,7 +143,7 @@ def test_pfs_is_found_beside_the_script_that_is_not_on_the_path(made: Experiment
 # Folders that are damaged, and small disks
 
 @pytest.mark.parametrize("data", [None, b"{", b"[]", b'{"places": 1}', b"[" * 100_000, b'{"layout": "\xff"}',
-                                  b'{"places": {}, "runs": [{"number": "2"}]}'])
+                                  b'{"places": {}, "runs": [{"number": "2"}]}', b'{"places": {}, "runs": []}'])
 def test_a_damaged_folder_is_reported_on_one_line(data: bytes | None, made: Experiment) -> None:
     """Its plan, or it has no program."""
     before, (stage,) = (made.folder / "out.csv").read_text(), made.runs.glob("pfs-experiment-*")
@@ -239,31 +239,27 @@ def test_a_second_start_makes_nothing_again_and_a_smaller_plan_is_rejected(made:
 
 
 def test_layouts_blocks_takes_passes_and_repetitions(experiment: Experiment) -> None:
-    """And a file that isn't an instance."""
-    experiment.plan('layout = "orlib"\ninstances = ["two.or", "bad.or"]\nblocks = [2, 1]\nrounds = [5]\n'
+    """And a file that isn't an instance, and one whose bound is 0, which has the gap 0."""
+    experiment.plan('layout = "orlib"\ninstances = ["two.or", "bad.or", "zero.or"]\nblocks = [2, 1]\nrounds = [5]\n'
                     "takes = [2, 1]\npasses = [1]\nseeds = [7]\nrepetitions = 2\n")
     shops = [experiment.printed("convert", "--from", "taillard", "--to", "orlib", f"shops/{name}") for name in "ab"]
     (experiment.folder / "two.or").write_text("".join(shops))
     (experiment.folder / "bad.or").write_text("3 2\n0 1 1 x\n")
+    (experiment.folder / "zero.or").write_text("2 1\n0 0\n0 0\n" * 2)
     fault = "solve: exit 2, pfs: mixed line at 10"
     assert experiment.run() == Done(1, "", f"bad.or:2 (rounds 5, take 2, passes 1, seed 7) and 7 more failed: {fault}\n"
-                                           "out.csv: 16 runs, 8 of them failed, 0 still to run\n")
+                                           "out.csv: 24 runs, 8 of them failed, 0 still to run\n")
     rows = experiment.rows()
     wanted = [(f"{name}:{block}", *size, "5", take, "1", "7", again, status)
-              for name, sizes, status in (("two.or", [("3", "2"), ("20", "5")], "ok"), ("bad.or", [("", "")] * 2,
-                                                                                         fault))
+              for name, sizes, status in (("two.or", [("3", "2"), ("20", "5")], "ok"),
+                                          ("bad.or", [("", "")] * 2, fault), ("zero.or", [("2", "1")] * 2, "ok"))
               for block, size in zip((2, 1), sizes) for take in "21" for again in "12"]
     assert [(*row[:8], row[-1]) for row in rows] == wanted
     line = "solve --layout orlib --block 1 --rounds 5 --take 2 --passes 1 --seed 7 --cells two.or"
     *_, makespan, cells = experiment.printed(*line.split(" ")).splitlines()
     assert [makespan.split()[1], cells.split()[1]] == [rows[4][8], rows[4][11]]
     assert rows[4][8:12] == rows[5][8:12], "repetitions of a run"
-
-
-def test_where_the_bound_is_0_there_is_no_gap(experiment: Experiment) -> None:
-    (experiment.folder / "shops" / "zero").write_text("2 1 0 0 0\n0 0\n")
-    assert experiment.plan('instances = ["shops/zero"]\n').run().status == 0
-    assert experiment.columns("makespan", "bound", "gap_percent", "status") == [("0", "0", "0.0000", "ok")]
+    assert {row[8:11] for row in rows[16:]} == {("0", "0", "0.0000")}, "makespan, bound and gap"
     assert experiment.script("check", "out.csv").status == 0, "an optimal order is wrong"
 
 

@@ -84,8 +84,8 @@ def test_a_search_by_time_has_the_sum_of_the_library(experiment: Experiment, lib
 # The reference of a plan
 
 def test_a_reference_must_name_an_instance(experiment: Experiment) -> None:
-    """By its name in the plan, or without folder, ending and in lower case. What it lacks is reported. It may begin with
-    a byte order mark, and be named once all runs are made."""
+    """By its name in the plan, or without folder, ending and in lower case. What it lacks is reported. It may begin
+    with a byte order mark, and be named once all runs are made."""
     plan = 'instances = ["shops/*"]\nreference = "best.csv"\n'
     (experiment.folder / "best.csv").write_text("instance,makespan\nc,9\n")
     assert experiment.plan(plan).run() == Done(2, "", (

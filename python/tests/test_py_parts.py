@@ -78,8 +78,9 @@ def test_a_sequence_is_taken_where_an_order_is() -> None:
     found = shop.insert_all([], range(20))
     calls: list[Callable[[Any], object]] = [
         shop.makespan, shop.check, shop.heads, shop.tails, shop.local_search, lambda own: shop.makespans([own, own]),
-        lambda own: shop.schedule(own).starts, lambda own: shop.solve(2, start=own), lambda own: shop.solve(2, hold=own),
-        lambda own: shop.insert_all([], own), lambda own: pfs.Solution(own, found.makespan)]
+        lambda own: shop.schedule(own).starts, lambda own: shop.solve(2, start=own),
+        lambda own: shop.solve(2, hold=own), lambda own: shop.insert_all([], own),
+        lambda own: pfs.Solution(own, found.makespan)]
     assert [repr(call(found)) for call in calls] == [repr(call(found.jobs.tolist())) for call in calls]
     others = pfs.Sequence(found.jobs[1:], 0)
     assert shop.best_place(others, int(found.jobs[0])) == shop.best_place(others.jobs, int(found.jobs[0]))
@@ -88,6 +89,7 @@ def test_a_sequence_is_taken_where_an_order_is() -> None:
 
 def test_neh_inserts_by_decreasing_totals() -> None:
     shop = pfs.taillard(1)
+    assert (shop.n_jobs, shop.n_machines) == (20, 5)
     neh = shop.neh()
     found = shop.insert_all([], (-shop.times.sum(axis=1)).argsort(kind="stable"))
     assert (found.jobs.tolist(), found.makespan) == (neh.order.tolist(), neh.makespan)

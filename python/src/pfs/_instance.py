@@ -91,7 +91,7 @@ class Instance:
     times : numpy.ndarray
         The times, a read-only array of int64 and of shape (jobs, machines).
     jobs, machines : int
-        The number of jobs and of machines.
+        The number of jobs and of machines, also as ``n_jobs`` and ``n_machines``.
 
     Raises
     ------
@@ -150,6 +150,16 @@ class Instance:
     def machines(self) -> int:
         """The number of machines."""
         return self._times.shape[1]
+
+    @property
+    def n_jobs(self) -> int:
+        """The same as ``jobs``."""
+        return self.jobs
+
+    @property
+    def n_machines(self) -> int:
+        """The same as ``machines``."""
+        return self.machines
 
     def __repr__(self) -> str:
         return f"<Instance {self.name + ': ' if self.name else ''}{self.jobs} jobs, {self.machines} machines>"

@@ -4,7 +4,7 @@ the program `pfs`, audits the order, and prints the order file, and then one lin
 bound, cells, processor seconds of the search, `ok` or an error, the rounds of a search by time, and how many processes
 a command has left. Without an order it prints only this line. The exit status is 0 even if the search or the audit
 fails. A search by time, which is made with the library, has a limit and no rounds; what a run doesn't have is a hyphen.
-If the folder has the file `command.json`, its command is the search. The words are those of `Run`."""
+If the folder has the file `command.json`, its command is the search. The arguments are those of `Run`."""
 from __future__ import annotations
 
 import contextlib
@@ -42,7 +42,7 @@ MOST_BYTES = 1_048_576
 PR_SET_PDEATHSIG, PR_SET_CHILD_SUBREAPER = 1, 36
 ENDINGS = (signal.SIGTERM, signal.SIGINT, signal.SIGHUP)
 
-# The words of the command line.
+# The arguments.
 Run = namedtuple("Run", "number file layout block rounds limit take passes seed repetition time_factor jobs machines "
                         "instance")
 
@@ -52,7 +52,7 @@ class Failed(Exception):
 
 
 def words_of(run: Run) -> list[str]:
-    """Returns the words by which pfs knows an instance."""
+    """Returns the arguments of pfs that name the instance."""
     return ["--layout", run.layout, "--block", run.block, run.file]
 
 

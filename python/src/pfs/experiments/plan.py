@@ -23,7 +23,7 @@ TEXTS = {"reference": "the path of a CSV", "command": "a command", "method": "a 
 KEYS = {*NUMBERS, *TEXTS, "layout", "instances", "repetitions", "time_factors", "files"}
 # Keys that a plan with a command can't have.
 OF_PFS = ("rounds", "takes", "passes")
-# What stands in braces in a command.
+# What a command may have in braces.
 OF_COMMAND = {"instance", "name", "jobs", "machines", "block", "seed", "seconds"}
 LEAST_FACTOR, MOST_FACTOR = 0.001, 10_000
 # The greatest makespan that an order file can state.

@@ -230,7 +230,7 @@ def started(csv_path: str) -> Experiment:
     if not plan:
         raise ExperimentError(f"{csv_path} was not started: {folder.name} is missing")
     reference = reference_of(os.path.join(plan["top"], plan["reference"])) if plan["reference"] else {}
-    return Experiment(plan, folder, [plan["runs"][int(number) - 1] for number in plan["order"]], reference)
+    return Experiment(plan, folder, plan["order"], reference)
 
 
 def table_of(runs: list[Row]) -> str:
@@ -278,14 +278,15 @@ def size_of(stage: pathlib.Path, *words: str) -> tuple[str, str]:
 
 
 def stored_plan(folder: pathlib.Path) -> dict[str, Any]:
-    """Returns the stored plan, with the places of the instances and the runs. It is empty in a new folder."""
+    """Returns the stored plan, with the places of the instances, the runs, and the runs in the order of the CSV. It is
+    empty in a new folder."""
     path = folder / "plan.json"
     try:
         stored = json.loads(path.read_bytes().decode())
         for number, run in enumerate(stored["runs"], 1):
             if (run["number"], [*run]) != (str(number), RUN):
                 raise ValueError(f"run {number}")
-        return dict(stored)
+        return {**stored, "order": [stored["runs"][int(number) - 1] for number in stored["order"]]}
     except FileNotFoundError:
         return {}
     except (ValueError, RecursionError, LookupError, TypeError) as error:
