@@ -433,12 +433,8 @@ def test_a_plan_on_the_calendar(tmp_path: pathlib.Path, monkeypatch: pytest.Monk
     (["--begin", "2026-11-30T06:00", "--closed", "24.12."], TABLE, "argument --closed: '24.12.' is not a date such as "
      "2026-12-24, or dates such as 2026-12-24..2027-01-01\n"),
     (["--closed", "2026-12-24"], TABLE, "pfs: --closed needs --begin, which says when the work begins\n"),
-    (["--begin", "2026-11-30T06:00", "--days", "mon", "--days", "sun-mon"], TABLE,
-     "pfs: the day mon is there twice\n"),
     (["--begin", "2026-11-30T06:00"], TABLE.replace(" [min]", ""),
      f"pfs: the times have no unit, {NEEDED}--unit\n"),
-    (["--begin", "2026-11-30T06:00"], TABLE.replace("[min]", "[m]"),
-     f"pfs: 'm' is not a unit of time, {NEEDED}--unit\n"),
     (["--begin", "2026-11-30T06:00", "--days", "mon-fri", "--unit", "days"], TABLE.replace(" [min]", ""),
      "pfs: a day of work may be 24 hours or the shifts of a day: write the times in hours\n"),
 ])

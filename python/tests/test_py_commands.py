@@ -46,7 +46,7 @@ def shop_in(folder: pathlib.Path) -> pfs.Instance:
 def environment(*first: pathlib.Path) -> dict[str, str]:
     """What a child needs to find the package. Modules in the first folders come before those of the system."""
     places = [*map(str, first), str(pathlib.Path(pfs.__file__).parents[1])]
-    return os.environ | {"PYTHONPATH": os.pathsep.join(places), "PYTHONDONTWRITEBYTECODE": "1"}
+    return plainly.environment(PYTHONPATH=os.pathsep.join(places))
 
 
 def start(words: list[str], folder: pathlib.Path, env: dict[str, str] | None = None) -> "subprocess.Popen[bytes]":

@@ -3,8 +3,6 @@ import io
 import os
 import pathlib
 import pickle
-import subprocess
-import sys
 import tempfile
 import time
 from collections.abc import Callable
@@ -275,9 +273,7 @@ LARGE: dict[str, tuple[str, bytes]] = {
 def test_readers_take_little_memory(tmp_path: pathlib.Path, case: str) -> None:
     kind, text = LARGE[case]
     (tmp_path / "file").write_bytes(text)
-    env = os.environ | {"PYTHONPATH": str(pathlib.Path(pfs.__file__).parents[1]), "PYTHONDONTWRITEBYTECODE": "1"}
-    done = subprocess.run([sys.executable, "-c", MEASURED, kind, str(tmp_path / "file")], env=env, capture_output=True,
-                          text=True, timeout=100, check=True)
+    done = plainly.python("-c", MEASURED, kind, tmp_path / "file", cwd=tmp_path)
     assert float(done.stdout) < 10, f"{case}: {done.stdout.strip()} bytes of memory for each byte ({done.stderr})"
 
 

@@ -356,15 +356,25 @@ def ends(cut: Callable[[list[int]], None]) -> dict[int, pfs.Solution]:
 
 
 @pytest.mark.seconds(5)
-def test_an_interruption_at_each_bytecode_loses_nothing(ends: dict[int, pfs.Solution]) -> None:
-    shop = pfs.generate(6, 2, 1)
+def test_an_interruption_at_each_bytecode_loses_nothing(ends: dict[int, pfs.Solution],
+                                                        monkeypatch: pytest.MonkeyPatch) -> None:
+    """Each part counts that the library has made, also before its result is used."""
+    shop, real = pfs.generate(6, 2, 1), _library.library.pfs_rounds
+    made: list[int] = []
+
+    def noting(*given: Any) -> int:
+        made.append(real(*given))
+        return made[-1]
+
+    monkeypatch.setattr(_library.library, "pfs_rounds", noting)
     for at in range(MOST_BYTECODES):
+        made.clear()
         tracer = Interrupting(at)
         best = interrupted(shop, tracer, Closing)
         if not tracer.has_come:
             break
         assert best == ends[best.rounds], f"interrupted at bytecode {at}: not where so many rounds end"
-        assert best.rounds >= Closing.made, f"interrupted at bytecode {at}: a part that was reported is lost"
+        assert best.rounds == len(made) * ROUNDS // PARTS, f"interrupted at bytecode {at}: a part that was made is lost"
     assert best == ends[ROUNDS]
     assert 1000 < at < MOST_BYTECODES - 1, f"{at} bytecodes"
 
