@@ -410,16 +410,6 @@ def test_order_files(case: tuple[plainly.Table, list[int]], span: int) -> None:
     assert pfs.read_order(io.BytesIO(bare.to_text().encode())) == bare
 
 
-def test_the_longest_order_file(tmp_path: pathlib.Path, program: str) -> None:
-    shop = pfs.generate(5000, 1, 1)
-    shop.write(tmp_path / "shop")
-    order = list(range(4999, -1, -1))
-    pfs.Solution(order, shop.makespan(order), 0, 1).write(tmp_path / "order")
-    got = plainly.run([program, "check", "--layout", "taillard", str(tmp_path / "shop"), str(tmp_path / "order")])
-    assert got.startswith(f"valid\nmakespan {shop.makespan(order)}\n")
-    assert pfs.read_order(tmp_path / "order").order.tolist() == order
-
-
 @pytest.mark.parametrize(("order", "span", "why"), [
     ([0, 2], 1, "order: 2 at place 1 isn't a job: jobs are 0 to 1"),
     ([1, 0, 1], 1, "order: job 1 occurs twice, at places 0 and 2"),
