@@ -2,7 +2,6 @@
 import io
 import os
 import pathlib
-import pickle
 import tempfile
 import time
 from collections.abc import Callable
@@ -302,8 +301,6 @@ def test_faults_of_instance_files(tmp_path: pathlib.Path, program: str, case: st
     assert (fault.value.name, fault.value.place, fault.value.text) == (name, place, got)
     assert fault.value.path == str(path) and str(fault.value) == f"{path}: {got.removeprefix('pfs: ')}"
     assert isinstance(fault.value, ValueError)
-    again = pickle.loads(pickle.dumps(fault.value))
-    assert (str(again), again.place) == (str(fault.value), place)
     assert plainly.run([program, "value", "--layout", layout, str(path)], 2) == got + "\n"
 
 

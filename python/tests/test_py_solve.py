@@ -402,15 +402,6 @@ def test_a_second_interruption_at_each_bytecode_loses_nothing(ends: dict[int, pf
     assert Bar.closed == 1
 
 
-def test_four_threads_have_the_same_results() -> None:
-    shops = [pfs.generate(60, 10, seed) for seed in range(1, 5)]
-    alone = [shop.solve(300, passes=1) for shop in shops]
-    with ThreadPoolExecutor(4) as threads:
-        for _ in range(5):
-            found = [threads.submit(shop.solve, 300, passes=1) for shop in shops]
-            assert [each.result() for each in found] == alone
-
-
 def test_a_call_frees_the_lock() -> None:
     """While one thread is in a long call, another one continues."""
     shop = pfs.generate(5000, 20, 1)
