@@ -3,7 +3,7 @@
 and compares standard output, standard error and exit status byte for byte. The files are valid instance files and order
 files, and such files with changed bytes. The program reads them whole, or in random pieces through a pipe, each piece
 after the last one was read. Stops at the first case on which the two programs differ. It prints the command that
-repeats the case, reduces it, and stores the files of the reduced case in a folder.
+repeats the case, and stores its files in a folder.
 
 usage: tests/fuzz.py [--seconds N] [--seed N] [--program PATH] [--case N]"""
 import argparse
@@ -18,7 +18,7 @@ import subprocess
 import sys
 import tempfile
 import time
-from collections.abc import Iterable, Iterator, Sequence
+from collections.abc import Iterable, Sequence
 from random import Random
 from typing import Any
 
@@ -497,56 +497,6 @@ def in_pieces(random: Random, case: Case) -> Case:
     return case.changed(pieces=pieces)
 
 
-# Making a failing case small
-
-def differs(program: pathlib.Path, case: Case) -> bool:
-    return case.is_quick() and run(program, case) != case.wanted()
-
-
-def smaller(program: pathlib.Path, case: Case, end: float) -> Case:
-    """A reduced case, of at most the same size, on which the two programs still differ."""
-    has_changed = True
-    while has_changed and time.monotonic() < end:
-        has_changed = False
-        for simpler in simpler_cases(case):
-            if time.monotonic() >= end:
-                break
-            if differs(program, simpler):
-                case, has_changed = simpler, True
-                break
-    return case
-
-
-def simpler_cases(case: Case) -> Iterator[Case]:
-    """Cases that are a little simpler, the simplest first."""
-    if case.pieces:
-        yield case.changed(pieces={})
-    if case.is_full:
-        yield case.changed(is_full=False)
-    for place in range(1, len(case.words)):
-        for count in (2, 1):
-            yield case.changed(words=case.words[:place] + case.words[place + count:])
-    for name in list(case.files):
-        yield case.changed(files={other: text for other, text in case.files.items() if other != name})
-    for name, text in case.files.items():
-        for shorter in () if text is None else shorter_texts(text):
-            yield case.changed(files=case.files | {name: shorter})
-    for shorter in shorter_texts(case.stdin):
-        yield case.changed(stdin=shorter)
-
-
-def shorter_texts(text: bytes) -> Iterator[bytes]:
-    length = len(text)
-    while length > 1:
-        length = (length + 1) // 2
-        for start in range(0, len(text), length):
-            yield text[:start] + text[start + length:]
-        if length == 1:
-            return
-    if text:
-        yield text[1:]
-
-
 # Telling of a failing case
 
 def tell(program: pathlib.Path, case: Case) -> None:
@@ -556,7 +506,7 @@ def tell(program: pathlib.Path, case: Case) -> None:
     (folder / "stdin").write_bytes(case.stdin)
     words = " ".join(shlex.quote(os.fsdecode(word)) for word in case.words)
     output = " > /dev/full" if case.is_full else ""
-    print(f"reduced: cd {folder} && {program} {words} < stdin{output}".encode(errors="replace").decode())
+    print(f"in a shell: cd {folder} && {program} {words} < stdin{output}".encode(errors="replace").decode())
     if case.pieces:
         print(f"with files through pipes, in pieces of these lengths: {case.pieces}")
     print(f"wanted {shown(case.wanted())}\ngot    {shown(run(program, case))}", flush=True)
@@ -585,7 +535,7 @@ def search(program: pathlib.Path, seed: int, seconds: float, numbers: Iterable[i
             spent = time.monotonic() - start
             print(f"seed {seed}, case {number}, after {spent:.1f} s: the programs differ", flush=True)
             print(f"to repeat it: {TOP}/tests/fuzz.py --program {program} --seed {seed} --case {number}", flush=True)
-            tell(program, smaller(program, case, time.monotonic() + 60))
+            tell(program, case)
             return False
     print(f"seed {seed}: {kinds.total()} cases in {seconds:g} s, on which both programs agree")
     return kinds.total() > 0 and are_known(kinds)

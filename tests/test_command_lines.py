@@ -6,7 +6,7 @@ import subprocess
 import fuzz
 import pytest
 from support.files import THREE_JOBS, USAGE
-from support.lines import ANSWERS, EACH, PRINTING, SHORT, TEXTS, first_line, refused, unwritten
+from support.lines import ANSWERS, EACH, PRINTING, SHORT, TEXTS, first_line, unwritten
 from support.needs import tool
 from support.program import Program, Ran
 from support.usage import commands
@@ -71,14 +71,12 @@ def test_without_arguments_standard_input_is_evaluated(pfs: Program, folder: pat
     assert pfs.run([], folder, THREE_JOBS) == Ran(b"makespan 11\n", b"", 0)
 
 
-def test_without_arguments_an_empty_input_is_rejected(pfs: Program, folder: pathlib.Path) -> None:
-    assert pfs.run([], folder) == refused("no block, found 0", 2)
-
-
 @pytest.mark.parametrize("line", PRINTING)
 def test_a_full_output_is_a_failed_write(pfs: Program, worked_once: pathlib.Path, line: str) -> None:
+    """Also where standard error is full."""
     with open("/dev/full", "wb") as full:
         assert pfs.run(line, worked_once, stdout=full) == unwritten(0)
+        assert pfs.run(line, worked_once, stdout=full, stderr=full).status == 4
 
 
 @pytest.mark.parametrize(("line", "most"), CUT, ids=[f"{line}, {most} bytes" for line, most in CUT])
@@ -100,9 +98,3 @@ def test_the_status_is_the_same_if_standard_error_is_full(pfs: Program, worked_o
     with open("/dev/full", "wb") as full:
         ran = pfs.run(line, worked_once, stdout=subprocess.DEVNULL, stderr=full)
     assert ran.status == ANSWERS[line].status
-
-
-@pytest.mark.parametrize("line", PRINTING)
-def test_status_4_if_both_outputs_are_full(pfs: Program, worked_once: pathlib.Path, line: str) -> None:
-    with open("/dev/full", "wb") as full:
-        assert pfs.run(line, worked_once, stdout=full, stderr=full).status == 4

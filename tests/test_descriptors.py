@@ -275,14 +275,9 @@ LONG = "x" * LONGEST_WORD
 NO_COMMAND = Ran(b"", USAGE, 3)
 LONG_LINES: dict[str, tuple[Words, Ran]] = {
     "many words": (["x"] * MANY, NO_COMMAND),
-    "many paths": (VALUE.split(" ") + ["three"] * MANY, NO_COMMAND),
     "many options": (VALUE.split(" ") + ["--block=1"] * MANY, NO_COMMAND),
-    "many numbers": (["generate"] + ["1"] * MANY, NO_COMMAND),
-    "many paths after --": (VALUE.split(" ") + ["--"] + ["-"] * MANY, NO_COMMAND),
     "a long command": ([LONG], NO_COMMAND),
     "a long path": (["value", "--layout", "taillard", LONG], refused("cannot open")),
-    "a long order path": (CHECK.split(" ")[:-1] + [LONG], refused("cannot open")),
-    "a long layout": (["value", "--layout", LONG, "three"], NO_COMMAND),
     "a long option": (["value", "--" + LONG[2:], "three"], NO_COMMAND),
     "long paths": (["value"] + [LONG] * 12, NO_COMMAND),
     "a long number": (VALUE.split(" ") + ["--block", "0" * (LONGEST_WORD - 1) + "1"], ELEVEN),

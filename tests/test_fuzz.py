@@ -53,12 +53,12 @@ def other(pfs: Program, folder: pathlib.Path) -> pathlib.Path:
 
 def test_a_program_that_differs_is_found(other: pathlib.Path, folder: pathlib.Path,
                                          monkeypatch: pytest.MonkeyPatch) -> None:
-    """With a reduced case, and a command that repeats it."""
+    """With its files, and a command that repeats it."""
     monkeypatch.setenv("TMPDIR", str(folder))
     ran = run_fuzzer(folder, "--program", str(other), "--seed", "1")
     assert ran.status == 1 and b"the programs differ" in ran.stdout, ran
     [made] = folder.glob("pfs-differs-*")
-    assert b"reduced: cd %s && " % bytes(made) in ran.stdout
+    assert b"in a shell: cd %s && " % bytes(made) in ran.stdout
     repeating = re.search(rb"to repeat it: \S+ (.*)", ran.stdout)
     assert repeating
     again = run_fuzzer(folder, *repeating[1].decode().split())

@@ -10,6 +10,7 @@ from collections.abc import Callable
 from typing import NamedTuple
 
 import pytest
+from pfs import _drawing
 from support.colours import least_difference
 from support.files import generated
 from support.large import run_limited
@@ -650,14 +651,13 @@ def test_an_operation_has_the_colour_of_its_bar_in_an_image(image: Picture, gant
     assert long == colours_of(case, Picture(folder / "bars.svg"))[1001], "colours of the one long operation"
 
 
-@pytest.mark.seconds(8)
-def test_from_this_number_of_operations_on_the_rows_are_an_image(gantt: Gantt, folder: pathlib.Path) -> None:
-    got = re.search(r"^- Of more than ([\d,]+) operations", PAGE, re.MULTILINE)
-    assert got, "no sentence on the operations"
-    jobs = int(got[1].replace(",", "")) // 20
+def test_from_this_number_of_operations_on_the_rows_are_an_image() -> None:
+    stated, = re.findall(r"^- Of more than ([\d,]+) operations", PAGE, re.MULTILINE)
+    jobs = int(stated.replace(",", "")) // 20
     for count, is_image in ((jobs, False), (jobs + 1, True)):
-        ran = gantt(folder, "picture.svg", text=units(count, 20).text())
-        assert (b"are an image" in ran.stderr) == is_image, f"{20 * count:,} operations"
+        times = [[0] * 20] * count
+        table = _drawing.table_of(list(range(1, count + 1)), times, times)
+        assert _drawing.is_image(table, _drawing.Look()) == is_image, f"{20 * count:,} operations"
 
 
 @pytest.fixture(scope="module")

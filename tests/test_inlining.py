@@ -39,21 +39,10 @@ LOOPS = ["times::fill_times", "tails::fill_tails", "sums::fill_sums"]
 
 
 def calls(body: str) -> list[tuple[str, bool]]:
-    """The calls of a function, and whether each can come again after itself, as in a loop."""
+    """The calls of a function, and whether a jump back leads from behind each to before it, as in a loop."""
     lines = [(int(at, 16), text) for at, text in re.findall(r"^ *([0-9a-f]+):\t(.+)$", body, re.MULTILINE)]
-    following: dict[int, set[int]] = {}
-    for (at, text), (after, _) in zip(lines, lines[1:]):
-        jump = re.match(r"(j\w+) +([0-9a-f]+) ", text)
-        following[at] = ({int(jump[2], 16)} if jump else set()) | (set() if re.match("jmp|ret", text) else {after})
-
-    def comes_again(call: int) -> bool:
-        seen, new = set[int](), set(following.get(call, ()))
-        while new:
-            seen |= new
-            new = set().union(*(following.get(at, ()) for at in new)) - seen
-        return call in seen
-
-    return [(text, comes_again(at)) for at, text in lines if text.startswith("call")]
+    jumps = [(at, int(to[1], 16)) for at, text in lines if (to := re.match(r"j\w+ +([0-9a-f]+) ", text))]
+    return [(text, any(to <= call < at for at, to in jumps)) for call, text in lines if text.startswith("call")]
 
 
 @pytest.mark.parametrize("loop", LOOPS)

@@ -1,7 +1,6 @@
 """An installation has the program, the manual page and the completions where each is looked for, runs, and is removed
 again. It builds first what is missing or older than a source. All of it happens in a copy of the repository
 (support/installed.py)."""
-import datetime
 import os
 import pathlib
 import re
@@ -196,11 +195,8 @@ def test_all_that_states_a_version_states_the_same(name: str, top: pathlib.Path)
 
 
 def test_the_release_has_one_date(top: pathlib.Path) -> None:
-    """That of the changelog, of the citation and, unless a page has changed since, of the manual pages."""
-    dates = re.findall(rf"^## \[{re.escape(VERSION)}\] - (\d{{4}}-\d\d-\d\d)$", (top / "CHANGELOG.md").read_text(),
-                       re.MULTILINE)
+    """That of the changelog and of the citation."""
+    pattern = rf"^## \[{re.escape(VERSION)}\] - (\d{{4}}-\d\d-\d\d)$"
+    dates = re.findall(pattern, (top / "CHANGELOG.md").read_text(), re.MULTILINE)
     assert len(dates) == 1
     assert re.findall(r'^date-released: "(.*)"$', (top / "CITATION.cff").read_text(), re.MULTILINE) == dates
-    for page in (*top.glob("share/*.1"), *top.glob("python/*.1")):
-        got = re.search(r"^\.Dd (\w+ \d+, \d{4})$", page.read_text(), re.MULTILINE)
-        assert got and datetime.datetime.strptime(got[1], "%B %d, %Y").date().isoformat() >= dates[0], page.name

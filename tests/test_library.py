@@ -187,8 +187,6 @@ def test_the_library_exports_only_the_names_of_the_header(libpfs: Library) -> No
         lines = [line.split() for line in printed.splitlines() if not line.endswith(":")]
         names = {name for name, kind, *_ in lines if kind != "A"}
         assert names == ({f"{name}@@PFS_1" for name in NAMES} if path == libpfs.path else NAMES), path
-    header = set(re.findall(r"^(?:int|void|const char \*)\s*(pfs_\w+)\(", HEADER.read_text(), re.MULTILINE))
-    assert header == NAMES
 
 
 def test_the_library_needs_only_the_c_library(libpfs: Library) -> None:

@@ -254,26 +254,6 @@ WHEN = {
 }
 
 
-# The verdicts for which the status is 1, by the command and an order file that gets it.
-VERDICTS = {("check", "wrong size"): "two", ("table", "wrong size"): "two",
-            ("check", "wrong machines"): "for_three", ("table", "wrong machines"): "for_three",
-            ("check", "wrong makespan"): "wrong", ("table", "wrong makespan"): "wrong"}
-
-
-def verdicts(text: str) -> set[tuple[str, str]]:
-    """The commands and verdicts of a sentence, as `check or table printed wrong size or wrong machines`."""
-    got = re.findall(r"((?:check|table)(?: or (?:check|table))*) printed (wrong \w+(?: or wrong \w+)*)", text)
-    return {(command, verdict) for commands, names in got for command in commands.split(" or ")
-            for verdict in names.split(" or ")}
-
-
-def test_these_verdicts_end_with_status_1(pfs: Program, worked: pathlib.Path) -> None:
-    text = " ".join(when for status, when, _ in EXITS if status == "1").replace("`", "")
-    ran = {pair: pfs.run(f"{pair[0]} --layout taillard three {order}", worked) for pair, order in VERDICTS.items()}
-    wanted = {pair for pair, got in ran.items() if got.status == 1 and got.stdout.startswith(pair[1].encode())}
-    assert verdicts(text) == wanted
-
-
 # Options
 
 def test_each_option_of_the_usage_text_is_in_the_table() -> None:

@@ -66,7 +66,3 @@ def test_the_goals_of_make_that_this_page_names_exist(page: str, top: pathlib.Pa
     named = set(re.findall(r"(?:`|^(?:sudo )?)make (?!-)([a-z-]+)", (top / page).read_text(), re.MULTILINE))
     phony = re.findall(r"^\.PHONY: (.*)", (top / "Makefile").read_text(), re.MULTILINE)
     assert named - {goal for line in phony for goal in line.split()} == set()
-
-
-def test_there_are_pages() -> None:
-    assert {"README.md", "CONTRIBUTING.md", "docs/ARCHITECTURE.md", "python/README.md"} <= set(PAGES)

@@ -5,6 +5,8 @@ import pathlib
 
 import pytest
 from hypothesis import HealthCheck, settings
+
+pytest.register_assert_rewrite("support")
 from support.needs import missing, prepare_process, tool
 
 TOP = pathlib.Path(__file__).resolve().parents[2]

@@ -1,9 +1,13 @@
 """What the package returns, over lists: computed by the second program of the tests of pfs (tests/support), or from the
 definitions. For small instances only. And strategies that draw instances and orders."""
 import itertools
+import os
+import pathlib
 import subprocess
+import sys
 from collections.abc import Sequence
 
+import pfs
 from hypothesis import strategies as st
 from support import second_program
 from support.second_program import Instance
@@ -93,3 +97,15 @@ def run(words: list[str], status: int = 0) -> str:
     done = subprocess.run(words, capture_output=True, text=True, timeout=60, stdin=subprocess.DEVNULL)
     assert done.returncode == status, done
     return done.stdout if status == 0 else done.stderr
+
+
+def environment(**more: str) -> dict[str, str]:
+    """What a child needs to find the package."""
+    found = {"PYTHONPATH": str(pathlib.Path(pfs.__file__).parents[1]), "PYTHONDONTWRITEBYTECODE": "1"}
+    return os.environ | found | more
+
+
+def python(*words: str | pathlib.Path, cwd: pathlib.Path, **more: str) -> subprocess.CompletedProcess[str]:
+    """Runs Python with the package, and with more variables."""
+    return subprocess.run([sys.executable, *words], cwd=cwd, env=environment(**more), capture_output=True, text=True,
+                          timeout=300)

@@ -13,6 +13,7 @@ from typing import Any
 
 import numpy as np
 import pfs
+import plainly
 import pytest
 from pfs import _search
 
@@ -101,9 +102,8 @@ with open("found", "wb") as file:
 def interrupted(folder: pathlib.Path, words: str, *seconds: float) -> str:
     """What a script prints that gets SIGINT, with all that it has started, each time after some seconds."""
     (folder / "script.py").write_text(SCRIPT)
-    env = os.environ | {"PYTHONPATH": str(pathlib.Path(pfs.__file__).parents[1]), "PYTHONDONTWRITEBYTECODE": "1"}
-    child = subprocess.Popen([sys.executable, "script.py", words], cwd=folder, env=env, stdout=subprocess.PIPE,
-                             stderr=subprocess.PIPE, text=True, start_new_session=True)
+    child = subprocess.Popen([sys.executable, "script.py", words], cwd=folder, env=plainly.environment(),
+                             stdout=subprocess.PIPE, stderr=subprocess.PIPE, text=True, start_new_session=True)
     assert child.stdout and child.stdout.readline() == "ready\n"
     for wait in seconds:
         time.sleep(wait)

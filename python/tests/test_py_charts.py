@@ -1,14 +1,13 @@
 """Charts: pictures, and pages that are looked at in a browser."""
 import json
-import os
 import pathlib
 import re
-import subprocess
 import sys
 from typing import Any
 from xml.etree import ElementTree
 
 import pfs
+import plainly
 import pytest
 from browser import PEN, looked_at
 
@@ -100,8 +99,7 @@ print(json.dumps({name: [before[name], now] for name, now in settings().items() 
 def test_settings_stay_as_they_are(tmp_path: pathlib.Path, path: str) -> None:
     """In another process: an earlier test may have changed them in this one."""
     pytest.importorskip("matplotlib")
-    env = os.environ | {"PYTHONPATH": str(pathlib.Path(pfs.__file__).parents[1]), "PYTHONDONTWRITEBYTECODE": "1"}
-    done = subprocess.run([sys.executable, "-c", SETTINGS, path], cwd=tmp_path, env=env, capture_output=True, text=True)
+    done = plainly.python("-c", SETTINGS, path, cwd=tmp_path)
     assert done.returncode == 0 and (tmp_path / path).exists() == (path[:4] != "none"), done.stderr
     assert json.loads(done.stdout) == {}, "settings of the process that a chart has changed"
 

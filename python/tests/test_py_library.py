@@ -1,12 +1,11 @@
 """Which library is loaded, and the error for one that can't be used."""
-import os
 import pathlib
 import re
 import shutil
 import subprocess
-import sys
 
 import pfs
+import plainly
 import pytest
 from pfs import _library
 
@@ -34,9 +33,7 @@ def library_of(version: str, folder: pathlib.Path, without: str = "") -> pathlib
 
 def loaded(library: pathlib.Path | str, folder: pathlib.Path) -> subprocess.CompletedProcess[str]:
     """What Python says that imports the package with this library."""
-    env = os.environ | {"PFS_LIBRARY": str(library), "PYTHONDONTWRITEBYTECODE": "1",
-                        "PYTHONPATH": str(pathlib.Path(pfs.__file__).parents[1])}
-    return subprocess.run([sys.executable, "-c", LOADING], cwd=folder, env=env, capture_output=True, text=True)
+    return plainly.python("-c", LOADING, cwd=folder, PFS_LIBRARY=str(library))
 
 
 @pytest.mark.parametrize("version", [f"{MAJOR + 1}.0.0", f"{MAJOR}0.0.0", f"{MAJOR - 1}.9.9", f"{MAJOR + 1}"])
@@ -118,7 +115,6 @@ def test_modules_that_need_no_library_are_imported_without_one(tmp_path: pathlib
     """Those that draw a time table, and those of experiments. A name of the package says what is missing."""
     code = ("import pfs, pfs._gantt, pfs.experiments.__main__\n"
             "from pfs.experiments import plan, run, slurm\nprint(pfs.__version__)\npfs.Instance\n")
-    env = os.environ | {"PFS_LIBRARY": "/none", "PYTHONPATH": str(pathlib.Path(pfs.__file__).parents[1])}
-    done = subprocess.run([sys.executable, "-B", "-c", code], cwd=tmp_path, env=env, capture_output=True, text=True)
+    done = plainly.python("-c", code, cwd=tmp_path, PFS_LIBRARY="/none")
     assert done.stdout == f"{pfs.__version__}\n", done.stderr
     assert done.stderr.splitlines()[-1].startswith("ImportError: pfs can't load its library /none")

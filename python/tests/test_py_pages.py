@@ -12,8 +12,8 @@ import subprocess
 import sys
 
 import pfs
+import plainly
 import pytest
-from pfs import _library, _search
 
 HERE = pathlib.Path(__file__).resolve().parents[1]
 PAGE = HERE / "README.md"
@@ -53,24 +53,15 @@ def test_each_public_name_is_described(name: str) -> None:
     assert set(kept) <= described, f"attributes of {name}"
 
 
-# Texts of docstrings and of README, and the numbers that they tell.
-DEFAULTS = {
-    "Instance.solve": {"rounds": "The default is 1,000", "take": "The default is 4", "passes": "0 to 100",
-                       "first": "at most 1,000,000"},
-    "Instance": {"decimals": "0 to 9", "times": "1 to 5,000 jobs and a column for each of 1 to 200 machines"},
-    "generate": {"seed": "1 to 2,147,483,646"}, "taillard": {"number": "1 to 120"}}
-
-
-def test_the_numbers_of_docstrings_are_the_packages() -> None:
-    """Read from the texts, and compared with what is taken."""
-    texts = {name: " ".join((inspect.getdoc(public()[name]) or "").split()) for name in DEFAULTS}
-    for name, got in DEFAULTS.items():
-        for parameter, text in got.items():
-            assert text in texts[name], f"the docstring of {name} tells another number of {parameter}"
-    assert (_search.ROUNDS, _library.MOST_ROUNDS, _library.MOST_PASSES) == (1_000, 1_000_000, 100)
-    shop = pfs.Instance([[1]] * 9)
-    assert shop.solve(3) == shop.solve(3, take=4) and pfs.Instance([[1]], decimals=9).decimals == 9
-    assert pfs.taillard(120).jobs == 500 and pfs.generate(1, 1, 2_147_483_646).seed == 2_147_483_646
+def test_the_defaults_of_docstrings_are_the_packages() -> None:
+    """The limits are in tests/test_limits.py."""
+    texts = {name: " ".join((inspect.getdoc(public()[name]) or "").split())
+             for name in ("Instance.solve", "Instance", "taillard")}
+    for name, text in (("Instance.solve", "The default is 1,000"), ("Instance.solve", "The default is 4"),
+                       ("Instance", "0 to 9"), ("taillard", "1 to 120")):
+        assert text in texts[name], f"the docstring of {name} tells another number than {text!r}"
+    shop = pfs.Instance([[at, 9 - at] for at in range(9)], decimals=9)
+    assert shop.solve() == shop.solve(1_000, take=4) and pfs.taillard(120).jobs == 500
 
 
 def test_the_names_that_readme_states_are_the_packages() -> None:
@@ -102,9 +93,7 @@ def test_a_status_that_readme_states_is_the_commands(tmp_path: pathlib.Path, wha
     got = dict(re.findall(r"(\d) for ([\w' ]+)", sentence[1]))
     assert sorted(got.values()) == sorted(STATUSES) and len(got) == 3
     status, = [int(number) for number, text in got.items() if text == what]
-    env = os.environ | {"PYTHONPATH": str(pathlib.Path(pfs.__file__).parents[1]), "PYTHONDONTWRITEBYTECODE": "1"}
-    done = subprocess.run([sys.executable, "-m", "pfs", *STATUSES[what].split()], cwd=tmp_path, env=env,
-                          capture_output=True, text=True)
+    done = plainly.python("-m", "pfs", *STATUSES[what].split(), cwd=tmp_path)
     assert done.returncode == status, f"README tells status {status} for {what}: {done.stderr}"
     text = PAGE.read_text()
     assert "after a signal the exit status is 128 and the signal's number" in text
@@ -134,8 +123,7 @@ def test_the_command_lines_of_a_page(page: pathlib.Path, files: pathlib.Path, pr
     for name, words in (("python3", ""), ("pfs-plan", "-m pfs plan")):
         (files / name).write_text(f'#!/bin/sh\nexec {shlex.quote(sys.executable)} {words} "$@"\n')
         (files / name).chmod(0o755)
-    env = os.environ | {"PYTHONPATH": str(pathlib.Path(pfs.__file__).parents[1]), "PYTHONDONTWRITEBYTECODE": "1",
-                        "PATH": f"{files}:{pathlib.Path(program).parent}:{os.environ['PATH']}"}
+    env = plainly.environment(PATH=f"{files}:{pathlib.Path(program).parent}:{os.environ['PATH']}")
     blocks = re.findall(r"```console\n(.*?)```", page.read_text(), re.DOTALL)
     assert blocks
     for block in blocks:
@@ -150,9 +138,7 @@ def test_the_command_lines_of_a_page(page: pathlib.Path, files: pathlib.Path, pr
 def test_compare(tmp_path: pathlib.Path) -> None:
     pytest.importorskip("pandas")
     pytest.importorskip("matplotlib")
-    env = os.environ | {"PYTHONPATH": str(pathlib.Path(pfs.__file__).parents[1]), "PYTHONDONTWRITEBYTECODE": "1"}
-    done = subprocess.run([sys.executable, str(HERE / "examples" / "compare.py"), "out"], cwd=tmp_path, env=env,
-                          capture_output=True, text=True, timeout=300)
+    done = plainly.python(HERE / "examples" / "compare.py", "out", cwd=tmp_path)
     assert (done.returncode, done.stderr) == (0, "")
     rows = [line.split(",") for line in (tmp_path / "out" / "compare.csv").read_text().splitlines()]
     assert rows[0] == ["instance", "method", "makespan", "gap"] and len(rows) == 31
@@ -171,11 +157,10 @@ def test_ig_temperature(tmp_path: pathlib.Path) -> None:
     """Its processor time has that of the start. It finds a best known makespan."""
     script, shop = HERE / "examples" / "ig_temperature.py", pfs.taillard(1)
     shop.write(tmp_path / "ta001")
-    env = os.environ | {"PYTHONPATH": str(pathlib.Path(pfs.__file__).parents[1]), "PYTHONDONTWRITEBYTECODE": "1"}
     for words, most in (("ta001", "1", "0"), shop.neh().makespan), (("ta001", "1", "2"), shop.upper):
-        done = subprocess.run([sys.executable, script, *words], cwd=tmp_path, env=env, capture_output=True, timeout=300)
-        assert (done.returncode, done.stderr) == (0, b"")
-        check = shop.check(pfs.read_order(io.BytesIO(done.stdout)))
+        done = plainly.python(script, *words, cwd=tmp_path)
+        assert (done.returncode, done.stderr) == (0, "")
+        check = shop.check(pfs.read_order(io.BytesIO(done.stdout.encode())))
         assert check.valid and check.makespan is not None and check.makespan <= most
-    done = subprocess.run([sys.executable, script, "ta001"], env=env, capture_output=True, timeout=300)
-    assert (done.returncode, done.stderr) == (1, b"usage: ig_temperature.py INSTANCE SEED SECONDS\n")
+    done = plainly.python(script, "ta001", cwd=tmp_path)
+    assert (done.returncode, done.stderr) == (1, "usage: ig_temperature.py INSTANCE SEED SECONDS\n")

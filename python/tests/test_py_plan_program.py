@@ -74,20 +74,14 @@ def test_the_version_is_printed(tmp_path: pathlib.Path, capsys: pytest.CaptureFi
 MESSAGES = [
     ("job;saw\na;1.000\n", [], 2, "cell B2, column 'saw': '1.000' may be 1000, or have decimals: leave out thousands "
      "separators, or say which decimal sign the table has (--decimal point or --decimal comma)"),
-    ("job;saw;drill\na;1;2\nb;3;4\nc;4;6\n", [], 2, "cell A4: the row 'c' has the sums of the rows above: leave it "
-     "out, or allow totals (--allow-totals)"),
-    ("job;saw;drill;all\na;1;2;3\nb;3;4;7\n", [], 2, "cell D1: the column 'all' has the sums of the columns "
-     "before: leave it out, or allow totals (--allow-totals)"),
     ("job [min];saw\na;1\n", ["--unit", "h"], 2,
      "cell A1: the times are in min, and --unit is h: use one unit"),
-    ("job;saw [min]\na;1\n", ["--unit", "h"], 2,
-     "cell B1: the times of 'saw' are in min, and --unit is h: use one unit"),
     ("job [min];saw\na;1:30\n", [], 2, "cell A1: times such as 1:30 may be hours and minutes, or minutes and "
      "seconds: write [h:mm] instead of min, or numbers"),
     ("job;saw;eta\na;1;soon\n", [], 2, "cell C2, column 'eta': 'soon' isn't a time: leave the column out if it is no "
      "machine, or say which columns are machines (--machines)"),
-    ("a;1;2\nb;20;5\n", [], 2, "cell B1: the names of the machines are numbers, as if the row of names were "
-     "missing: add it, or write `job` into the first cell of the table"),
+    ("job;saw;drill;all\na;1;2;3\nb;3;4;7\n", [], 2, "cell D1: the column 'all' has the sums of the columns "
+     "before: leave it out, or allow totals (--allow-totals)"),
 ]
 
 

@@ -5,8 +5,6 @@ import gc
 import os
 import pathlib
 import pickle
-import subprocess
-import sys
 import threading
 import time
 from collections.abc import Callable
@@ -14,6 +12,7 @@ from concurrent.futures import ThreadPoolExecutor
 from typing import Any
 
 import pfs
+import plainly
 import pytest
 from pfs import _library
 
@@ -115,7 +114,6 @@ def test_a_forked_process_prepares_its_own_instance() -> None:
 
 
 def test_nothing_is_printed_when_python_ends_with_an_instance(tmp_path: pathlib.Path) -> None:
-    env = os.environ | {"PYTHONPATH": str(pathlib.Path(pfs.__file__).parents[1]), "PYTHONDONTWRITEBYTECODE": "1"}
     script = "import pfs; shop = pfs.taillard(1); pfs.kept = [shop, shop.solve(1)]; print(shop.bound())"
-    done = subprocess.run([sys.executable, "-c", script], cwd=tmp_path, env=env, capture_output=True, text=True)
+    done = plainly.python("-c", script, cwd=tmp_path)
     assert (done.stdout, done.stderr, done.returncode) == ("1232\n", "", 0)

@@ -356,15 +356,25 @@ def ends(cut: Callable[[list[int]], None]) -> dict[int, pfs.Solution]:
 
 
 @pytest.mark.seconds(5)
-def test_an_interruption_at_each_bytecode_loses_nothing(ends: dict[int, pfs.Solution]) -> None:
-    shop = pfs.generate(6, 2, 1)
+def test_an_interruption_at_each_bytecode_loses_nothing(ends: dict[int, pfs.Solution],
+                                                        monkeypatch: pytest.MonkeyPatch) -> None:
+    """Each part counts that the library has made, also before its result is used."""
+    shop, real = pfs.generate(6, 2, 1), _library.library.pfs_rounds
+    made: list[int] = []
+
+    def noting(*given: Any) -> int:
+        made.append(real(*given))
+        return made[-1]
+
+    monkeypatch.setattr(_library.library, "pfs_rounds", noting)
     for at in range(MOST_BYTECODES):
+        made.clear()
         tracer = Interrupting(at)
         best = interrupted(shop, tracer, Closing)
         if not tracer.has_come:
             break
         assert best == ends[best.rounds], f"interrupted at bytecode {at}: not where so many rounds end"
-        assert best.rounds >= Closing.made, f"interrupted at bytecode {at}: a part that was reported is lost"
+        assert best.rounds == len(made) * ROUNDS // PARTS, f"interrupted at bytecode {at}: a part that was made is lost"
     assert best == ends[ROUNDS]
     assert 1000 < at < MOST_BYTECODES - 1, f"{at} bytecodes"
 
@@ -390,15 +400,6 @@ def test_a_second_interruption_at_each_bytecode_loses_nothing(ends: dict[int, pf
             break
     assert 10 < at < MOST_BYTECODES - 1, f"{at} bytecodes"
     assert Bar.closed == 1
-
-
-def test_four_threads_have_the_same_results() -> None:
-    shops = [pfs.generate(60, 10, seed) for seed in range(1, 5)]
-    alone = [shop.solve(300, passes=1) for shop in shops]
-    with ThreadPoolExecutor(4) as threads:
-        for _ in range(5):
-            found = [threads.submit(shop.solve, 300, passes=1) for shop in shops]
-            assert [each.result() for each in found] == alone
 
 
 def test_a_call_frees_the_lock() -> None:

@@ -22,9 +22,16 @@ from hypothesis import strategies as st
 
 @pytest.mark.quick
 @given(plainly.shops_and_sequences())
-def test_makespan(case: tuple[plainly.Table, list[int]]) -> None:
+def test_makespan_and_insertions(case: tuple[plainly.Table, list[int]]) -> None:
+    """Of a sequence, and of each other job at each place of it."""
     times, sequence = case
-    assert pfs.Instance(times).makespan(sequence) == plainly.makespan(times, sequence)
+    shop = pfs.Instance(times)
+    assert shop.makespan(sequence) == plainly.makespan(times, sequence)
+    for job in set(range(len(times))) - set(sequence):
+        spans = shop.places(sequence, job)
+        due = [plainly.makespan(times, [*sequence[:at], job, *sequence[at:]]) for at in range(len(sequence) + 1)]
+        assert spans.tolist() == due and spans.dtype == np.int64
+        assert shop.best_place(sequence, job) == plainly.best_place(times, sequence, job)
 
 
 @pytest.mark.parametrize("seed", range(6))
@@ -80,24 +87,6 @@ def test_neh(times: plainly.Table) -> None:
     assert found.makespan == plainly.makespan(times, order)
     assert found.cells == 2 * len(times[0]) * len(times)**2
     assert (found.machines, found.rounds) == (len(times[0]), 0)
-
-
-@given(plainly.shops_and_sequences(), st.randoms(use_true_random=False))
-def test_best_place(case: tuple[plainly.Table, list[int]], chance: random.Random) -> None:
-    times, sequence = case
-    others = sorted(set(range(len(times))) - set(sequence))
-    if others:
-        job = chance.choice(others)
-        assert pfs.Instance(times).best_place(sequence, job) == plainly.best_place(times, sequence, job)
-
-
-@given(plainly.shops_and_sequences(), st.randoms(use_true_random=False))
-def test_places(case: tuple[plainly.Table, list[int]], chance: random.Random) -> None:
-    times, sequence = case
-    for job in set(range(len(times))) - set(sequence):
-        spans = pfs.Instance(times).places(sequence, job)
-        due = [plainly.makespan(times, [*sequence[:at], job, *sequence[at:]]) for at in range(len(sequence) + 1)]
-        assert spans.tolist() == due and spans.dtype == np.int64
 
 
 @given(plainly.shops(), st.data())

@@ -60,10 +60,6 @@ def read32(memory: bytes) -> list[int]:
     return array("I", memory).tolist()
 
 
-def read64(memory: bytes) -> list[int]:
-    return array("Q", memory).tolist()
-
-
 # The functions that work on a prepared instance.
 ON_SHOP = {f"pfs_{name}" for name in (
     "makespan", "makespans", "bound", "table", "neh", "rounds", "insert", "insertions", "heads_tails", "construct",
