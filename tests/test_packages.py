@@ -50,7 +50,7 @@ def line_of_install(pattern: str) -> str:
 
 @pytest.fixture(scope="module")
 def made(copy: Copy, tmp_path_factory: pytest.TempPathFactory) -> Made:
-    for command in ("dh", "dh_python3", "dpkg-buildpackage"):
+    for command in ("apt-ftparchive", "dh", "dh_python3", "dpkg-buildpackage"):
         tool(command)
     folder = tmp_path_factory.mktemp("first")
     got = copy.make("dist", f"DIST={folder}")
