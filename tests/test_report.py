@@ -577,7 +577,8 @@ def test_all_is_inside_of_the_picture_and_can_be_read(width: str, options: list[
 @pytest.mark.parametrize("ending", ["svg", "pdf"])
 def test_a_report_made_again_has_the_same_bytes(ending: str, scripts: pathlib.Path, script: Reported,
                                                 folder: pathlib.Path) -> None:
-    """The second report is made more than a second later, as a user does it, by a process whose hashes differ."""
+    """The second report is made more than a second later, as a user does it, by a process whose hashes differ, in a
+    folder with settings of matplotlib."""
     (folder / "out.csv").write_text(REPORTED)
     words = ["--format", ending, "out.csv", "report"]
 
@@ -586,6 +587,7 @@ def test_a_report_made_again_has_the_same_bytes(ending: str, scripts: pathlib.Pa
         return {path.name: path.read_bytes() for path in (folder / "report").iterdir()}
 
     first = files_of(script(*words))
+    (folder / "matplotlibrc").write_text("figure.facecolor: red\n")
     time.sleep(1.1)
     second = files_of(run_tool([scripts / "pfs-experiments", "report", *words], folder))
     assert [name for name in first if first[name] != second[name]] == [], "files that differ"
