@@ -3,16 +3,14 @@ import contextlib
 import os
 import pathlib
 import shutil
-import signal
 from collections.abc import Iterator
 
 import pytest
-from _pytest.assertion import truncate
 
 pytest.register_assert_rewrite("support")
 from support.files import make_files
 from support.library import Library
-from support.needs import missing
+from support.needs import missing, prepare_process
 from support.program import Program
 
 pytest_plugins = ["support.needs", "support.folders", "support.tools", "support.warm", "support.ssh", "support.slurm",
@@ -36,15 +34,9 @@ def pytest_addoption(parser: pytest.Parser) -> None:
 
 
 def pytest_configure(config: pytest.Config) -> None:
-    # What a failing assertion says is cut off after 8 lines otherwise. Since pytest 8.4 there is a setting for it.
-    truncate.DEFAULT_MAX_LINES, truncate.DEFAULT_MAX_CHARS = 60, 6_000
-    # What runs in the background of a shell ignores it, and so would all that the tests start.
-    if signal.getsignal(signal.SIGINT) == signal.SIG_IGN:
-        signal.signal(signal.SIGINT, signal.default_int_handler)
+    prepare_process()
     # Scripts begin with `env python3`: Debian's Python has the packages that they need, and starts fast.
     os.environ["PATH"] = f"/usr/bin:{os.environ['PATH']}"
-    # It would hide that a script doesn't flush what it prints.
-    os.environ.pop("PYTHONUNBUFFERED", None)
     if config.option.collectonly or config.option.markexpr == "check":
         return
     path = config.getoption("pfs").resolve()

@@ -6,12 +6,6 @@ import re
 import pytest
 from support.definitions import WORD, Definition, all_definitions, page, reached
 
-# Words that the whole program's and the search's promise rest on.
-HEADLINE = ["take_for", "words_for", "neh_cells", "rounds_cells", "solution_text", "PrintsSolution", "ReportsFault",
-            "IsTakeFault", "AreBlocks", "Completes", "Seeks", "ExactlyOne", "BeginDue", "IsLeastTable",
-            "AreLayoutNames", "makespan", "neh_order", "best_place", "after_round", "first_least", "paths", "greatest"]
-
-
 def test_the_page_of_what_is_reached_has_each(top: pathlib.Path) -> None:
     rows = re.findall(r"^\| (\S+) \| \*{0,2}`([^`]+)`\*{0,2} \| .*\|$", page(top / "crates"), re.MULTILINE)
     assert sorted(rows) == sorted((each.file, each.name) for each in reached(top / "crates")) and len(rows) > 300
@@ -38,27 +32,6 @@ def test_what_only_proofs_and_private_functions_use_is_private(top: pathlib.Path
               if not each.file.startswith("Private.") and each.file not in EXAMPLES
               and (each.crate, each.name) not in members and each.name not in NEXT_TO_SIMILAR}
     assert others == set()
-
-
-DEFINED = re.compile(r"^ *(?:pub )?(?:abbrev|unfoldable|record|data) (?:pub )?([^\s:({]+)", re.MULTILINE)
-# What the files of each function's own proof are called; `Proof.antt` is one by hand.
-OWN = {"Answers.antt", "Invariants.antt", "Proof.antt"}
-# Short for the same within modules that several proofs have: the weights of the jobs, and the last machine.
-SHORT = {"weigh", "last"}
-
-
-def test_no_name_of_a_definition_means_two_things(top: pathlib.Path) -> None:
-    files: dict[str, set[pathlib.Path]] = {}
-    for path in (top / "crates").glob("*/*/**/*.antt"):
-        if path.relative_to(top / "crates").parts[1] in ("specs", "proofs") and path.name not in OWN:
-            for name in DEFINED.findall(path.read_text()):
-                files.setdefault(name, set()).add(path)
-    assert len(files) > 300
-    assert {name for name, places in files.items() if len(places) > 1} == SHORT
-
-
-def test_the_words_of_the_headline_are_reached(top: pathlib.Path) -> None:
-    assert set(HEADLINE) - {each.name for each in reached(top / "crates")} == set()
 
 
 # The list of what is proved

@@ -57,23 +57,16 @@ def test_without_arguments_a_closed_input_is_a_failed_read(pfs: Program, folder:
 
 # Standard input that isn't a regular file
 
-def test_an_input_for_writing(pfs: Program, folder: pathlib.Path) -> None:
-    with open(folder / "written", "wb") as written:
-        assert pfs.run([], folder, written) == refused("read failed")
-
-
-def test_a_folder_as_input(pfs: Program, folder: pathlib.Path) -> None:
-    descriptor = os.open(folder, os.O_RDONLY)
-    assert pfs.run([], folder, descriptor) == refused("read failed")
-    os.close(descriptor)
-
-
-@pytest.mark.parametrize("device, got", [
-    ("/dev/null", "no block, found 0"), ("/dev/zero", "input too long"), ("/dev/full", "input too long"),
+@pytest.mark.parametrize("path, flags, answer", [
+    ("written", os.O_WRONLY | os.O_CREAT, refused("read failed")), (".", os.O_RDONLY, refused("read failed")),
+    ("/dev/null", os.O_RDONLY, refused("no block, found 0", 2)),
+    ("/dev/zero", os.O_RDONLY, refused("input too long", 2)),
 ])
-def test_a_device_as_input(pfs: Program, folder: pathlib.Path, device: str, got: str) -> None:
-    with open(device, "rb") as file:
-        assert pfs.run([], folder, file) == refused(got, 2)
+def test_an_odd_input(pfs: Program, folder: pathlib.Path, path: str, flags: int, answer: Ran) -> None:
+    """A file that is open for writing, a folder, and devices."""
+    descriptor = os.open(folder / path, flags)
+    assert pfs.run([], folder, descriptor) == answer
+    os.close(descriptor)
 
 
 @pytest.fixture

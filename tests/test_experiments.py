@@ -23,7 +23,7 @@ from support.ssh import Server
 from support.terminals import Terminal
 from support.tools import Done, csv_rows, run_tool, wait_until, with_path, write_script
 
-ONE, SIX, EIGHT, TWELVE = (f"out.csv: {count} runs, 0 of them failed, 0 still to run\n" for count in (1, 6, 8, 12))
+SIX, TWELVE = (f"out.csv: {count} runs, 0 of them failed, 0 still to run\n" for count in (6, 12))
 README = (pathlib.Path(__file__).resolve().parent.parent / "experiments" / "README.md").read_text()
 on_slurm = pytest.mark.xdist_group("slurm")
 over_ssh = pytest.mark.xdist_group("ssh")
@@ -56,7 +56,8 @@ INVALID = {
     "nested": "x = " + "[" * 5000 + "]" * 5000, "shops/": 'instances = ["shops/\\u0000"]\n',
     "time_factors": ALL + "time_factors = [nan]\n",
     "needs method": ALL + 'command = "a {instance}"\n', "must contain {instance}": MINE + 'command = "a"\n',
-    "{x}": MINE + 'command = "a {instance} {x}"\n', "needs time_factors": MINE + 'command = "a {instance} {seconds}"\n',
+    "{x}, but there are only {block}, {instance}": MINE + 'command = "a {instance} {x}"\n',
+    "needs time_factors": MINE + 'command = "a {instance} {seconds}"\n',
     "rounds is for pfs": MINE + 'rounds = [1]\ncommand = "a {instance}"\n',
     "no file matches a": MINE + 'command = "./a {instance}"\n', "files needs": MINE + 'files = ["shops/*"]\n',
     "/etc/passwd": MINE + 'command = "a {instance}"\nfiles = ["/etc/passwd"]\n',
@@ -109,31 +110,27 @@ def test_an_interruption_at_the_start_prints_nothing(script: str, experiment: Ex
     assert got == Done(-signal.SIGINT, "", ""), "what an interruption prints"
 
 
-@pytest.mark.parametrize("path", ["shops", "plan.toml/out.csv", "x" * 255, "\udcff.csv"])
-def test_an_impossible_csv_is_rejected_before_the_first_run(path: str, experiment: Experiment) -> None:
-    assert_refused(experiment.run(path, program=experiment.replacement()))
-    assert experiment.started() == [] and sorted(os.listdir(experiment.folder)) == ["plan.toml", "program", "shops"]
+NO_PFS = {"prints nothing": "#!/bin/sh\n", "prints its words": "#!/bin/sh\necho \"$@\"\n",
+          "prints without end": "#!/bin/sh\nyes\n", "is a text": "some words\n", "is a binary": "\x7fELF"}
+# The program, if it isn't pfs, the command and the CSV, and what is said.
+REFUSED = {
+    **{f"the CSV {path[:20]!r}": ("", "run", path, "")
+       for path in ("shops", "plan.toml/out.csv", "x" * 255, "\udcff.csv")},
+    **{f"a program that {what}": (text, "run", "out.csv", "program is not pfs: ") for what, text in NO_PFS.items()},
+    "no GNU parallel": ("", "run", "alone.csv", "parallel is not installed (Debian: parallel)"),
+    "no Slurm": ("", "slurm", "alone.csv", "sbatch is not installed (Debian: slurm-client)"),
+}
 
 
-@pytest.mark.parametrize(("script", "missing"), [("run", "parallel is not installed (Debian: parallel)"),
-                                                 ("slurm", "sbatch is not installed (Debian: slurm-client)")])
-def test_a_missing_program_is_reported(script: str, missing: str, experiment: Experiment) -> None:
-    """Before anything is written."""
+@pytest.mark.parametrize(("text", "command", "path", "said"), REFUSED.values(), ids=REFUSED)
+def test_a_start_is_refused_before_anything_is_written(text: str, command: str, path: str, said: str,
+                                                       experiment: Experiment) -> None:
+    """Or is run: the replacement would note it."""
+    program = write_script(experiment.folder / "program", text) if text else experiment.replacement()
     before = sorted(os.listdir(experiment.folder))
-    assert_refused(experiment.script(script, "plan.toml", "out.csv", env={"PATH": str(experiment.folder)}), missing)
+    env = {"PATH": "/none"} if path == "alone.csv" else None
+    assert_refused(experiment.script(command, "plan.toml", path, program=program, env=env), said)
     assert sorted(os.listdir(experiment.folder)) == before
-
-
-NO_PFS = {"a program that prints nothing": "#!/bin/sh\n", "one that prints its words": "#!/bin/sh\necho \"$@\"\n",
-          "one that prints without end": "#!/bin/sh\nyes\n", "a text": "some words\n", "a binary": "\x7fELF"}
-
-
-@pytest.mark.parametrize("text", NO_PFS.values(), ids=NO_PFS)
-def test_a_program_that_is_not_pfs_is_rejected(text: str, experiment: Experiment) -> None:
-    """Before anything is written."""
-    program = write_script(experiment.folder / "program", text)
-    assert_refused(experiment.run(program=program), "program is not pfs: ")
-    assert sorted(os.listdir(experiment.folder)) == ["plan.toml", "program", "shops"]
 
 
 def test_pfs_is_found_beside_the_script_that_is_not_on_the_path(made: Experiment, scripts: pathlib.Path) -> None:
@@ -145,19 +142,15 @@ def test_pfs_is_found_beside_the_script_that_is_not_on_the_path(made: Experiment
 
 # Folders that are damaged, and small disks
 
-@pytest.mark.parametrize("data", [b"{", b"[]", b'{"places": 1}', b"[" * 100_000, b'{"layout": "\xff"}',
-                                  b'{"places": {}, "runs": [{"number": "2"}]}'])
-def test_a_damaged_plan_is_reported_on_one_line(data: bytes, made: Experiment) -> None:
-    before = (made.folder / "out.csv").read_text()
-    (made.runs / "plan.json").write_bytes(data)
-    assert_refused(made.plan(PLAN + "repetitions = 2\n").run(), "plan.json is damaged", "out.csv")
+@pytest.mark.parametrize("data", [None, b"{", b"[]", b'{"places": 1}', b"[" * 100_000, b'{"layout": "\xff"}',
+                                  b'{"places": {}, "runs": [{"number": "2"}]}', b'{"places": {}, "runs": []}'])
+def test_a_damaged_folder_is_reported_on_one_line(data: bytes | None, made: Experiment) -> None:
+    """Its plan, or it has no program."""
+    before, (stage,) = (made.folder / "out.csv").read_text(), made.runs.glob("pfs-experiment-*")
+    stage.rename(made.folder / "elsewhere") if data is None else (made.runs / "plan.json").write_bytes(data)
+    said = "no copy of the program" if data is None else "plan.json is damaged"
+    assert_refused(made.plan(PLAN + "repetitions = 2\n").run(), said, "out.csv")
     assert (made.folder / "out.csv").read_text() == before
-
-
-def test_a_folder_without_its_program_is_reported_on_one_line(made: Experiment) -> None:
-    stage, = made.runs.glob("pfs-experiment-*")
-    stage.rename(made.folder / "elsewhere")
-    assert_refused(made.run(), "no copy of the program")
 
 
 RESULTS = {
@@ -246,31 +239,27 @@ def test_a_second_start_makes_nothing_again_and_a_smaller_plan_is_rejected(made:
 
 
 def test_layouts_blocks_takes_passes_and_repetitions(experiment: Experiment) -> None:
-    """And a file that isn't an instance."""
-    experiment.plan('layout = "orlib"\ninstances = ["two.or", "bad.or"]\nblocks = [2, 1]\nrounds = [5]\n'
+    """And a file that isn't an instance, and one whose bound is 0, which has the gap 0."""
+    experiment.plan('layout = "orlib"\ninstances = ["two.or", "bad.or", "zero.or"]\nblocks = [2, 1]\nrounds = [5]\n'
                     "takes = [2, 1]\npasses = [1]\nseeds = [7]\nrepetitions = 2\n")
     shops = [experiment.printed("convert", "--from", "taillard", "--to", "orlib", f"shops/{name}") for name in "ab"]
     (experiment.folder / "two.or").write_text("".join(shops))
     (experiment.folder / "bad.or").write_text("3 2\n0 1 1 x\n")
+    (experiment.folder / "zero.or").write_text("2 1\n0 0\n0 0\n" * 2)
     fault = "solve: exit 2, pfs: mixed line at 10"
     assert experiment.run() == Done(1, "", f"bad.or:2 (rounds 5, take 2, passes 1, seed 7) and 7 more failed: {fault}\n"
-                                           "out.csv: 16 runs, 8 of them failed, 0 still to run\n")
+                                           "out.csv: 24 runs, 8 of them failed, 0 still to run\n")
     rows = experiment.rows()
     wanted = [(f"{name}:{block}", *size, "5", take, "1", "7", again, status)
-              for name, sizes, status in (("two.or", [("3", "2"), ("20", "5")], "ok"), ("bad.or", [("", "")] * 2,
-                                                                                         fault))
+              for name, sizes, status in (("two.or", [("3", "2"), ("20", "5")], "ok"),
+                                          ("bad.or", [("", "")] * 2, fault), ("zero.or", [("2", "1")] * 2, "ok"))
               for block, size in zip((2, 1), sizes) for take in "21" for again in "12"]
     assert [(*row[:8], row[-1]) for row in rows] == wanted
     line = "solve --layout orlib --block 1 --rounds 5 --take 2 --passes 1 --seed 7 --cells two.or"
     *_, makespan, cells = experiment.printed(*line.split(" ")).splitlines()
     assert [makespan.split()[1], cells.split()[1]] == [rows[4][8], rows[4][11]]
     assert rows[4][8:12] == rows[5][8:12], "repetitions of a run"
-
-
-def test_where_the_bound_is_0_there_is_no_gap(experiment: Experiment) -> None:
-    (experiment.folder / "shops" / "zero").write_text("2 1 0 0 0\n0 0\n")
-    assert experiment.plan('instances = ["shops/zero"]\n').run().status == 0
-    assert experiment.columns("makespan", "bound", "gap_percent", "status") == [("0", "0", "0.0000", "ok")]
+    assert {row[8:11] for row in rows[16:]} == {("0", "0", "0.0000")}, "makespan, bound and gap"
     assert experiment.script("check", "out.csv").status == 0, "an optimal order is wrong"
 
 
@@ -294,15 +283,6 @@ def test_each_order_is_kept_and_check_audits_it_again(made: Experiment) -> None:
     assert numbers == [1, 2, 4] and wrong[3].endswith(": the run has no order file"), wrong
     (made.folder / "old.csv").write_text("instance,makespan\na,1\n")
     assert_refused(made.script("check", "old.csv"), "pfs-experiments check: old.csv: no column rounds, take")
-
-
-def test_the_csv_has_the_reference_of_the_plan(made: Experiment) -> None:
-    """Also one that is named once all runs are made. It begins with a byte order mark."""
-    (made.folder / "best.csv").write_text("\N{BOM}instance,makespan,source\nb,12.0,a paper\nc,1,no paper\n")
-    assert made.plan(HALF + 'reference = "best.csv"\n').run() \
-        == Done(0, "", f"best.csv lacks 1 of 2 instances: shops/a\n{SIX}")
-    assert made.columns("instance", "reference", "source") \
-        == [("shops/a", "", "")] * 3 + [("shops/b", "12", "a paper")] * 3
 
 
 # What each plan begins as and grows to, and the rows of that.
@@ -385,6 +365,15 @@ def test_runs_by_time_take_their_time(experiment: Experiment, with_library: dict
     assert experiment.script("check", "out.csv") == Done(0, "out.csv: 12 orders audited, 0 of them wrong\n", "")
 
 
+def test_readmes_plan_for_files_in_or_librarys_layout(experiment: Experiment, with_library: dict[str, str]) -> None:
+    plan = re.search(r'```\n(instances = \["VFR.*?)```', README, re.DOTALL)
+    (experiment.folder / "VFR10_5_1_Gap.txt").write_text(
+        experiment.printed("convert", "--from", "taillard", "--to", "orlib", "shops/b"))
+    (experiment.folder / "best.csv").write_text("instance,makespan\nVFR10_5_1,20\n")
+    assert plan and experiment.plan(plan[1]).run(env=with_library).status == 0
+    assert experiment.columns("instance", "time_factor", "reference") == [("VFR10_5_1_Gap.txt", "30", "20")]
+
+
 TIMES = [at * at % 97 for at in range(1, 201)]
 
 
@@ -460,21 +449,22 @@ case $2 in
 7) echo '1 1 1' ;;
 8) while :; do :; done & while :; do :; done ;;
 9) yes "$line" ;;
-10) echo "$line" | sed 's/ /, /g; s/$/,/' ;;
+10) test "$4 $5 $6" = "a 20 5" && echo "$line" | sed 's/ /, /g; s/$/,/' ;;
+11) echo '2 0 1' ;;
 esac
 """
 OTHER = """instances = ["shops/a"]
 time_factors = [10]
-seeds = [1, 2, 3, 4, 5, 6, 7, 8, 9, 10]
+seeds = [1, 2, 3, 4, 5, 6, 7, 8, 9, 10, 11]
 method = "mine"
-command = "./mine {instance} {seed} {seconds}"
+command = "./mine {instance} {seed} {seconds} {name} {jobs} {machines}"
 """
 STATUSES = [
     "ok", "ok", "command: signal 11", "command: exit 3, Traceback: something",
     "command: no order printed: 'the best order is 3 2 1'", "command: nothing printed",
     "check: exit 2, pfs: order file job repeated at place 2",
     r"command: took too long: \d+\.\d\d s of processor time instead of 0.5 s",
-    "command: more than 1,048,576 bytes printed", "ok",
+    "command: more than 1,048,576 bytes printed", "ok", "command: job 0: jobs count from 1",
 ]
 
 
@@ -485,9 +475,9 @@ def with_other(experiment: Experiment, plan: str = OTHER, program: str = PROGRAM
 
 def other_is_right(experiment: Experiment, got: Done) -> None:
     """The runs of the other program are in the CSV, with their orders or with what is wrong."""
-    assert (got.status, got.stderr.splitlines()[-1]) == (1, "out.csv: 10 runs, 7 of them failed, 0 still to run")
+    assert (got.status, got.stderr.splitlines()[-1]) == (1, "out.csv: 11 runs, 8 of them failed, 0 still to run")
     rows = experiment.columns("seed", "status", "method", "time_factor", "rounds", "take", "passes", "cells")
-    assert [row[0] for row in rows] == [str(seed) for seed in range(1, 11)]
+    assert [row[0] for row in rows] == [str(seed) for seed in range(1, 12)]
     assert [(row[1], wanted) for row, wanted in zip(rows, STATUSES) if not re.fullmatch(wanted, row[1])] == []
     assert {row[2:] for row in rows} == {("mine", "10", "", "", "", "")}
     assert experiment.script("check", "out.csv") == Done(0, "out.csv: 3 orders audited, 0 of them wrong\n", "")
@@ -512,8 +502,9 @@ def test_a_wrong_makespan_of_another_program_fails_and_isnt_made_again(experimen
     with_other(experiment, ONLY_B + plan)
     assert experiment.run().status == 1
     before = experiment.columns("seed", "status", "seconds")
-    assert [row[:2] for row in before] == [("1", "ok"), ("2", "check: exit 1, wrong makespan"),
-                                           ("3", "command: signal 11")]
+    makespan, = experiment.columns("makespan")[0]
+    assert [row[1] for row in before] == ["ok", f"check: exit 1, wrong makespan, stated 1, computed {makespan}",
+                                          "command: signal 11"]
     assert experiment.run().status == 1
     assert experiment.columns("seed", "status", "seconds") == before
 
@@ -541,6 +532,7 @@ LINES = [
     ("0.1", f"{SLEEP} & {SLEEP} > /dev/null 2>&1 & sleep 0.1; echo 1", "1 2"), ("0.1", "sleep 1; echo 2", "2 0"),
     ("0.2", f"({SPIN} &); sleep 1000", r"took too long: [01]\.\d\d s of processor time instead of 0.2 s"),
     ("0.05", "for each in $(seq 200); do (for at in $(seq 9000); do :; done); done; echo 3", "took too long: .*"),
+    ("0.01", "python3 -c 'import time\nwhile time.process_time() < 0.3: pass'; echo 4", "4 0"),
     ("9", "kill -9 $$", "signal 9"),
 ]
 
@@ -548,7 +540,7 @@ LINES = [
 @pytest.mark.parametrize(("seconds", "line", "wanted"), LINES, ids=[line[:30] for _, line, _ in LINES])
 def test_a_program_that_waits_or_takes_too_long_is_ended_with_all_that_it_has_started(
         seconds: str, line: str, wanted: str, folder: pathlib.Path) -> None:
-    code = ("import sys; from pfs.experiments import one; one.PATIENCE = 0.5\n"
+    code = ("import sys; from pfs.experiments import one; one.PATIENCE = 3\n"
             "try: text, _, left = one.run_command(['sh', '-c', sys.argv[2]], '.', float(sys.argv[1]))\n"
             "except one.Failed as failure: print(failure)\nelse: print(text.strip(), left)\n")
     env = dict(os.environ, PYTHONPATH=str(pathlib.Path(one.__file__).parents[2]))
@@ -569,14 +561,15 @@ FAILING = """"solve "*"--seed 1 "*) $pfs "$@" | sed 's/^makespan .*/makespan 1/'
 
 def test_the_csv_has_a_failed_run_with_its_status(experiment: Experiment) -> None:
     """A run that was killed is made by the next start, and the others are with --retry."""
-    statuses = ["ok", "check: exit 1, wrong makespan", "solve: signal 9", "solve: exit 4, no memory, perhaps",
-                "solve: no cells printed", "lost: exit 137, signal 0"]
+    wrong = "check: exit 1, wrong makespan, stated 1, computed"
+    statuses = ["ok", wrong, "solve: signal 9", "solve: exit 4, no memory, perhaps", "solve: no cells printed",
+                "lost: exit 137, signal 0"]
     program = experiment.replacement(FAILING)
     got = experiment.plan(HALF.replace("[1, 2, 3]", "[0, 1, 2, 3, 4, 5]")).run(program=program)
-    assert got == Done(1, "", "".join(f"shops/a (rounds 10, take 4, passes 0, seed {seed}) and 1 more failed: "
-                                      f"{statuses[seed]}\n" for seed in (1, 2, 3, 4, 5))
-                       + "out.csv: 12 runs, 10 of them failed, 0 still to run\n")
-    assert [row[-1] for row in experiment.rows()] == statuses * 2
+    assert (got.status, re.sub(r"(?<=computed) \d+", "", got.stderr)) == (1, "".join(
+        f"shops/a (rounds 10, take 4, passes 0, seed {seed}) and 1 more failed: {statuses[seed]}\n"
+        for seed in (1, 2, 3, 4, 5)) + "out.csv: 12 runs, 10 of them failed, 0 still to run\n")
+    assert [re.sub(r"(?<=computed) \d+", "", row[-1]) for row in experiment.rows()] == statuses * 2
     assert {row[8:-1] for row in experiment.rows() if row[-1] != "ok"} == {("",) * 4}, "results of runs that failed"
     (experiment.folder / "notes").unlink()
     (experiment.folder / "fixed").touch()

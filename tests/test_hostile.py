@@ -1,15 +1,16 @@
-"""Files of 64 MiB through each command that reads: the exact output, in time linear in the file, with at most 16 MiB of
+"""Files of 64 MiB through the commands that read: the exact output, in time linear in the file, with at most 16 MiB of
 memory plus the instance. The files consist of one repeated byte, of digits and blanks, of one line, or of a million
-lines. Then the greatest instance, with the longest times: the exact output, with that memory and the tables of a search
-or of a time table. The program gets no more address space than that, and its resident memory is checked too."""
+lines. Then the greatest instance, with the longest times, through each command: the exact output, with that memory and
+the tables of a search or of a time table. The program gets no more address space than that, and its resident memory is
+checked too."""
 import pathlib
-from collections.abc import Iterable, Iterator
-from typing import Any
+from collections.abc import Callable, Iterable, Iterator
+from typing import NamedTuple
 
 import pytest
 from support.files import FILES
 from support.large import LargeRun, run_limited, write_equal_times, write_many_lines, write_one_line, write_repeated
-from support.lines import ANSWERS, EACH, EQUAL, WITH_INSTANCE, WITH_ORDER, equal_convert, equal_solve, equal_value
+from support.lines import ANSWERS, EACH, EQUAL, WITH_INSTANCE, equal_convert, equal_solve, equal_value
 from support.program import Program
 
 MIB = 1 << 20
@@ -24,14 +25,9 @@ LONGEST_ORDER_TEXT = 50_044
 COUNT = b"pfs: size line 1 has a wrong count\n"
 NONE = b"pfs: no block, found 0\n"
 TOO_LONG = b"pfs: input too long\n"
-ORDER_TOO_LONG = b"pfs: order file too long\n"
 
-# The repeated bytes, and the fault of a file of them.
-FILLS = {b"7": COUNT, b" ": NONE, b"\n": NONE, b"x": NONE, b"\0": NONE, b"\xff": NONE, b"7 ": COUNT}
-# The commands over an instance, those over an order file too, and those of which no time is compared.
+# The commands over an instance.
 COMMANDS = [command for command, line in EACH.items() if line in WITH_INSTANCE]
-WITH_ORDERS = [command for command, line in EACH.items() if line in WITH_ORDER]
-OTHERS = [command for command in COMMANDS if command != "value"]
 
 
 def words_of(command: str, file: pathlib.Path, order: pathlib.Path | None = None) -> list[str]:
@@ -51,87 +47,58 @@ def run_large(pfs: Program, words: list[str], folder: pathlib.Path, parts: Itera
     return ran
 
 
-def is_linear(seconds: float, eighth: float) -> bool:
-    """Whether an eighth of the file takes at least a twenty-seventh of the time, so that twice the file takes at most
-    three times as long. With quadratic time the file would take 64 times as long as its eighth."""
-    return seconds <= 27 * eighth + 0.1
+# Files of 64 MiB
+
+MANY_JOBS, MANY_MACHINES = 2_000, 200
 
 
-@pytest.fixture
-def small(folder: pathlib.Path) -> pathlib.Path:
-    """A folder with the three jobs and their best order."""
-    for name in ("three", "best"):
-        (folder / name).write_bytes(FILES[name])
-    return folder
+class Great(NamedTuple):
+    """How such a file, or a smaller one like it, is written, and what `value` prints or reports of it."""
+    write: Callable[[pathlib.Path, int], None]
+    printed: Callable[[int], Iterable[bytes]] = lambda size: []
+    got: bytes = b""
+    times: int = 0
 
 
-# Files that hold no instance
-
-class Fill:
-    """A file of equal parts, and its fault."""
-
-    def __init__(self, folder: pathlib.Path, part: bytes) -> None:
-        self.path = folder / "great"
-        self.part = part
-        self.reported = FILLS[part]
-        write_repeated(self.path, part, SIZE)
+def fill(part: bytes, got: bytes) -> Great:
+    """A file of equal parts, which holds no instance."""
+    return Great(lambda path, size: write_repeated(path, part, size), got=got)
 
 
-def filled(part: bytes, *more: str) -> Any:
-    """A parameter of the tests of this fill, which one process makes."""
-    return pytest.param(part, *more, id=" ".join([f"64 MiB of {part!r}", *more]),
-                        marks=pytest.mark.xdist_group(f"64 MiB of {part!r}"))
+GREAT = {
+    **{f"nothing but {part!r}": fill(part, NONE) for part in (b" ", b"\n", b"x", b"\0", b"\xff")},
+    **{f"nothing but {part!r}": fill(part, COUNT) for part in (b"7", b"7 ")},
+    "one line": Great(write_one_line, lambda size: [b"makespan 11\n"]),
+    "a million lines": Great(
+        lambda path, size: write_many_lines(path, MANY_JOBS * size // SIZE, MANY_MACHINES, 1_000_000 * size // SIZE),
+        lambda size: equal_value(MANY_JOBS * size // SIZE, MANY_MACHINES, 1), times=MANY_JOBS * MANY_MACHINES),
+}
 
 
-@pytest.fixture(scope="module", params=map(filled, FILLS))
-def fill(request: pytest.FixtureRequest, tmp_path_factory: pytest.TempPathFactory) -> Iterator[Fill]:
-    made = Fill(tmp_path_factory.mktemp("fill"), request.param)
-    yield made
-    made.path.unlink()
-
-
-@pytest.mark.seconds(3)
-def test_a_fill_in_linear_time(pfs: Program, folder: pathlib.Path, fill: Fill) -> None:
-    write_repeated(folder / "eighth", fill.part, SIZE // 8)
-    eighth = run_large(pfs, words_of("value", folder / "eighth"), folder, [], fill.reported, 2).seconds
-    whole = run_large(pfs, words_of("value", fill.path), folder, [], fill.reported, 2).seconds
-    assert is_linear(whole, eighth), f"{whole} s, and {eighth} s for an eighth of the file"
-
-
-@pytest.mark.seconds(3)
-@pytest.mark.parametrize(("fill", "command"), [filled(part, command) for part in (b"x", b"7 ") for command in OTHERS],
-                         indirect=["fill"])
-def test_a_fill(pfs: Program, small: pathlib.Path, fill: Fill, command: str) -> None:
-    run_large(pfs, words_of(command, fill.path, small / "best"), small, [], fill.reported, 2)
-
-
-@pytest.mark.seconds(3)
-@pytest.mark.parametrize("command", WITH_ORDERS)
-def test_a_fill_as_order_file(pfs: Program, small: pathlib.Path, fill: Fill, command: str) -> None:
-    run_large(pfs, words_of(command, small / "three", fill.path), small, [], ORDER_TOO_LONG, 2)
-
-
-@pytest.mark.seconds(3)
-def test_a_fill_and_a_byte(pfs: Program, folder: pathlib.Path, fill: Fill) -> None:
-    write_repeated(folder / "longer", fill.part, SIZE + 1)
-    run_large(pfs, words_of("value", folder / "longer"), folder, [], TOO_LONG, 2)
-    (folder / "longer").unlink()
-
-
-# The three jobs on one line
-
-@pytest.fixture(scope="module")
-def one_line(tmp_path_factory: pytest.TempPathFactory) -> Iterator[pathlib.Path]:
-    path = tmp_path_factory.mktemp("line") / "great"
-    write_one_line(path, SIZE)
-    yield path
+@pytest.mark.seconds(5)
+@pytest.mark.parametrize("kind", GREAT)
+def test_a_great_file_in_linear_time(pfs: Program, folder: pathlib.Path, kind: str) -> None:
+    """Its eighth takes at least a 27th of the time, so that twice the file takes at most three times as long. In
+    quadratic time the file would take 64 times as long as its eighth. A byte more than 64 MiB is too long."""
+    great, path, words = GREAT[kind], folder / "great", words_of("value", folder / "great")
+    seconds = []
+    for size in (SIZE // 8, SIZE):
+        great.write(path, size)
+        ran = run_large(pfs, words, folder, great.printed(size), great.got, 2 if great.got else 0, 4 * great.times)
+        seconds.append(ran.seconds)
+    assert seconds[1] <= 27 * seconds[0] + 0.1, f"{seconds[1]} s, and {seconds[0]} s for an eighth of the file"
+    if path.stat().st_size == SIZE:
+        with open(path, "ab") as file:
+            file.write(b"\n")
+        run_large(pfs, words, folder, [], TOO_LONG, 2)
     path.unlink()
 
 
 @pytest.fixture(scope="module")
-def longer_line(tmp_path_factory: pytest.TempPathFactory) -> Iterator[pathlib.Path]:
+def one_line(tmp_path_factory: pytest.TempPathFactory) -> Iterator[pathlib.Path]:
+    """The three jobs on one line of 64 MiB."""
     path = tmp_path_factory.mktemp("line") / "great"
-    write_one_line(path, SIZE + 1)
+    write_one_line(path, SIZE)
     yield path
     path.unlink()
 
@@ -141,68 +108,17 @@ ONE_LINE = pytest.mark.xdist_group("one line")
 
 @ONE_LINE
 @pytest.mark.seconds(3)
-def test_a_line_in_linear_time(pfs: Program, folder: pathlib.Path, one_line: pathlib.Path) -> None:
-    write_one_line(folder / "eighth", SIZE // 8)
-    eighth = run_large(pfs, words_of("value", folder / "eighth"), folder, [b"makespan 11\n"], b"", 0).seconds
-    whole = run_large(pfs, words_of("value", one_line), folder, [b"makespan 11\n"], b"", 0).seconds
-    assert is_linear(whole, eighth), f"{whole} s, and {eighth} s for an eighth of the file"
-
-
-@ONE_LINE
-@pytest.mark.seconds(3)
-@pytest.mark.parametrize("command", OTHERS)
-def test_a_line(pfs: Program, small: pathlib.Path, one_line: pathlib.Path, command: str) -> None:
+@pytest.mark.parametrize("command", [command for command in COMMANDS if command != "value"])
+def test_a_line(pfs: Program, folder: pathlib.Path, one_line: pathlib.Path, command: str) -> None:
+    (folder / "best").write_bytes(FILES["best"])
     answer = ANSWERS[EACH[command]]
-    run_large(pfs, words_of(command, one_line, small / "best"), small, [answer.stdout], b"", 0)
+    run_large(pfs, words_of(command, one_line, folder / "best"), folder, [answer.stdout], b"", 0)
 
 
 @ONE_LINE
 @pytest.mark.seconds(3)
 def test_a_line_as_input(pfs: Program, folder: pathlib.Path, one_line: pathlib.Path) -> None:
     run_large(pfs, [], folder, [b"makespan 11\n"], b"", 0, stdin=one_line)
-
-
-@ONE_LINE
-@pytest.mark.seconds(3)
-@pytest.mark.parametrize("command", COMMANDS)
-def test_a_longer_line(pfs: Program, small: pathlib.Path, longer_line: pathlib.Path, command: str) -> None:
-    run_large(pfs, words_of(command, longer_line, small / "best"), small, [], TOO_LONG, 2)
-
-
-# A million lines
-
-MANY_JOBS, MANY_MACHINES = 2_000, 200
-MANY_LINES = pytest.mark.xdist_group("many lines")
-
-
-@pytest.fixture(scope="module")
-def many_lines(tmp_path_factory: pytest.TempPathFactory) -> Iterator[pathlib.Path]:
-    """A folder with the file and its order file."""
-    made = tmp_path_factory.mktemp("lines")
-    write_many_lines(made / "great", MANY_JOBS, MANY_MACHINES, 1_000_000)
-    (made / "order").write_bytes(b"".join(equal_solve(MANY_JOBS, MANY_MACHINES, 1)))
-    yield made
-    (made / "great").unlink()
-
-
-@MANY_LINES
-@pytest.mark.seconds(3)
-def test_many_lines_in_linear_time(pfs: Program, folder: pathlib.Path, many_lines: pathlib.Path) -> None:
-    jobs = MANY_JOBS // 8
-    write_many_lines(folder / "eighth", jobs, MANY_MACHINES, 125_000)
-    eighth = run_large(pfs, words_of("value", folder / "eighth"), folder, equal_value(jobs, MANY_MACHINES, 1), b"", 0,
-                       4 * jobs * MANY_MACHINES).seconds
-    whole = run_large(pfs, words_of("value", many_lines / "great"), folder, equal_value(MANY_JOBS, MANY_MACHINES, 1),
-                      b"", 0, 4 * MANY_JOBS * MANY_MACHINES).seconds
-    assert is_linear(whole, eighth), f"{whole} s, and {eighth} s for an eighth of the file"
-
-
-@MANY_LINES
-@pytest.mark.seconds(3)
-@pytest.mark.parametrize("command", OTHERS)
-def test_many_lines(pfs: Program, folder: pathlib.Path, many_lines: pathlib.Path, command: str) -> None:
-    run_large(pfs, words_of(command, many_lines / "great", many_lines / "order"), folder,
-              EQUAL[command](MANY_JOBS, MANY_MACHINES, 1), b"", 0, 4 * MANY_JOBS * MANY_MACHINES)
 
 
 # The greatest instance

@@ -162,10 +162,6 @@ def test_a_program_that_is_older_than_a_source_or_missing_is_built(name: str, is
             os.utime(made, (NEW, NEW))
 
 
-def test_a_number_of_minutes_is_that_many(top: pathlib.Path) -> None:
-    assert "tests/fuzz.py --seconds $((60 * 5))\n" in output_of(["make", "-n", "fuzz", "MINUTES=5"], top)
-
-
 # What the program needs
 
 def test_the_page_names_the_c_library_that_the_program_needs(top: pathlib.Path, pfs: Program,

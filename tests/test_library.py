@@ -32,7 +32,6 @@ NAMES = {f"pfs_{name}" for name in FUNCTIONS} | TEXTS
 NAMED = [*QUIET, *LOUD, *OTHERS, "prepare", "prepare_again", "prepare_lanes", "prepare_rows",
          "insert_lanes", "insert_rows"]
 ALL_CALLS = Ran(b"173 calls, 0 failures\n", b"", 0)
-LONG_CALLS = Ran(b"4 calls, 0 failures\n", b"", 0)
 # No call makes as many allocations.
 MOST_GROWTHS = 200
 SHOPS = 200
@@ -58,22 +57,10 @@ def defined() -> dict[str, int]:
     return {name: int(value) for name, value in found}
 
 
-def constants(path: pathlib.Path, kind: str) -> dict[str, int]:
-    """The constants of a source in Rattle."""
-    found = re.findall(rf"^(?:pub )?const (\w+): {kind} = ([0-9_]+);", path.read_text(), re.MULTILINE)
-    return {name: int(value.replace("_", "")) for name, value in found}
-
-
-def test_the_limits_are_those_of_the_crates(top: pathlib.Path) -> None:
-    limits = constants(top / "crates" / "pfs_base" / "src" / "limits.rt", r"\w+")
-    makespan = constants(top / "crates" / "pfs_order" / "src" / "reading.rt", "u64")["GREATEST_MAKESPAN"]
-    wanted = {f"PFS_{name}": value for name, value in limits.items() if name != "GREATEST_NOTE"}
-    stated = {name: value for name, value in defined().items() if re.match("PFS_(MOST|LONGEST)_", name)}
-    assert stated == wanted | {"PFS_MOST_MAKESPAN": makespan}
-
-
 def test_the_numbers_are_those_of_the_crate(top: pathlib.Path) -> None:
-    numbers = constants(top / "crates" / "pfs_c" / "src" / "numbers.rt", "i32")
+    """The limits are in test_limits.py."""
+    source = (top / "crates" / "pfs_c" / "src" / "numbers.rt").read_text()
+    numbers = {name: int(value) for name, value in re.findall(r"^pub const (\w+): i32 = (\d+);", source, re.MULTILINE)}
     answered = {name: value for name, value in defined().items()
                 if not re.match("PFS_(MOST|LONGEST)_|PFS_(TAILLARD|ORLIB|VERSION_NUMBER)$", name)}
     assert answered == numbers
@@ -154,24 +141,6 @@ def test_other_numbers_have_no_text(texts: dict[int, str]) -> None:
     assert {text for number, text in texts.items() if number not in MEANT} == {"unknown number"}
 
 
-# A few words of each number's comment in pfs.h.
-COMMENTS = {
-    1: "allocation failed", 2: "PFS_MOST_JOBS.*PFS_MOST_MACHINES", 3: "a list.*length", 4: "a time.*PFS_LONGEST_TIME$",
-    5: "a job is not below", 6: "a job occurs twice", 7: "destruction size", 8: "PFS_MOST_PASSES", 9: "PFS_MOST_ROUNDS",
-    10: "2147483646", 11: "PFS_TAILLARD nor PFS_ORLIB", 12: "PFS_MOST_BLOCKS", 13: "PFS_MOST_MAKESPAN", 14: "room",
-    15: "holds no", 20: "before the block", 21: "too few or too many", 22: "out of range", 23: "a word",
-    24: "PFS_LONGEST_TIME;", 25: "machine number", 26: "last time", 27: "inside a block", 28: "PFS_LONGEST_INPUT",
-    30: "not an order file", 31: "0 or greater", 32: "at an earlier place", 33: "PFS_LONGEST_ORDER_FILE"}
-
-
-def test_the_header_explains_each_number() -> None:
-    comments = {int(value): comment for value, comment in
-                re.findall(r"^#define PFS_[A-Z_]+ (\d+) +/\*\*< (.*?) \*/$", HEADER.read_text(), re.MULTILINE)}
-    assert COMMENTS.keys() == MEANT.keys() - {0}
-    for number, words in COMMENTS.items():
-        assert re.search(words, comments[number]), f"the comment of {number} in pfs.h"
-
-
 # The manual page
 
 MANUAL = HEADER.parent.parent / "share" / "pfs.3"
@@ -194,19 +163,14 @@ def test_the_manual_page_has_each_number_and_function() -> None:
     assert set(re.findall(r"^\.Fn (\w+)", text, re.MULTILINE)) == NAMES
 
 
-def test_the_example_of_the_manual_page_prints_its_makespan(libpfs: Library, folder: pathlib.Path) -> None:
-    lines = MANUAL.read_text().partition(".Bd -literal -offset indent\n")[2].partition(".Ed\n")[0]
-    (folder / "example.c").write_text(lines.replace("\\e", "\\"))
-    program = compiled(folder / "example", [folder / "example.c"], libpfs)
-    assert program.run([], folder) == Ran(b"10\n", b"", 0)
-
-
-def test_the_first_program_of_the_page_prints_its_makespan(libpfs: Library, top: pathlib.Path,
-                                                           folder: pathlib.Path) -> None:
-    text, = re.findall(r"^```c\n(.*?)^```$", (top / "docs" / "LIBRARY.md").read_text(), re.MULTILINE | re.DOTALL)
-    (folder / "example.c").write_text(text)
-    program = compiled(folder / "example", [folder / "example.c"], libpfs)
-    assert program.run([], folder) == Ran(b"makespan 10\n", b"", 0)
+def test_the_examples_of_the_pages_print_their_makespan(libpfs: Library, top: pathlib.Path,
+                                                        folder: pathlib.Path) -> None:
+    lines = MANUAL.read_text().partition(".Bd -literal -offset indent\n")[2].partition(".Ed\n")[0].replace("\\e", "\\")
+    page, = re.findall(r"^```c\n(.*?)^```$", (top / "docs" / "LIBRARY.md").read_text(), re.MULTILINE | re.DOTALL)
+    for source, printed in ((lines, b"10\n"), (page, b"makespan 10\n")):
+        (folder / "example.c").write_text(source)
+        program = compiled(folder / "example", [folder / "example.c"], libpfs)
+        assert program.run([], folder) == Ran(printed, b"", 0)
 
 
 def test_the_table_of_calls_of_the_page_has_each_function(top: pathlib.Path) -> None:
@@ -257,21 +221,18 @@ def test_each_call_has_the_due_number_and_outputs(libpfs: Library, folder: pathl
                                                   is_static: bool) -> None:
     program = compiled(folder / "calls", [CALLS], libpfs, compiler=compiler, is_static=is_static)
     assert program.run("all", folder) == ALL_CALLS
-    assert program.run("long", folder) == LONG_CALLS
 
 
 def test_the_sanitizers_find_nothing_in_any_call(libpfs: Library, folder: pathlib.Path) -> None:
     checks = ["-fsanitize=address,undefined", "-fno-sanitize-recover=all"]
     program = compiled(folder / "calls", [CALLS], libpfs, *checks, is_static=True)
     assert program.run("all", folder) == ALL_CALLS
-    assert program.run("threads", folder).status == 0
 
 
 @OF_CALLS
 @pytest.mark.seconds(3)
 @pytest.mark.parametrize(("words", "printed"), [
-    (["all"], ALL_CALLS.stdout), (["threads"], LONG_CALLS.stdout),
-    (NAMED, b"right\nright\n" * len(NAMED))], ids=["all", "threads", "each function"])
+    (["all"], ALL_CALLS.stdout), (NAMED, b"right\nright\n" * len(NAMED))], ids=["all", "each function"])
 def test_valgrind_finds_nothing_in_any_call(calls: Program, folder: pathlib.Path, words: list[str],
                                             printed: bytes) -> None:
     """One start of valgrind takes longer than the calls of a function. It reports with each error in which call it
@@ -279,12 +240,6 @@ def test_valgrind_finds_nothing_in_any_call(calls: Program, folder: pathlib.Path
     valgrind = ["-q", "--error-exitcode=9", "--leak-check=full", "--show-leak-kinds=all", "--errors-for-leak-kinds=all"]
     ran = Program(pathlib.Path(tool("valgrind"))).run([*valgrind, str(calls.path), *words], folder)
     assert ran == Ran(printed, b"", 0)
-
-
-@OF_CALLS
-def test_four_threads_at_once_have_the_same_results(calls: Program, folder: pathlib.Path) -> None:
-    for _ in range(20):
-        assert calls.run("threads", folder) == Ran(b"4 calls, 0 failures\n", b"", 0)
 
 
 @pytest.fixture(scope="session")
@@ -485,3 +440,15 @@ def test_two_libraries_agree_on_random_files(libpfs: Library) -> None:
             numbers.add(assert_same(libpfs, name, arguments))
             numbers.add(assert_same(libpfs, name, spoilt(random, arguments)))
     assert numbers == {0, 2, 3, 4, 5, 6, *range(10, 15), *range(20, 28), 30, 31, 32}
+
+
+@pytest.mark.parametrize(("more", "numbers"), [(0, [20, 30]), (1, [28, 33])])
+def test_a_file_of_one_byte_more_is_too_long(libpfs: Library, more: int, numbers: list[int]) -> None:
+    """All else stays as it was, but for the place of the fault."""
+    longest = [b"x" * (defined()[f"PFS_LONGEST_{name}"] + more) for name in ("INPUT", "ORDER_FILE")]
+    for content, number, call in zip(longest, numbers, ("pfs_read", "pfs_read_order")):
+        options: Arguments = [Number(1, 32), Number(1), out32(8)] if call == "pfs_read" else []
+        outputs: Arguments = [*list32([PATTERN] * 4), *([out64()] * 3 if call == "pfs_read_order" else [])]
+        got = libpfs.call(call, *text(content), *options, *outputs, out64())
+        given_memory = [each.content for each in [*options, *outputs] if isinstance(each, Memory)]
+        assert (got.number, got.memory[1:-1], got.memory[-1]) == (number, given_memory, bytes(8)), call

@@ -10,12 +10,15 @@ SOURCES = ["pfs_base/src/limits.rt", "pfs_order/src/reading.rt", "pfs_layout/src
 
 
 def limits() -> dict[str, int]:
-    """The constants of the crates, the generator's greatest seed, and the first byte that isn't read."""
+    """The constants of the crates, the generator's greatest seed, the first byte that isn't read, and how many digits
+    may follow the first one of a numeral of an order file."""
     text = "\n".join((TOP / "crates" / source).read_text() for source in SOURCES)
     found = {name: int(value.replace("_", ""))
              for name, value in re.findall(r"^(?:pub )?const (\w+): \w+ = ([\d_]+);$", text, re.MULTILINE)}
     return found | {"MOST_MAKESPAN": found["GREATEST_MAKESPAN"], "MOST_NOTE": found["GREATEST_NOTE"],
-                    "MOST_GENERATOR_SEED": found["MODULUS"] - 1, "BYTE_BEYOND": found["LONGEST_INPUT"] + 1}
+                    "MOST_GENERATOR_SEED": found["MODULUS"] - 1, "BYTE_BEYOND": found["LONGEST_INPUT"] + 1,
+                    "MORE_OF_A_JOB": len(str(found["GREATEST_JOB"])) - 1,
+                    "MORE_OF_A_MAKESPAN": len(str(found["GREATEST_MAKESPAN"])) - 1}
 
 
 LIMITS = limits()
@@ -34,8 +37,15 @@ TOLD = {
                                "if (value > {LONGEST_TIME})"],
     "docs/FORMATS.md": ["a numeral of 1 to {MOST_JOBS} without", "a numeral of 1 to {MOST_MACHINES} without",
                         "byte {BYTE_BEYOND} comes", "more than {LONGEST_ORDER_FILE} bytes",
-                        "seed is not within 1 to {MOST_GENERATOR_SEED}"],
-    "docs/COMMANDS.md": ["order file | {LONGEST_ORDER_FILE} |"],
+                        "seed is not within 1 to {MOST_GENERATOR_SEED}",
+                        "at most {MORE_OF_A_JOB} more digits; jobs", "at most {MORE_OF_A_MAKESPAN} more digits |"],
+    "docs/COMMANDS.md": ["| jobs | 1 to {MOST_JOBS} |", "| machines | 1 to {MOST_MACHINES} |",
+                         "| times | 0 to {LONGEST_TIME} |", "size line | 0 to {MOST_NOTE} |",
+                         "| blocks | 1 to {MOST_BLOCKS} |", "wanted block | {LONGEST_INPUT} |",
+                         "order file | {LONGEST_ORDER_FILE} |", "`generate` | 1 to {MOST_GENERATOR_SEED} |",
+                         "`--block K` | 1 to {MOST_BLOCKS} |", "`--rounds R` | 0 to {MOST_ROUNDS} |",
+                         "`--take D` | 1 to {MOST_JOBS}, and", "`--passes P` | 0 to {MOST_PASSES} |",
+                         "`--seed S` | 0 to 18,446,744,073,709,551,615 |"],
     "share/pfs.1": ["jobs (1 to {MOST_JOBS})", "machines (1 to {MOST_MACHINES})", "(1 to {MOST_GENERATOR_SEED}),",
                     "not end within {LONGEST_INPUT} bytes.\n", "not within 1 to {MOST_GENERATOR_SEED}.",
                     "It has more than {LONGEST_ORDER_FILE} bytes",

@@ -1,6 +1,6 @@
 """The pages that users read, against the built program. Each example of README.md, of the pages on commands and recipes
-and of the manual page is run, and must print what the page shows. The faults, exit statuses, ranges, defaults and
-limits in the tables of docs/ must be the program's, and those of the manual page must be the same."""
+and of the manual page is run, and must print what the page shows. The faults, exit statuses and defaults in the tables
+of docs/ must be the program's, and those of the manual page and its ranges the same. Limits are in test_limits.py."""
 import os
 import pathlib
 import re
@@ -16,7 +16,7 @@ from support.lines import ANSWERS, KINDS, PRINTING
 from support.needs import tool
 from support.program import Program, Ran
 from support.tools import Done, run_tool, with_path, write_script
-from support.usage import LAYOUTS, LINES, commands, ends_taken
+from support.usage import LAYOUTS, LINES, commands
 
 TOP = pathlib.Path(__file__).resolve().parent.parent
 COMMANDS, FORMATS, TROUBLESHOOTING = ((TOP / "docs" / f"{name}.md").read_text()
@@ -24,8 +24,6 @@ COMMANDS, FORMATS, TROUBLESHOOTING = ((TOP / "docs" / f"{name}.md").read_text()
 MANUAL = (TOP / "share" / "pfs.1").read_text()
 PAGES = [TOP / "README.md", TOP / "experiments" / "README.md", *sorted((TOP / "docs").rglob("*.md"))]
 MOST_SECONDS = 120
-# Of a cell of a table.
-MOST_LETTERS = 300
 
 
 # Texts of pages
@@ -49,23 +47,10 @@ def section(title: str) -> str:
 
 # The tables of facts
 
-class Range(NamedTuple):
-    least: int
-    most: int
-
-
-def range_of(cell: str) -> Range:
-    """The range that a cell begins with, or the greatest number alone."""
-    found = re.match(r"(?:([\d,]+) to )?([\d,]+)", cell)
-    assert found, cell
-    return Range(*(int((part or "0").replace(",", "")) for part in found.groups()))
-
-
 # Each option with its range and its default, as the page has them.
 OPTIONS = {name.strip("`").split()[0]: (values, default)
            for name, values, default, _ in table(COMMANDS, "Option", "Range", "Default", "Meaning")}
-RANGES = {name: range_of(values) for name, (values, _) in OPTIONS.items() if values[:1].isdigit()}
-LIMITS = {what: range_of(limit) for what, limit in table(COMMANDS, "What", "Limit")}
+RANGED = [name for name, (values, _) in OPTIONS.items() if values[:1].isdigit()]
 EXITS = table(COMMANDS, "Exit status", "When", "Standard error")
 STATUS_OF_FAULT = {text.strip("`"): int(status) for _, text, status in table(FORMATS, "Fault", "Text", "Status")}
 
@@ -144,11 +129,6 @@ def test_an_example_prints_what_the_page_shows(example: Example, shown: Callable
     assert shown(example) == example.printed
 
 
-@pytest.mark.parametrize("page", EXAMPLES)
-def test_a_page_has_examples(page: str) -> None:
-    assert len(EXAMPLES[page]) > 3
-
-
 def test_the_first_files_of_the_page_on_formats_are_of_one_instance(pfs: Program, folder: pathlib.Path) -> None:
     texts = re.findall(r"^```\n(.*?)^```$", FORMATS, re.MULTILINE | re.DOTALL)
     for name, text in zip(("taillard", "orlib", "order"), texts):
@@ -189,42 +169,12 @@ def test_the_pages_to_which_a_page_links_are_there(page: pathlib.Path) -> None:
     assert [name for name in named if not (page.parent / name).exists()] == []
 
 
-NOBODY = re.compile(r"noreply|example\.org|%ae|`Maintainer`")
-
-
-@pytest.mark.parametrize("page", sorted({*PAGES, *TOP.glob("*.md"), *(TOP / "lib").glob("*.in")}),
-                         ids=lambda page: str(page.relative_to(TOP)))
-def test_no_page_leads_to_an_address_that_nobody_reads(page: pathlib.Path) -> None:
-    """Neither to one, nor to a commit's author or a package's maintainer, who may have such an address."""
-    assert NOBODY.findall(page.read_text()) == []
-
-
-@pytest.mark.parametrize("page", PAGES, ids=[str(page.relative_to(TOP)) for page in PAGES])
-def test_no_cell_of_a_table_is_a_paragraph(page: pathlib.Path) -> None:
-    text = re.sub(r"^```.*?^```$", "", page.read_text(), flags=re.MULTILINE | re.DOTALL)
-    assert [cell for rows in tables(text) for row in rows for cell in row if len(cell) > MOST_LETTERS] == []
-
-
-def test_readme_is_short() -> None:
-    assert len((TOP / "README.md").read_bytes()) <= 10 << 10
-
-
-def test_the_page_on_pictures_shows_the_usage_of_gantt() -> None:
-    usage = (TOP / "docs" / "COOKBOOK.md").read_text().partition("\n`pfs-gantt ")[2].partition("`")[0]
-    text = (TOP / "python" / "src" / "pfs" / "_gantt.py").read_text().replace('"""', "\n")
-    assert usage and f"usage: pfs-gantt {usage}\n" in text
-
-
 SLIPS = [re.findall("`([^`]+)`", typed)[0] for typed, _ in table(TROUBLESHOOTING, "Typed", "Reason")]
 
 
 @pytest.mark.parametrize("line", SLIPS)
 def test_a_slip_gets_the_usage(line: str, pfs: Program, worked: pathlib.Path) -> None:
     assert pfs.run(line.removeprefix("pfs "), worked) == Ran(b"", USAGE, 3)
-
-
-def test_the_page_names_slips() -> None:
-    assert len(SLIPS) > 10
 
 
 FILE_SLIPS = {
@@ -324,22 +274,15 @@ def test_these_verdicts_end_with_status_1(pfs: Program, worked: pathlib.Path) ->
     assert verdicts(text) == wanted
 
 
-# Ranges, defaults and limits
+# Options
 
 def test_each_option_of_the_usage_text_is_in_the_table() -> None:
     assert {option for command in commands().values() for option in command.options} == set(OPTIONS)
 
 
-@pytest.mark.parametrize("option", RANGES)
-def test_the_range_of_an_option_is_the_programs(option: str, pfs: Program, folder: pathlib.Path) -> None:
-    least, most = RANGES[option]
-    wanted = {least - 1: False, least: True, most: True, most + 1: False}
-    assert ends_taken(pfs, option, least, most, folder) == wanted
-
-
-@pytest.mark.parametrize("option", RANGES)
+@pytest.mark.parametrize("option", RANGED)
 def test_a_default_is_as_without_and_one_more_is_not(option: str, pfs: Program, folder: pathlib.Path) -> None:
-    default = range_of(OPTIONS[option][1]).most
+    default = int(OPTIONS[option][1].partition(",")[0])
     (folder / "shop").write_bytes(generated(20, 5, 1))
     call = "solve --layout taillard --cells shop" + " --rounds=3" * (option != "--rounds")
     without, same, more = (pfs.run(call + words, folder) for words in
@@ -348,112 +291,20 @@ def test_a_default_is_as_without_and_one_more_is_not(option: str, pfs: Program, 
     assert without != more, f"one more than the default of {option}"
 
 
-@pytest.mark.parametrize("option", ["--layout", "--from", "--to"])
-def test_a_layout_is_one_of_these(option: str, pfs: Program, worked: pathlib.Path) -> None:
-    names = re.findall("`(.*?)`", OPTIONS[option][0])
-    assert set(names) == LAYOUTS
-    lines = {"--layout": "value --layout {} none", "--from": "convert --from {} --to orlib none",
-             "--to": "convert --from orlib --to {} none"}
-    found = {name: pfs.run(lines[option].format(name), worked).status for name in [*names, "Taillard", "other"]}
-    assert found == dict.fromkeys(names, 4) | {"Taillard": 3, "other": 3}
-
-
-def test_the_default_take_of_fewer_jobs_is_their_number(pfs: Program, worked: pathlib.Path) -> None:
-    call = "solve --layout taillard --cells --rounds 3 three"
-    without, all_jobs, fewer = (pfs.run(call + take, worked) for take in ("", " --take 3", " --take 2"))
-    assert without == all_jobs != fewer
-
-
-def test_the_range_of_a_generators_seed_is_the_programs(pfs: Program, folder: pathlib.Path) -> None:
-    least, most = LIMITS["seed of `generate`"]
-    assert {seed: pfs.run(f"generate 1 1 {seed}", folder).status for seed in (least - 1, least, most, most + 1)} \
-        == {least - 1: 2, least: 0, most: 0, most + 1: 2}
-
-
-def test_the_sizes_of_generate_are_the_programs(pfs: Program, folder: pathlib.Path) -> None:
-    jobs, machines = LIMITS["jobs"].most, LIMITS["machines"].most
-    assert {size: pfs.run(f"generate {size} 1", folder).status for size in
-            (f"{jobs} 1", f"{jobs + 1} 1", f"1 {machines}", f"1 {machines + 1}", "0 1", "1 0")} \
-        == {f"{jobs} 1": 0, f"{jobs + 1} 1": 3, f"1 {machines}": 0, f"1 {machines + 1}": 3, "0 1": 3, "1 0": 3}
-
-
-def test_the_limits_of_an_instance_are_the_programs(pfs: Program, folder: pathlib.Path) -> None:
-    """Where a size is within its limit the times are missing."""
-    (few, jobs), (fewer, machines), (least, time) = (LIMITS[name] for name in ("jobs", "machines", "times"))
-    assert (few, fewer, least) == (1, 1, 0), "least sizes and time"
-    wanted = {
-        f"{jobs} 1 0 0 0": "truncated after 0 times", f"{jobs + 1} 1 0 0 0": "size line 1 is out of range",
-        f"1 {machines} 0 0 0": "truncated after 0 times", f"1 {machines + 1} 0 0 0": "size line 1 is out of range",
-        "0 1 0 0 0": "size line 1 is out of range", "1 0 0 0 0": "size line 1 is out of range",
-        f"1 1 0 0 0\n{time}": "", f"1 1 0 0 0\n{time + 1}": "time out of range at 10",
-    }
-    assert {shop: fault_in(shop, pfs, folder) for shop in wanted} == wanted
-
-
-def test_the_limit_of_a_size_lines_notes_is_the_programs(pfs: Program, folder: pathlib.Path) -> None:
-    least, most = LIMITS["seed and bounds of a size line"]
-    notes = [f"1 1 {most} {most} {most}", f"1 1 {most + 1} 0 0", f"1 1 0 {most + 1} 0", f"1 1 0 0 {most + 1}"]
-    assert least == 0
-    assert [fault_in(shop, pfs, folder) for shop in notes] \
-        == ["truncated after 0 times"] + ["size line 1 is out of range"] * 3
-
-
-def fault_in(shop: str, pfs: Program, folder: pathlib.Path) -> str:
-    """What the program finds wrong with this instance file."""
-    (folder / "shop").write_text(shop + "\n")
-    return pfs.run("value --layout taillard shop", folder).stderr.decode().removeprefix("pfs: ").removesuffix("\n")
-
-
-def test_the_limit_of_the_input_is_the_programs(pfs: Program, folder: pathlib.Path) -> None:
-    most = LIMITS["bytes of an instance file up to the end of the wanted block"].most
-    ran = []
-    for count in (most, most + 1):
-        with open(folder / "shop", "wb") as file:
-            file.write(b"1 1 0 0 0\n")
-            file.seek(count - 3)
-            file.write(b"\n5\n")
-        ran.append(pfs.run("value --layout taillard shop", folder))
-    assert ran == [Ran(b"makespan 5\n", b"", 0), Ran(b"", b"pfs: input too long\n", 2)]
+def test_a_layout_is_one_of_these() -> None:
+    assert all(set(re.findall("`(.*?)`", OPTIONS[option][0])) == LAYOUTS for option in ("--layout", "--from", "--to"))
 
 
 # Order files
-
-def syntax(text: str, pfs: Program, worked: pathlib.Path) -> int | None:
-    """The offset of the syntax error in this order file, if it has one."""
-    (worked / "order").write_text(text)
-    got = re.fullmatch(r"pfs: order file syntax at (\d+)\n",
-                        pfs.run("check --layout taillard three order", worked).stderr.decode())
-    return int(got[1]) if got else None
-
 
 OFFSETS = [(text.strip("`").replace("\\n", "\n"), int(offset)) for text, offset in table(FORMATS, "Input", "Offset")]
 
 
 @pytest.mark.parametrize(("text", "offset"), OFFSETS, ids=[repr(text) for text, _ in OFFSETS])
 def test_an_offset_of_formats_is_the_programs(text: str, offset: int, pfs: Program, worked: pathlib.Path) -> None:
-    assert syntax(text, pfs, worked) == offset
-
-
-def test_formats_has_offsets() -> None:
-    assert len(OFFSETS) > 3
-
-
-@pytest.mark.parametrize(("limit", "text"), [("jobs", "order {}\n1"), ("machines", "order2 3 {}\n1")])
-def test_the_numerals_of_an_order_files_first_line_are_within_the_limits(limit: str, text: str, pfs: Program,
-                                                                        worked: pathlib.Path) -> None:
-    least, most = LIMITS[limit]
-    ends = [syntax(text.format(count), pfs, worked) for count in (most, least)]
-    assert None not in ends and min(end or 0 for end in ends) > text.index("{"), f"ends of the numerals of {text}"
-    offsets = [syntax(text.format(count), pfs, worked) for count in (most + 1, least - 1)]
-    assert offsets == [text.index("{") + len(str(most)) - 1, text.index("{")], f"beyond the numerals of {text}"
-
-
-@pytest.mark.parametrize(("part", "text"), [("`J1 J2 .. JN`", "order2 3 2\n{} 1 2\nmakespan 0\n"),
-                                            ("`V`", "order2 3 2\n1 2 3\nmakespan {}\n")])
-def test_a_numeral_has_at_most_these_digits(part: str, text: str, pfs: Program, worked: pathlib.Path) -> None:
-    most = 1 + int(re.findall(r"at most (\d+) more digits", dict(table(FORMATS, "Part", "What it is"))[part])[0])
-    assert syntax(text.format("9" * most), pfs, worked) is None
-    assert syntax(text.format("9" * (most + 1)), pfs, worked) == text.index("{") + most
+    (worked / "order").write_text(text)
+    got = pfs.run("check --layout taillard three order", worked)
+    assert got == Ran(b"", b"pfs: order file syntax at %d\n" % offset, 2)
 
 
 # Printed texts
@@ -515,7 +366,7 @@ def shown_section(text: str, title: str) -> str:
 
 
 def test_the_manual_page_has_the_ranges_and_defaults_of_the_options() -> None:
-    for option in RANGES:
+    for option in RANGED:
         values, default = OPTIONS[option]
         told = MANUAL.partition(f"\n.It Fl -{option[2:]} Ar ")[2].partition("\n.It ")[0].replace("\n", " ")
         assert f", {values}. The default is {default}." in told, option
@@ -546,27 +397,22 @@ def test_mandoc_finds_nothing_wrong(page: pathlib.Path) -> None:
 def test_pages_name_the_library_as_it_is_called() -> None:
     """By its soname, and the files by their names."""
     soname = re.findall(r"-soname,(\S+)", (TOP / "tools" / "library").read_text())
-    named = {str(path.relative_to(TOP)): set(re.findall(r"libpfs\.so\.\w+", path.read_text())) - set(soname)
-             for path in [*PAGES, *TOP.glob("*.md"), *TOP.glob("python/**/*.md"), *TOP.glob("examples/*.md"),
-                          TOP / "Makefile", *(TOP / "lib").glob("*.*"), *(TOP / "share").glob("*.1"),
-                          *(TOP / "python" / "src" / "pfs").glob("*.py")]}
-    assert len(soname) == 1 and {name: found for name, found in named.items() if found} == {}
-    for name in ("libpfs.a", soname[0]):
-        assert f"lib/out/{name}" in (TOP / "docs" / "LIBRARY.md").read_text()
-    assert {soname[0]} == {each for path in PAGES for each in re.findall(r"libpfs\.so\.\w+", path.read_text())}
+    others = [path for names in ("python/*.md", "examples/*.md", "*.md", "lib/*.*", "share/*.*", "Makefile")
+              for path in TOP.glob(names)]
+    texts = [path.read_text() for path in [*PAGES, *others]]
+    assert {each for text in texts for each in re.findall(r"libpfs\.so\.\w+", text)} == set(soname)
+    page = (TOP / "docs" / "LIBRARY.md").read_text()
+    assert all(f"lib/out/{name}" in page for name in ("libpfs.a", *soname))
 
 
-def test_the_page_of_gantt_has_its_options() -> None:
-    usage = (TOP / "python" / "src" / "pfs" / "_gantt.py").read_text().partition("usage: ")[2].partition('"""')[0]
-    options = re.findall(r"--([\w-]+)", usage)
-    for macro in ("It", "Op"):
-        got = re.findall(rf"^\.{macro} Fl -([\w-]+)", TOOL_PAGES["pfs-gantt"], re.MULTILINE)
-        assert sorted(got) == sorted(options), f"the options of .{macro} in pfs-gantt.1"
-    lines = re.findall(r"^\.Op Fl -([\w-]+)(?: Ar (\w+))?$", TOOL_PAGES["pfs-gantt"], re.MULTILINE)
-    assert " ".join(f"[--{option}{' ' * bool(value)}{value}]" for option, value in lines) \
-        == usage.removeprefix("pfs-gantt ").partition(" [TABLE]")[0], "the synopsis of pfs-gantt.1"
-    listed = re.findall(r"^\.It Fl -([\w-]+)(?: Ar (\w+))?$", TOOL_PAGES["pfs-gantt"], re.MULTILINE)
-    assert listed == lines, "the list of the options in pfs-gantt.1"
+def test_the_pages_of_gantt_have_its_options() -> None:
+    source = (TOP / "python" / "src" / "pfs" / "_gantt.py").read_text()
+    usage, = re.findall(r"^usage: pfs-gantt (.*) \[TABLE\] PICTURE", source, re.MULTILINE)
+    synopsis, listed = (re.findall(rf"^\.{macro} Fl -([\w-]+)(?: Ar (\w+))?$", TOOL_PAGES["pfs-gantt"], re.MULTILINE)
+                        for macro in ("Op", "It"))
+    assert " ".join(f"[--{option}{' ' * bool(value)}{value}]" for option, value in synopsis) == usage
+    assert listed == synopsis, "the list of the options in pfs-gantt.1"
+    assert f"\n`pfs-gantt {usage} [TABLE] PICTURE`" in (TOP / "docs" / "COOKBOOK.md").read_text()
 
 
 def test_the_page_of_experiments_has_its_scripts() -> None:
@@ -577,14 +423,10 @@ def test_the_page_of_experiments_has_its_scripts() -> None:
     assert set(synopsis) >= set(listed) == scripts
 
 
-@pytest.mark.parametrize("page", ["pfs", *TOOL_PAGES])
-def test_a_manual_page_names_what_else_to_read_and_what_is_missing(page: str) -> None:
-    text = MANUAL if page == "pfs" else TOOL_PAGES[page]
-    assert "\n.Sh BUGS\n" in text
-    others = {f"pfs{name}" for name in ("", "-gantt", "-experiments")} - {page}
-    assert set(re.findall(r"^\.Xr (pfs\S*) 1", text.partition("\n.Sh SEE ALSO\n")[2], re.MULTILINE)) >= others
-
-
 def test_the_examples_are_shown_as_they_are_run(manual: str) -> None:
     shown = [line[6:] for line in shown_section(manual, "EXAMPLES").splitlines() if line.startswith("      ")]
     assert examples("pfs.1", "\n".join(shown)) == EXAMPLES["pfs.1"]
+
+
+def test_pages_have_examples_and_tables() -> None:
+    assert min(map(len, EXAMPLES.values())) > 3 and len(SLIPS) > 10 and len(OFFSETS) > 3

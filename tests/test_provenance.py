@@ -84,17 +84,19 @@ def test_a_search_by_time_has_the_sum_of_the_library(experiment: Experiment, lib
 # The reference of a plan
 
 def test_a_reference_must_name_an_instance(experiment: Experiment) -> None:
-    """By its name in the plan, or without folder, ending and in lower case. What it lacks is reported."""
+    """By its name in the plan, or without folder, ending and in lower case. What it lacks is reported. It may begin
+    with a byte order mark, and be named once all runs are made."""
     plan = 'instances = ["shops/*"]\nreference = "best.csv"\n'
     (experiment.folder / "best.csv").write_text("instance,makespan\nc,9\n")
     assert experiment.plan(plan).run() == Done(2, "", (
         "pfs-experiments run: plan.toml: the reference best.csv names none of the instances: it has c, and the plan "
         "shops/a\n"))
     assert not experiment.runs.exists()
-    (experiment.folder / "best.csv").write_text("instance,makespan\nc,9\nB.txt,7\n")
-    assert experiment.run() == Done(0, "", "best.csv lacks 1 of 2 instances: shops/a\n"
-                                           "out.csv: 2 runs, 0 of them failed, 0 still to run\n")
-    assert experiment.columns("reference") == [("",), ("7",)]
+    assert experiment.plan(plan.splitlines()[0]).run().status == 0
+    (experiment.folder / "best.csv").write_text("\N{BOM}instance,makespan,source\nc,9,no paper\nB.txt,7.0,a paper\n")
+    assert experiment.plan(plan).run() == Done(0, "", "best.csv lacks 1 of 2 instances: shops/a\n"
+                                                      "out.csv: 2 runs, 0 of them failed, 0 still to run\n")
+    assert experiment.columns("reference", "source") == [("", ""), ("7", "a paper")]
 
 
 # Its report

@@ -20,7 +20,7 @@ from support.warm import Warm
 for _name in ("matplotlib", "pandas", "scipy"):
     pytest.importorskip(_name)
 from matplotlib.colors import to_hex
-from pfs.experiments import plots
+from pfs.experiments import plots as typed
 from pfs.experiments import report as reports
 from pfs.experiments.statistics import holm
 
@@ -46,8 +46,8 @@ out,20,5,100,4,0,4,1,0,1.961,3.960,4.000,7.000,0.5000
 out,100,10,0,4,0,0,1,0,,,,,
 out,100,10,100,4,0,1,0,0,0.000,0.000,0.000,0.000,2.0000
 """
-FILES = ["gap.png", "means.png", "rpd.png", "seconds.png", "sizes.csv", "sizes.md", "sizes.tex", "table.csv",
-         "table.md", "time.png"]
+FILES = ["gap.png", "instances.csv", "means.png", "rpd.png", "seconds.png", "sizes.csv", "sizes.md", "sizes.tex",
+         "table.csv", "table.md", "time.png"]
 BAD = {
     "no rows": HEAD + "\n", "a gap that isn't a number": REPORTED.replace("10.0000", "x"),
     "rounds that are not whole": REPORTED.replace("20,5,0", "20,5,0.5"),
@@ -60,24 +60,20 @@ BAD = {
     "seconds in other digits": REPORTED.replace("0.001000", "\N{ARABIC-INDIC DIGIT ONE}"),
 }
 Reported = Callable[..., Done]
+# Its figures are those of matplotlib, which has no types.
+plots: Any = typed
 
 
 @pytest.fixture
-def script(scripts: pathlib.Path, warm: Warm, folder: pathlib.Path) -> Reported:
-    """Runs `pfs-experiments report` with these words, after it has written these CSVs."""
-    def run(*words: str, **texts: str) -> Done:
-        for name, text in texts.items():
-            (folder / f"{name}.csv").write_text(text)
-        return warm.run_tool([scripts / "pfs-experiments", "report", *words], folder)
-    return run
-
-
-@pytest.fixture
-def report(script: Reported) -> Reported:
-    """Reports CSVs of these texts, each by its name, into the folder `report`."""
-    def run(text: str = "", *options: str, **texts: str) -> Done:
-        texts = {"out": text} if text else texts
-        return script(*options, *(f"{name}.csv" for name in texts), "report", **texts)
+def report(scripts: pathlib.Path, warm: Warm, folder: pathlib.Path) -> Reported:
+    """Runs `pfs-experiments report` with these words, or else into the folder `report`, after it has written CSVs of
+    these texts, each by its name, the first one as `out`."""
+    def run(text: str = "", *options: str, words: str = "", **texts: str) -> Done:
+        texts |= {"out": text} if text else {}
+        for name, each in texts.items():
+            (folder / f"{name}.csv").write_text(each)
+        given = words.split() or [*options, *(f"{name}.csv" for name in texts), "report"]
+        return warm.run_tool([scripts / "pfs-experiments", "report", *given], folder)
     return run
 
 
@@ -118,14 +114,14 @@ def test_an_invalid_csv_is_rejected_and_nothing_is_left(text: str, report: Repor
 
 WORDS = ["out.csv", "none.csv report", "--format gif out.csv report", "--width 0 out.csv report",
          "--dpi x out.csv report", "out.csv out.csv", "out.csv out.csv/report", "--reference none out.csv report",
-         "--reference other.csv out.csv report", "out.csv other.csv report"]
+         "--reference other.csv out.csv report", "out.csv other.csv report", "means.csv report"]
 
 
 @pytest.mark.parametrize("words", WORDS)
-def test_words_are_refused_on_one_line(words: str, script: Reported, folder: pathlib.Path) -> None:
-    got = script(*words.split(), out=REPORTED, other="instance,length\na,1\n")
+def test_words_are_refused_on_one_line(words: str, report: Reported, folder: pathlib.Path) -> None:
+    got = report(words=words, out=REPORTED, other="instance,length\na,1\n", means="jobs,machines,rpd\n2,2,1\n")
     assert (got.status, got.stdout, got.stderr.count("\n")) == (2, "", 1), got.stderr
-    assert sorted(os.listdir(folder)) == ["other.csv", "out.csv"]
+    assert sorted(os.listdir(folder)) == ["means.csv", "other.csv", "out.csv"]
 
 
 @pytest.mark.parametrize("module", ["matplotlib", "pandas", "scipy"])
@@ -168,16 +164,17 @@ def test_a_csv_that_pandas_wrote_is_read(report: Reported, folder: pathlib.Path)
 NAMES = ["a|b", "<img src=x>", "two\nlines", "_x_", "[l](http://x)", "\x1b[31mred", "=1+1", "-1+1", "@SUM(1)", "$x^^$",
          "a&amp;b", "x" * 500, "`code`", "*bold*", "~~gone~~", "back\\slash"]
 ESCAPED = {"{x}": r"\{x\}", "50%": r"50\%", "a_b": r"a\_b", "#1": r"\#1", "$": r"\$", "a&b": r"a\&b",
-           "^": r"\textasciicircum{}", "~": r"\textasciitilde{}", "\\": r"\textbackslash{}"}
+           "^": r"\textasciicircum{}", "~": r"\textasciitilde{}", "\\": r"\textbackslash{}",
+           "<": r"\textless{}", ">": r"\textgreater{}", "|": r"\textbar{}", 'a"': "a''"}
 
 
-def test_names_stay_in_their_cells(script: Reported, folder: pathlib.Path) -> None:
+def test_names_stay_in_their_cells(report: Reported, folder: pathlib.Path) -> None:
     """They aren't read as marks in Markdown, formulas in a spreadsheet, or codes on a terminal or in a picture."""
     with open(folder / "out.csv", "w", newline="") as file:
         csv.writer(file).writerows([
             ["instance", "makespan", "method", "seconds", "jobs", "machines", "rounds", "take", "passes"],
             *(["a|b/=i", at, name, "0.5", 3, 2, 1, 1, 0] for at, name in enumerate(NAMES, 10))])
-    got = script("--format", "svg", "out.csv", "report")
+    got = report(words="--format svg out.csv report")
     assert got.status == 0 and "\x1b" not in got.stdout + got.stderr, got.stderr
     for name in ("table.md", "comparison.md", "sizes.md"):
         if (folder / "report" / name).exists():
@@ -272,16 +269,23 @@ def test_orders_are_audited_where_the_instance_is_at_hand(scripts: pathlib.Path,
     wrong = {order: "wrong makespan: states 1449, takes 1448", order[:-3]: "job missing: job 20 is missing", "3 1 2":
              "wrong size: 3 jobs, but the instance has 20"}
 
+    def tool(*words: str) -> Done:
+        return run_tool([scripts / "pfs-experiments", *words], folder,
+                        env=dict(os.environ, PFS_LIBRARY=str(libpfs.path)))
+
     def report_of(text: str) -> Done:
         (folder / "out.csv").write_text(f"instance,seed,makespan,order\n{text}")
-        return run_tool([scripts / "pfs-experiments", "report", "out.csv", "report"], folder,
-                        env=dict(os.environ, PFS_LIBRARY=str(libpfs.path)))
+        return tool("report", "out.csv", "report")
 
     assert report_of(f"ta001,1,1448,{order}\nta001,2,1300,\ni,1,5,1 2\nta002,1,1400,gone/order\n").status == 0
     assert column(folder, "audited") == ["0", "1"] and column(folder, "runs") == ["1", "3"]
     assert "Not audited, only stated: out." in (folder / "report" / "sizes.md").read_text()
-    assert report_of(f"ta001,1,1448,{order}\n").status == 0
+    assert report_of(f"ta001,1,1448,{order}\nta001,2,1448,{order}\n").status == 0
     assert "audited" not in (folder / "report" / "sizes.md").read_text()
+    assert csv_rows(folder / "report" / "best.csv") == [dict(instance="ta001", method="out", makespan="1448",
+                                                             order=order)], "the best order of each instance, once"
+    assert tool("audit", "report/best.csv").stdout.endswith(": 1 orders audited, 1 valid (0 optimal), 0 wrong\n")
+    assert "line 2, ta001: the makespan of an order is whole" in report_of(f"ta001,1,1448.5,{order}\n").stderr
     for text, why in wrong.items():
         assert report_of(f"ta002,1,1300,\nta001,1,1449,{text}\n") == Done(
             2, "", f"pfs-experiments report: out.csv: line 3, ta001: {why}\n")
@@ -300,6 +304,9 @@ def test_each_setting_of_a_method_is_compared_by_means_of_the_instances_that_bot
     assert rows == [("0", "4", "2", "0", "0", "2"), ("100", "4", "2", "1", "1", "0")]
     rows = [(row["method"], row["jobs"], row["runs"]) for row in csv_rows(folder / "report" / "table.csv")]
     assert ("second", "20", "3") in rows
+    row = csv_rows(folder / "report" / "instances.csv")[1]
+    assert [row[name] for name in ("instance", "rounds", "runs", "best", "mean", "deviation", "mean_rpd_percent")] == [
+        "a", "100", "2", "101", "103", f"{8 ** 0.5:.15g}", f"{200 / 101:.3f}"]
 
 
 def test_settings_of_one_method_are_compared(report: Reported, folder: pathlib.Path) -> None:
@@ -314,13 +321,13 @@ def test_settings_of_one_method_are_compared(report: Reported, folder: pathlib.P
     assert (folder / "report" / "comparison.md").read_text() in got.stdout
 
 
-def test_methods_without_a_common_instance_are_reported(script: Reported, folder: pathlib.Path) -> None:
+def test_methods_without_a_common_instance_are_reported(report: Reported, folder: pathlib.Path) -> None:
     """Files of one name are methods by their paths. Where others have a reference, those without have no RPD."""
     for name, instance, reference in (("x", "i", "1000"), ("y", "j", "")):
         (folder / name).mkdir()
         (folder / name / "out.csv").write_text("instance,makespan,reference\n" + "".join(
             f"{instance}{at},{1100 + at},{reference}\n" for at in range(12)))
-    got = script("x/out.csv", "y/out.csv", "report")
+    got = report(words="x/out.csv y/out.csv report")
     assert got.stderr == "pfs-experiments report: x/out.csv and y/out.csv have no instance in common\n"
     assert "\n12 runs of 12 instances have no reference, and no RPD: j0, j1, j2, j3, j4, j5, j6, j7, j8, j9, ...\n" \
         in got.stdout
@@ -444,6 +451,18 @@ def test_the_table_of_sizes_has_a_column_for_each_method(report: Reported, folde
     assert r"mean & 1.750 & 3.500 \\" in tex and r"\begin{tabular}{lrr}" in tex
 
 
+def test_published_means_are_columns_of_the_table_of_sizes(report: Reported, folder: pathlib.Path) -> None:
+    """A makespan may be a mean too. A column that lacks a size has no mean."""
+    published = "jobs,machines,rpd,method\n20,5,0.04,P\n20,5,0.5,Q\n50,5,1.25,Q\n"
+    assert report(out="instance,jobs,machines,makespan,reference\na,20,5,100.5,100\nb,50,5,102,100\n",
+                  paper=published).status == 0
+    assert list(csv.reader(io.StringIO((folder / "report" / "sizes.csv").read_text()))) == [
+        ["jobs×machines", "out", "P", "Q"], ["20×5", "0.500", "0.040", "0.500"], ["50×5", "2.000", "", "1.250"],
+        ["mean", "1.250", "", "0.875"]]
+    assert "Not audited, only stated: P, Q, out." in (folder / "report" / "sizes.tex").read_text()
+    assert column(folder, "best", "instances") == ["100.5", "102"]
+
+
 # The plots
 
 @pytest.fixture
@@ -451,19 +470,12 @@ def done(folder: pathlib.Path) -> Callable[[str], Any]:
     """The runs of a CSV of this text that succeeded."""
     def read(text: str) -> Any:
         (folder / "out.csv").write_text(text)
-        return reports.read([str(folder / "out.csv")], None).runs.dropna(subset=["makespan"])
+        return reports.read([str(folder / "out.csv")], None)[0].dropna(subset=["makespan"])
     return read
 
 
 def lines_of(axis: Any) -> dict[str, Any]:
     return {line.get_label(): [tuple(map(float, point)) for point in line.get_xydata()] for line in axis.get_lines()}
-
-
-# Figures of matplotlib, which has no types.
-by_rounds: Any = plots.by_rounds
-by_seconds: Any = plots.by_seconds
-cell_times: Any = plots.cell_times
-means: Any = plots.means
 
 
 def test_a_line_goes_through_the_means_and_its_band_from_seed_to_seed(done: Callable[[str], Any]) -> None:
@@ -472,7 +484,7 @@ def test_a_line_goes_through_the_means_and_its_band_from_seed_to_seed(done: Call
     rpds = [(900 / 101 + 1700 / 103) / 2, 0, (400 / 101 + 400 / 103) / 2]
     wanted: dict[str, list[float]] = {"gap_percent": [15, 2, 6], "rpd": rpds}
     for value, points in wanted.items():
-        axis = by_rounds(runs, value, "y", "title", None).axes[0]
+        axis = plots.by_rounds(runs, value, "y", "title", None).axes[0]
         assert lines_of(axis)["20×5"] == [(0, points[0]), (100, pytest.approx(sum(points[1:]) / 2))]
         band = {(x, round(y, 4)) for x, y in axis.collections[-1 if len(axis.collections) == 1 else 0]
                 .get_paths()[0].vertices}
@@ -483,7 +495,7 @@ def test_rounds_have_a_logarithmic_scale(done: Callable[[str], Any]) -> None:
     """From the first rounds on: tenfold rounds are always as far apart. 0 comes before them."""
     text = HEAD + "\n" + "".join(f"a,20,5,{rounds},4,0,1,1,{200 - at},100,{100 - at}.0,1,0.1,ok\n"
                                  for at, rounds in enumerate((0, 10, 100, 1000, 10000)))
-    axis = by_rounds(done(text), "rpd", "y", "title", None).axes[0]
+    axis = plots.by_rounds(done(text), "rpd", "y", "title", None).axes[0]
     places = [axis.transData.transform((rounds, 0))[0] for rounds in (0, 10, 100, 1000, 10000)]
     steps = [later - place for place, later in zip(places[1:], places[2:])]
     assert steps == pytest.approx([steps[0]] * 3, rel=0.01) and 0 < places[1] - places[0]
@@ -499,7 +511,7 @@ PANELS = HEAD + "\n" + "".join(
 def test_a_panel_shows_the_gaps_of_the_take_and_the_passes_in_its_title(done: Callable[[str], Any]) -> None:
     """A run of 0 rounds, which is made once, is in each."""
     text = PANELS + "a,20,5,0,2,0,1,1,1,1,30.0,1000,0.001000,ok\n"
-    panels = by_rounds(done(text), "gap_percent", "y", "title", None).axes[:-1]
+    panels = plots.by_rounds(done(text), "gap_percent", "y", "title", None).axes[:-1]
     got = {axis.get_title(): lines_of(axis)["20×5"] for axis in panels}
     assert got == {f"take {take}, passes {passes}": [(0, 30.0), (5, first), (10, second)]
                    for (take, passes), (first, second) in GAPS.items()}
@@ -507,7 +519,7 @@ def test_a_panel_shows_the_gaps_of_the_take_and_the_passes_in_its_title(done: Ca
 
 def test_the_rpd_by_seconds(done: Callable[[str], Any]) -> None:
     """A panel for each size; the seconds have a logarithmic scale with two marks or more."""
-    figure = by_seconds(done(REPORTED), None)
+    figure = plots.by_seconds(done(REPORTED), None)
     first, second, _ = figure.axes
     assert [axis.get_title() for axis in (first, second)] == ["20×5", "100×10"]
     (label, points), = lines_of(first).items()
@@ -521,9 +533,11 @@ def test_a_box_has_the_nanoseconds_a_cell_of_most_rounds(done: Callable[[str], A
     text = HEAD + "\na,20,5,0,4,0,1,1,101,100,1.0000,1000,0.001000,ok\n" + "".join(
         f"a,20,5,100,4,0,{at},1,101,100,1.0000,1000000,{time / 1000:.6f},ok\n"
         for at, time in enumerate((1, 2, 3, 4, 10)))
-    figure = cell_times(done(text), None)
+    figure = plots.cell_times(done(text), None)
     drawn = sorted({round(float(y), 6) for line in figure.axes[0].get_lines() for y in line.get_ydata()})
     assert drawn == [1, 2, 3, 4, 10] and "at 100 rounds" in figure._suptitle.get_text().replace("\n", " ")
+    by_time = plots.cell_times(done("instance,jobs,machines,makespan,cells,seconds,time_factor\na,2,2,9,9,1,3\n"), None)
+    assert "cell of searches by time" in by_time._suptitle.get_text()
 
 
 def test_the_plot_of_means_has_intervals_of_students_distribution(done: Callable[[str], Any]) -> None:
@@ -534,7 +548,7 @@ def test_the_plot_of_means_has_intervals_of_students_distribution(done: Callable
     for methods, variance in cases:
         text = "instance,makespan,method,reference\n" + "".join(
             f"i{at},{100 + rpd},{method},100\n" for method, rpds in methods.items() for at, rpd in enumerate(rpds))
-        axis = means(done(text), None).axes[0]
+        axis = plots.means(done(text), None).axes[0]
         half = 2.776 * math.sqrt(variance / 5)
         bars = [[float(y) for _, y in segment] for segment in axis.collections[0].get_segments()]
         assert bars == [pytest.approx([statistics.fmean(rpds) - half, statistics.fmean(rpds) + half], abs=0.002)
@@ -546,7 +560,7 @@ def test_sizes_have_distinguishable_colours(done: Callable[[str], Any]) -> None:
     """By all eyes, five numbers of jobs on the same machines."""
     text = HEAD + "\n" + "".join(f"{jobs},{jobs},5,{rounds},4,0,1,1,9,9,{jobs}.0,1,0.1,ok\n"
                                  for jobs in (20, 50, 100, 200, 500) for rounds in (0, 10))
-    lines = by_rounds(done(text), "gap_percent", "y", "title", None).axes[0].get_lines()
+    lines = plots.by_rounds(done(text), "gap_percent", "y", "title", None).axes[0].get_lines()
     fills = [to_hex(line.get_color()) for line in lines]
     assert len(fills) == 5 and min(map(least_difference, fills, fills[1:])) > 10, fills
 
@@ -575,18 +589,16 @@ def test_all_is_inside_of_the_picture_and_can_be_read(width: str, options: list[
 
 
 @pytest.mark.parametrize("ending", ["svg", "pdf"])
-def test_a_report_made_again_has_the_same_bytes(ending: str, scripts: pathlib.Path, script: Reported,
+def test_a_report_made_again_has_the_same_bytes(ending: str, scripts: pathlib.Path, report: Reported,
                                                 folder: pathlib.Path) -> None:
     """The second report is made more than a second later, as a user does it, by a process whose hashes differ, in a
     folder with settings of matplotlib."""
-    (folder / "out.csv").write_text(REPORTED)
-    words = ["--format", ending, "out.csv", "report"]
-
     def files_of(got: Done) -> dict[str, bytes]:
         assert got.status == 0, got
         return {path.name: path.read_bytes() for path in (folder / "report").iterdir()}
 
-    first = files_of(script(*words))
+    words = ["--format", ending, "out.csv", "report"]
+    first = files_of(report(words=" ".join(words), out=REPORTED))
     (folder / "matplotlibrc").write_text("figure.facecolor: red\n")
     time.sleep(1.1)
     second = files_of(run_tool([scripts / "pfs-experiments", "report", *words], folder))

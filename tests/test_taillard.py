@@ -18,7 +18,6 @@ SIZES = [(20, 5), (20, 10), (20, 20), (50, 5), (50, 10), (50, 20), (100, 5), (10
          (200, 20), (500, 20)]
 NAMES = [f"ta{number:03}" for number in range(1, 121)]
 
-each_instance = pytest.mark.parametrize("name", NAMES)
 # so that the instances are written once
 pytestmark = pytest.mark.xdist_group("taillard")
 
@@ -46,20 +45,13 @@ def test_the_list_has_ten_instances_of_each_size(listed: Listed) -> None:
         == [size for size in SIZES for _ in range(10)]
 
 
-def test_the_files_are_those_of_the_list(shops: pathlib.Path) -> None:
-    assert sorted(os.listdir(shops)) == NAMES
-
-
-@each_instance
-def test_the_times_are_those_of_the_recurrence(name: str, listed: Listed, shops: pathlib.Path) -> None:
-    row = listed[name]
-    assert (shops / name).read_bytes() == generated(int(row["jobs"]), int(row["machines"]), int(row["time_seed"]))
-
-
-@each_instance
+@pytest.mark.parametrize("name", NAMES)
 def test_the_bound_is_the_published_one(name: str, listed: Listed, shops: pathlib.Path, pfs: Program,
                                         folder: pathlib.Path) -> None:
-    jobs = int(listed[name]["jobs"])
+    """With the times of the recurrence."""
+    assert sorted(os.listdir(shops)) == NAMES
+    jobs, machines, seed = (int(listed[name][key]) for key in ("jobs", "machines", "time_seed"))
+    assert (shops / name).read_bytes() == generated(jobs, machines, seed)
     value = pfs.run(["value", "--layout", "taillard", str(shops / name)], folder)
     numbers = " ".join(str(job) for job in range(1, jobs + 1))
     (folder / "order").write_bytes(b"order %d\n%s\n" % (jobs, numbers.encode()) + value.stdout)

@@ -2,12 +2,10 @@
 import importlib.util
 import os
 import pathlib
-import shutil
-import signal
 
 import pytest
-from _pytest.assertion import truncate
 from hypothesis import HealthCheck, settings
+from support.needs import missing, prepare_process, tool
 
 TOP = pathlib.Path(__file__).resolve().parents[2]
 SOURCES = TOP / "python" / "src"
@@ -31,13 +29,7 @@ def pytest_addoption(parser: pytest.Parser) -> None:
 
 def pytest_configure(config: pytest.Config) -> None:
     """In a checkout the library is the one that was built there, where no variable names another one."""
-    # What a failing assertion says is cut off after 8 lines otherwise. Since pytest 8.4 there is a setting for it.
-    truncate.DEFAULT_MAX_LINES, truncate.DEFAULT_MAX_CHARS = 60, 6_000
-    # What runs in the background of a shell ignores it.
-    if signal.getsignal(signal.SIGINT) == signal.SIG_IGN:
-        signal.signal(signal.SIGINT, signal.default_int_handler)
-    # It would hide that a command doesn't flush what it prints.
-    os.environ.pop("PYTHONUNBUFFERED", None)
+    prepare_process()
     found = importlib.util.find_spec("pfs")
     built = pathlib.Path(config.getoption("libpfs", TOP / "lib" / "out" / "libpfs.so.1"))
     if found and found.origin and pathlib.Path(found.origin).is_relative_to(SOURCES) and built.exists():
@@ -61,13 +53,6 @@ def pytest_assertrepr_compare(op: str, left: object, right: object) -> list[str]
     return [f"{kind} == {kind}", *(f"{name}: {one} != {other}" for name, (one, other) in lists.items() if one != other)]
 
 
-def missing(why: str) -> None:
-    """Skips the test, for this reason; in CI it fails."""
-    if os.environ.get("CI") == "true":
-        pytest.fail(f"no test is skipped in CI: {why}")
-    pytest.skip(why)
-
-
 @pytest.fixture(scope="session")
 def program(pytestconfig: pytest.Config) -> str:
     """The built program."""
@@ -80,7 +65,4 @@ def program(pytestconfig: pytest.Config) -> str:
 @pytest.fixture(scope="session")
 def chromium() -> str:
     """A browser."""
-    path = shutil.which("chromium")
-    if path is None:
-        missing("chromium isn't installed (Debian: chromium)")
-    return str(path)
+    return tool("chromium")

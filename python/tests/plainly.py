@@ -51,18 +51,6 @@ def makespan(times: Table, order: Sequence[int]) -> int:
     return second_program.makespan(instance_of(times), order)
 
 
-def longest_path(times: Table, order: Sequence[int]) -> int:
-    """The makespan by its other definition: the greatest sum of times on a path from the first job on the first machine
-    to the last job on the last machine, each step of which goes to the next job or the next machine."""
-    jobs, machines = len(order), len(times[0])
-    best = 0
-    for steps in itertools.combinations_with_replacement(range(jobs), machines - 1):
-        edges = [0, *steps, jobs - 1]
-        best = max(best, sum(times[order[place]][machine] for machine in range(machines)
-                             for place in range(edges[machine], edges[machine + 1] + 1)))
-    return best
-
-
 def shortest(times: Table) -> int:
     """The least makespan of all orders."""
     return min(makespan(times, order) for order in itertools.permutations(range(len(times))))

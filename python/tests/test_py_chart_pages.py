@@ -3,6 +3,7 @@ names of its machines. A picture by matplotlib has the same colours."""
 import colorsys
 import importlib
 import itertools
+import math
 import pathlib
 import re
 from typing import Any, NamedTuple
@@ -28,8 +29,9 @@ if (!IS_PLAIN) {
     "far in": () => press(..."+".repeat(80)), "far out": () => press("+", ..."-".repeat(80)),
     "far right": () => press("+", "+", ...Array(80).fill("ArrowRight")),
     "far left": () => press("+", "+", ...Array(80).fill("ArrowLeft")),
-    "wheel up": () => send("wheel", WheelEvent, left, 5, {deltaY: -1}),
+    "wheel up": () => send("wheel", WheelEvent, xOf(25), 5, {deltaY: -1}),
     "wheel down": () => { press("+", "+", "+"); send("wheel", WheelEvent, left, 5, {deltaY: 1}); },
+    "double click": () => { press("+"); send("dblclick", MouseEvent, left, 5); },
   };
   seen.moved = {};
   for (const [name, move] of Object.entries(MOVES)) {
@@ -292,7 +294,8 @@ VIEWS = {
     "+": (12.5, 112.5), "-": (22.5, 102.5), "0": (0, 125), "another key": (0, 125),
     "ArrowRight": (30.5 + 8, 94.5 + 8), "ArrowLeft": (30.5 - 8, 94.5 - 8),
     "far in": (60.5, 64.5), "far out": (0, 125), "far right": (45, 125), "far left": (0, 80),
-    "wheel up": (0, 125 * 2.718281828**-0.25), "wheel down": (30.5, 30.5 + 64 * 2.718281828**0.25),
+    "wheel up": (25 - 25 * math.exp(-0.25), 25 + 100 * math.exp(-0.25)),
+    "wheel down": (30.5, 30.5 + 64 * math.exp(0.25)), "double click": (0, 125),
 }
 
 

@@ -175,17 +175,6 @@ def test_the_status_is_that_of_the_first_signal(numbers: tuple[signal.Signals, .
     assert signal.getsignal(signal.SIGTERM) == signal.SIG_DFL
 
 
-def test_two_signals_at_once(folder: pathlib.Path) -> None:
-    """While the search is stopped both come; Python looks at the one with the lower number first."""
-    child = start([*LONG, "--state", "state"], folder)
-    wait_until(lambda: rounds_in(folder) > 0)
-    for number in (signal.SIGSTOP, signal.SIGINT, signal.SIGTERM, signal.SIGCONT):
-        child.send_signal(number)
-    printed, got = child.communicate(timeout=60)
-    assert (child.returncode, got) == (128 + signal.SIGINT, b"")
-    assert printed.decode() == shop_in(folder).solve(rounds_in(folder)).to_text()
-
-
 def test_a_search_that_ignores_signals_at_first_is_ended_by_them(folder: pathlib.Path) -> None:
     """As one in the background of a shell."""
     words = [sys.executable, "-m", "pfs", *LONG, "--state", "state"]
@@ -236,8 +225,6 @@ OTHER_STATES: dict[str, tuple[Callable[[dict[str, Any]], str], str]] = {
     "other cells": (lambda state: json.dumps(state | {"cells": 3}), DAMAGED),
     "another order": (lambda state: json.dumps(state | {"order": state["order"][::-1]}), DAMAGED),
     "no checksum": (lambda state: json.dumps({name: state[name] for name in state if name != "sum"}), DAMAGED),
-    "another seed": (lambda state: summed(state | {"seed": 7}),
-                     "the state of a search with seed 7, not 0"),
     "another order's makespan": (lambda state: summed(state | {"order": state["order"][::-1]}), NOT_THE_INSTANCES),
     "another makespan": (lambda state: summed(state | {"makespan": state["makespan"] - 1}), NOT_THE_INSTANCES),
     "a job twice": (lambda state: summed(state | {"order": [state["order"][1], *state["order"][1:]]}),
@@ -299,23 +286,19 @@ def test_a_state_without_end(folder: pathlib.Path, path: str) -> None:
     assert os.path.getsize(folder / "long") == 67_108_865
 
 
-@pytest.mark.parametrize("path", ["/dev/zero", "long"])
-def test_a_table_without_end(folder: pathlib.Path, path: str) -> None:
+@pytest.mark.parametrize(("words", "error"), [
+    (["plan", "/dev/zero"], "pfs: /dev/zero: line 1, the table has more than 67,108,864 bytes\n"),
+    (["plan", "long"], "pfs: long: line 1, the table has more than 67,108,864 bytes\n"),
+    (["search", "/dev/zero", "--layout", "taillard"], "pfs: input too long\n"),
+    ([*LONG, "--start", "/dev/zero"], "pfs: order file too long\n"),
+])
+def test_other_files_without_end(folder: pathlib.Path, words: list[str], error: str) -> None:
+    """Less memory is taken than the file would need."""
     with open(folder / "long", "wb") as file:
         file.truncate(67_108_865)
-    error = f"pfs: {path}: line 1, the table has more than 67,108,864 bytes\n"
-    child = subprocess.run(["prlimit", "--as=4000000000", sys.executable, "-m", "pfs", "plan", path], cwd=folder,
+    child = subprocess.run(["prlimit", "--as=4000000000", sys.executable, "-m", "pfs", *words], cwd=folder,
                            env=environment(), capture_output=True, text=True, timeout=60)
     assert (child.returncode, child.stdout, child.stderr) == (2, "", error)
-
-
-@pytest.mark.parametrize("words", [["search", "/dev/zero", "--layout", "taillard"],
-                                   [*LONG, "--start", "/dev/zero"]])
-def test_other_files_without_end(folder: pathlib.Path, words: list[str]) -> None:
-    """Their limits differ, or their first bytes are wrong."""
-    child = start(words, folder)
-    printed, got = child.communicate(timeout=60)
-    assert (child.returncode, printed, got.count(b"\n")) == (2, b"", 1), got
 
 
 def test_two_searches_with_one_state(folder: pathlib.Path) -> None:
@@ -432,32 +415,27 @@ def test_progress_is_reported_on_a_terminal_only(folder: pathlib.Path) -> None:
     assert lines[-1].endswith(" left") and got.endswith("\r\x1b[K") and "\n" not in got
 
 
-def test_the_time_that_is_left_depends_on_the_rounds_of_this_search(monkeypatch: pytest.MonkeyPatch) -> None:
-    """And not on those of the state that it continues."""
-    now, lines = [0.0], list[str]()
-    monkeypatch.setattr(_commands, "time", types.SimpleNamespace(monotonic=lambda: now[0]))
-    progress = _commands.ProgressLine(pfs.taillard(1), 400, _search.Pace(None))
-    monkeypatch.setattr(progress, "shown", True)
-    monkeypatch.setattr(progress, "show", lines.append)
-    progress.update(100, 1278)
-    now[0] = 10.0
-    progress.update(200, 1278)
-    assert not lines[0].endswith("left") and lines[1].endswith(", 0:00:20 left")
+# The time limit and the rounds that are due; how far the search was when it began, how far it is after some seconds,
+# and how long it still takes: by its own rounds, and not beyond the limit.
+LEFT: list[tuple[float | None, int, int, int, float, str]] = [
+    (None, 400, 100, 200, 10.0, "0:00:20"), (3.0, 1_000_000, 0, 1, 1.0, "0:00:02"),
+    (3.0, 1_000_000, 0, 1, 2.5, "0:00:01"), (3.0, 1_000_000, 0, 1, 4.0, "0:00:00")]
 
 
-@pytest.mark.parametrize(("spent", "left"), [(1.0, "0:00:02"), (2.5, "0:00:01"), (4.0, "0:00:00")])
-def test_the_time_that_is_left_ends_with_the_time_limit(monkeypatch: pytest.MonkeyPatch, spent: float,
-                                                        left: str) -> None:
+@pytest.mark.parametrize(("limit", "rounds", "begun", "done", "spent", "left"), LEFT)
+def test_the_time_that_is_left(monkeypatch: pytest.MonkeyPatch, limit: float | None, rounds: int, begun: int, done: int,
+                               spent: float, left: str) -> None:
     now, lines = [0.0], list[str]()
     for module in (_commands, _search):
         monkeypatch.setattr(module, "time", types.SimpleNamespace(monotonic=lambda: now[0]))
-    progress = _commands.ProgressLine(pfs.taillard(1), 1_000_000, _search.Pace(3.0))
+    progress = _commands.ProgressLine(pfs.taillard(1), rounds, _search.Pace(limit))
     monkeypatch.setattr(progress, "shown", True)
     monkeypatch.setattr(progress, "show", lines.append)
-    progress.update(0, 1278)
+    progress.update(begun, 1278)
     now[0] = spent
-    progress.update(1, 1278)
-    assert lines[1].endswith(f", {left} left"), f"{spent} of 3 seconds have passed: {lines[1]}"
+    progress.update(done, 1278)
+    assert limit or not lines[0].endswith("left"), "nothing is known of the time of a round yet"
+    assert lines[1].endswith(f", {left} left"), lines
 
 
 @pytest.mark.parametrize(("words", "status", "error"), [
@@ -580,11 +558,9 @@ def test_memory_that_runs_out_is_reported_on_one_line(folder: pathlib.Path, monk
 
 
 @pytest.mark.parametrize("words", [
-    [], ["solve"], ["search"], LONG[:2], [*LONG, "--rounds", "-1"], [*LONG, "--rounds", "1000001"],
-    [*LONG, "--rounds", "1.5"], [*LONG, "--seconds", "-1"], [*LONG, "--seconds", "nan"], [*LONG, "--seconds", "x"],
-    [*LONG, "--seconds", "1_0"], [*LONG, "--seconds", "\u0661"],
-    [*LONG, "--take", "0"], [*LONG, "--passes", "101"], [*LONG, "--seed", "18446744073709551616"],
-    [*LONG, "--block", "0"], ["search", "shop", "--layout", "csv"], ["plan"]])
+    [], ["solve"], ["search"], LONG[:2], [*LONG, "--rounds", "1.5"], [*LONG, "--seconds", "-1"],
+    [*LONG, "--seconds", "nan"], [*LONG, "--seconds", "x"], [*LONG, "--seconds", "1_0"],
+    [*LONG, "--seconds", "\u0661"], ["search", "shop", "--layout", "csv"], ["plan"]])
 def test_words_that_no_command_takes(folder: pathlib.Path, words: list[str]) -> None:
     status, printed, got = ended(words, folder)
     assert (status, printed) == (3, "")
@@ -624,7 +600,7 @@ def test_closed_streams(folder: pathlib.Path, words: str) -> None:
 def test_a_terminal_that_goes_away(folder: pathlib.Path) -> None:
     """Progress isn't shown any more; the search continues."""
     ours, theirs = pty.openpty()
-    child = subprocess.Popen([sys.executable, "-m", "pfs", *LONG, "--seconds", "2", "--state", "state"], cwd=folder,
+    child = subprocess.Popen([sys.executable, "-m", "pfs", *LONG, "--seconds", "1", "--state", "state"], cwd=folder,
                              env=environment(), stdin=subprocess.DEVNULL, stdout=subprocess.PIPE, stderr=theirs)
     os.close(theirs)
     os.read(ours, 10)
@@ -821,26 +797,6 @@ def test_a_workbook_is_planned(folder: pathlib.Path) -> None:
     assert printed == run(["plan", "times.xlsx", "--order", "out.xlsx"], folder)
     (folder / "times.csv").write_text(TABLE)
     assert printed == run(["plan", "times.csv"], folder)
-
-
-@pytest.mark.parametrize(("options", "error"), [
-    (["--schedule", "/dev/full"], "pfs: /dev/full: No space left on device"),
-    (["--schedule", "a-folder"], "pfs: a-folder: Is a directory"),
-    (["--chart", "a-folder.html"], "pfs: a-folder.html: Is a directory"),
-])
-def test_what_cant_be_written_loses_no_order(folder: pathlib.Path, options: list[str], error: str) -> None:
-    (folder / "times.csv").write_text(TABLE)
-    printed = run(["plan", "times.csv"], folder)
-    for name in ("a-folder", "a-folder.html"):
-        (folder / name).mkdir()
-    # What can be written besides is written.
-    others = ["--chart", "well.html"] if options[0] == "--schedule" else ["--schedule", "well.csv"]
-    child = start(["plan", "times.csv", *options, *others], folder)
-    out, got = child.communicate(timeout=60)
-    assert (child.returncode, out.decode()) == (4, printed)
-    fault = without_summary(got.decode())
-    assert fault.startswith(error) and fault.count("\n") == 1, fault
-    assert (folder / others[1]).stat().st_size > 0
 
 
 @pytest.mark.parametrize(("options", "error"), [

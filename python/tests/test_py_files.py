@@ -304,7 +304,8 @@ def test_faults_of_instance_files(tmp_path: pathlib.Path, program: str, case: st
     with pytest.raises(pfs.FileFault) as fault:
         pfs.read(path, layout)
     assert (fault.value.name, fault.value.place, fault.value.text) == (name, place, got)
-    assert fault.value.path == str(path) and str(fault.value) == f"{path}: {got.removeprefix('pfs: ')}"
+    hint = f" ({fault.value.hint})" if fault.value.hint else ""
+    assert fault.value.path == str(path) and str(fault.value) == f"{path}: {got.removeprefix('pfs: ')}{hint}"
     assert isinstance(fault.value, ValueError)
     again = pickle.loads(pickle.dumps(fault.value))
     assert (str(again), again.place) == (str(fault.value), place)
@@ -346,6 +347,7 @@ def test_where_a_fault_is_and_what_may_be_wrong(case: str) -> None:
         with pytest.raises(pfs.FileFault) as fault:
             read()
         assert (fault.value.line, fault.value.column, fault.value.hint) == (line, column, hint)
+        assert str(fault.value).endswith(f" ({hint})" if hint else " times")
 
 
 def test_a_file_that_is_too_long(tmp_path: pathlib.Path) -> None:
@@ -433,23 +435,15 @@ def test_solutions_that_no_file_holds(order: list[int], span: int, why: str) -> 
         pfs.Solution(order, span).to_text()
 
 
-def test_taillards_seeds_are_those_of_the_list() -> None:
-    listed = pathlib.Path(pfs.__file__).with_name("taillard.csv")
-    rows = [row.split(",") for row in listed.read_text().splitlines()[1:]]
-    assert len(rows) == 120
-    for number, (name, jobs, machines, seed, lower) in enumerate(rows, 1):
+def test_taillards_instances_are_those_of_the_lists() -> None:
+    """Their upper bounds are the best known makespans."""
+    taillard, known = (pathlib.Path(pfs.__file__).with_name(name).read_text().splitlines()[1:]
+                       for name in ("taillard.csv", "best_known.csv"))
+    assert len(taillard) == 120
+    for number, (row, best) in enumerate(zip(taillard, known, strict=True), 1):
         shop = pfs.taillard(number)
-        assert (shop.name, shop.times.shape, shop.seed, shop.lower) == (name, (int(jobs), int(machines)), int(seed),
-                                                                       int(lower))
-
-
-def test_upper_bounds_are_the_best_known_makespans() -> None:
-    listed = pathlib.Path(pfs.__file__).with_name("best_known.csv")
-    for number, row in enumerate(listed.read_text().splitlines()[1:], 1):
-        name, makespan = row.split(",")[:2]
-        shop = pfs.taillard(number)
-        assert (shop.name, shop.upper) == (name, int(makespan)) and shop.upper >= shop.lower
-    assert number == 120
+        assert ",".join(map(str, [shop.name, shop.jobs, shop.machines, shop.seed, shop.lower])) == row
+        assert best.split(",")[:2] == [shop.name, str(shop.upper)] and shop.upper >= shop.lower
 
 
 @pytest.mark.parametrize("number", [1, 31, 61, 120])
@@ -457,13 +451,3 @@ def test_taillards_instances_are_the_programs(program: str, number: int) -> None
     shop = pfs.taillard(number)
     shop.lower = shop.upper = 0
     assert shop.to_text() == plainly.run([program, "generate", str(shop.jobs), str(shop.machines), str(shop.seed)])
-
-
-def test_the_program_takes_what_is_written(tmp_path: pathlib.Path, program: str) -> None:
-    shop = pfs.taillard(3)
-    best = shop.solve(20, seed=5)
-    shop.write(tmp_path / "shop", "orlib")
-    best.write(tmp_path / "order")
-    words: list[Any] = [program, "check", "--layout", "orlib", str(tmp_path / "shop"), str(tmp_path / "order")]
-    assert subprocess.run(words, capture_output=True, text=True).stdout == (
-        f"valid\nmakespan {best.makespan}\nbound {shop.bound()}\n")

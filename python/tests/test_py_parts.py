@@ -1,6 +1,7 @@
 """Building blocks of search methods: heads and tails, construction and local search."""
 import itertools
 from collections.abc import Callable
+from typing import Any
 
 import numpy as np
 import pfs
@@ -71,8 +72,24 @@ def test_local_search_moves_each_job_to_its_best_place(data: st.DataObject, case
     assert by_number.jobs.tolist() == moved(times, sequence, sorted(sequence), passes)
 
 
+def test_a_sequence_is_taken_where_an_order_is() -> None:
+    """As the list of its jobs."""
+    shop = pfs.taillard(1)
+    found = shop.insert_all([], range(20))
+    calls: list[Callable[[Any], object]] = [
+        shop.makespan, shop.check, shop.heads, shop.tails, shop.local_search, lambda own: shop.makespans([own, own]),
+        lambda own: shop.schedule(own).starts, lambda own: shop.solve(2, start=own),
+        lambda own: shop.solve(2, hold=own), lambda own: shop.insert_all([], own),
+        lambda own: pfs.Solution(own, found.makespan)]
+    assert [repr(call(found)) for call in calls] == [repr(call(found.jobs.tolist())) for call in calls]
+    others = pfs.Sequence(found.jobs[1:], 0)
+    assert shop.best_place(others, int(found.jobs[0])) == shop.best_place(others.jobs, int(found.jobs[0]))
+    assert (shop.places(others, int(found.jobs[0])) == shop.places(others.jobs, int(found.jobs[0]))).all()
+
+
 def test_neh_inserts_by_decreasing_totals() -> None:
     shop = pfs.taillard(1)
+    assert (shop.n_jobs, shop.n_machines) == (20, 5)
     neh = shop.neh()
     found = shop.insert_all([], (-shop.times.sum(axis=1)).argsort(kind="stable"))
     assert (found.jobs.tolist(), found.makespan) == (neh.order.tolist(), neh.makespan)

@@ -30,6 +30,19 @@ def test_a_call_for_20_jobs_on_5_machines(kind: str) -> None:
         assert (took := microseconds(call)) < 8, f"{name}: {took:.1f} microseconds"
 
 
+def test_many_orders_and_places_cost_little_more_than_the_library() -> None:
+    """Of 1,000 orders most of the time is the library's; all places take little longer than the best one."""
+    shop, orders = pfs.taillard(1), np.array([np.roll(range(20), at) for at in range(1000)], dtype=np.uint32)
+    spans, others = np.empty(1000, dtype=np.int64), orders[0][1:]
+    words = orders.ctypes.data, orders.size, 20, spans.ctypes.data, spans.size
+    calls: list[tuple[float, int, Callable[[], object], Callable[[], object]]] = [
+        (1.25, 1, lambda: shop.makespans(orders), lambda: shop._call("pfs_makespans", *words)),
+        (1.8, 50, lambda: shop.places(others, 0), lambda: shop.best_place(others, 0))]
+    for most, number, *both in calls:
+        took, base = (min(timeit.repeat(call, number=number, repeat=500)) for call in both)
+        assert took < most * base, f"{took / number * 1e6:.2f} and {base / number * 1e6:.2f} microseconds"
+
+
 COMPARED = """
 import timeit
 from ctypes import byref, c_size_t, c_uint64

@@ -244,7 +244,7 @@ def test_other_words_that_are_rejected() -> None:
 
 
 # Names of the functions that are called without types.
-QUICK = ("_pfs_makespan", "_pfs_insert")
+QUICK = ("_pfs_makespan", "_pfs_insert", "_pfs_insertions")
 SCALARS = (arrays.integer_dtypes() | arrays.unsigned_integer_dtypes() | arrays.floating_dtypes()
            | arrays.boolean_dtypes() | arrays.complex_number_dtypes() | arrays.unicode_string_dtypes()
            | arrays.byte_string_dtypes() | arrays.datetime64_dtypes())
@@ -374,25 +374,17 @@ UNCALLED = {"pfs_release", "pfs_construct", "pfs_heads_tails", "pfs_local_search
 CALLED = [name for name in _library.PROTOTYPES if name not in UNCALLED]
 
 
+@pytest.mark.parametrize(("number", "kind", "why"), [
+    (_library.MEMORY, MemoryError, "pfs: memory allocation failed"),
+    (12, ValueError, "the block isn't from 1 to 1000")])
 @pytest.mark.parametrize("name", CALLED)
-def test_memory_that_runs_out_is_a_memory_error(monkeypatch: pytest.MonkeyPatch, name: str) -> None:
-    """Each function may return this number."""
-    shop = pfs.Instance(TIMES)
-    call = call_everywhere(shop)[name]
-    assert call() is not None
-    monkeypatch.setattr(_library.library, name, lambda *_: _library.MEMORY)
-    for each in QUICK:
-        monkeypatch.setattr(_instance, each, lambda *_: _library.MEMORY)
-    with pytest.raises(MemoryError, match="^pfs: memory allocation failed$"):
-        call()
-
-
-@pytest.mark.parametrize("name", CALLED)
-def test_another_number_of_the_library_is_reported(monkeypatch: pytest.MonkeyPatch, name: str) -> None:
-    """By its text, where no argument explains it."""
+def test_other_numbers_of_the_library_are_reported(monkeypatch: pytest.MonkeyPatch, name: str, number: int,
+                                                   kind: type[Exception], why: str) -> None:
+    """Memory that runs out, and by its text a fault that no argument explains."""
     call = call_everywhere(pfs.Instance(TIMES))[name]
-    monkeypatch.setattr(_library.library, name, lambda *_: 12)
+    assert call() is not None
+    monkeypatch.setattr(_library.library, name, lambda *_: number)
     for each in QUICK:
-        monkeypatch.setattr(_instance, each, lambda *_: 12)
-    with pytest.raises(ValueError, match="^the block isn't from 1 to 1000$"):
+        monkeypatch.setattr(_instance, each, lambda *_: number)
+    with pytest.raises(kind, match=f"^{why}$"):
         call()

@@ -27,12 +27,6 @@ def test_makespan(case: tuple[plainly.Table, list[int]]) -> None:
     assert pfs.Instance(times).makespan(sequence) == plainly.makespan(times, sequence)
 
 
-@given(plainly.shops_and_orders(4))
-def test_makespan_is_the_longest_path(case: tuple[plainly.Table, list[int]]) -> None:
-    times, order = case
-    assert pfs.Instance(times).makespan(order) == plainly.longest_path(times, order)
-
-
 @pytest.mark.parametrize("seed", range(6))
 def test_all_orders_of_a_small_shop(seed: int) -> None:
     chance = random.Random(seed)
@@ -355,17 +349,12 @@ def test_instances_and_solutions_are_shown() -> None:
     assert repr(shop.schedule(range(20))) == f"Schedule(20 jobs, 5 machines, makespan={shop.makespan(range(20))})"
 
 
-def test_an_instance_of_a_frame() -> None:
-    pandas = pytest.importorskip("pandas")
-    frame = pandas.DataFrame({"saw": [3, 2], "drill": [2, 5]})
-    assert pfs.Instance(frame).times.tolist() == [[3, 2], [2, 5]]
-    assert pfs.Instance(frame).makespan(pandas.Series([1, 0])) == plainly.makespan([[3, 2], [2, 5]], [1, 0])
-
-
 def test_a_frame_keeps_its_names() -> None:
     pandas = pytest.importorskip("pandas")
     frame = pandas.DataFrame([[3, 2], [2, 5]], index=["table", 7], columns=["saw", "drill"])
     for shop in (pfs.Instance(frame), pfs.from_frame(frame)):
+        assert shop.times.tolist() == [[3, 2], [2, 5]]
+        assert shop.makespan(pandas.Series([1, 0])) == plainly.makespan([[3, 2], [2, 5]], [1, 0])
         assert (shop.job_names, shop.machine_names) == (("table", "7"), ("saw", "drill"))
     assert pfs.Instance(frame, job_names=["a", "b"]).job_names == ("a", "b")
     plain = pfs.Instance(pandas.DataFrame([[3, 2], [2, 5]]))

@@ -3,13 +3,8 @@
  * instance and its makespans are those of README.md, the drawn times those of Taillard's first instance.
  *
  * usage: library_calls all      every call; prints the number of calls
- *        library_calls long     calls on files that are too long
- *        library_calls threads  searches in four threads at once, with an instance each
  *        library_calls NAME..   a valid call of each, twice, with the preparation of its instance; prints for each call
  *                               `right`, or `memory` if an allocation failed */
-#define _POSIX_C_SOURCE 200809L
-#include <limits.h>
-#include <pthread.h>
 #include <stddef.h>
 #include <stdio.h>
 #include <stdlib.h>
@@ -31,7 +26,7 @@ struct outputs {
 };
 
 static struct outputs out, due;
-static int calls, failures, seen[64];
+static int calls, failures;
 /* The instance of most calls, between numbers that no call may write. */
 static struct {
     uint64_t before;
@@ -50,11 +45,6 @@ static void fresh(void) {
     memset(&due, PATTERN, sizeof due);
 }
 
-static void fail(const char *what, int number) {
-    ++failures;
-    printf("%s %d\n", what, number);
-}
-
 /* Nothing is said of the bytes after the last field of a block. */
 static void forget_padding(void) {
     struct pfs_block *blocks[] = {&out.block, &due.block};
@@ -67,8 +57,6 @@ static void forget_padding(void) {
 static void check(int line, int number, int returned) {
     ++calls;
     forget_padding();
-    if (returned >= 0 && returned < (int)COUNT(seen))
-        seen[returned] = 1;
     if (returned != number || held.before != PATTERN || held.after != PATTERN || memcmp(&out, &due, sizeof out) != 0) {
         ++failures;
         printf("line %d: %d is due, returned %d, outputs %s\n", line, number, returned,
@@ -279,18 +267,6 @@ static void no_lists(void) {
     CALL(PFS_LENGTH, pfs_prepare(NULL, 0, 3, 2, shop));
 }
 
-/* Each number of pfs.h was returned, except PFS_MEMORY and those of files that are too long. */
-static void numbers(void) {
-    for (int number = 0; number < (int)COUNT(seen); ++number) {
-        int is_known = strcmp(pfs_message(number), "unknown number") != 0;
-        int is_due = is_known && number != PFS_MEMORY && number != PFS_INPUT_TOO_LONG && number != PFS_FILE_TOO_LONG;
-        if (seen[number] != is_due)
-            fail(is_due ? "never returned:" : "returned:", number);
-    }
-    if (strcmp(pfs_message(INT_MIN), pfs_message(INT_MAX)) != 0 || strcmp(pfs_version(), PFS_VERSION) != 0)
-        fail("the texts", 0);
-}
-
 /* An instance is prepared from a list that changes then. On none, each call that needs one reports that. */
 static void all(void) {
     uint32_t passing[6];
@@ -316,69 +292,6 @@ static void all(void) {
     pfs_release(shop);
     pfs_release(shop);
     CALL(0, shop->at != NULL);
-    numbers();
-}
-
-static void long_files(void) {
-    uint8_t *bytes = malloc(PFS_LONGEST_INPUT + 1);
-    if (bytes == NULL)
-        exit(2);
-    memset(bytes, 'x', PFS_LONGEST_INPUT + 1);
-    for (size_t more = 0; more < 2; ++more) {
-        due.fault = 0;
-        CALL(more ? PFS_INPUT_TOO_LONG : PFS_NO_BLOCK,
-             pfs_read(bytes, PFS_LONGEST_INPUT + more, PFS_ORLIB, 1, &out.block, out.list, 44, &out.fault));
-        due.fault = 0;
-        CALL(more ? PFS_FILE_TOO_LONG : PFS_SYNTAX,
-             pfs_read_order(bytes, PFS_LONGEST_ORDER_FILE + more, out.list, 44, &out.jobs, &out.machines, &out.makespan,
-                            &out.fault));
-    }
-    free(bytes);
-}
-
-enum { JOBS = 12, MACHINES = 5, TURNS = 40 };
-
-struct found {
-    const uint32_t *times;
-    uint32_t order[JOBS];
-    uint64_t sums[TURNS];
-};
-
-static void *search(void *given) {
-    struct found *found = given;
-    struct pfs_instance own = {NULL};
-    uint64_t cells, makespan;
-    int wrong = pfs_prepare(found->times, JOBS * MACHINES, JOBS, MACHINES, &own);
-    wrong |= pfs_neh(&own, found->order, JOBS, &makespan, &cells);
-    for (uint32_t turn = 0; turn < TURNS; ++turn) {
-        struct pfs_rounds_options options = {7, 4, turn, 1, turn % 2};
-        wrong |= pfs_rounds(&own, &options, found->order, JOBS, &makespan, &cells);
-        found->sums[turn] = makespan + cells;
-    }
-    pfs_release(&own);
-    return wrong ? NULL : found;
-}
-
-static void threads(void) {
-    static uint32_t drawn[JOBS * MACHINES];
-    struct found found[5] = {{0}};
-    pthread_t thread[4];
-    if (pfs_generate(JOBS, MACHINES, 873654221, drawn, JOBS * MACHINES) != PFS_OK)
-        exit(2);
-    for (int place = 0; place < 5; ++place) {
-        found[place].times = drawn;
-        if (place < 4 && pthread_create(&thread[place], NULL, search, &found[place]) != 0)
-            exit(2);
-    }
-    if (search(&found[4]) == NULL)
-        fail("refused", 4);
-    for (int place = 0; place < 4; ++place) {
-        void *ended;
-        if (pthread_join(thread[place], &ended) != 0 || ended == NULL
-            || memcmp(&found[place], &found[4], sizeof found[4]) != 0)
-            fail("something else was found by thread", place);
-        ++calls;
-    }
 }
 
 /* The call succeeded with the right outputs, or an allocation failed and every output is unchanged. If that was one of
@@ -397,10 +310,9 @@ static void tell(const char *name) {
         memset(&due, PATTERN, sizeof due);
     if (number == PFS_MEMORY && IS("rounds") && out.list[0] == 0)
         memcpy(due.list, NUMBERED, sizeof NUMBERED);
-    if ((number != PFS_OK && number != PFS_MEMORY) || memcmp(&out, &due, sizeof out) != 0)
-        fail("wrong:", number);
-    else
-        puts(number == PFS_OK ? "right" : "memory");
+    int is_right = (number == PFS_OK || number == PFS_MEMORY) && memcmp(&out, &due, sizeof out) == 0;
+    failures += !is_right;
+    puts(!is_right ? "wrong" : number == PFS_OK ? "right" : "memory");
 }
 
 int main(int count, char **words) {
@@ -408,11 +320,11 @@ int main(int count, char **words) {
     const char *name = count > 1 ? words[1] : "";
     setvbuf(stdout, buffer, _IOFBF, sizeof buffer);
     fresh();
-    if (IS("all") || IS("long") || IS("threads")) {
-        IS("all") ? all() : IS("long") ? long_files() : threads();
+    if (IS("all")) {
+        all();
         printf("%d calls, %d failures\n", calls, failures);
     }
-    for (int at = IS("all") || IS("long") || IS("threads") ? count : 1; at < count; ++at) {
+    for (int at = IS("all") ? count : 1; at < count; ++at) {
         tell(words[at]);
         tell(words[at]);
     }

@@ -4,11 +4,24 @@ pytest, which conftest.py names."""
 import importlib.util
 import os
 import shutil
+import signal
 from collections.abc import Generator
 from typing import Any, NoReturn
 
 import pytest
+from _pytest.assertion import truncate
 from support.packages import package_of
+
+
+def prepare_process() -> None:
+    """What tests of all folders need of the process that runs them."""
+    # What a failing assertion says is cut off after 8 lines otherwise. Since pytest 8.4 there is a setting for it.
+    truncate.DEFAULT_MAX_LINES, truncate.DEFAULT_MAX_CHARS = 60, 6_000
+    # What runs in the background of a shell ignores it, and so would all that the tests start.
+    if signal.getsignal(signal.SIGINT) == signal.SIG_IGN:
+        signal.signal(signal.SIGINT, signal.default_int_handler)
+    # It would hide that a script doesn't flush what it prints.
+    os.environ.pop("PYTHONUNBUFFERED", None)
 
 
 def tool(command: str) -> str:

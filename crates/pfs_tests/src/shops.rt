@@ -66,27 +66,6 @@ pub fn three_machines(alloc: Global) -> Result<Instance, BaseFault>
     shop(alloc, 3, 3, &[3, 1, 0, 3, 0, 1, 0, 6, 0])
 }
 
-/// Returns a shop with times from 0 to 7, drawn by a linear congruential generator: they are small, so that many places
-/// are equally good.
-pub fn drawn_shop(
-    alloc: Global,
-    jobs: usize,
-    machines: usize,
-    seed: u32,
-) -> Result<Instance, BaseFault> {
-    let mut instance = Instance::new(alloc, jobs, machines, NOTES)?;
-    let mut state = seed;
-    for job in 0..jobs {
-        for machine in 0..machines {
-            state = state.wrapping_mul(1_103_515_245).wrapping_add(12_345);
-            if job < instance.jobs() && machine < instance.machines() {
-                instance.set(job, machine, state / 65_536 % 8);
-            }
-        }
-    }
-    Ok(instance)
-}
-
 /// Returns a sequence of these jobs out of three; jobs that aren't below 3 or are already in it are left out.
 pub fn sequence_of(alloc: Global, jobs: &[usize]) -> Result<Seq, OrderFault> {
     let mut seq = Seq::new(alloc, 3)?;

@@ -67,11 +67,13 @@ class FileFault(Fault):
     column : int
         The byte of the line at which the fault is, counted from 1, or 0 for the whole line.
     hint : str
-        A probable cause of the fault, or an empty text.
+        A probable cause of the fault, which the message has too, or an empty text.
     """
 
     def __init__(self, path: str, number: int, place: int, line: int = 0, column: int = 0, hint: str = "") -> None:
         super().__init__(path, number, place)
+        if hint:
+            self.args = (f"{self.args[0]} ({hint})",)
         self.line = line
         self.column = column
         self.hint = hint

@@ -20,11 +20,12 @@ from pfs._names import frame_names, is_frame, names_of
 from pfs._schedule import Schedule
 from pfs._search import Progress, Search, Stop
 from pfs._solution import Solution, as_order
-from pfs._validate import (BOOLS, Jobs, Order, array_copy, as_uint32, as_uint32_bytes, checked_int, checked_jobs,
-                           checked_order, checked_times, jobs_error, layout_number)
+from pfs._validate import (BOOLS, MOST_UINT32, Jobs, Order, array_copy, as_uint32, as_uint32_bytes, checked_int,
+                           checked_jobs, checked_order, checked_times, jobs_error, layout_number)
 
 _pfs_makespan = c.quick_makespan
 _pfs_insert = c.quick_insert
+_pfs_insertions = c.quick_insertions
 # Three times as fast as calling the class of a named tuple.
 _new_tuple = tuple.__new__
 
@@ -90,7 +91,7 @@ class Instance:
     times : numpy.ndarray
         The times, a read-only array of int64 and of shape (jobs, machines).
     jobs, machines : int
-        The number of jobs and of machines.
+        The number of jobs and of machines, also as ``n_jobs`` and ``n_machines``.
 
     Raises
     ------
@@ -149,6 +150,16 @@ class Instance:
     def machines(self) -> int:
         """The number of machines."""
         return self._times.shape[1]
+
+    @property
+    def n_jobs(self) -> int:
+        """The same as ``jobs``."""
+        return self.jobs
+
+    @property
+    def n_machines(self) -> int:
+        """The same as ``machines``."""
+        return self.machines
 
     def __repr__(self) -> str:
         return f"<Instance {self.name + ': ' if self.name else ''}{self.jobs} jobs, {self.machines} machines>"
@@ -393,10 +404,7 @@ class Instance:
         best = _new_tuple(Place, (prepared.place.value, prepared.makespan.value))
         self._prepared.append(prepared)
         if number:
-            fault = jobs_error(number, self.jobs, jobs, "sequence")
-            if number == c.REPEATED and fault.args == (c.message(number),):
-                raise ValueError(f"job {job} is already in the sequence")
-            raise fault
+            raise self._insertion_error(number, jobs, job)
         return best
 
     def places(self, sequence: Jobs, job: int) -> Order:
@@ -428,15 +436,27 @@ class Instance:
         array([10, 11, 14])
         """
         jobs, count = as_uint32_bytes(sequence, "sequence")
-        job = checked_int(job, "job", 0, self.jobs - 1)
-        spans = np.empty(min(count, self.jobs) + 1, dtype=np.int64)
-        number = self._call("pfs_insertions", jobs, min(count, self.jobs), job, spans.ctypes.data, spans.size)
+        most = self.jobs
+        if type(job) is not int or not 0 <= job < most:
+            job = checked_int(job, "job", 0, most - 1)
+        if count > most:
+            count = most
+        long, room = ((LENGTHS[count], LENGTHS[count + 1]) if count < SHORT - 1 else
+                      (c_size_t(count), c_size_t(count + 1)))
+        prepared = self._taken()
+        number = _pfs_insertions(prepared.address, jobs, long, job, prepared.to_spans, room)
+        spans = prepared.spans[:count + 1].copy()
+        self._prepared.append(prepared)
         if number:
-            fault = jobs_error(number, self.jobs, jobs, "sequence")
-            if number == c.REPEATED and fault.args == (c.message(number),):
-                raise ValueError(f"job {job} is already in the sequence")
-            raise fault
+            raise self._insertion_error(number, jobs, job)
         return spans
+
+    def _insertion_error(self, number: int, jobs: bytes, job: int) -> Exception:
+        """Return the exception for a sequence and another job that the library rejects with this number."""
+        fault = jobs_error(number, self.jobs, jobs, "sequence")
+        if number == c.REPEATED and fault.args == (c.message(number),):
+            return ValueError(f"job {job} is already in the sequence")
+        return fault
 
     def heads(self, sequence: Jobs) -> Order:
         """Return the earliest end of each operation of a sequence of jobs.
@@ -616,7 +636,8 @@ class Instance:
         Parameters
         ----------
         orders : array_like
-            A row for each sequence, of distinct jobs, counted from 0: orders of all jobs, or partial sequences.
+            A row for each sequence, of distinct jobs, counted from 0: orders of all jobs, or partial sequences. Or a
+            list of `Solution` or `Sequence`.
 
         Returns
         -------
@@ -634,15 +655,17 @@ class Instance:
         >>> pfs.Instance([[3, 2], [2, 5], [4, 1]]).makespans([[0, 1, 2], [1, 0, 2]])
         array([11, 10])
         """
-        own = array_copy(orders, "orders")
+        rows: Any = orders
+        if isinstance(orders, (list, tuple)):
+            rows = [getattr(row, "order", getattr(row, "jobs", row)) for row in orders]
+        own = array_copy(rows, "orders")
         if own.ndim != 2:
             raise ValueError(f"orders must have a row for each sequence of jobs, not the shape {own.shape}")
         if own.dtype.kind == "b":
             raise TypeError("orders must be whole numbers, not of dtype bool")
-        jobs = as_uint32(own, 2**32 - 1, "orders", "row {}, place {}", "isn't a job: jobs count from 0")
-        rows = jobs.tobytes()
+        jobs = as_uint32(own, MOST_UINT32, "orders", "row {}, place {}", "isn't a job: jobs count from 0")
         spans = np.empty(len(jobs), dtype=np.int64)
-        number = self._call("pfs_makespans", rows, jobs.size, jobs.shape[1], spans.ctypes.data, spans.size)
+        number = self._call("pfs_makespans", jobs.ctypes.data, jobs.size, jobs.shape[1], spans.ctypes.data, spans.size)
         if number in (c.JOB, c.REPEATED):
             for row, sequence in enumerate(jobs):
                 if self._call("pfs_makespan", sequence.tobytes(), len(sequence), byref(c_uint64())):

@@ -12,6 +12,8 @@ import pathlib
 from ctypes import byref, c_char_p, c_int, c_size_t, c_uint32, c_uint64, c_void_p
 from typing import Any, Final
 
+import numpy as np
+
 from pfs._version import VERSION
 
 FILE = "libpfs.so.1"
@@ -112,9 +114,10 @@ def load(path: str) -> ctypes.CDLL:
 
 PATH = path_of_library()
 library = load(PATH)
-# The two functions that methods call most often, without declared types, whose conversion takes longer than the call.
+# The functions that methods call most often, without declared types, whose conversion takes longer than the call.
 quick_makespan: Any = library["pfs_makespan"]
 quick_insert: Any = library["pfs_insert"]
+quick_insertions: Any = library["pfs_insertions"]
 # The lengths of short lists, converted for such a call.
 SHORT: Final = 257
 LENGTHS: Final = [c_size_t.from_param(length) for length in range(SHORT)]
@@ -153,6 +156,8 @@ class Prepared:
         self.made = Prepared.forks
         self.handle, self.place, self.makespan = Handle(), c_size_t(), c_uint64()
         self.address, self.to_place, self.to_makespan = byref(self.handle), byref(self.place), byref(self.makespan)
+        self.spans = np.empty(jobs + 1, dtype=np.int64)
+        self.to_spans = c_void_p(self.spans.ctypes.data)
         done(library.pfs_prepare(times, jobs * machines, jobs, machines, self.address))
 
     def is_own(self) -> bool:

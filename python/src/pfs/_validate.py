@@ -21,7 +21,7 @@ Jobs: TypeAlias = "npt.ArrayLike | Solution | Sequence"
 Times: TypeAlias = "npt.NDArray[np.uint32]"
 Order: TypeAlias = "npt.NDArray[np.int64]"
 
-UINT32 = np.dtype(np.uint32)
+UINT32, MOST_UINT32 = np.dtype(np.uint32), 2**32 - 1
 WIDEST = {"i": np.int64, "u": np.uint64, "f": np.float64, "O": np.object_}
 # Python and NumPy treat booleans as numbers. Here they are rejected.
 BOOLS = {bool, np.bool_}
@@ -90,6 +90,10 @@ def as_uint32(own: npt.NDArray[Any], most: int, what: str, where: str, limits: s
     if own.size == 0:
         return np.empty(own.shape, dtype=np.uint32)
     kind = own.dtype.kind
+    if own.dtype == UINT32 and most == MOST_UINT32:
+        return own
+    if kind in "iu" and 0 <= int(own.min()) and int(own.max()) <= most:
+        return own.astype(np.uint32, copy=False)
     if kind == "O":
         is_number = [isinstance(number, (int, np.integer)) and not isinstance(number, bool) for number in own.flat]
         wrong = ~np.array(is_number, dtype=np.bool_).reshape(own.shape)
@@ -173,7 +177,7 @@ def checked_jobs(given: Any, what: str) -> npt.NDArray[np.uint32]:
         raise ValueError(f"{what} must be a list of jobs, not of the shape {own.shape}")
     if own.dtype.kind == "b":
         raise TypeError(f"{what} must be whole numbers, not of dtype {own.dtype}")
-    return as_uint32(own, 2**32 - 1, what, "place {}", "isn't a job: jobs count from 0")
+    return as_uint32(own, MOST_UINT32, what, "place {}", "isn't a job: jobs count from 0")
 
 
 def jobs_error(number: int, jobs: int, own: bytes, what: str = "order") -> Exception:

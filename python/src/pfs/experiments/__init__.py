@@ -1,9 +1,16 @@
 """Experiments: plans of runs, their CSVs and reports. `pfs-experiments` is the command line."""
 from __future__ import annotations
 
+from collections.abc import Sequence
+
 
 class ExperimentError(Exception):
     """An error that is reported on one line."""
+
+
+def listed(names: Sequence[str], most: int = 10) -> str:
+    """Returns the first names of a list, with two points after them if there are more."""
+    return ", ".join([*names[:most], *([".."] if len(names) > most else [])])
 
 
 def plain(text: str) -> str:

@@ -61,9 +61,9 @@ def shops_of(path: str) -> dict[str, Instance]:
     return {}
 
 
-def audits_of(paths: list[str]) -> list[bool]:
-    """Returns which rows of the CSVs have an order whose instance is at hand, next to one of the CSVs or as one of
-    Taillard's. A wrong order is an error."""
+def orders_of(paths: list[str]) -> list[str]:
+    """Returns the order of each row of the CSVs that has one and whose instance is at hand, next to one of the CSVs or
+    as one of Taillard's; an empty text for the others. A wrong order is an error."""
     own = {path: shops_of(path) for path in paths}
     shelf = Shelf((), None)
     for shops in own.values():
@@ -72,29 +72,31 @@ def audits_of(paths: list[str]) -> list[bool]:
     return [each for path in paths for each in audited_rows(path, rows_of(path, ["instance"]), own[path], shelf)]
 
 
-def audited_rows(path: str, rows: list[Row], own: dict[str, Instance], shelf: Shelf) -> list[bool]:
-    shops = {}
-    table = []
+def audited_rows(path: str, rows: list[Row], own: dict[str, Instance], shelf: Shelf) -> list[str]:
+    shops: dict[str, Instance] = {}
+    orders = [""] * len(rows)
     for at, row in enumerate(rows):
         shop = own.get(row["instance"]) or shelf.find(row["instance"])
-        order = order_of(path, row.get("order", ""))
-        if shop and order and row["makespan"] and row.get("status", "ok") == "ok":
+        if shop and row["makespan"] and row.get("status", "ok") == "ok":
+            orders[at] = order_of(path, row.get("order", ""))
             shops[str(at)] = shop
-            table.append({"instance": str(at), "method": row.get("method", ""), "makespan": row["makespan"],
-                          "order": order})
+            if orders[at] and float(row["makespan"]) % 1:
+                raise ExperimentError(f"{path}: line {at + 2}, {row['instance']}: the makespan of an order is whole")
+    table = [{"instance": str(at), "method": row.get("method", ""), "makespan": row["makespan"], "order": order}
+             for at, (row, order) in enumerate(zip(rows, orders)) if order]
     for each in audited(table, shops) if table else []:
         if not each.valid:
             at = int(each.instance)
             raise ExperimentError(f"{path}: line {at + 2}, {rows[at]['instance']}: {each.verdict}: {each.why}")
-    return [str(at) in shops for at in range(len(rows))]
+    return orders
 
 
-def order_of(path: str, cell: str) -> str | list[int]:
+def order_of(path: str, cell: str) -> str:
     """Returns an order of a CSV: a list, or that of an order file, which is empty if the file is gone."""
     file = pathlib.Path(path).parent / cell
     if "/" not in cell:
         return cell
     try:
-        return [job + 1 for job in read_order(file).order.tolist()] if file.exists() else ""
+        return " ".join(str(job + 1) for job in read_order(file).order.tolist()) if file.exists() else ""
     except Fault as fault:
         raise ExperimentError(f"{path}: {fault}") from None

@@ -3,10 +3,8 @@
 the program `pfs`, audits the order, and prints the order file, and then one line of CSV: the run's number, makespan,
 bound, cells, processor seconds of the search, `ok` or an error, the rounds of a search by time, and how many processes
 a command has left. Without an order it prints only this line. The exit status is 0 even if the search or the audit
-fails. A search by time, which is made with the library, has SECONDS and no ROUNDS; what a run doesn't have is a hyphen.
-If the folder has the file `command.json`, its command is the search.
-
-usage: one NUMBER FILE LAYOUT BLOCK ROUNDS SECONDS TAKE PASSES SEED"""
+fails. A search by time, which is made with the library, has a limit and no rounds; what a run doesn't have is a hyphen.
+If the folder has the file `command.json`, its command is the search. The arguments are those of `Run`."""
 from __future__ import annotations
 
 import contextlib
@@ -25,6 +23,7 @@ import subprocess
 import sys
 import tempfile
 import time
+from collections import namedtuple
 from collections.abc import Iterable
 from types import FrameType
 from typing import NamedTuple
@@ -35,17 +34,26 @@ LIBRARY = "libpfs.so.1"
 MOST_ROUNDS, STEP = 1_000_000, 0x9E3779B97F4A7C15
 # About how many seconds a part of a search takes, and the greatest ratio of its rounds to those of the part before it.
 PART, MOST_INCREASE = 0.05, 4
-# A command, and each of its processes, may use this multiple of its processor time, in whole seconds. In real time it
-# may take ten times as long, and this number of seconds more.
-TIMES, PATIENCE = 1.5, 10.0
+# A command, and each of its processes, may use this multiple of its processor time, and these seconds for its start,
+# in whole seconds. In real time it may take ten times as long, and this number of seconds more.
+TIMES, START, PATIENCE = 1.5, 0.5, 10.0
 # The most bytes that a command may print.
 MOST_BYTES = 1_048_576
 PR_SET_PDEATHSIG, PR_SET_CHILD_SUBREAPER = 1, 36
 ENDINGS = (signal.SIGTERM, signal.SIGINT, signal.SIGHUP)
 
+# The arguments.
+Run = namedtuple("Run", "number file layout block rounds limit take passes seed repetition time_factor jobs machines "
+                        "instance")
+
 
 class Failed(Exception):
     """A run failed. The message says how."""
+
+
+def words_of(run: Run) -> list[str]:
+    """Returns the arguments of pfs that name the instance."""
+    return ["--layout", run.layout, "--block", run.block, run.file]
 
 
 class Found(NamedTuple):
@@ -84,31 +92,31 @@ def order_file(jobs: Iterable[object], makespan: int, first: str) -> str:
     return f"{first}\n{' '.join(map(str, jobs))}\nmakespan {makespan}\n"
 
 
-def by_rounds(instance: list[str], rounds: str, take: str, passes: str, seed: str) -> Found:
-    options = ["--rounds", rounds, "--passes", passes, "--seed", seed, "--cells"]
-    options += [] if take == "-" else ["--take", take]
+def by_rounds(run: Run) -> Found:
+    options = ["--rounds", run.rounds, "--passes", run.passes, "--seed", run.seed, "--cells"]
+    options += [] if run.take == "-" else ["--take", run.take]
     before = child_seconds()
-    text = pfs("solve", *options, *instance)
+    text = pfs("solve", *options, *words_of(run))
     found = re.fullmatch("(.*\n)cells ([0-9]{1,20})\n", text, re.ASCII | re.DOTALL)
     if not found:
         raise Failed("solve: no cells printed")
     return Found(found[1], found[2], child_seconds() - before)
 
 
-def check(instance: list[str], order: str) -> subprocess.CompletedProcess[bytes]:
+def check(run: Run, order: str) -> subprocess.CompletedProcess[bytes]:
     with tempfile.NamedTemporaryFile("w", encoding="utf-8", errors="replace") as file:
         file.write(order)
         file.flush()
-        return run_pfs("check", *instance, file.name)
+        return run_pfs("check", *words_of(run), file.name)
 
 
-def audit(instance: list[str], order: str) -> tuple[str, str]:
+def audit(run: Run, order: str) -> tuple[str, str]:
     """Audits an order file, which must be valid. Returns its makespan and its bound."""
-    done = check(instance, order)
+    done = check(run, order)
     lines = (done.stderr or done.stdout).decode(errors="replace").splitlines() or ["no verdict"]
     found = re.match("valid\nmakespan ([0-9]{1,18})\nbound ([0-9]{1,18})(?:\n|$)", "\n".join(lines), re.ASCII)
     if done.returncode != 0 or not found:
-        raise Failed(f"check: {f'exit {done.returncode}, ' if done.returncode else ''}{lines[0]}")
+        raise Failed(f"check: {f'exit {done.returncode}, ' if done.returncode else ''}{', '.join(lines)}")
     return found[1], found[2]
 
 
@@ -171,12 +179,12 @@ def search(running: Search, seconds: float) -> float:
     return time.process_time() - start
 
 
-def by_time(instance: list[str], seconds: str, take: str, passes: str, seed: str) -> Found:
-    _, layout, *block, file = instance
-    jobs, machines, *pairs = map(int, pfs("convert", "--from", layout, "--to", "orlib", *block, file).split()[3:])
+def by_time(run: Run) -> Found:
+    text = pfs("convert", "--from", run.layout, "--to", "orlib", "--block", run.block, run.file)
+    jobs, machines, *pairs = map(int, text.split()[3:])
     try:
-        running = Search(pairs[1::2], jobs, machines, int(take), int(passes), int(seed))
-        spent = search(running, float(seconds))
+        running = Search(pairs[1::2], jobs, machines, int(run.take), int(run.passes), int(run.seed))
+        spent = search(running, float(run.limit))
     except (OSError, AttributeError) as error:
         raise Failed(f"libpfs: {error}") from None
     order = order_file([job + 1 for job in running.order], running.makespan.value, f"order2 {jobs} {machines}")
@@ -185,23 +193,23 @@ def by_time(instance: list[str], seconds: str, take: str, passes: str, seed: str
 
 # Other programs
 
-def by_command(words: list[str], instance: list[str], seconds: str, seed: str) -> Found:
+def by_command(words: list[str], run: Run) -> Found:
     """Searches with another program, which gets its own copy of the instance. If it prints only job numbers, the
     audit computes the makespan."""
-    values = {"block": instance[3], "seed": seed, "seconds": seconds}
     try:
         with tempfile.TemporaryDirectory() as own:
-            values["instance"] = shutil.copyfile(os.path.join(HERE, instance[-1]), os.path.join(own, "instance"))
-            os.chmod(values["instance"], 0o444)
-            words = [re.sub(r"\{(\w+)\}", lambda name: values[str(name[1])], word) for word in words]
+            copy = shutil.copyfile(os.path.join(HERE, run.file), os.path.join(own, "instance"))
+            os.chmod(copy, 0o444)
+            values = {**run._asdict(), "seconds": run.limit, "instance": copy, "name": os.path.basename(run.instance)}
+            words = [re.sub(r"\{(\w+)\}", lambda name: str(values[str(name[1])]), word) for word in words]
             text, spent, left = run_command(words, os.path.join(HERE, "files"),
-                                            None if seconds == "-" else float(seconds))
+                                            None if run.limit == "-" else float(run.limit))
         order, jobs = order_of(text)
     except Failed as failure:
         raise Failed(f"command: {failure}") from None
     if jobs:
         first = f"order {len(jobs)}"
-        verdict = check(instance, order_file(jobs, 0, first)).stdout.decode(errors="replace")
+        verdict = check(run, order_file(jobs, 0, first)).stdout.decode(errors="replace")
         computed = re.search("^computed ([0-9]{1,18})$", verdict, re.MULTILINE)
         order = order_file(jobs, int(computed[1]) if computed else 0, first)
     return Found(order, "", spent, "", left)
@@ -217,6 +225,8 @@ def order_of(text: str) -> tuple[str, list[str]]:
     jobs = re.split(r"[\s,]+", lines[0].strip(" \t,"))
     if len(lines) > 1 or not all(re.fullmatch("[0-9]{1,9}", job, re.ASCII) for job in jobs):
         raise Failed(f"no order printed: {lines[0][:40]!r}")
+    if "0" in jobs:
+        raise Failed("job 0: jobs count from 1")
     return "", [str(int(job)) for job in jobs]
 
 
@@ -247,7 +257,7 @@ def run_command(words: list[str], folder: str, seconds: float | None) -> tuple[s
     spent = child_seconds() - before
     if len(text) > MOST_BYTES:
         raise Failed(f"more than {MOST_BYTES:,} bytes printed")
-    if seconds is not None and spent > TIMES * seconds:
+    if seconds is not None and spent > TIMES * seconds + START:
         raise Failed(f"took too long: {spent:.2f} s of processor time instead of {seconds:g} s")
     if not ended:
         raise Failed(f"still running, and used {spent:.2f} s of processor time of {seconds:g} s")
@@ -273,7 +283,7 @@ def limit(seconds: float | None) -> None:
     """Limits the processor time of each process of a program, and has it killed when this process ends."""
     set_process(PR_SET_PDEATHSIG, signal.SIGKILL)
     if seconds is not None:
-        resource.setrlimit(resource.RLIMIT_CPU, (math.ceil(TIMES * seconds),) * 2)
+        resource.setrlimit(resource.RLIMIT_CPU, (math.ceil(TIMES * seconds + START),) * 2)
 
 
 def kill_descendants() -> int:
@@ -294,29 +304,25 @@ def kill_descendants() -> int:
 
 # The run
 
-def find(instance: list[str], rounds: str, seconds: str, take: str, passes: str, seed: str) -> Found:
+def find(run: Run) -> Found:
     """Searches with the command, by time, or by rounds."""
     command = os.path.join(HERE, "command.json")
     if os.path.exists(command):
         with open(command, encoding="utf-8") as file:
-            return by_command(json.load(file), instance, seconds, seed)
-    if seconds != "-":
-        return by_time(instance, seconds, take, passes, seed)
-    return by_rounds(instance, rounds, take, passes, seed)
+            return by_command(json.load(file), run)
+    return by_rounds(run) if run.limit == "-" else by_time(run)
 
 
 def main() -> None:
-    number, file, layout, block, *settings = sys.argv[1:]
-    instance, order = ["--layout", layout, "--block", block, file], ""
+    run, order = Run._make(sys.argv[1:]), ""
     try:
-        made = find(instance, *settings)
+        made = find(run)
         order = made.order
-        row = [number, *audit(instance, order), made.cells, f"{made.seconds:.6f}", "ok"]
+        row = [run.number, *audit(run, order), made.cells, f"{made.seconds:.6f}", "ok"]
         row += [made.rounds, str(made.left)] if made.rounds or made.left else []
-    except Failed as failure:
-        row = [number, "", "", "", "", str(failure)]
-    except OSError as error:
-        row = [number, "", "", "", "", f"lost: {error.strerror}"]
+    except (Failed, OSError) as failure:
+        lost = f"lost: {failure.strerror}" if isinstance(failure, OSError) else str(failure)
+        row = [run.number, "", "", "", "", lost]
     line = io.StringIO()
     csv.writer(line, lineterminator="\n").writerow(row)
     sys.stdout.buffer.write((order + line.getvalue()).encode(errors="replace"))

@@ -23,6 +23,8 @@ TEXTS = {"reference": "the path of a CSV", "command": "a command", "method": "a 
 KEYS = {*NUMBERS, *TEXTS, "layout", "instances", "repetitions", "time_factors", "files"}
 # Keys that a plan with a command can't have.
 OF_PFS = ("rounds", "takes", "passes")
+# What a command may have in braces.
+OF_COMMAND = {"instance", "name", "jobs", "machines", "block", "seed", "seconds"}
 LEAST_FACTOR, MOST_FACTOR = 0.001, 10_000
 # The greatest makespan that an order file can state.
 MOST_MAKESPAN = 10 ** 18 - 1
@@ -93,12 +95,13 @@ def command_of(path: str, plan: dict[str, Any]) -> dict[str, Any]:
         raise ExperimentError(f"{path}: command: {error}") from None
     used = {name for word in words for name in re.findall(r"\{(\w*)\}", word)}
     needed = {"instance"} | ({"block"} if plan.get("blocks", [1]) != [1] else set())
-    allowed = {"instance", "seed", "block"} | ({"seconds"} if "time_factors" in plan else set())
     if needed - used:
         raise ExperimentError(f"{path}: command must contain {{{min(needed - used)}}}")
-    if used - allowed:
-        why = ", which needs time_factors" if min(used - allowed) == "seconds" else ""
-        raise ExperimentError(f"{path}: command contains {{{min(used - allowed)}}}{why}")
+    if used - OF_COMMAND:
+        raise ExperimentError(f"{path}: command contains {{{min(used - OF_COMMAND)}}}, but there are only "
+                              f"{', '.join(f'{{{name}}}' for name in sorted(OF_COMMAND))}")
+    if "seconds" in used and "time_factors" not in plan:
+        raise ExperimentError(f"{path}: command contains {{seconds}}, which needs time_factors")
     files = [os.path.normpath(name) for name in matches(path, "files", plan["files"])] if "files" in plan else []
     program = os.path.normpath(words[0])
     if "/" in words[0] and not os.path.isabs(program) and program not in files:

@@ -195,8 +195,9 @@ def cell_times(done: pd.DataFrame, width: float | None) -> Figure | None:
                                                ns=1e9 * runs["seconds"] / runs["cells"])
     boxes = list(runs.groupby(["area", "jobs", "machines", "method"])["ns"])
     labels = [size_name(key[1:3]) + f"\n{key[3]}" * several for key, _ in boxes]
-    figure, axis = of_labels(labels, width, f"Time per cell at {max(0, most):,.0f} rounds, with the start of the "
-                             "process: median, quartiles, minimum and maximum", "processor time per table cell, ns")
+    of = f" at {most:,.0f} rounds, with the start of the process" if most >= 0 else " of searches by time"
+    figure, axis = of_labels(labels, width, f"Time per cell{of}: median, quartiles, minimum and maximum",
+                             "processor time per table cell, ns")
     axis.boxplot([times for _, times in boxes], labels=labels, whis=(0, 100), widths=0.5)
     axis.set_ylim(bottom=0)
     axis.set_xlabel("jobs×machines")

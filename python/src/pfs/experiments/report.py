@@ -10,12 +10,12 @@ import logging
 import pathlib
 import re
 import sys
-from typing import TYPE_CHECKING, Any, NamedTuple
+from typing import TYPE_CHECKING, Any
 
 from pfs._atomic import text_cell
 from pfs._benchmarks import best_known, canonical, taillard_rows
 from pfs._optional import optional
-from pfs.experiments import ExperimentError, plain
+from pfs.experiments import ExperimentError, listed, plain
 from pfs.experiments.fair import SETTING, common, made_of
 from pfs.experiments.plan import MOST_MAKESPAN, reference_for, reference_of, rows_of
 from pfs.experiments.stage import write_text
@@ -23,28 +23,25 @@ from pfs.experiments.stage import write_text
 if TYPE_CHECKING:
     import pandas as pd
 
-GROUP = ["method", "jobs", "machines", "rounds", "take", "passes", "time_factor"]
+SIZE = ["jobs", "machines"]
+GROUP = ["method", *SIZE, "rounds", "take", "passes", "time_factor"]
 # The least and the greatest value of each column of numbers.
 WHOLE = {"jobs": 10 ** 6, "machines": 10 ** 6, "rounds": 10 ** 9, "take": 10 ** 6, "passes": 10 ** 6,
-         "makespan": MOST_MAKESPAN, "bound": MOST_MAKESPAN, "reference": MOST_MAKESPAN, "cells": 2 ** 64 - 1}
-RANGES = {"gap_percent": (-100, 1e20), "seconds": (0, 1e12), "time_factor": (0, 1e12),
+         "bound": MOST_MAKESPAN, "reference": MOST_MAKESPAN, "cells": 2 ** 64 - 1}
+RANGES = {"gap_percent": (-100, 1e20), "seconds": (0, 1e12), "time_factor": (0, 1e12), "makespan": (0, MOST_MAKESPAN),
           **{column: (0, most) for column, most in WHOLE.items()}}
 NUMBER = r" *-?[0-9]+(?:\.[0-9]*)?(?:[eE][+-]?[0-9]{1,3})? *"
 # How the values of a setting are named, where a method's settings differ in them.
 FORMS = {"rounds": "{:,.0f} rounds", "take": "take {:,.0f}", "passes": "passes {:.0f}",
          "time_factor": "time factor {:g}"}
 # The decimals of the columns of tables.
-DECIMALS = {"mean_seconds": "{:.4f}", "time_factor": "{:g}", "p": "{:.4g}", "p_holm": "{:.4g}"}
+DECIMALS = {"mean_seconds": "{:.4f}", "time_factor": "{:g}", "p": "{:.4g}", "p_holm": "{:.4g}",
+            **dict.fromkeys(("makespan", "best", "mean", "deviation"), "{:.15g}")}
 LATEX = {"\\": r"\textbackslash{}", "~": r"\textasciitilde{}", "^": r"\textasciicircum{}", "×": r"$\times$",
+         "<": r"\textless{}", ">": r"\textgreater{}", "|": r"\textbar{}", '"': "''",
          **{sign: f"\\{sign}" for sign in "&%$#_{}"}}
-# The most instances without a reference that a note lists, and the most pairs of methods without a common instance.
-MOST_NAMES, MOST_UNRELATED = 10, 5
-
-
-class Reported(NamedTuple):
-    """The runs, and a note on the reference of their RPD. Unknown values of a setting are -1, other ones NaN."""
-    runs: pd.DataFrame
-    note: str
+# The most pairs of methods without a common instance that are reported.
+MOST_UNRELATED = 5
 
 
 def report(args: argparse.Namespace) -> int:
@@ -53,19 +50,27 @@ def report(args: argparse.Namespace) -> int:
     for name in ("matplotlib", "pandas", "scipy"):
         optional(name, "a report")
     from pfs.experiments import plots, statistics
-    reported = read(args.csv, args.reference)
-    done = reported.runs.dropna(subset=["makespan"])
+    means = [path for path in args.csv if "rpd" in (columns := rows_of(path, [])[0]) and "instance" not in columns]
+    if len(means) == len(args.csv):
+        raise ExperimentError("published means are columns beside the runs of another CSV")
+    runs, note = read([path for path in args.csv if path not in means], args.reference)
+    done = runs.dropna(subset=["makespan"])
     shared, lacking = in_common(done[done["rpd"].notna()])
     compared = statistics.compared(done)
     args.folder.mkdir(parents=True, exist_ok=True)
-    shown = [write_table(args.folder / "table", table_of(reported.runs), reported.note)]
+    shown = [write_table(args.folder / "table", table_of(runs), note)]
     if done.empty:
         print("pfs-experiments report: no run succeeded: nothing to plot", file=sys.stderr)
         return 1
     if len(compared):
         shown.append(write_table(args.folder / "comparison", compared, statistics.NOTE))
+    write_text(args.folder / "instances.csv", csv_of(cells_of(by_instance(done))))
+    best = done[done["order"] != ""].sort_values(["instance", "makespan"], kind="stable").drop_duplicates("instance")
+    if len(best):
+        names = ["instance", "method", "makespan", "order"]
+        write_text(args.folder / "best.csv", csv_of(cells_of(best[names])))
     if len(shared):
-        write_sizes(shared, args.folder, " ".join(filter(None, ["Mean RPD, %.", lacking, unaudited(shared)])))
+        write_sizes(shared, [*map(published, means)], args.folder, lacking)
     elif lacking:
         print(f"pfs-experiments report: no table of sizes: {plain(lacking)}", file=sys.stderr)
     plots.plot(done, shared, args.folder, args.format, args.width, args.dpi, not args.no_title)
@@ -80,53 +85,53 @@ def report(args: argparse.Namespace) -> int:
 
 # Reading
 
-def read(paths: list[str], reference_path: str | None) -> Reported:
-    """Reads the runs of all CSVs and computes their RPD. The size of an instance may come from any of the CSVs."""
+def read(paths: list[str], reference_path: str | None) -> tuple[pd.DataFrame, str]:
+    """Returns the runs of all CSVs with their RPD, and a note on their reference. Unknown values of a setting are -1,
+    other ones NaN. The size of an instance may come from any of the CSVs."""
     import pandas as pd
     stems = [pathlib.Path(path).stem for path in paths]
     runs = pd.concat([read_one(path, path if stems.count(stem) > 1 else stem) for path, stem in zip(paths, stems)],
                      ignore_index=True)
-    runs["audited"] = audits_of(paths)
+    runs["order"] = orders_of(paths)
+    runs["audited"] = runs["order"] != ""
     lasts = runs["instance"].map(canonical)
     if len(paths) > 1 and runs["instance"].groupby([runs["method"], lasts]).nunique().max() == 1:
         runs["instance"] = lasts
-    sizes = runs.groupby("instance")[["jobs", "machines"]].transform("first")
-    runs[["jobs", "machines"]] = runs[["jobs", "machines"]].fillna(sizes)
+    runs[SIZE] = runs[SIZE].fillna(runs.groupby("instance")[SIZE].transform("first"))
     taillards = taillards_of(runs)
-    for at, column in enumerate(("jobs", "machines"), 1):
-        runs[column] = runs[column].fillna(taillards.map({row[0]: row[at] for row in taillard_rows()}))
-    check_bounds(runs, taillards)
-    runs["reference"], basis = references(runs, taillards, reference_path)
-    runs["rpd"] = 100 * (runs["makespan"] - runs["reference"]) / runs["reference"]
-    runs.loc[runs["reference"] == 0, "rpd"] = (runs["makespan"] * float("inf")).where(runs["makespan"] > 0, 0)
-    runs["rpd"] = runs["rpd"].where(runs["rpd"] < float("inf"))
+    runs[SIZE] = runs[SIZE].fillna(taillards[SIZE])
+    check_bounds(runs, taillards["bound"])
+    runs["reference"], basis = references(runs, taillards["best"], reference_path)
+    rpds = 100 * (runs["makespan"] - runs["reference"]) / runs["reference"]
+    runs["rpd"] = rpds.mask(runs["makespan"] == runs["reference"], 0).replace(float("inf"), float("nan"))
     lost = runs[runs["makespan"].notna() & runs["reference"].isna()]
-    names = list(dict.fromkeys(lost["instance"]))
+    names = list(map(markdown, lost["instance"].unique()))
     note = markdown(basis).replace(r"\`", "`")
     if names:
-        shown = ", ".join(map(markdown, names[:MOST_NAMES])) + (", .." if len(names) > MOST_NAMES else "")
-        note += f"\n{len(lost)} runs of {len(names)} instances have no reference, and no RPD: {shown}."
+        note += f"\n{len(lost)} runs of {len(names)} instances have no reference, and no RPD: {listed(names)}."
     below = runs[runs["makespan"] < runs["reference"]].groupby("instance")[["makespan", "reference"]].min()
     if len(below):
-        shown = ", ".join(f"{markdown(name)} {makespan:.0f} ({reference:.0f})"
-                          for name, makespan, reference in below[:MOST_NAMES].itertuples())
-        note += f"\nBelow the reference: {shown}{', ..' if len(below) > MOST_NAMES else ''}."
-    return Reported(runs.fillna(dict.fromkeys(GROUP[1:], -1)), note)
+        names = [f"{markdown(name)} {span:.15g} ({reference:.0f})" for name, span, reference in below.itertuples()]
+        note += f"\nBelow the reference: {listed(names)}."
+    return runs.fillna(dict.fromkeys(GROUP[1:], -1)), note
 
 
-def audits_of(paths: list[str]) -> list[bool] | bool:
-    """Returns which rows have an order that was audited; none without the library."""
+def orders_of(paths: list[str]) -> list[str] | str:
+    """Returns the orders that were audited; none without the library."""
     try:
         from pfs.experiments import audit
     except ImportError:
-        return False
-    return audit.audits_of(paths)
+        return ""
+    return audit.orders_of(paths)
 
 
-def unaudited(runs: pd.DataFrame) -> str:
-    """Returns a sentence on the methods whose makespans are only stated."""
-    names = sorted(set(runs.loc[~runs["audited"], "method"]))
-    return f"Not audited, only stated: {', '.join(names)}." if names else ""
+def published(path: str) -> pd.DataFrame:
+    """Returns published means of the RPD, with a row for each size and a column for each method."""
+    import pandas as pd
+    read = pd.DataFrame(rows_of(path, ["jobs", "machines", "rpd"]))
+    means = pd.DataFrame({name: numbers_in(read[name], name, path) for name in ("jobs", "machines", "rpd")})
+    means["method"] = methods_of(read, pathlib.Path(path).stem)
+    return means.pivot_table(index=SIZE, columns="method", values="rpd")
 
 
 def read_one(path: str, name: str) -> pd.DataFrame:
@@ -135,37 +140,47 @@ def read_one(path: str, name: str) -> pd.DataFrame:
     rows = rows_of(path, ["instance", "makespan"])
     read = pd.DataFrame(rows)
     failed = read.get("status", pd.Series("ok", read.index)).ne("ok") | read["makespan"].eq("")
-    runs = pd.DataFrame({"method": read.get("method", pd.Series("", read.index)).replace("", name),
-                         "instance": read["instance"], "seed": read.get("seed", pd.Series("", read.index))})
-    for column, (least, most) in RANGES.items():
+    runs = pd.DataFrame({"method": methods_of(read, name), "instance": read["instance"],
+                         "seed": read.get("seed", pd.Series("", read.index))})
+    for column in RANGES:
         texts = read.get(column, pd.Series("", read.index))
         if column in ("makespan", "cells", "gap_percent", "seconds"):
             texts = texts.mask(failed, "")
-        given = texts[texts != ""]
-        values = given.where(given.str.fullmatch(NUMBER)).astype(float)
-        wrong = given[~values.between(least, most) | ((column in WHOLE) & (values % 1 != 0))]
-        if len(wrong):
-            text = wrong.iloc[0]
-            raise ExperimentError(f"{path}: {text[:40]!r} is not a number of the column {column}, from {least:g} to "
-                                  f"{most:g}")
-        runs[column] = values.reindex(read.index)
+        runs[column] = numbers_in(texts, column, path)
     runs.loc[runs["time_factor"].notna(), "rounds"] = float("nan")
     return runs
 
 
-def taillards_of(runs: pd.DataFrame) -> pd.Series:
-    """Returns for each run which of Taillard's instances it is of, by the name and the size, or an empty text."""
-    sizes = {name: (jobs, machines) for name, jobs, machines, *_ in taillard_rows()}
-    names = runs["instance"].map(canonical)
-    fits = [name in sizes and all(one != one or one == other for one, other in zip(size, sizes[name]))
-            for name, *size in zip(names, runs["jobs"], runs["machines"])]
-    return names.where(fits, "")
+def methods_of(read: pd.DataFrame, name: str) -> Any:
+    """Returns the column `method`, with a name where it is empty or missing."""
+    return read["method"].replace("", name) if "method" in read else name
+
+
+def numbers_in(texts: pd.Series, column: str, path: str) -> pd.Series:
+    """Returns the numbers of a column. Empty cells are unknown."""
+    given = texts[texts != ""]
+    values = given.where(given.str.fullmatch(NUMBER)).astype(float)
+    least, most = RANGES.get(column, (-100, 1e20))
+    wrong = given[~values.between(least, most) | ((column in WHOLE) & (values % 1 != 0))]
+    for text in wrong[:1]:
+        raise ExperimentError(f"{path}: {text[:40]!r} is not a number of the column {column}, from {least:g} to "
+                              f"{most:g}")
+    return values.reindex(texts.index)
+
+
+def taillards_of(runs: pd.DataFrame) -> pd.DataFrame:
+    """Returns what is known of each run's instance if it is one of Taillard's, by its name and its size."""
+    import pandas as pd
+    table = pd.DataFrame(taillard_rows(), columns=["name", *SIZE, "seed", "bound"])
+    table["best"] = table["name"].map(best_known())
+    own = table.set_index("name").reindex(runs["instance"].map(canonical)).set_index(runs.index)
+    return own.where((runs[SIZE].isna() | (runs[SIZE] == own[SIZE])).all(axis=1))
 
 
 def check_bounds(runs: pd.DataFrame, taillards: pd.Series) -> None:
     """Rejects a makespan below the bound that a CSV has for its instance, or that of Taillard's instance."""
-    bounds = runs.groupby("instance")["bound"].transform("max").fillna(0)
-    bounds = bounds.combine(taillards.map({row[0]: row[-1] for row in taillard_rows()}).fillna(0), max)
+    bounds = runs.groupby("instance")["bound"].transform("max")
+    bounds = bounds.where(~(bounds < taillards), taillards).fillna(taillards)
     for _, run in runs[runs["makespan"] < bounds][:1].iterrows():
         raise ExperimentError(f"{run['method']}: the makespan {run['makespan']:.0f} of {run['instance']} is below the "
                               f"bound {bounds[run.name]:.0f}: no order has it")
@@ -176,8 +191,7 @@ def in_common(done: pd.DataFrame) -> tuple[pd.DataFrame, str]:
     kept, lacking = common(made_of(done))
     settings = list(dict.fromkeys(made.setting for made in made_of(done)))
     names = dict(zip(settings, setting_names(settings)))
-    parts = [f"{names[setting]} lacks runs of {', '.join(found[:MOST_NAMES])}{', ..' if found[MOST_NAMES:] else ''}"
-             for setting, found in lacking.items()]
+    parts = [f"{names[setting]} lacks runs of {listed(found)}" for setting, found in lacking.items()]
     return done[kept], f"Compared are the instances and seeds that all have: {'; '.join(parts)}." if parts else ""
 
 
@@ -191,12 +205,12 @@ def references(runs: pd.DataFrame, taillards: pd.Series, path: str | None) -> tu
         f"the makespan in {path}": done["instance"].map({name: found[0] for name in done["instance"].unique()
                                                          for found in [reference_for(stated, name)] if found}),
         "the makespan in the column `reference`": done.groupby("instance")["reference"].transform("first"),
-        "the best known makespan of Taillard's instance": taillards[done.index].map(best_known())}
-    found, used = done["reference"] * float("nan"), [name for name in kinds if path and path in name][:1]
+        "the best known makespan of Taillard's instance": taillards[done.index]}
+    found, used = done["reference"] * float("nan"), list[str]()
     for name, values in kinds.items():
-        if (found.isna() & values.notna()).any():
-            used += [] if name in used else [name]
-            found = found.fillna(values)
+        if (found.isna() & values.notna()).any() or (path and not used):
+            used.append(name)
+        found = found.fillna(values)
     if not used:
         best_of_runs = done.groupby("instance")["makespan"].transform("min")
         return best_of_runs.reindex(runs.index), "RPD: relative to the best makespan of any of these runs."
@@ -206,22 +220,35 @@ def references(runs: pd.DataFrame, taillards: pd.Series, path: str | None) -> tu
 # Tables
 
 def table_of(runs: pd.DataFrame) -> pd.DataFrame:
-    """Returns the table by method, size and setting. It has a column of time factors if any run has one."""
-    keys = GROUP if (runs["time_factor"] >= 0).any() else GROUP[:-1]
-    table = runs.groupby(keys).agg(
+    """Returns the table by method, size and setting."""
+    table = runs.groupby(GROUP).agg(
         runs=("makespan", "count"), failed=("makespan", lambda spans: spans.isna().sum()), audited=("audited", "sum"),
         mean_rpd_percent=("rpd", "mean"), greatest_rpd_percent=("rpd", "max"), mean_gap_percent=("gap_percent", "mean"),
         greatest_gap_percent=("gap_percent", "max"), mean_seconds=("seconds", "mean"))
     return table.reset_index()
 
 
-def write_sizes(shared: pd.DataFrame, folder: pathlib.Path, note: str) -> None:
-    """Writes the mean RPD with a row for each size and a column for each setting, and the means of the columns."""
-    means = shared.pivot_table(index=["jobs", "machines"], columns=SETTING, values="rpd")
+def by_instance(done: pd.DataFrame) -> pd.DataFrame:
+    """Returns the table by instance and setting."""
+    return done.groupby(["instance", *GROUP]).agg(
+        runs=("makespan", "count"), best=("makespan", "min"), mean=("makespan", "mean"), deviation=("makespan", "std"),
+        mean_rpd_percent=("rpd", "mean")).reset_index()
+
+
+def write_sizes(shared: pd.DataFrame, published: list[pd.DataFrame], folder: pathlib.Path, lacking: str) -> None:
+    """Writes the mean RPD with a row for each size and a column for each setting, and the means of the columns. A
+    published column has a mean if it has all sizes."""
+    means = shared.pivot_table(index=SIZE, columns=SETTING, values="rpd")
+    means = means.set_axis(setting_names(list(means.columns)), axis=1)
+    for each in published:
+        means = means.join(each, rsuffix=" (published)")
     rows = [[size_name(size), *(cell("rpd", value) for value in row)]
             for size, row in zip(means.index, means.to_numpy())]
-    rows.append(["mean", *(cell("rpd", value) for value in means.mean())])
-    heads = ["jobs×machines", *setting_names(list(means.columns))]
+    rows.append(["mean", *(cell("rpd", value) for value in means.mean(skipna=False))])
+    heads = ["jobs×machines", *means.columns]
+    stated = sorted(set(shared.loc[~shared["audited"], "method"]).union(*published))
+    note = " ".join(["Mean RPD, %.", *filter(None, [lacking]),
+                     *([f"Not audited, only stated: {', '.join(stated)}."] if stated else [])])
     write_text(folder / "sizes.csv", csv_of([heads, *rows]))
     write_text(folder / "sizes.md", markdown_of([heads, *rows], markdown(note)))
     lines = [" & ".join(map(latex, row)) + r" \\" for row in [heads, *rows]]
@@ -233,15 +260,20 @@ def write_sizes(shared: pd.DataFrame, folder: pathlib.Path, note: str) -> None:
 
 def write_table(path: pathlib.Path, table: pd.DataFrame, note: str) -> str:
     """Writes a table as CSV and as Markdown, and returns the latter. There the names of the columns are words."""
-    table = table.drop(columns=[column for column in table if column.endswith("time_factor") and
-                                (table[column] == -1).all()])
-    rows = [[cell(column, value) for column, value in row.items()] for row in table.to_dict("records")]
-    write_text(path.with_suffix(".csv"), csv_of([list(table.columns), *rows]))
+    columns, *rows = cells_of(table)
+    write_text(path.with_suffix(".csv"), csv_of([columns, *rows]))
     heads = [column.replace("_percent", ", %").replace("mean_seconds", "mean time, s").replace("_", " ")
-             for column in table.columns]
+             for column in columns]
     text = markdown_of([heads, *rows], note)
     write_text(path.with_suffix(".md"), text)
     return text
+
+
+def cells_of(table: pd.DataFrame) -> list[list[str]]:
+    """Returns the names of the columns and the rows. Time factors are left out if no run has one."""
+    table = table.drop(columns=[column for column in table if column.endswith("time_factor") and
+                                (table[column] == -1).all()])
+    return [[*table], *([cell(*pair) for pair in row.items()] for row in table.to_dict("records"))]
 
 
 def cell(column: str, value: Any) -> str:

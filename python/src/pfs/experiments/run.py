@@ -25,8 +25,8 @@ COLUMNS = ["instance", "jobs", "machines", "rounds", "take", "passes", "seed", "
 RESULT = ["number", "makespan", "bound", "cells", "seconds", "status", "rounds", "left"]
 # The end of a run whose program was killed, or whose allocation failed: the next start repeats it.
 KILLED = re.compile("(?:solve|check): (?:signal [0-9]+|exit 4, pfs: no memory)|lost: .*")
-# A line of GNU parallel's log, with the exit status, the signal, and the number of the run in the command.
-LOGGED = re.compile(r"[0-9]+\t[^\t\n]*(?:\t *[0-9.-]+){4}\t([0-9]+)\t([0-9]+)\t\S+/one ([0-9]+) [^\n]*", re.ASCII)
+# The end of a line of GNU parallel's log: the exit status, the signal, and the number of the run in the command.
+LOGGED = re.compile(r"\t([0-9]+)\t([0-9]+)\t\S+/one ([0-9]+) [^\n]*$", re.ASCII | re.MULTILINE)
 # The most kinds of errors that are reported, and the columns that describe the first run of each.
 MOST_KINDS = 10
 DISTINCT = ["rounds", "time_factor", "take", "passes", "seed"]
@@ -47,7 +47,7 @@ def run(args: argparse.Namespace) -> int:
              "--results", "results/{1}"]
     words += ["--bar"] if sys.stderr.isatty() else []
     words += ["--sshloginfile", machines, "--basefile", experiment.stage] if machines else []
-    words += [*args.options, f"{experiment.stage}/one", *(f"{{{at}}}" for at in range(1, 10))]
+    words += [*args.options, f"{experiment.stage}/one", *(f"{{{at}}}" for at in range(1, len(stage.RUN) + 1))]
     parallel(experiment.folder, words)
     failed, left = gather(experiment, args.csv)
     if machines and left == 0:
@@ -116,9 +116,8 @@ def endings(folder: pathlib.Path) -> Row:
     """Returns the errors of runs without a result, by their numbers, from the logs of GNU parallel and Slurm."""
     found: Row = {}
     with contextlib.suppress(FileNotFoundError):
-        for line in (folder / "joblog").read_bytes().decode(errors="replace").split("\n"):
-            if logged := LOGGED.fullmatch(line):
-                found[logged[3]] = f"lost: exit {logged[1]}, signal {logged[2]}"
+        text = (folder / "joblog").read_bytes().decode(errors="replace")
+        found = {number: f"lost: exit {status}, signal {signal}" for status, signal, number in LOGGED.findall(text)}
     for log in sorted((folder / "slurm").glob("*.log"), key=lambda path: path.stat().st_mtime_ns):
         text = log.read_bytes().decode(errors="replace")
         last = re.findall(r"^run ([0-9]+)$", text, re.MULTILINE | re.ASCII)

@@ -18,14 +18,14 @@ from collections.abc import Iterator
 from typing import Any, NamedTuple
 
 from pfs._atomic import atomic_write
-from pfs.experiments import ExperimentError, one, plain, provenance
-from pfs.experiments.plan import Row, read_plan, reference_for, reference_of, rows_of
+from pfs._benchmarks import taillard_rows
+from pfs.experiments import ExperimentError, listed, one, plain, provenance
+from pfs.experiments.plan import Row, read_plan, reference_for, reference_of
 
 PACKAGE = pathlib.Path(__file__).resolve().parent.parent
 # What plan.json has of a run: columns of the CSV, its number, the copy of its instance, and the seconds of a search by
 # time. Unknown values are empty, and hyphens in runs.tsv, which is made of it: a line for each number.
-RUN = ["number", "file", "layout", "block", "rounds", "limit", "take", "passes", "seed", "repetition", "time_factor",
-       "jobs", "machines", "instance"]
+RUN = list(one.Run._fields)
 # The columns that identify a run.
 KEY = ["file", "block", "rounds", "time_factor", "take", "passes", "seed", "repetition"]
 # Those that don't change a search of 0 rounds.
@@ -75,12 +75,12 @@ def taillard(args: argparse.Namespace) -> int:
     """Writes Taillard's 120 instances into a folder, as files ta001 to ta120."""
     pfs = find_pfs(args.pfs)
     args.folder.mkdir(parents=True, exist_ok=True)
-    for row in rows_of(PACKAGE / "taillard.csv", ["instance", "jobs", "machines", "time_seed"]):
-        words = [pfs, "generate", row["jobs"], row["machines"], row["time_seed"]]
+    for name, *numbers, _ in taillard_rows():
+        words = [pfs, "generate", *map(str, numbers)]
         done = subprocess.run(words, stdin=subprocess.DEVNULL, capture_output=True)
         if done.returncode != 0:
             raise ExperimentError(f"{' '.join(words)} failed: exit {done.returncode}")
-        atomic_write(args.folder / row["instance"], done.stdout)
+        atomic_write(args.folder / name, done.stdout)
     return 0
 
 
@@ -104,9 +104,8 @@ def prepare(plan_path: str, csv_path: str, program: str | None) -> Experiment:
         for key in ("command", "layout"):
             if "layout" in stored and stored.get(key) != plan.get(key):
                 raise ExperimentError(f"{csv_path} was started with another {key}: use another CSV")
-        copy_inputs(plan, top, folder / stage_of(folder))
+        inputs = copied_inputs(plan, stored["places"], top, folder / stage_of(folder))
         experiment = Experiment(plan, folder, add_runs(plan, stored, top, folder, csv_path), reference)
-        inputs = inputs_of(plan, stored["places"], top, folder / experiment.stage)
         provenance.note_start(folder, plan, inputs)
         if changed := provenance.changed(inputs):
             text = (f"{csv_path}: changed since they were copied for its runs: {', '.join(changed)}. The copies are "
@@ -128,8 +127,8 @@ def checked_reference(plan: dict[str, Any], top: str, plan_path: str) -> dict[st
         raise ExperimentError(f"{plan_path}: the reference {plan['reference']} names none of the instances: it has "
                               f"{next(iter(reference), 'none')}, and the plan {names[0]}")
     if lacking:
-        print(plain(f"{plan['reference']} lacks {len(lacking)} of {len(names)} instances: {', '.join(lacking[:5])}"
-                    + (", .." if len(lacking) > 5 else "")), file=sys.stderr)
+        print(plain(f"{plan['reference']} lacks {len(lacking)} of {len(names)} instances: {listed(lacking, 5)}"),
+              file=sys.stderr)
     return reference
 
 
@@ -175,26 +174,22 @@ def copy(source: str, to: pathlib.Path) -> None:
         os.replace(new, to)
 
 
-def copy_inputs(plan: dict[str, Any], top: str, stage: pathlib.Path) -> None:
-    """Copies what the runs need besides the instances: the command with its files, or the library for searches by
-    time."""
+def copied_inputs(plan: dict[str, Any], places: dict[str, int], top: str, stage: pathlib.Path) -> provenance.Inputs:
+    """Copies what the runs need: a command with its files, or the library for searches by time, and the instances.
+    Returns them and the program. Where the program and the library are is left out: every version of them finds the
+    same orders."""
     if "command" in plan:
         (stage / "files").mkdir(exist_ok=True)
-        for name in plan["files"]:
-            copy(os.path.join(top, name), stage / "files" / name)
-        if not (stage / "command.json").exists():
-            write_text(stage / "command.json", json.dumps(plan["command"]))
+        write_text(stage / "command.json", json.dumps(plan["command"]))
     elif "time_factors" in plan:
         copy(library(), stage / one.LIBRARY)
-
-
-def inputs_of(plan: dict[str, Any], places: dict[str, int], top: str, stage: pathlib.Path) -> provenance.Inputs:
-    """Returns the program, the library, the files of a command and the instances, with the copies of them. Where the
-    first two are is left out: every version of them finds the same orders."""
-    inputs = [("pfs", "", stage / "pfs"), (one.LIBRARY, "", stage / one.LIBRARY)]
-    inputs += [(name, os.path.join(top, name), stage / "files" / name) for name in plan.get("files", [])]
-    inputs += [(name, os.path.join(top, name), stage / "instances" / str(places[name])) for name in plan["instances"]]
-    return [each for each in inputs if each[2].exists()]
+    inputs = [(name, os.path.join(top, name), stage / "files" / name) for name in plan.get("files", [])]
+    for name in plan["instances"]:
+        place = places.setdefault(name, len(places) + 1)
+        inputs.append((name, os.path.join(top, name), stage / "instances" / str(place)))
+    for _, path, to in inputs:
+        copy(path, to)
+    return [(name, "", stage / name) for name in ("pfs", one.LIBRARY) if (stage / name).exists()] + inputs
 
 
 def library() -> str:
@@ -209,24 +204,22 @@ def library() -> str:
 def add_runs(plan: dict[str, Any], stored: dict[str, Any], top: str, folder: pathlib.Path, csv_path: str) -> list[Row]:
     """Adds the plan's new instances and runs to the folder, and returns all runs in the order of the plan. A run keeps
     its number."""
-    places, listed = stored["places"], stored["runs"]
-    known, runs = {key_of(run): run for run in listed}, dict[tuple[str, ...], Row]()
-    for name in plan["instances"]:
-        place = places.setdefault(name, len(places) + 1)
-        copy(os.path.join(top, name), folder / stage_of(folder) / "instances" / str(place))
-    for run in planned_runs(plan, folder, places, {(run["file"], run["block"]): run for run in listed}):
+    places, added = stored["places"], stored["runs"]
+    known, runs = {key_of(run): run for run in added}, dict[tuple[str, ...], Row]()
+    for run in planned_runs(plan, folder, places, {(run["file"], run["block"]): run for run in added}):
         key = key_of(run)
         kept = {column: known[key][column] for column in ("number", *OF_ROUNDS)} if key in known else {}
         if key not in runs:
-            runs[key] = run | (kept or {"number": str(len(listed) + 1)})
-            listed += [] if kept else [runs[key]]
+            runs[key] = run | (kept or {"number": str(len(added) + 1)})
+            added += [] if kept else [runs[key]]
     gone = known.keys() - runs.keys()
     if gone:
         what = ", ".join(f"{column} {value}" for column, value in zip(KEY[1:], min(gone)[1:]) if value)
         raise ExperimentError(f"{csv_path} was started with another plan, which has {what}: use another CSV, or delete "
                               f"{folder}")
-    write_text(folder / "runs.tsv", table_of(listed))
-    write_text(folder / "plan.json", json.dumps({**plan, "top": top, "places": places, "runs": listed}))
+    write_text(folder / "runs.tsv", table_of(added))
+    order = [run["number"] for run in runs.values()]
+    write_text(folder / "plan.json", json.dumps({**plan, "top": top, "places": places, "runs": added, "order": order}))
     return list(runs.values())
 
 
@@ -236,11 +229,8 @@ def started(csv_path: str) -> Experiment:
     plan = stored_plan(folder)
     if not plan:
         raise ExperimentError(f"{csv_path} was not started: {folder.name} is missing")
-    known = {key_of(run): run for run in plan["runs"]}
-    keys = map(key_of, planned_runs(plan, folder, plan["places"], {(run["file"], run["block"]): run
-                                                                 for run in plan["runs"]}))
     reference = reference_of(os.path.join(plan["top"], plan["reference"])) if plan["reference"] else {}
-    return Experiment(plan, folder, [known[key] for key in dict.fromkeys(keys)], reference)
+    return Experiment(plan, folder, plan["order"], reference)
 
 
 def table_of(runs: list[Row]) -> str:
@@ -288,14 +278,15 @@ def size_of(stage: pathlib.Path, *words: str) -> tuple[str, str]:
 
 
 def stored_plan(folder: pathlib.Path) -> dict[str, Any]:
-    """Returns the stored plan, with the places of the instances and the runs. It is empty in a new folder."""
+    """Returns the stored plan, with the places of the instances, the runs, and the runs in the order of the CSV. It is
+    empty in a new folder."""
     path = folder / "plan.json"
     try:
         stored = json.loads(path.read_bytes().decode())
         for number, run in enumerate(stored["runs"], 1):
             if (run["number"], [*run]) != (str(number), RUN):
                 raise ValueError(f"run {number}")
-        return dict(stored)
+        return {**stored, "order": [stored["runs"][int(number) - 1] for number in stored["order"]]}
     except FileNotFoundError:
         return {}
     except (ValueError, RecursionError, LookupError, TypeError) as error:
