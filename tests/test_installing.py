@@ -143,29 +143,22 @@ def test_a_program_is_built_by_cmake(wanted: str, prefix: pathlib.Path, folder: 
 @pytest.mark.parametrize(("name", "is_built"), [
     ("crates.txt", True), ("crates/pfs/stdin", True), ("crates/pfs/src/main.rt", True),
     ("crates/pfs_base/src/lib.rt", True), ("crates/pfs_layout/specs/Block.antt", True),
-    ("share/pfs.1", False), ("README.md", False), ("crates/pfs_tests/src/lib.rt", False)])
-def test_a_newer_source_has_the_program_built(name: str, is_built: bool, copy: Copy, folder: pathlib.Path) -> None:
-    """Other files have nothing built."""
+    (PROGRAM, True), ("share/pfs.1", False), ("README.md", False), ("crates/pfs_tests/src/lib.rt", False)])
+def test_a_program_that_is_older_than_a_source_or_missing_is_built(name: str, is_built: bool, copy: Copy,
+                                                                   folder: pathlib.Path) -> None:
+    """Once. Other files have nothing built."""
     path, library = copy.top / name, copy.top / "lib" / "out" / SHARED
     copy.built()
     try:
         os.utime(library, (NEW + 2, NEW + 2))
-        os.utime(path, (NEW + 1, NEW + 1))
-        assert copy.make("install", f"DESTDIR={folder}").status == 0
+        path.unlink() if name == PROGRAM else os.utime(path, (NEW + 1, NEW + 1))
+        for built in ([str(copy.top / "crates" / "pfs")] * is_built, []):
+            assert copy.make("install", f"DESTDIR={folder}").status == 0
+            assert copy.built() == built
     finally:
         os.utime(path, (OLD, OLD))
-        for built in (copy.top / PROGRAM, library):
-            os.utime(built, (NEW, NEW))
-    assert copy.built() == [str(copy.top / "crates" / "pfs")] * is_built
-
-
-def test_a_missing_program_is_built_and_no_older_one(copy: Copy, folder: pathlib.Path) -> None:
-    copy.built()
-    (copy.top / PROGRAM).unlink()
-    for built in ([str(copy.top / "crates" / "pfs")], []):
-        assert copy.make("install", f"DESTDIR={folder}").status == 0
-        assert copy.built() == built
-    os.utime(copy.top / PROGRAM, (NEW, NEW))
+        for made in (copy.top / PROGRAM, library):
+            os.utime(made, (NEW, NEW))
 
 
 # What the program needs

@@ -50,21 +50,12 @@ def line_of_install(pattern: str) -> str:
 
 @pytest.fixture(scope="module")
 def made(copy: Copy, tmp_path_factory: pytest.TempPathFactory) -> Made:
-    for command in ("dh", "dh_python3", "dpkg-buildpackage"):
+    for command in ("apt-ftparchive", "dh", "dh_python3", "dpkg-buildpackage"):
         tool(command)
     folder = tmp_path_factory.mktemp("first")
     got = copy.make("dist", f"DIST={folder}")
     assert got.status == 0, got
     return Made(folder, copy)
-
-
-@pytest.fixture(scope="module")
-def unpacked(made: Made, tmp_path_factory: pytest.TempPathFactory) -> pathlib.Path:
-    """The one folder of the tarball."""
-    folder = tmp_path_factory.mktemp("unpacked")
-    output_of(["tar", "-x", "-C", folder, "-f", made.path(".tar.gz")], folder)
-    [top] = folder.iterdir()
-    return top
 
 
 @pytest.fixture(scope="module")
@@ -151,25 +142,17 @@ def test_a_release_is_its_tagged_commit_without_changes(copy: Copy, folder: path
         left.unlink()
 
 
-@pytest.mark.parametrize(("env", "said"), [
-    ({"RT_VERSION": "kit logic 0123456789abcdef"}, "crates/pfs/out/pfs was built with another version of the kit"),
-    ({"RT_VERSION": "kit logic 0", "MAINTAINER": "B <b@noreply.host>"}, "MAINTAINER='A Name <name@host>'"),
-    ({"GIT_CONFIG_COUNT": "0", "GIT_TEST_ASSUME_DIFFERENT_OWNER": "1"}, "git config --global --add safe.directory"),
-    ({"GIT_DIR": "/nowhere"}, "not a git repository"),
-])
-def test_without_a_commit_or_a_program_nothing_is_made(env: dict[str, str], said: str, copy: Copy,
-                                                       folder: pathlib.Path) -> None:
-    got = run_tool([copy.top / "tools" / "dist", folder / "made"], folder, env=copy.env | env | {"HOME": str(folder)})
-    assert got.status == 1 and said in got.stderr and not list(folder.rglob("*.*"))
-
-
-def test_a_source_tree_without_git_or_a_library(copy: Copy, folder: pathlib.Path) -> None:
-    shutil.copytree(copy.top, folder / "tree", ignore=shutil.ignore_patterns(".git", "crates", "docs"))
-    got = run_tool(["tools/dist", "wheel", folder / "made"], folder / "tree", env=copy.env)
-    assert got.status == 1 and "clone the repository" in got.stderr and not (folder / "made").exists()
-    shutil.rmtree(folder / "tree" / "lib" / "out")
-    got = run_tool(["tools/dist", "wheel", folder / "made"], folder / "tree", env=copy.env)
-    assert got.status == 1 and f"lib/out/{SHARED} is missing: run `make run lib`" in got.stderr
+@pytest.mark.parametrize(("missing", "env", "said"), [
+    ("", {"RT_VERSION": "kit logic 0123456789abcdef"}, "crates/pfs/out/pfs was built with another version of the kit"),
+    ("", {"RT_VERSION": "kit logic 0", "MAINTAINER": "B <b@noreply.host>"}, "MAINTAINER='A Name <name@host>'"),
+    ("", {"GIT_CONFIG_COUNT": "0", "GIT_TEST_ASSUME_DIFFERENT_OWNER": "1"}, "git config --global --add safe.directory"),
+    ("", {"GIT_DIR": "/nowhere"}, "not a git repository"),
+    (".git", {}, "clone the repository"), (SHARED, {}, f"lib/out/{SHARED} is missing: run `make run lib`")])
+def test_without_a_commit_or_what_was_built_nothing_is_made(missing: str, env: dict[str, str], said: str, copy: Copy,
+                                                            folder: pathlib.Path) -> None:
+    shutil.copytree(copy.top, folder / "tree", ignore=shutil.ignore_patterns("docs", missing))
+    got = run_tool(["tools/dist", folder / "made"], folder / "tree", env=copy.env | env | {"HOME": str(folder)})
+    assert got.status == 1 and said in got.stderr and list(folder.glob("made/*")) == []
 
 
 # What is made
@@ -194,18 +177,19 @@ def test_the_spdx_file_lists_what_is_installed_and_what_is_built_in(made: Made) 
     assert len(names) == 13 and all(re.fullmatch("SPDXRef-[A-Za-z0-9.-]+", each) for each in names)
     links = {(names[each["spdxElementId"]], each["relationshipType"], names[each["relatedSpdxElement"]])
              for each in bill["relationships"]}
-    libraries = (SHARED, "libpfs.a")
     assert links == {("document", "DESCRIBES", "pfs"), ("rattle-kit", "BUILD_TOOL_OF", "pfs"),
                      (wheel.name, "CONTAINS", SHARED), ("pfs", "STATIC_LINK", "clap"),
-                     *((each, "GENERATED_FROM", "pfs") for each in ("pfs", *libraries, wheel.name)),
+                     *((each, "GENERATED_FROM", "pfs") for each in ("pfs", SHARED, "libpfs.a", wheel.name)),
                      *((each, "DYNAMIC_LINK", "libc6") for each in ("pfs", SHARED)),
-                     *((each, "STATIC_LINK", crate) for each in ("pfs", *libraries) for crate in crates)}
+                     *((each, "STATIC_LINK", crate) for each in ("pfs", SHARED, "libpfs.a") for crate in crates)}
 
 
-def test_the_tarball_has_the_installed_files_and_runs(unpacked: pathlib.Path, made: Made, folder: pathlib.Path) -> None:
+def test_the_tarball_has_the_installed_files_and_runs(made: Made, folder: pathlib.Path) -> None:
     """With its notices, its sums, and the commit and the kit. All is root's, as old as the commit."""
     with tarfile.open(made.path(".tar.gz")) as tar:
         assert {(it.uid, it.gid, it.mtime) for it in tar.getmembers()} == {(0, 0, OLD)}
+        tar.extractall(folder / "all")
+    [unpacked] = (folder / "all").iterdir()
     assert_usual_modes(unpacked)
     assert_runs(unpacked / "bin" / "pfs", folder)
     found = files_below(unpacked)
@@ -353,8 +337,7 @@ def test_what_a_wheel_says_of_itself(wheel: dict[str, bytes], made: Made) -> Non
     """It needs what the settings and README say, and has the licences of what is built into its library."""
     fields = email.message_from_string(wheel["dist-info/METADATA"].decode())
     project = tomllib.loads((made.copy.top / "python" / "pyproject.toml").read_text())["project"]
-    numbers = [list(map(int, re.findall(r"\d+", version))) for version in (fields["Version"], BETWEEN)]
-    assert (fields["Name"], numbers[0]) == ("pfs", numbers[1])
+    assert (fields["Name"], fields["Version"]) == ("pfs", BETWEEN.replace(".014640", ".14640"))
     needed, due = ([re.sub("[ ()'\"]", "", str(each)) for each in lines] for lines in
                    (fields.get_all("Requires-Dist") or [], project["dependencies"]))
     assert [each for each in needed if "extra" not in each] == due and "numpy>=1.24" in due

@@ -591,13 +591,15 @@ def test_all_is_inside_of_the_picture_and_can_be_read(width: str, options: list[
 @pytest.mark.parametrize("ending", ["svg", "pdf"])
 def test_a_report_made_again_has_the_same_bytes(ending: str, scripts: pathlib.Path, report: Reported,
                                                 folder: pathlib.Path) -> None:
-    """The second report is made more than a second later, as a user does it, by a process whose hashes differ."""
+    """The second report is made more than a second later, as a user does it, by a process whose hashes differ, in a
+    folder with settings of matplotlib."""
     def files_of(got: Done) -> dict[str, bytes]:
         assert got.status == 0, got
         return {path.name: path.read_bytes() for path in (folder / "report").iterdir()}
 
     words = ["--format", ending, "out.csv", "report"]
     first = files_of(report(words=" ".join(words), out=REPORTED))
+    (folder / "matplotlibrc").write_text("figure.facecolor: red\n")
     time.sleep(1.1)
     second = files_of(run_tool([scripts / "pfs-experiments", "report", *words], folder))
     assert [name for name in first if first[name] != second[name]] == [], "files that differ"

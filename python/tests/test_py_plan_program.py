@@ -55,6 +55,21 @@ def test_a_plan_is_printed(tmp_path: pathlib.Path) -> None:
     assert "2 jobs, 2 machines" in done.stderr and "<title>Week 48</title>" in (tmp_path / "plan.html").read_text()
 
 
+@pytest.mark.parametrize("words", [["-m", "pfs", "plan", "times.csv", "--chart", "made.png"],
+                                   ["-m", "pfs._gantt", "table", "made.png"]])
+def test_settings_of_matplotlib_in_the_current_folder_change_no_picture(tmp_path: pathlib.Path,
+                                                                        words: list[str]) -> None:
+    pytest.importorskip("matplotlib")
+    (tmp_path / "times.csv").write_text(TABLE)
+    (tmp_path / "table").write_text("table 1 1\n1 0 5\nmakespan 5\n")
+    env, made = {"PYTHONPATH": ":".join(sys.path), "PFS_LIBRARY": str(_library.PATH)}, set()
+    for text in ("", "figure.facecolor: red\n"):
+        (tmp_path / "matplotlibrc").write_text(text)
+        subprocess.run([sys.executable, *words], cwd=tmp_path, env=env, check=True, capture_output=True)
+        made.add((tmp_path / "made.png").read_bytes())
+    assert len(made) == 1
+
+
 def test_wrong_words_end_with_a_line_that_names_the_program(tmp_path: pathlib.Path) -> None:
     done = run(tmp_path, "--nothing", "times.csv")
     assert (done.returncode, done.stdout) == (3, "") and done.stderr == \

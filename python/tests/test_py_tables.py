@@ -126,6 +126,8 @@ WRONG_TABLES = {
                                UNITS.format("drill", "no unit", "min")),
     "another unit than the table's": ("job [h];saw;drill [min]\na;3;2\n", 1, 3,
                                    UNITS.format("drill", "min", "h")),
+    "a table turned round": ("Maschine [min];A;B\nsaw;1;2\ndrill;3;4\n", 1, 1, "'Maschine [min]' says that the rows "
+                             "are machines, but a row is a job: turn the table round, or write `job` here"),
     "machines without names": ("job;;\na;1;2\nb;3;4\n", 1, 2, "the machine has no name"),
     "a machine without a name": ("job [h];\na;1\nb;5\n", 1, 2, "the machine has no name"),
     "machines without names, and another word": ("Auftrag;;\na;1;2\nb;3;4\n", 1, 2, "the machine has no name"),

@@ -261,7 +261,7 @@ def check_outputs(inputs: Sequence[str | None], schedule: str | None, charts: Se
         if not os.path.isdir(os.path.dirname(path) or "."):
             raise FileNotFoundError(errno.ENOENT, os.strerror(errno.ENOENT), path)
     if endings - {"html"}:
-        optional("matplotlib", "plot")
+        optional("matplotlib", "plot").rcdefaults()  # no matplotlibrc of the current folder
 
 
 def listed(shop: Instance, best: Solution, clock: Clock | None = None) -> str:

@@ -122,8 +122,8 @@ def parse_args() -> argparse.Namespace:
 
 def draw() -> None:
     args = parse_args()
-    for module in ("numpy", "matplotlib"):
-        optional(module, "a picture")
+    optional("numpy", "a picture")
+    optional("matplotlib", "a picture").rcdefaults()  # no matplotlibrc of the current folder
     extension = os.path.splitext(args.picture)[1][1:]
     if extension not in ("svg", "png", "pdf"):
         raise GanttError(f"{args.picture}: the name of a picture must end with .svg, .png or .pdf")

@@ -53,6 +53,8 @@ NO_TIMES = re.compile(rf"(?:{TOTALS}{QUANTITIES})(?!\w)", re.IGNORECASE)
 SAYS_JOB = re.compile(r"(?:(?:jobs?|orders?|auftr(?:ag|\u00e4ge)s?|fa|of|ordres?|commandes?|pedidos?|ordin[ei]|parts?"
                       r"|lots?|los|teile?|artikel|items?|pos(?:ition)?|id|nr|no|number|nummer|num\u00e9ro)"
                       r"[\s.#\u00b0_:-]*)*\Z", re.IGNORECASE)
+# The first cell of a table whose rows are machines.
+SAYS_MACHINE = re.compile(r"(?:machines?|maschinen?|m\u00e1quinas?|macchin[ae])\b", re.IGNORECASE)
 # The first bytes of spreadsheets in their own formats, which are archives or compound documents.
 ARCHIVE, COMPOUND = b"PK\x03\x04", b"\xd0\xcf\x11\xe0"
 TIMES_AS_NAMES = ("the names of the {what}s are numbers, as if the {part} of names were missing: add it, or write "
@@ -352,10 +354,13 @@ def reject_columns(path: str, titles: Sequence[Cell], machines: list[str], text:
 
 def check_titles(table: Rows, titles: Sequence[Cell]) -> None:
     """If the names of the machines are missing, that row looks like a title and the first job like the names, which
-    would lose the job: a fault."""
+    would lose the job: a fault. So is a table with a row for each machine."""
     for title in titles:
         if title.text and is_above_names(title.text):
             raise table.fault(Cell(title.line, 2, ""), "the machine has no name")
+    if SAYS_MACHINE.match(table.corner.text):
+        table.report(table.corner, f"{table.corner.text!r} says that the rows are machines, but a row is a job: turn "
+                                   "the table round, or write `job` here")
     names = [head.text for head in table.machines if head.text]
     if titles and all(map(is_time, names)) and not is_above_names(table.corner.text):
         raise table.fault(table.machines[0], TIMES_AS_NAMES.format(what="machine", part="row"))

@@ -35,6 +35,7 @@ Axis = Any
 def plot(done: pd.DataFrame, shared: pd.DataFrame, folder: pathlib.Path, ending: str, width: float | None, dpi: float,
          titles: bool) -> None:
     """Draws the plots of the runs that succeeded, of which those of the RPD are compared on what all settings have."""
+    matplotlib.rcdefaults()  # no matplotlibrc of the current folder
     matplotlib.rcParams.update(SETTINGS)
     done, shared = (runs.assign(method=runs["method"].map(shown)) for runs in (done, shared))
     figures = {"gap": by_rounds(done, "gap_percent", "gap to the lower bound, %", "Gap to the bound", width),
