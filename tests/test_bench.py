@@ -1,7 +1,7 @@
 """Functions over any bench that must not compile, and why. A function over any bench computes with times only by calls
 of the bench, which counts them: it can't add lengths, take a length or a time for a number, or copy the bench. A
-function over a bench of lanes can't read them. A function that has its sum from the bench is in `crates/pfs_tests`,
-where it is proved."""
+function over a bench of lanes can't read them, nor make a permit. A function that has its sum from the bench is in
+`crates/pfs_tests`, where it is proved."""
 import pathlib
 import re
 import shutil
@@ -53,6 +53,11 @@ pub fn is_mixed(bench: &MeteredLanes) -> bool {
     bench.narrow.is_some()
 }
 """, "error[private-field]: field `narrow` of struct `MeteredLanes` is private"),
+    "makes_a_permit": ("""/// A permit for a cell that nothing has counted.
+pub fn permit(_bench: &MeteredLanes) -> pfs_base::Permit {
+    pfs_base::Permit { cells: 1 }
+}
+""", "error[private-field]: field `cells` of struct `Permit` is private"),
 }
 LANES_HEAD = """//! A function over a bench of lanes.
 use pfs_wave::MeteredLanes;
