@@ -1,7 +1,7 @@
 """Functions over any bench that must not compile, and why. A function over any bench computes with times only by calls
 of the bench, which counts them: it can't add lengths, take a length or a time for a number, or copy the bench. A
-function over a bench of lanes can't read them. A function that has its sum from the bench is in `crates/pfs_tests`,
-where it is proved."""
+function over a bench of lanes can't read them, nor make a permit. A function that has its sum from the bench is in
+`crates/pfs_tests`, where it is proved."""
 import pathlib
 import re
 import shutil
@@ -53,6 +53,23 @@ pub fn is_mixed(bench: &MeteredLanes) -> bool {
     bench.narrow.is_some()
 }
 """, "error[private-field]: field `narrow` of struct `MeteredLanes` is private"),
+    "makes_a_permit": ("""/// A permit for a cell that nothing has counted.
+pub fn permit(_bench: &MeteredLanes) -> pfs_base::Permit {
+    pfs_base::Permit { cells: 1 }
+}
+""", "error[private-field]: field `cells` of struct `Permit` is private"),
+}
+# The same over a permit, with errors that come only where no other has.
+REFUSED_PERMITS = {
+    "drops_a_permit": ("""/// Computes nothing for a permit.
+pub fn lose(_bench: &MeteredLanes, permit: pfs_base::Permit) {}
+""", "error[linear-value-let-go]: `permit` is let go where its block ends, and `Permit` is not `Drop`"),
+    "spends_a_permit_twice": ("""/// Spends a permit on two tables.
+pub fn spend(_bench: &MeteredLanes, permit: pfs_base::Permit) {
+    permit.spend();
+    permit.spend();
+}
+""", "error[borrow-e0382]: use of moved value: `permit`"),
 }
 LANES_HEAD = """//! A function over a bench of lanes.
 use pfs_wave::MeteredLanes;
@@ -72,19 +89,13 @@ fn compiles(_rt: HostRuntime) {}
 MOST_SECONDS = 600
 
 
-@pytest.fixture(scope="session")
-def errors(top: pathlib.Path, tmp_path_factory: pytest.TempPathFactory) -> dict[str, list[str]]:
-    """The errors of a crate that has all functions, each in a module, by the modules."""
-    folder = tmp_path_factory.mktemp("refused")
+def errors_in(top: pathlib.Path, folder: pathlib.Path, modules: dict[str, str]) -> dict[str, list[str]]:
+    """The errors of a crate that has these modules, by the modules."""
     for name in BELOW:
         shutil.copytree(top / "crates" / name, folder / "crates" / name,
                         ignore=shutil.ignore_patterns("out", "must-fail"))
     lines = [line for line in (top / "crates.txt").read_text().splitlines() if line.partition(":")[0] in BELOW]
     (folder / "crates.txt").write_text("\n".join([*lines, f"any_bench: {' '.join(BELOW)}"]))
-    proved = (top / "crates" / "pfs_tests" / "src" / "any_bench.rt").read_text()
-    head = proved[:proved.index("\n/// ") + 1]
-    modules = {"proved": proved, **{name: head + text for name, (text, _) in REFUSED.items()},
-               **{name: LANES_HEAD + text for name, (text, _) in REFUSED_LANES.items()}}
     crate = folder / "crates" / "any_bench"
     (crate / "src").mkdir(parents=True)
     (crate / "src" / "lib.rt").write_text(ROOT % "".join(f"pub mod {name};\n" for name in modules))
@@ -95,9 +106,19 @@ def errors(top: pathlib.Path, tmp_path_factory: pytest.TempPathFactory) -> dict[
     done = subprocess.run(["rt", "try", "--test"], cwd=crate, env=with_path(folder / "shell"), timeout=MOST_SECONDS,
                           stdin=subprocess.DEVNULL, stdout=subprocess.PIPE, stderr=subprocess.STDOUT, text=True)
     found: dict[str, list[str]] = {name: [] for name in ("lib", *modules)}
-    for module, error in re.findall(r"^src/(\w+)\.rt:[0-9:]* (error\[.*?)(?=: help: |$)", done.stdout, re.MULTILINE):
+    for module, error in re.findall(r"^src/(\w+)\.rt:[0-9:]* (error\[.*?)(?=: help: |: note: |$)", done.stdout, re.MULTILINE):
         found[module].append(error)
     return found
+
+
+@pytest.fixture(scope="session")
+def errors(top: pathlib.Path, tmp_path_factory: pytest.TempPathFactory) -> dict[str, list[str]]:
+    """The errors of all functions over a bench, each in a module, by the modules."""
+    proved = (top / "crates" / "pfs_tests" / "src" / "any_bench.rt").read_text()
+    head = proved[:proved.index("\n/// ") + 1]
+    modules = {"proved": proved, **{name: head + text for name, (text, _) in REFUSED.items()},
+               **{name: LANES_HEAD + text for name, (text, _) in REFUSED_LANES.items()}}
+    return errors_in(top, tmp_path_factory.mktemp("refused"), modules)
 
 
 @pytest.mark.parametrize("name", ["proved", "lib"])
@@ -109,3 +130,9 @@ def test_a_sum_by_the_bench_has_no_error(errors: dict[str, list[str]], name: str
 @pytest.mark.parametrize("name", [*REFUSED, *REFUSED_LANES])
 def test_a_function_over_any_bench_is_rejected(errors: dict[str, list[str]], name: str) -> None:
     assert errors[name] == [{**REFUSED, **REFUSED_LANES}[name][1]]
+
+
+@pytest.mark.parametrize("name", REFUSED_PERMITS)
+def test_a_permit_is_spent_once(top: pathlib.Path, tmp_path: pathlib.Path, name: str) -> None:
+    text, error = REFUSED_PERMITS[name]
+    assert errors_in(top, tmp_path, {name: LANES_HEAD + text}) == {"lib": [], name: [error]}

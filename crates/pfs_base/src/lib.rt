@@ -11,6 +11,7 @@ pub mod laws;
 mod limits;
 mod metered;
 mod notes;
+mod permit;
 pub mod print;
 mod to_write;
 
@@ -25,4 +26,5 @@ pub use limits::{
 };
 pub use metered::{Metered, Span};
 pub use notes::Notes;
+pub use permit::{Paid, Permit};
 pub use to_write::ToWrite;

@@ -8,6 +8,7 @@ ghost use Rattle.pfs_base.specs.Limits.{limits};
 ghost use Rattle.pfs_base.specs.FlowShop.{FlowShop, IsWithin};
 
 use crate::bench::{Bench, Length, SPAN_MAX, Shop};
+use crate::permit::{Paid, Permit};
 use std::marker::Model;
 use std::simd::prelude::*;
 
@@ -130,21 +131,28 @@ impl<'a> Metered<'a> {
         }
     }
 
-    /// Adds to the count the cells that another bench computes over the same instance.
-    pub fn count(&mut self, cells: u64)
+    /// Adds to the count the cells of a pass over the same instance, and returns the permit that the pass spends.
+    #[inline(always)]
+    pub fn count(&mut self, cells: u64) -> Permit
         requires room { ⟦<Metered<'a> as Bench>⟧.counted self.old + cells < 2 ^ 64 }
+        ensures permit { result ≡ cells }
         ensures counted { ⟦<Metered<'a> as Bench>⟧.counted self.new
             ≡ ⟦<Metered<'a> as Bench>⟧.counted self.old + cells }
         ensures shop { ⟦<Metered<'a> as Bench>⟧.shop self.new ≡ ⟦<Metered<'a> as Bench>⟧.shop self.old }
     {
         self.cells += cells;
+        Permit::new(cells)
     }
 
-    /// The duration with this number, which another bench computed. It counts nothing.
-    pub fn length(&self, number: u64) -> Span
-        ensures { result ≡ number }
+    /// The duration with a number that was paid for. It counts nothing.
+    #[inline(always)]
+    pub fn length(&self, paid: Paid) -> Span
+        requires { paid ≤ SPAN_MAX }
+        ensures { result ≡ paid }
     {
-        Span { number }
+        Span {
+            number: paid.number(),
+        }
     }
 
     /// The number of a duration, for printing. It counts nothing.

@@ -5,8 +5,12 @@ use Rattle.std.specs.List.{All}
 use Rattle.pfs_base.specs.FlowShop.{FlowShop}
 use Rattle.pfs_base.specs.Paths.{greatest}
 use Rattle.pfs_base.proofs.Published.Heaviest.{greatest-cons}
+use Rattle.pfs_insert.specs.Inserter.{IsBestPlace}
 use Rattle.pfs_insert.specs.Insertion.{makespan_with}
 use Rattle.pfs_wave.specs.Served.{IsServed}
+use Rattle.pfs_wave.specs.Private.Waves.{Serves}
+use Rattle.pfs_wave.specs.declared.wave.Wave.{Wave}
+use Rattle.pfs_wave.specs.declared.wave.Wave.TheVariants as wave
 use Rattle.pfs_wave.proofs.Longest.{longest_with_law}
 
 -- each number of a list is at most the greatest
@@ -35,6 +39,14 @@ module _ (shop : FlowShop) (cap : ℕ) (served : IsServed shop cap) where
       let many = served.jobs in
       let one : 1 ≤ shop.jobs + shop.machines - 1 = omega arith in
       omega (arith, greatest_all shop.times k d lt, mul-le-mul_right (greatest shop.times) one, served.short)
+
+-- the makespan with a job at its best place fits in a duration
+pub served_span : (shop : FlowShop) (served : Wave) → Serves shop served → (jobs : List ℕ) (job place span : ℕ)
+    → length jobs < shop.jobs → IsBestPlace shop jobs job place span → span ≤ 1000000000000000
+served_span shop (wave.Short blocks) serves jobs job place span few best =
+    omega (arith, served_path shop 65535 serves.served jobs job place few best.within, best.span_is)
+served_span shop (wave.Long blocks) serves jobs job place span few best =
+    omega (arith, served_path shop 2147483647 serves.served jobs job place few best.within, best.span_is)
 
 -- the cells of one insertion are those of the tails and those of all else
 pub cells_split : (len machines : ℕ) → len * machines + (3 * len + 2) * machines ≡ (4 * (len + 1) - 2) * machines

@@ -5,6 +5,7 @@ pub mod Lanes
 pub mod Least
 pub mod Narrow
 pub mod Padded
+pub mod Payment
 pub mod Recurrences
 pub mod SkewedBand
 pub mod Waves

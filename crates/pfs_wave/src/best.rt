@@ -5,23 +5,27 @@ ghost use Rattle.pfs_insert.specs.Inserter.{IsBestPlace};
 ghost use Rattle.pfs_insert.specs.Insertion.{makespan_with};
 ghost use Rattle.pfs_wave.specs.Private.Blocks.{AreTimes, IsRow, vectors_of};
 ghost use Rattle.pfs_wave.specs.Private.Padded.{on_machine, padded_time};
+ghost use Rattle.pfs_wave.specs.Private.Payment.{IsPaid};
 
 use crate::band::Band;
-use crate::least::Found;
+use crate::permits::Permits;
 use crate::sums::fill_sums;
 use crate::tails::fill_tails;
+use pfs_base::Paid;
+use pfs_insert::Placed;
 
 /// The best place of a job in a sequence, and the makespan with the job there, from the skewed times of the sequence.
 /// There are as many steps more than jobs as `lanes` have machines.
 #[inline(always)]
 pub fn best_place<V: Band, const N: usize>(
+    permits: Permits,
     lanes: usize,
     steps: usize,
     times: &[V],
     job: &[V],
     tails: &mut [V],
     sums: &mut [V::Number],
-) -> Found
+) -> Placed<Paid>
     requires some { 1 ≤ N }
     requires some_lanes { 1 ≤ lanes }
     requires eight { lanes ≤ 8 }
@@ -36,14 +40,23 @@ pub fn best_place<V: Band, const N: usize>(
     ensures sums { length sums.new ≡ length sums.old }
     ensures within { result.place + lanes ≤ steps }
     ensures best { (shop : FlowShop) (jobs : List ℕ) (inserted : ℕ) → 1 ≤ shop.machines → shop.machines ≤ lanes * N
-        → length jobs + lanes ≡ steps → AreTimes N steps (padded_time shop jobs) (map V.lanes times.now)
+        → length jobs + lanes ≡ steps → IsPaid permits.tails permits.sums (length jobs) shop.machines
+        → AreTimes N steps (padded_time shop jobs) (map V.lanes times.now)
         → IsRow N (on_machine shop (time_of shop inserted)) (vectors_of (map V.lanes job.now))
         → (other : ℕ) → other ≤ length jobs → makespan_with shop jobs inserted other < V.CAP
-        → IsBestPlace shop jobs inserted result.place result.sum }
+        → IsBestPlace shop jobs inserted result.place result.span }
 {
+    let Permits {
+        tails: for_tails,
+        sums: for_sums,
+    } = permits;
     let tails = &mut tails[..steps * N];
     let sums = &mut sums[..steps + 7];
-    fill_tails::<V, N>(steps, times, tails);
-    fill_sums::<V, N>(steps, times, tails, job, sums);
-    V::first_least(&sums[7..steps + 8 - lanes])
+    fill_tails::<V, N>(for_tails, steps, times, tails);
+    let paid = fill_sums::<V, N>(for_sums, steps, times, tails, job, sums);
+    let found = V::first_least(&sums[7..steps + 8 - lanes]);
+    Placed {
+        place: found.place,
+        span: paid.with(u64::from(found.sum)),
+    }
 }

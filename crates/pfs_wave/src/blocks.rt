@@ -5,13 +5,15 @@ ghost use Rattle.pfs_base.specs.FlowShop.{FlowShop};
 ghost use Rattle.pfs_insert.specs.Inserter.{IsBestPlace};
 ghost use Rattle.pfs_insert.specs.Insertion.{makespan_with};
 ghost use Rattle.pfs_wave.specs.Private.Blocks.{HasShop, vectors_in};
+ghost use Rattle.pfs_wave.specs.Private.Payment.{IsPaid};
 
 use crate::band::Band;
 use crate::best::best_place;
 use crate::hold::hold;
+use crate::permits::Permits;
 use crate::rows::{shop_rows, zero_vectors};
 use crate::width::Width;
-use pfs_base::{Instance, MOST_JOBS};
+use pfs_base::{Instance, MOST_JOBS, Paid};
 use pfs_insert::Placed;
 use std::alloc::{AllocError, Global};
 use std::marker::Model;
@@ -111,30 +113,36 @@ impl<V: Band> Blocks<V> {
     /// The best place for a job in a sequence, and the makespan with the job there. It is the best place where the
     /// makespan with the job at some place is below the greatest value of a lane.
     #[inline(never)]
-    pub fn best(&mut self, sequence: &[usize], job: usize) -> Placed<u64>
+    pub fn best(&mut self, permits: Permits, sequence: &[usize], job: usize) -> Placed<Paid>
         requires jobs { All (λ other. other < self.old.jobs) sequence.now }
         requires few { length sequence.now ≤ self.old.jobs }
         requires job { job < self.old.jobs }
         ensures within { result.place ≤ length sequence.now }
         ensures best { (shop : FlowShop) → HasShop shop self.old
+            → IsPaid permits.tails permits.sums (length sequence.now) shop.machines
             → (other : ℕ) → other ≤ length sequence.now → makespan_with shop sequence.now job other < V.CAP
             → IsBestPlace shop sequence.now job result.place result.span }
         ensures same { self.new ≡ self.old }
     {
         match self.width {
-            Width::One => self.best_in::<1>(sequence, job),
-            Width::Two => self.best_in::<2>(sequence, job),
-            Width::Three => self.best_in::<3>(sequence, job),
-            Width::Five => self.best_in::<5>(sequence, job),
-            Width::Eight => self.best_in::<8>(sequence, job),
-            Width::Thirteen => self.best_in::<13>(sequence, job),
-            Width::TwentySix => self.best_in::<26>(sequence, job),
+            Width::One => self.best_in::<1>(permits, sequence, job),
+            Width::Two => self.best_in::<2>(permits, sequence, job),
+            Width::Three => self.best_in::<3>(permits, sequence, job),
+            Width::Five => self.best_in::<5>(permits, sequence, job),
+            Width::Eight => self.best_in::<8>(permits, sequence, job),
+            Width::Thirteen => self.best_in::<13>(permits, sequence, job),
+            Width::TwentySix => self.best_in::<26>(permits, sequence, job),
         }
     }
 
     // `best` for this number of vectors.
     #[inline(always)]
-    fn best_in<const N: usize>(&mut self, sequence: &[usize], job: usize) -> Placed<u64>
+    fn best_in<const N: usize>(
+        &mut self,
+        permits: Permits,
+        sequence: &[usize],
+        job: usize,
+    ) -> Placed<Paid>
         requires count { self.old.count ≡ N }
         requires some { 1 ≤ N }
         requires many { N ≤ 26 }
@@ -143,6 +151,7 @@ impl<V: Band> Blocks<V> {
         requires job { job < self.old.jobs }
         ensures within { result.place ≤ length sequence.now }
         ensures best { (shop : FlowShop) → HasShop shop self.old
+            → IsPaid permits.tails permits.sums (length sequence.now) shop.machines
             → (other : ℕ) → other ≤ length sequence.now → makespan_with shop sequence.now job other < V.CAP
             → IsBestPlace shop sequence.now job result.place result.span }
         ensures same { self.new ≡ self.old }
@@ -157,17 +166,14 @@ impl<V: Band> Blocks<V> {
         );
         self.len = sequence.len();
         let steps = sequence.len() + self.lanes;
-        let found = best_place::<V, N>(
+        best_place::<V, N>(
+            permits,
             self.lanes,
             steps,
             &self.times[..steps * N],
             &self.rows[job * N..job * N + N],
             &mut self.tails,
             &mut self.sums,
-        );
-        Placed {
-            place: found.place,
-            span: u64::from(found.sum),
-        }
+        )
     }
 }

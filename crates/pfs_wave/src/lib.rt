@@ -15,6 +15,7 @@ mod long;
 mod metered;
 mod narrow;
 mod parts;
+mod permits;
 mod prepared;
 mod rows;
 mod served;

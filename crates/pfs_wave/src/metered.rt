@@ -5,12 +5,14 @@ ghost use Rattle.pfs_base.specs.FlowShop.{IsWithin};
 ghost use Rattle.pfs_insert.specs.Inserter.{IsBestPlace};
 ghost use Rattle.pfs_insert.specs.Insertion.{heads_tails_cost};
 ghost use Rattle.pfs_wave.specs.Private.Narrow.{HasNarrow};
+ghost use Rattle.pfs_wave.specs.Private.Payment.{IsPaid};
 ghost use Rattle.pfs_wave.specs.Private.Waves.{Serves};
 ghost use Rattle.pfs_wave.specs.Served.{IsServed};
 
 use crate::narrow::{Narrow, narrow_lanes};
+use crate::permits::Permits;
 use crate::wave::Wave;
-use pfs_base::{Bench, Instance, Length, Metered, Shop, Span};
+use pfs_base::{Bench, Instance, Length, Metered, Paid, Shop, Span};
 use pfs_insert::Placed;
 use pfs_order::Seq;
 use std::alloc::{AllocError, Global};
@@ -62,12 +64,14 @@ impl<'a> MeteredLanes<'a> {
     }
 
     // The best place for a job in a sequence, and the makespan with the job there, in the narrow lanes where they serve
-    // the insertion. It counts no cells.
+    // the insertion. The permits pay for its cells.
     #[inline(always)]
-    fn find(&mut self, seq: &Seq, job: usize) -> Placed<u64>
+    fn find(&mut self, permits: Permits, seq: &Seq, job: usize) -> Placed<Paid>
         requires size { seq.now.size ≡ (⟦<MeteredLanes<'a> as Bench>⟧.shop self.old).jobs }
         requires job { job < (⟦<MeteredLanes<'a> as Bench>⟧.shop self.old).jobs }
         requires absent { Contains seq.now.jobs job → ⊥ }
+        requires paid { IsPaid permits.tails permits.sums (length seq.now.jobs)
+            (⟦<MeteredLanes<'a> as Bench>⟧.shop self.old).machines }
         ensures best { IsBestPlace (⟦<MeteredLanes<'a> as Bench>⟧.shop self.old) seq.now.jobs job
             result.place result.span }
         ensures counted { ⟦<MeteredLanes<'a> as Bench>⟧.counted self.new
@@ -77,15 +81,13 @@ impl<'a> MeteredLanes<'a> {
     {
         if let Some(narrow) = &mut self.narrow {
             let total = self.bench.total(job);
-            return narrow.best_or_wide(&mut self.wave, seq, job, total);
+            return narrow.best_or_wide(permits, &mut self.wave, seq, job, total);
         }
-        self.wave.best(seq.as_slice(), job)
+        self.wave.best(permits, seq.as_slice(), job)
     }
 
-    /// The best place for a job that is not in the sequence, and the makespan with the job there. It counts a cell for
-    /// each tail and each head of the sequence, and for each value of the inserted row and each sum at each place, of
-    /// each job and machine. Lanes that contain no value of a table are not counted, and putting times in the lanes'
-    /// order is not counted either, since it computes no sum.
+    /// The best place for a job that is not in the sequence, and the makespan with the job there. It counts the cells
+    /// of the insertion (`Permits::count`).
     #[inline(always)]
     pub fn best_place(&mut self, seq: &Seq, job: usize) -> Placed<Span>
         requires size { seq.now.size ≡ (⟦<MeteredLanes<'a> as Bench>⟧.shop self.old).jobs }
@@ -101,9 +103,8 @@ impl<'a> MeteredLanes<'a> {
         ensures shop { ⟦<MeteredLanes<'a> as Bench>⟧.shop self.new
             ≡ ⟦<MeteredLanes<'a> as Bench>⟧.shop self.old }
     {
-        let cells = (4 * seq.len() as u64 + 2) * self.bench.machines() as u64;
-        self.bench.count(cells);
-        let best = self.find(seq, job);
+        let permits = Permits::count(&mut self.bench, seq.len());
+        let best = self.find(permits, seq, job);
         Placed {
             place: best.place,
             span: self.bench.length(best.span),

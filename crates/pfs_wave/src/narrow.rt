@@ -5,15 +5,17 @@ ghost use Rattle.pfs_base.specs.FlowShop.{FlowShop, total_of};
 ghost use Rattle.pfs_base.specs.Paths.{greatest, makespan};
 ghost use Rattle.pfs_insert.specs.Inserter.{IsBestPlace};
 ghost use Rattle.pfs_wave.specs.Private.Narrow.{AreNarrow, HasNarrow, after_best};
+ghost use Rattle.pfs_wave.specs.Private.Payment.{IsPaid};
 ghost use Rattle.pfs_wave.specs.Private.Waves.{Serves, blocks_of};
 ghost use Rattle.pfs_wave.specs.Served.{longest_path};
 
 use crate::blocks::Blocks;
 use crate::known::Known;
+use crate::permits::Permits;
 use crate::served::{fits_short, longest_time};
 use crate::short::Short;
 use crate::wave::Wave;
-use pfs_base::Instance;
+use pfs_base::{Instance, Paid};
 use pfs_insert::Placed;
 use pfs_order::Seq;
 use std::alloc::{AllocError, Global};
@@ -101,27 +103,36 @@ impl Narrow {
     #[inline(never)]
     pub fn best_or_wide(
         &mut self,
+        permits: Permits,
         wide: &mut Wave,
         seq: &Seq,
         job: usize,
         total: u64,
-    ) -> Placed<u64>
+    ) -> Placed<Paid>
         requires size { seq.now.size ≡ self.old.blocks.jobs }
         requires wide { (blocks_of wide.old).jobs ≡ self.old.blocks.jobs }
         requires job { job < seq.now.size }
         requires absent { Contains seq.now.jobs job → ⊥ }
         ensures best { (shop : FlowShop) → AreNarrow shop self.old → Serves shop wide.old → total ≡ total_of shop job
+            → IsPaid permits.tails permits.sums (length seq.now.jobs) shop.machines
             → IsBestPlace shop seq.now.jobs job result.place result.span }
         ensures known { self.new ≡ after_best self.old seq.now job result.place result.span }
         ensures wide { wide.new ≡ wide.old }
     {
         let jobs = seq.as_slice();
         let best = if self.fits(seq, total) {
-            self.blocks.best(jobs, job)
+            self.blocks.best(permits, jobs, job)
         } else {
-            wide.best(jobs, job)
+            wide.best(permits, jobs, job)
         };
-        self.keep(seq, job, best);
+        self.keep(
+            seq,
+            job,
+            Placed {
+                place: best.place,
+                span: best.span.number(),
+            },
+        );
         best
     }
 }

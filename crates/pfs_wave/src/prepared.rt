@@ -4,6 +4,7 @@ ghost use Rattle.std.specs.List.{All};
 ghost use Rattle.pfs_insert.specs.Inserter.{IsBestPlace};
 ghost use Rattle.pfs_wave.specs.Served.{IsServed};
 
+use crate::permits::Permits;
 use crate::wave::Wave;
 use pfs_base::Instance;
 use pfs_insert::Placed;
@@ -63,7 +64,14 @@ impl PreparedLanes {
         ensures shop { self.new ≡ self.old }
     {
         copy_jobs(sequence, &mut self.sequence);
-        self.wave.best(&self.sequence[..sequence.len()], job)
+        let permits = Permits::count(&mut self.instance.metered(), sequence.len());
+        let best = self
+            .wave
+            .best(permits, &self.sequence[..sequence.len()], job);
+        Placed {
+            place: best.place,
+            span: best.span.number(),
+        }
     }
 }
 

@@ -2,10 +2,12 @@
 ghost use Rattle.std.specs.Prelude.{◌≡◌, ℕ, suc, ◌+◌, ◌-◌, ◌*◌, ◌<◌, ◌≤◌, ◌^◌, length, map};
 ghost use Rattle.std.specs.List.{slice_index_or};
 ghost use Rattle.pfs_wave.specs.Private.Blocks.{AreTimes, HoldCells, IsNoneBefore, IsRow, IsStep, vectors_of};
+ghost use Rattle.pfs_wave.specs.Private.Payment.{AreTimesOf, IsNoneFrom};
 ghost use Rattle.pfs_wave.specs.Private.Recurrences.{AreSummed, AreTables, TablesOfCells};
 
 use crate::band::Band;
 use crate::vectors::{array_of, from_before, next_value};
+use pfs_base::{Paid, Permit};
 
 /// What the last vector of a step leaves for the first vector of the next step.
 #[derive(Drop)]
@@ -53,15 +55,18 @@ fn step_sums<V: Band, const N: usize>(
 
 /// Computes the heads, the inserted rows and the sums of all steps, and keeps the sum of each place. The sum of a place
 /// comes to the last lane seven steps after that of the place; those of the last places are in other lanes after the
-/// last step.
+/// last step. It promises the sums of an insertion whose heads, inserted rows and sums are as many cells as the permit
+/// has.
 #[inline(never)]
 pub fn fill_sums<V: Band, const N: usize>(
+    permit: Permit,
     steps: usize,
     times: &[V],
     tails: &[V],
     job: &[V],
     sums: &mut [V::Number],
-)
+) -> Paid
+    requires paid { 1 ≤ permit }
     requires some { 1 ≤ N }
     requires steps { 1 ≤ steps }
     requires small { steps * N + N < 2 ^ 32 }
@@ -70,11 +75,13 @@ pub fn fill_sums<V: Band, const N: usize>(
     requires job { length job.now ≡ N }
     requires sums { length sums.old ≡ steps + 7 }
     ensures length { length sums.new ≡ length sums.old }
-    ensures sums { (t : TablesOfCells) (rows : ℕ) → AreTables V.CAP rows t
+    ensures sums { (t : TablesOfCells) (rows machines : ℕ) → permit ≡ (3 * rows + 2) * machines
+        → AreTimesOf rows machines t.time → IsNoneFrom machines t.job → AreTables V.CAP rows t
         → AreTimes N steps t.time (map V.lanes times.now) → HoldCells N steps t.tail (map V.lanes tails.now)
         → IsRow N t.job (vectors_of (map V.lanes job.now)) → (place : ℕ) → place ≤ rows → place + 7 < steps
         → slice_index_or (map V.number sums.new) (place + 7) 0 ≡ t.sum place (8 * N) }
-    ensures last { (t : TablesOfCells) (rows : ℕ) → AreTables V.CAP rows t
+    ensures last { (t : TablesOfCells) (rows machines : ℕ) → permit ≡ (3 * rows + 2) * machines
+        → AreTimesOf rows machines t.time → IsNoneFrom machines t.job → AreTables V.CAP rows t
         → AreTimes N steps t.time (map V.lanes times.now) → HoldCells N steps t.tail (map V.lanes tails.now)
         → IsRow N t.job (vectors_of (map V.lanes job.now)) → (place lane : ℕ) → place ≤ rows → lane < 8
         → place + suc lane ≡ steps
@@ -99,4 +106,5 @@ pub fn fill_sums<V: Band, const N: usize>(
         sums[step] = carry.sum.last();
     }
     sums[steps - 1..steps + 7].copy_from_slice(&carry.sum.reversed());
+    permit.pay()
 }

@@ -2,10 +2,12 @@
 ghost use Rattle.std.specs.Prelude.{◌≡◌, ℕ, suc, ◌+◌, ◌-◌, ◌*◌, ◌<◌, ◌≤◌, ◌≢◌, ◌^◌, length, map};
 ghost use Rattle.std.specs.List.{slice_index_or};
 ghost use Rattle.pfs_wave.specs.Private.Blocks.{Cells, HoldCells, IsStep, next_cell, vectors_of};
+ghost use Rattle.pfs_wave.specs.Private.Payment.{AreTimesOf};
 ghost use Rattle.pfs_wave.specs.Private.Recurrences.{AreTails};
 
 use crate::band::Band;
 use crate::vectors::{array_of, from_after, next_value, second_value};
+use pfs_base::Permit;
 
 // The second vector of a step, if there is one, from what the step after it leaves for the first vector.
 #[inline(always)]
@@ -72,18 +74,26 @@ fn step_tails<V: Band, const N: usize>(tails: &mut [V; N], times: &[V], row: &mu
     }
 }
 
-/// Fills the tails of all steps, from the last step to the first.
+/// Fills the tails of all steps, from the last step to the first. It promises those of a sequence whose rows and
+/// machines have as many cells as the permit.
 #[inline(never)]
-pub fn fill_tails<V: Band, const N: usize>(steps: usize, times: &[V], tails: &mut [V])
+pub fn fill_tails<V: Band, const N: usize>(
+    permit: Permit,
+    steps: usize,
+    times: &[V],
+    tails: &mut [V],
+)
     requires some { 1 ≤ N }
     requires small { steps * N + N < 2 ^ 32 }
     requires times { length times.now ≡ steps * N }
     requires tails { length tails.old ≡ steps * N }
     ensures length { length tails.new ≡ length tails.old }
-    ensures tails { (time tail : Cells) → AreTails V.CAP N time tail
+    ensures tails { (rows machines : ℕ) (time tail : Cells) → permit ≡ rows * machines
+        → AreTimesOf rows machines time → AreTails V.CAP N time tail
         → ((row lane k : ℕ) → lane < 8 → k < N → row + lane ≡ steps → tail row (lane * N + k) ≡ 0)
         → HoldCells N steps time (map V.lanes times.now) → HoldCells N steps tail (map V.lanes tails.new) }
 {
+    permit.spend();
     let mut now = [V::zeros(); N];
     for left in 0..steps {
         let at = (steps - 1 - left) * N;

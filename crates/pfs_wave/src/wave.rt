@@ -3,14 +3,16 @@ ghost use Rattle.std.specs.Prelude.{◌≡◌, ◌<◌, ◌≤◌, length, IfOk}
 ghost use Rattle.std.specs.List.{All};
 ghost use Rattle.pfs_base.specs.FlowShop.{FlowShop};
 ghost use Rattle.pfs_insert.specs.Inserter.{IsBestPlace};
+ghost use Rattle.pfs_wave.specs.Private.Payment.{IsPaid};
 ghost use Rattle.pfs_wave.specs.Private.Waves.{Serves, blocks_of};
 ghost use Rattle.pfs_wave.specs.Served.{IsServed};
 
 use crate::blocks::Blocks;
 use crate::long::Long;
+use crate::permits::Permits;
 use crate::served::fits_short;
 use crate::short::Short;
-use pfs_base::Instance;
+use pfs_base::{Instance, Paid};
 use pfs_insert::Placed;
 use std::alloc::{AllocError, Global};
 
@@ -37,18 +39,19 @@ impl Wave {
     /// The best place for a job in a sequence of fewer than all jobs, and the makespan with the job there. It allocates
     /// nothing.
     #[inline(always)]
-    pub fn best(&mut self, sequence: &[usize], job: usize) -> Placed<u64>
+    pub fn best(&mut self, permits: Permits, sequence: &[usize], job: usize) -> Placed<Paid>
         requires jobs { All (λ other. other < (blocks_of self.old).jobs) sequence.now }
         requires few { length sequence.now < (blocks_of self.old).jobs }
         requires job { job < (blocks_of self.old).jobs }
         ensures within { result.place ≤ length sequence.now }
         ensures best { (shop : FlowShop) → Serves shop self.old
+            → IsPaid permits.tails permits.sums (length sequence.now) shop.machines
             → IsBestPlace shop sequence.now job result.place result.span }
         ensures same { self.new ≡ self.old }
     {
         match self {
-            Wave::Short(blocks) => blocks.best(sequence, job),
-            Wave::Long(blocks) => blocks.best(sequence, job),
+            Wave::Short(blocks) => blocks.best(permits, sequence, job),
+            Wave::Long(blocks) => blocks.best(permits, sequence, job),
         }
     }
 }

@@ -3,13 +3,16 @@ use Rattle.std.proofs.Common.{arith, inl, inr}
 use Rattle.std.proofs.Math.Nat.{mul-le-mul_right}
 use Rattle.std.proofs.lemmas.Bool.{cases_lt}
 use Rattle.std.proofs.lemmas.List.{length-drop, length-take-le}
-use Rattle.pfs_wave.specs.Private.Padded.{padded_time}
+use Rattle.pfs_base.specs.FlowShop.{time_of}
+use Rattle.pfs_wave.specs.Private.Padded.{on_machine, padded_time}
+use Rattle.pfs_wave.specs.Private.Payment.{AreTimesOf, IsNoneFrom}
 use Rattle.pfs_wave.proofs.BestFound.{found, number_of_part}
 use Rattle.pfs_wave.proofs.CappedCells.{capped_cells, capped_tables, capped_tails, no_tail, whole_sum, tail_cell}
+use Rattle.pfs_wave.proofs.PaddedTables.{on_padding, time_none, time_on_padding}
 use Rattle.pfs_wave.proofs.best.best_place.Goals as goal
 
 pub returns-clause-best : goal.returns-clause-best
-returns-clause-best g c shop jobs inserted some few all times_are job_is other among short =
+returns-clause-best g c shop jobs inserted some few all paid times_are job_is other among short =
     let cap = g.V.Band.CAP in
     let number = g.V.Band.number in
     let count = g.row.N in
@@ -19,32 +22,41 @@ returns-clause-best g c shop jobs inserted some few all times_are job_is other a
     let eight = c.requires.eight in
     let enough : lanes * count ≤ 8 * count = mul-le-mul_right count eight in
     let few_machines : shop.machines ≤ 8 * count = omega arith in
-    let summed = c.fill_sums.new.sums in
+    let summed = c.fill_sums-paid.new.sums in
     let part = drop 7 summed in
     let n = steps + 8 - lanes - 7 in
     let long : length summed ≡ steps + 7 =
-    c.fill_sums.ensures.length ∙ length-take-le (steps + 7) c.args.sums.now c.requires.sums in
+    c.fill_sums-paid.ensures.length ∙ length-take-le (steps + 7) c.args.sums.now c.requires.sums in
     let count_is : length (take n part) ≡ length jobs + 1 =
     length-take-le n part (omega (arith, length-drop 7 summed)) ∙ omega arith in
+    let of : AreTimesOf (length jobs) shop.machines (padded_time shop jobs) = record {
+      machines_are = λ row at past. time_on_padding shop jobs row at past;
+      rows_are = λ machine at past. time_none shop jobs at machine past;
+    } in
+    let job_of : IsNoneFrom shop.machines (on_machine shop (time_of shop inserted)) =
+    λ at past. on_padding shop (time_of shop inserted) at past in
     let tables = capped_tables cap shop jobs some inserted in
     let backs =
-    c.fill_tails.ensures.tails (padded_time shop jobs) (tail_cell cap shop jobs)
+    c.fill_tails.ensures.tails (length jobs) shop.machines (padded_time shop jobs) (tail_cell cap shop jobs)
+    paid.tails_are of
     (capped_tails cap shop jobs count few_machines)
     (λ row lane k lt k_lt here. no_tail cap shop jobs count lanes steps row lane k few all here) times_are.cells_are in
-    found shop jobs inserted (map number (take n part)) cap
+    rw (c.with.ensures, c.from.ensures) (found shop jobs inserted (map number (take n part)) cap
     (λ place lt.
     let at : 7 + place ≡ place + 7 = omega arith in
     number_of_part number summed 7 n place (omega arith) ∙ ap (λ i. get_or (map number summed) i 0) at
     ∙ elim (cases_lt (place + 7) steps) [
       | inl early ↦
-          c.fill_sums.ensures.sums (capped_cells cap shop jobs some inserted) (length jobs) tables times_are backs job_is
+          c.fill_sums-paid.ensures.sums (capped_cells cap shop jobs some inserted) (length jobs) shop.machines
+          paid.sums_are of job_of tables times_are backs job_is
           place (omega arith) early
           ∙ whole_sum cap shop jobs some inserted place (8 * count) (omega arith) (omega arith) few_machines
       | inr late ↦
           let lane = steps - 1 - place in
           let more : lanes * count ≤ suc lane * count = mul-le-mul_right count (omega arith) in
-          c.fill_sums.ensures.last (capped_cells cap shop jobs some inserted) (length jobs) tables times_are backs job_is
+          c.fill_sums-paid.ensures.last (capped_cells cap shop jobs some inserted) (length jobs) shop.machines
+          paid.sums_are of job_of tables times_are backs job_is
           place lane (omega arith) (omega arith) (omega arith)
           ∙ whole_sum cap shop jobs some inserted place (suc lane * count) (omega arith) (omega arith) (omega arith)
     ])
-    c.first_least.ensures count_is other among short
+    c.first_least-found.ensures count_is other among short)

@@ -69,7 +69,7 @@ loop-step-preserved g c =
     }
 
 -- the sums of the last places
-last_sum : (g : given.Over) (c : goal.After-sums-1 g) (t : TablesOfCells) (rows : ℕ)
+last_sum : (g : given.Over) (c : goal.After-pay g) (t : TablesOfCells) (rows : ℕ)
     → AreTables g.V.Band.CAP rows t → AreTimes g.row.N c.args.steps t.time (map g.V.Band.lanes c.args.times.now)
     → HoldCells g.row.N c.args.steps t.tail (map g.V.Band.lanes c.args.tails.now)
     → IsRow g.row.N t.job (vectors_of (map g.V.Band.lanes c.args.job.now)) → (place lane : ℕ) → place ≤ rows → lane < 8
@@ -98,11 +98,11 @@ last_sum g c t rows are times_are tails_are job_is place lane le lt all =
     ∙ c.reversed.ensures lane lt ∙ filled.summed.sum_is place lane lt le (omega arith)
 
 pub returns-clause-last : goal.returns-clause-last
-returns-clause-last g c t rows are times_are tails_are job_is place lane le lt all =
+returns-clause-last g c t rows machines paid of job_of are times_are tails_are job_is place lane le lt all =
     last_sum g c t rows are times_are tails_are job_is place lane le lt all
 
 pub returns-clause-sums : goal.returns-clause-sums
-returns-clause-sums g c t rows are times_are tails_are job_is place le lt =
+returns-clause-sums g c t rows machines paid of job_of are times_are tails_are job_is place le lt =
     let number = g.V.Band.number in
     let steps = c.args.steps in
     let outside = c.loop-step-test.false in

@@ -43,6 +43,6 @@ loop-left-preserved g c =
     }
 
 pub returns-clause-tails : goal.returns-clause-tails
-returns-clause-tails g c time tail are last held step lt =
+returns-clause-tails g c rows machines time tail paid of are last held step lt =
     let outside = c.loop-left-test.false in
     (c.loop-left.invariant.cells time tail are last held).tails_are step lt (omega arith)

@@ -14,14 +14,14 @@ invariant_of-self g c =
     let count : vectors_in inside.width ≡ g.row.N = ap (λ b. b.count) c.self.view_is ∙ c.requires.count in
     let order = c.hold.new.order in
     let times = c.hold.new.times in
-    let tails = c.best_place-found.new.tails in
-    let sums = c.best_place-found.new.sums in
+    let tails = c.best_place.new.tails in
+    let sums = c.best_place.new.sums in
     let order_long : length order ≡ inside.order.len = omega (arith, c.hold.ensures.order, c.deref_mut.ensures.len) in
     let times_long : length times ≡ inside.times.len = omega (arith, c.hold.ensures.times, c.deref_mut-2.ensures.len) in
     let tails_long : length tails ≡ inside.tails.len =
-    omega (arith, c.best_place-found.ensures.tails, c.deref_mut-3.ensures.len) in
+    omega (arith, c.best_place.ensures.tails, c.deref_mut-3.ensures.len) in
     let sums_long : length sums ≡ inside.sums.len =
-    omega (arith, c.best_place-found.ensures.sums, c.deref_mut-4.ensures.len) in
+    omega (arith, c.best_place.ensures.sums, c.deref_mut-4.ensures.len) in
     let holds = rw (c.deref.ensures.value) at c.hold.ensures.holds in
     record {
       some = was.some;
@@ -35,13 +35,13 @@ invariant_of-self g c =
             count,
           ) holds;
       tails = rw (take_at tails (drop (length tails) inside.tails.items) inside.tails.len tails_long)
-          (c.best_place-found.ensures.tails ∙ ap length c.deref_mut-3.ensures.value ∙ was.tails);
+          (c.best_place.ensures.tails ∙ ap length c.deref_mut-3.ensures.value ∙ was.tails);
       sums = rw (take_at sums (drop (length sums) inside.sums.items) inside.sums.len sums_long)
-          (c.best_place-found.ensures.sums ∙ ap length c.deref_mut-4.ensures.value ∙ was.sums);
+          (c.best_place.ensures.sums ∙ ap length c.deref_mut-4.ensures.value ∙ was.sums);
     }
 
 pub returns-clause-best : goal.returns-clause-best
-returns-clause-best g c shop has other among short =
+returns-clause-best g c shop has paid other among short =
     let lanes = g.V.Band.lanes in
     let inside = c.self.inside in
     let count = g.row.N in
@@ -71,6 +71,6 @@ returns-clause-best g c shop has other among short =
       c.deref-2.ensures.value,
       c.deref-3.ensures.value,
       take_at times (drop (length times) inside.times.items) inside.times.len times_long,
-    ) at c.best_place-found.ensures.best in
+    ) at c.best_place.ensures.best in
     let few_machines = rw (← ap (λ b. b.lanes) view, c.requires.count) at has.few in
-    rw c.from.ensures (found shop jobs c.args.job has.some few_machines refl times_are job_is other among short)
+    found shop jobs c.args.job has.some few_machines refl paid times_are job_is other among short

@@ -19,7 +19,7 @@ invariant_of-self c =
     let bench = c.args.self.now.bench in
     let shop : FlowShop = record { jobs = bench.jobs; machines = bench.machines; times = bench.times.now } in
     let are = c.args.self.now.tables.are c.in-Some.narrow c.in-Some.is in
-    let best = c.best_or_wide.ensures.best shop are c.args.self.now.serves c.total-total.ensures in
+    let best = c.best_or_wide.ensures.best shop are c.args.self.now.serves c.total-total.ensures c.requires.paid in
     record {
       within = c.args.self.now.within;
       serves = rw c.best_or_wide.ensures.wide c.args.self.now.serves;
@@ -34,14 +34,14 @@ returns-in-Some-clause-best c =
     let bench = c.args.self.now.bench in
     let shop : FlowShop = record { jobs = bench.jobs; machines = bench.machines; times = bench.times.now } in
     let are = c.args.self.now.tables.are c.in-Some.narrow c.in-Some.is in
-    c.best_or_wide.ensures.best shop are c.args.self.now.serves c.total-total.ensures
+    c.best_or_wide.ensures.best shop are c.args.self.now.serves c.total-total.ensures c.requires.paid
 
 pub returns-clause-best : goal.returns-clause-best
 returns-clause-best c =
     let bench = c.args.self.now.bench in
     let shop : FlowShop = record { jobs = bench.jobs; machines = bench.machines; times = bench.times.now } in
     let best = rw c.as_slice.ensures.value at c.best.ensures.best in
-    best shop c.args.self.now.serves
+    best shop c.args.self.now.serves c.requires.paid
 
 pub best-requires-clause-few : goal.best-requires-clause-few
 best-requires-clause-few c =

@@ -27,16 +27,16 @@ best-best-requires-else-fits-clause-few c =
     )
 
 pub returns-clause-best : goal.returns-clause-best
-returns-clause-best c shop are serves total =
+returns-clause-best c shop are serves total paid =
     let jobs = c.args.seq.now.jobs in
     elim c.if-fits.branch [
       | then-fits w ↦
           let best = rw c.as_slice-jobs.ensures.value at w.best-best.ensures.best in
           let room = w.if-fits.ensures refl shop are.blocks.some are in
           let blocks = rw (← ap (λ tables. tables.blocks) c.self.view_is) at are.blocks in
-          rw w.best-is (best shop blocks (length jobs) (omega arith)
+          rw w.best-is (best shop blocks paid (length jobs) (omega arith)
           (omega (arith, appended_law shop jobs c.args.job are.blocks.some, room, total)))
       | else-fits w ↦
           let best = rw c.as_slice-jobs.ensures.value at w.best-best-else-fits.ensures.best in
-          rw w.best-is (best shop serves)
+          rw w.best-is (best shop serves paid)
     ]

@@ -3,16 +3,16 @@ use Rattle.pfs_wave.proofs.ServedPaths.{served_path}
 use Rattle.pfs_wave.proofs.wave.Wave.best.Goals as goal
 
 pub returns-in-Short-clause-best : goal.returns-in-Short-clause-best
-returns-in-Short-clause-best c shop serves =
+returns-in-Short-clause-best c shop serves paid =
     let is = rw c.in-Short.is at serves in
     let few = rw c.in-Short.is at c.requires.few in
-    c.best.ensures.best shop is.blocks 0 (omega arith)
+    c.best.ensures.best shop is.blocks paid 0 (omega arith)
     (served_path shop 65535 is.served c.args.sequence.now c.args.job 0 (omega (arith, few, is.blocks.jobs)) (omega arith))
 
 pub returns-in-Long-clause-best : goal.returns-in-Long-clause-best
-returns-in-Long-clause-best c shop serves =
+returns-in-Long-clause-best c shop serves paid =
     let is = rw c.in-Long.is at serves in
     let few = rw c.in-Long.is at c.requires.few in
-    c.best-in-Long.ensures.best shop is.blocks 0 (omega arith)
+    c.best-in-Long.ensures.best shop is.blocks paid 0 (omega arith)
     (served_path shop 2147483647 is.served c.args.sequence.now c.args.job 0 (omega (arith, few, is.blocks.jobs))
     (omega arith))
