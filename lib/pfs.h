@@ -151,8 +151,8 @@ struct pfs_instance {
 
 /** @brief Prepares an instance for the calls below. Time O(nm).
  *
- * The struct holds a copy of the times, and the memory of an insertion and of a sequence. If it held another instance,
- * the function releases that one, unless it fails. It allocates what the struct holds, which pfs_release frees.
+ * The struct holds a copy of the times, and the memory of insertions and searches. If it held another instance, the
+ * function releases that one, unless it fails. It allocates what the struct holds, which pfs_release frees.
  *
  * @param[in] times processing times, job by job: times[job * machines + machine]
  * @param[in] times_length number of times, which is jobs * machines
@@ -236,7 +236,7 @@ int pfs_bound(struct pfs_instance *instance, uint64_t *bound) PFS_CHECKED;
 int pfs_table(struct pfs_instance *instance, const uint32_t *order, size_t order_length, uint64_t *starts,
               size_t starts_length, uint64_t *ends, size_t ends_length) PFS_CHECKED;
 
-/** @brief Computes the order of NEH (Nawaz, Enscore and Ham 1983). Time O(nnm). Allocates.
+/** @brief Computes the order of NEH (Nawaz, Enscore and Ham 1983). Time O(nnm).
  *
  * NEH takes the jobs by decreasing total processing time, of equal totals the lower job first, and inserts each at its
  * best place, of equally good places the first. Best places are found by heads and tails (Taillard 1990).
@@ -246,7 +246,7 @@ int pfs_table(struct pfs_instance *instance, const uint32_t *order, size_t order
  * @param[in] order_length length of the order, which is the number of jobs
  * @param[out] makespan makespan of the order
  * @param[out] cells number of table cells that were computed, which is 2 * machines * jobs * jobs
- * @return PFS_OK, or the first of PFS_NOT_PREPARED (instance), PFS_LENGTH (order_length), PFS_MEMORY
+ * @return PFS_OK, or the first of PFS_NOT_PREPARED (instance), PFS_LENGTH (order_length)
  */
 int pfs_neh(struct pfs_instance *instance, uint32_t *order, size_t order_length, uint64_t *makespan,
             uint64_t *cells) PFS_CHECKED;
@@ -260,7 +260,7 @@ struct pfs_rounds_options {
     uint32_t passes; /**< number of passes in each round, at most PFS_MOST_PASSES */
 };
 
-/** @brief Makes rounds of the iterated greedy search (Ruiz and Stützle 2007) from a given order. Allocates.
+/** @brief Makes rounds of the iterated greedy search (Ruiz and Stützle 2007) from a given order.
  *
  * The function makes the rounds `first` to `first + count - 1` of the search with a seed. The given order may be any
  * order of all jobs; it is replaced by the order after these rounds. A round takes the time of take + passes * n
@@ -280,7 +280,7 @@ struct pfs_rounds_options {
  * @param[out] makespan makespan of the order after the rounds
  * @param[out] cells number of table cells that these rounds computed
  * @return PFS_OK, or the first of PFS_NOT_PREPARED (instance), PFS_LENGTH (order_length), PFS_JOB or PFS_REPEATED (the
- *     jobs from the left), PFS_TAKE (take), PFS_PASSES (passes), PFS_ROUNDS (first + count), PFS_MEMORY
+ *     jobs from the left), PFS_TAKE (take), PFS_PASSES (passes), PFS_ROUNDS (first + count)
  */
 int pfs_rounds(struct pfs_instance *instance, const struct pfs_rounds_options *options, uint32_t *order,
                size_t order_length, uint64_t *makespan, uint64_t *cells) PFS_CHECKED;

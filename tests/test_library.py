@@ -22,15 +22,16 @@ from support.tools import output_of
 
 CALLS = SUPPORT / "library_calls.c"
 # The functions that allocate nothing once their instance is prepared, those that do, and those that need none.
-QUIET = ["makespan", "makespans", "bound", "insert", "insertions", "heads_tails", "construct", "local_search"]
-LOUD = ["table", "neh", "rounds", "write"]
+QUIET = ["makespan", "makespans", "bound", "neh", "rounds", "insert", "insertions", "heads_tails", "construct",
+         "local_search"]
+LOUD = ["table", "write"]
 OTHERS = ["random", "generate", "read", "read_order", "write_order"]
 FUNCTIONS = [*QUIET, *LOUD, *OTHERS, "prepare", "release"]
 TEXTS = {"pfs_message", "pfs_version"}
 NAMES = {f"pfs_{name}" for name in FUNCTIONS} | TEXTS
 # The words of library_calls: the functions, and calls on larger instances, which use other tables.
 NAMED = [*QUIET, *LOUD, *OTHERS, "prepare", "prepare_again", "prepare_lanes", "prepare_rows",
-         "insert_lanes", "insert_rows"]
+         "insert_lanes", "insert_rows", "search_lanes", "search_rows"]
 ALL_CALLS = Ran(b"173 calls, 0 failures\n", b"", 0)
 # No call makes as many allocations.
 MOST_GROWTHS = 200
@@ -258,12 +259,11 @@ def test_a_failed_allocation_leaves_every_output_unchanged(calls: Program, shim:
 
 
 @OF_CALLS
-@pytest.mark.parametrize("name", ["insert_lanes", "insert_rows"])
-def test_an_insertion_allocates_nothing_on_large_instances(calls: Program, shim: Shim, folder: pathlib.Path,
-                                                           name: str) -> None:
-    """By a wavefront, and by rows."""
-    prepared = allocations(calls, shim, folder, name.replace("insert", "prepare"))
-    assert allocations(calls, shim, folder, name) == prepared > 1
+@pytest.mark.parametrize("method", ["lanes", "rows"])
+def test_insertions_and_searches_allocate_nothing_on_large_instances(calls: Program, shim: Shim, folder: pathlib.Path,
+                                                                     method: str) -> None:
+    prepared, *made = (allocations(calls, shim, folder, f"{call}_{method}") for call in ("prepare", "insert", "search"))
+    assert made == [prepared, prepared] and prepared > 1
 
 
 def allocations(calls: Program, shim: Shim, folder: pathlib.Path, name: str) -> int:

@@ -735,7 +735,7 @@ def test_another_order_is_compared(folder: pathlib.Path) -> None:
 
 
 PLAN = ["plan", "times.csv"]
-NOT_THERE = "[Errno 2] No such file or directory: "
+NOT_THERE = ": No such file or directory"
 
 
 @pytest.mark.parametrize(("words", "status", "error"), [
@@ -750,13 +750,13 @@ NOT_THERE = "[Errno 2] No such file or directory: "
      "order.html is read, and writing would replace it: name another file"),
     ([*PLAN, "--schedule", "out.ods"], 3, "out.ods: the name of a schedule ends with .csv or .xlsx"),
     ([*PLAN, "--schedule", "out.html"], 3, "out.html: the name of a schedule ends with .csv or .xlsx"),
-    ([*PLAN, "--schedule", "none/out.csv"], 4, NOT_THERE + "'none/out.csv'"),
-    ([*PLAN, "--chart", "none/out.svg"], 4, NOT_THERE + "'none/out.svg'"),
-    ([*PLAN, "--chart", "ok.html", "--chart", "none/out.html"], 4, NOT_THERE + "'none/out.html'"),
+    ([*PLAN, "--schedule", "none/out.csv"], 4, "none/out.csv" + NOT_THERE),
+    ([*PLAN, "--chart", "none/out.svg"], 4, "none/out.svg" + NOT_THERE),
+    ([*PLAN, "--chart", "ok.html", "--chart", "none/out.html"], 4, "none/out.html" + NOT_THERE),
     ([*PLAN, "--chart", "ok.html", "--chart", "x.jpg"], 3,
      "x.jpg: the name of a chart ends with .svg, .png, .pdf or .html"),
     ([*PLAN, "--chart", "x.svg"], 4, "plot needs matplotlib (Debian: python3-matplotlib; pip install 'pfs[charts]')"),
-    ([*LONG, "--state", "state", "--start", "none"], 4, NOT_THERE + "'none'"),
+    ([*LONG, "--state", "state", "--start", "none"], 4, "none" + NOT_THERE),
     ([*LONG, "--state", "order.html"], 2, "order.html: not the state of a search"),
     ([*LONG, "--take", "61"], 3, "--take must be from 1 to 60, not 61"),
 ])

@@ -1,5 +1,4 @@
 pub mod Returning
-pub mod BestPlaces
 pub mod FaultLaws
 pub mod Gathered
 pub mod HandleValues

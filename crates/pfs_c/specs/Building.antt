@@ -9,11 +9,11 @@ use Rattle.pfs_order.specs.Sequence.{IsSequence, all_jobs}
 use Rattle.pfs_search.specs.Greedy.{after_passes, moved}
 use Rattle.pfs_search.specs.Neh.{with_jobs}
 use Rattle.pfs_search.specs.Ranking.{ranking}
-use Rattle.pfs_search.specs.Solution.{neh_cells}
+use Rattle.pfs_search.specs.Solution.{neh_cells, IsNeh}
 use Rattle.pfs_c.specs.declared.numbers.CallFault.{CallFault}
 use Rattle.pfs_c.specs.declared.numbers.CallFault.TheVariants.{Job}
 use Rattle.pfs_c.specs.Validation.{unless, length_fault, jobs_fault}
-use Rattle.pfs_c.specs.Searching.{IsNeh, passes_fault}
+use Rattle.pfs_c.specs.Searching.{passes_fault}
 
 -- ---- passes over a list of jobs
 

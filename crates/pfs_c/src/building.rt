@@ -37,12 +37,13 @@ pub extern "C" fn pfs_construct(
         Ok(kept) => kept,
         Err(why) => return why.number(),
     };
-    let done = construct_in(&mut kept, sequence, more, order, span);
+    let done = construct_in(alloc, &mut kept, sequence, more, order, span);
     instance.put(kept);
     number_of(done)
 }
 
 fn construct_in(
+    alloc: Global,
     kept: &mut Kept,
     sequence: &[u32],
     more: &[u32],
@@ -55,12 +56,12 @@ fn construct_in(
     ensures kept_order { IfErr result (λ _. order.new ≡ order.old) }
     ensures kept_span { IfErr result (λ _. span.new ≡ span.old) }
 {
-    let jobs = kept.tables.instance().jobs();
+    let jobs = kept.instance().jobs();
     validate_length(order.len(), sequence.len() + more.len())?;
     validate_jobs(jobs, sequence)?;
     validate_more(jobs, sequence, more)?;
     order[..sequence.len()].copy_from_slice(sequence);
-    *span = kept.visit(more, 1, order, sequence.len());
+    *span = kept.visit(alloc, more, 1, order, sequence.len());
     Ok(())
 }
 
@@ -109,12 +110,13 @@ pub extern "C" fn pfs_local_search(
         Ok(kept) => kept,
         Err(why) => return why.number(),
     };
-    let done = local_search_in(&mut kept, list, passes, sequence, span);
+    let done = local_search_in(alloc, &mut kept, list, passes, sequence, span);
     instance.put(kept);
     number_of(done)
 }
 
 fn local_search_in(
+    alloc: Global,
     kept: &mut Kept,
     list: &[u32],
     passes: u32,
@@ -127,13 +129,13 @@ fn local_search_in(
     ensures kept_sequence { IfErr result (λ _. sequence.new ≡ sequence.old) }
     ensures kept_span { IfErr result (λ _. span.new ≡ span.old) }
 {
-    let jobs = kept.tables.instance().jobs();
+    let jobs = kept.instance().jobs();
     validate_jobs(jobs, sequence)?;
     validate_jobs(jobs, list)?;
     validate_members(sequence, list)?;
     validate_passes(passes)?;
     let count = sequence.len();
-    *span = kept.visit(list, passes, sequence, count);
+    *span = kept.visit(alloc, list, passes, sequence, count);
     Ok(())
 }
 

@@ -271,13 +271,13 @@ pub(crate) fn order_of(alloc: Global, jobs: &[u32]) -> Result<Order, CallFault>
     }
 }
 
-/// Copies an order into the front of a list with room for it. The rest of the list is unchanged.
-pub(crate) fn copy_order(order: &Order, out: &mut [u32])
-    requires { length order.now ≤ length out.old }
-    ensures front { out.new ≡ put_in_front order.now out.old }
-    ensures whole { length order.now ≡ length out.old → out.new ≡ order.now }
+/// Copies a sequence into the front of a list with room for it. The rest of the list is unchanged.
+pub(crate) fn copy_sequence(seq: &Seq, out: &mut [u32])
+    requires { length seq.now.jobs ≤ length out.old }
+    ensures front { out.new ≡ put_in_front seq.now.jobs out.old }
+    ensures whole { length seq.now.jobs ≡ length out.old → out.new ≡ seq.now.jobs }
 {
-    for place in 0..order.len() {
-        out[place] = order.at(place) as u32;
+    for place in 0..seq.len() {
+        out[place] = seq.at(place) as u32;
     }
 }

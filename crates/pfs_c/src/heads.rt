@@ -67,7 +67,7 @@ fn table_of(
     ensures shop { instance.new.shop ≡ instance.old.shop }
 {
     let kept = instance.take(alloc)?;
-    let table = table_in(alloc, kept.tables.instance(), order, starts, ends);
+    let table = table_in(alloc, kept.instance(), order, starts, ends);
     instance.put(kept);
     table
 }
@@ -118,7 +118,7 @@ pub extern "C" fn pfs_heads_tails(
         Ok(kept) => kept,
         Err(why) => return why.number(),
     };
-    let done = heads_tails_in(kept.tables.instance(), sequence, heads, tails);
+    let done = heads_tails_in(kept.instance(), sequence, heads, tails);
     instance.put(kept);
     number_of(done)
 }

@@ -54,18 +54,23 @@ fn best_of(
     ensures shop { instance.new.shop ≡ instance.old.shop }
 {
     let mut kept = instance.take(alloc)?;
-    let best = best_in(&mut kept, sequence, job);
+    let best = best_in(alloc, &mut kept, sequence, job);
     instance.put(kept);
     best
 }
 
-fn best_in(kept: &mut Kept, sequence: &[u32], job: u32) -> Result<Placed<u64>, CallFault>
+fn best_in(
+    alloc: Global,
+    kept: &mut Kept,
+    sequence: &[u32],
+    job: u32,
+) -> Result<Placed<u64>, CallFault>
     ensures validated { Validates result (insertion_fault kept.old sequence.now job) }
     ensures best { IfOk result (λ best. IsBestPlace kept.old sequence.now job best.place best.span) }
     ensures shop { kept.new ≡ kept.old }
 {
-    validate_insertion(kept.tables.instance().jobs(), sequence, job)?;
-    Ok(kept.tables.best(sequence, job as usize))
+    validate_insertion(kept.instance().jobs(), sequence, job)?;
+    Ok(kept.best(alloc, sequence, job as usize))
 }
 
 /// Computes the makespan with a job at each place of a sequence of others. `makespans[place]` is that with the job
@@ -106,7 +111,7 @@ fn insertions_in(
     ensures kept { IfErr result (λ _. makespans.new ≡ makespans.old) }
 {
     validate_length(makespans.len(), sequence.len() + 1)?;
-    validate_insertion(kept.tables.instance().jobs(), sequence, job)?;
-    kept.tables.insertions(sequence, job as usize, makespans);
+    validate_insertion(kept.instance().jobs(), sequence, job)?;
+    kept.insertions(sequence, job as usize, makespans);
     Ok(())
 }

@@ -1,42 +1,53 @@
 //! What is prepared: an instance, and the memory of the calls on it.
-ghost use Rattle.std.specs.Prelude.{◌≡◌, ◌+◌, ◌<◌, ◌≤◌, length, take, Contains, IfOk, IfErr, IfSome, vec_capacity};
+ghost use Rattle.std.specs.Prelude.{◌≡◌, ◌+◌, ◌<◌, ◌≤◌, length, take, Contains, IfOk, IfErr};
 ghost use Rattle.std.specs.List.{All};
 ghost use Rattle.pfs_base.specs.FlowShop.{IsWithin};
 ghost use Rattle.pfs_base.specs.Limits.{limits};
 ghost use Rattle.pfs_base.specs.Paths.{makespan};
 ghost use Rattle.pfs_insert.specs.Inserter.{IsBestPlace};
 ghost use Rattle.pfs_order.specs.Sequence.{IsSequence};
+ghost use Rattle.pfs_search.specs.Solution.{InLimits, IsImproved, IsNeh};
 ghost use Rattle.pfs_c.specs.Building.{after_visits};
 ghost use Rattle.pfs_c.specs.Inserting.{AreInsertions};
 
-use crate::given::{NO_NOTES, instance_of};
+use crate::given::copy_sequence;
 use crate::moving::make_visits;
 use crate::numbers::CallFault;
-use crate::places::{best_by_rows, insertions_by_rows};
+use crate::places::insertions_by_rows;
 use crate::rows::span_of;
-use pfs_base::Instance;
+use pfs_base::{Bench, Instance};
 use pfs_insert::Placed;
-use pfs_wave::{PreparedLanes, is_served};
+use pfs_order::Seq;
+use pfs_search::{Rounds, Search};
 use std::alloc::Global;
 use std::marker::Model;
 
 /// A prepared instance.
 #[derive(Drop)]
 pub(crate) struct Kept {
-    pub(crate) tables: Tables,
-    // Room for a sequence of all jobs.
-    pub(crate) sequence: Vec<u32>,
+    instance: Instance,
+    search: Search,
+    sequence: Seq,
+    // A row of tails for each place of a sequence.
+    tails: Vec<u64>,
 }
 
 impl Model for Kept {
-    ghost use Rattle.std.specs.Prelude.{◌≤◌, vec_capacity};
-    ghost use Rattle.pfs_base.specs.FlowShop.{FlowShop};
+    ghost use Rattle.std.specs.Prelude.{◌≡◌, ◌+◌, ◌*◌, length};
+    ghost use Rattle.pfs_base.specs.FlowShop.{FlowShop, IsWithin};
+    ghost use Rattle.pfs_base.specs.Limits.{limits};
+    ghost use Rattle.pfs_search.specs.Search.{IsSearchOf};
 
     ghost Value = { FlowShop };
 
-    ghost view = { λ a. a.tables };
+    ghost view = { λ a. a.instance.shop };
 
-    ghost invariant = { λ a. a.tables.jobs ≤ vec_capacity a.sequence };
+    ghost invariant = { λ a. record {
+      within : IsWithin limits a.instance.shop;
+      search : IsSearchOf a.instance.shop a.search;
+      size : a.sequence.size ≡ a.instance.shop.jobs;
+      room : length a.tails.items ≡ (a.instance.shop.jobs + 1) * a.instance.shop.machines;
+    } };
 }
 
 impl Kept {
@@ -45,17 +56,95 @@ impl Kept {
         ensures made { IfOk result (λ made. made ≡ instance.shop) }
         ensures memory { IfErr result (λ why. why ≡ CallFault.Memory) }
     {
-        let Ok(sequence) = Vec::with_capacity(alloc, instance.jobs()) else {
+        let Ok(search) = Search::new(alloc, &instance) else {
             return Err(CallFault::Memory);
         };
-        let tables = Tables::new(alloc, instance)?;
-        Ok(Kept { tables, sequence })
+        let Ok(sequence) = Seq::new(alloc, instance.jobs()) else {
+            return Err(CallFault::Memory);
+        };
+        let size = (instance.jobs() + 1) * instance.machines();
+        let Ok(tails) = vec![in alloc; 0; size] else {
+            return Err(CallFault::Memory);
+        };
+        Ok(Kept {
+            instance,
+            search,
+            sequence,
+            tails,
+        })
+    }
+
+    /// The instance.
+    pub(crate) fn instance(&self) -> &Instance
+        ensures value { result.now.shop ≡ self.now }
+        ensures within { IsWithin limits self.now }
+    {
+        &self.instance
+    }
+
+    /// Writes NEH's order and the number of cells, and returns the order's makespan.
+    pub(crate) fn neh(&mut self, alloc: Global, order: &mut [u32], cells: &mut u64) -> u64
+        requires { length order.old ≡ self.old.jobs }
+        ensures found { IsNeh self.old order.new result cells.new }
+        ensures shop { self.new ≡ self.old }
+    {
+        *cells = self.search.neh(alloc, &self.instance);
+        copy_sequence(self.search.kept.order.seq(), order);
+        self.instance.metered().reveal(self.search.kept.span)
+    }
+
+    /// Makes rounds from an order, and overwrites it with the result. Writes the number of cells, and returns the
+    /// makespan of the result.
+    pub(crate) fn rounds(
+        &mut self,
+        alloc: Global,
+        first: u32,
+        rounds: Rounds,
+        order: &mut [u32],
+        cells: &mut u64,
+    ) -> u64
+        requires full { length order.old ≡ self.old.jobs }
+        requires sequence { IsSequence self.old.jobs order.old }
+        requires limits { InLimits self.old first rounds }
+        ensures found { IsImproved self.old order.old first rounds.count rounds.take rounds.passes rounds.seed
+            order.new result cells.new }
+        ensures shop { self.new ≡ self.old }
+    {
+        let span = self.span_of(order);
+        self.search.start(&self.instance, order, span);
+        *cells = self.search.rounds(alloc, &self.instance, first, rounds);
+        copy_sequence(self.search.kept.order.seq(), order);
+        self.instance.metered().reveal(self.search.kept.span)
+    }
+
+    /// The best place for a job in a sequence, and the makespan with the job there.
+    pub(crate) fn best(&mut self, alloc: Global, sequence: &[u32], job: usize) -> Placed<u64>
+        requires sequence { IsSequence self.old.jobs sequence.now }
+        requires job { job < self.old.jobs }
+        requires absent { Contains sequence.now job → ⊥ }
+        ensures best { IsBestPlace self.old sequence.now job result.place result.span }
+        ensures shop { self.new ≡ self.old }
+    {
+        self.sequence.set(sequence);
+        self.search.best(alloc, &self.instance, &self.sequence, job)
+    }
+
+    /// Writes the makespan with a job at each place of a sequence.
+    pub(crate) fn insertions(&mut self, sequence: &[u32], job: usize, spans: &mut [u64])
+        requires sequence { IsSequence self.old.jobs sequence.now }
+        requires job { job < self.old.jobs }
+        requires room { length spans.old ≡ length sequence.now + 1 }
+        ensures done { AreInsertions self.old sequence.now job spans.new }
+        ensures shop { self.new ≡ self.old }
+    {
+        insertions_by_rows(&self.instance, &mut self.tails, sequence, job, spans);
     }
 
     /// Makes passes over a list of jobs, from the sequence of the first `count` jobs of `order`, and overwrites `order`
     /// with the result. Returns the makespan of the result.
     pub(crate) fn visit(
         &mut self,
+        alloc: Global,
         list: &[u32],
         passes: u32,
         order: &mut [u32],
@@ -69,118 +158,21 @@ impl Kept {
         ensures span { result ≡ makespan self.old order.new }
         ensures shop { self.new ≡ self.old }
     {
-        copy_in_room(&mut self.sequence, &order[..count]);
-        make_visits(&mut self.tables, &mut self.sequence, list, passes);
-        order.copy_from_slice(&self.sequence);
-        let instance = self.tables.instance();
-        let (times, jobs, machines) = (instance.times(), instance.jobs(), instance.machines());
-        span_of(times, jobs, machines, order)
+        let seq = &mut self.sequence;
+        seq.set(&order[..count]);
+        make_visits(alloc, &self.instance, &mut self.search, seq, list, passes);
+        // Called for its contract, which says that the jobs of a sequence are distinct.
+        let _size = seq.size();
+        copy_sequence(seq, order);
+        self.span_of(order)
     }
-}
 
-// Makes a list equal to another one, for which it has room.
-fn copy_in_room(jobs: &mut Vec<u32>, others: &[u32])
-    requires { length others.now ≤ vec_capacity jobs.old }
-    ensures items { jobs.new.items ≡ others.now }
-    ensures capacity { vec_capacity jobs.old ≤ vec_capacity jobs.new }
-{
-    jobs.clear();
-    match jobs.extend_from_slice(others) {
-        Ok(()) => {}
-        Err(_) => unreachable!(),
-    }
-}
-
-/// An instance with the tables of an insertion.
-#[derive(Drop)]
-pub(crate) struct Tables {
-    instance: Instance,
-    // A row of tails for each place of a sequence.
-    tails: Vec<u64>,
-    // `None` where no wavefront serves the instance.
-    lanes: Option<PreparedLanes>,
-}
-
-impl Model for Tables {
-    ghost use Rattle.std.specs.Prelude.{◌≡◌, ◌+◌, ◌*◌, length, IfSome};
-    ghost use Rattle.pfs_base.specs.FlowShop.{FlowShop, IsWithin};
-    ghost use Rattle.pfs_base.specs.Limits.{limits};
-
-    ghost Value = { FlowShop };
-
-    ghost view = { λ a. a.instance.shop };
-
-    ghost invariant = { λ a. record {
-      within : IsWithin limits a.instance.shop;
-      room : length a.tails.items ≡ (a.instance.shop.jobs + 1) * a.instance.shop.machines;
-      lanes : IfSome a.lanes (λ lanes. lanes ≡ a.instance.shop);
-    } };
-}
-
-impl Tables {
-    // Reserves the tables of an instance. The only error is `Memory`, if an allocation fails.
-    fn new(alloc: Global, instance: Instance) -> Result<Tables, CallFault>
-        ensures made { IfOk result (λ made. made ≡ instance.shop) }
-        ensures memory { IfErr result (λ why. why ≡ CallFault.Memory) }
+    /// The makespan of a sequence.
+    pub(crate) fn span_of(&self, sequence: &[u32]) -> u64
+        requires { IsSequence self.now.jobs sequence.now }
+        ensures { result ≡ makespan self.now sequence.now }
     {
-        let size = (instance.jobs() + 1) * instance.machines();
-        let Ok(tails) = vec![in alloc; 0; size] else {
-            return Err(CallFault::Memory);
-        };
-        let lanes = lanes_of(alloc, &instance)?;
-        Ok(Tables {
-            instance,
-            tails,
-            lanes,
-        })
-    }
-
-    /// The instance.
-    pub(crate) fn instance(&self) -> &Instance
-        ensures value { result.now.shop ≡ self.now }
-        ensures within { IsWithin limits self.now }
-    {
-        &self.instance
-    }
-
-    /// The best place for a job in a sequence, and the makespan with the job there.
-    pub(crate) fn best(&mut self, sequence: &[u32], job: usize) -> Placed<u64>
-        requires sequence { IsSequence self.old.jobs sequence.now }
-        requires job { job < self.old.jobs }
-        requires absent { Contains sequence.now job → ⊥ }
-        ensures best { IsBestPlace self.old sequence.now job result.place result.span }
-        ensures shop { self.new ≡ self.old }
-    {
-        match &mut self.lanes {
-            Some(lanes) => lanes.best(sequence, job),
-            None => best_by_rows(&self.instance, &mut self.tails, sequence, job),
-        }
-    }
-
-    /// Writes the makespan with a job at each place of a sequence.
-    pub(crate) fn insertions(&mut self, sequence: &[u32], job: usize, spans: &mut [u64])
-        requires sequence { IsSequence self.old.jobs sequence.now }
-        requires job { job < self.old.jobs }
-        requires room { length spans.old ≡ length sequence.now + 1 }
-        ensures done { AreInsertions self.old sequence.now job spans.new }
-        ensures shop { self.new ≡ self.old }
-    {
-        insertions_by_rows(&self.instance, &mut self.tails, sequence, job, spans);
-    }
-}
-
-// The tables of the wavefront that serves an instance, which has a copy of the instance.
-fn lanes_of(alloc: Global, instance: &Instance) -> Result<Option<PreparedLanes>, CallFault>
-    ensures made { IfOk result (λ made. IfSome made (λ lanes. lanes ≡ instance.now.shop)) }
-    ensures memory { IfErr result (λ why. why ≡ CallFault.Memory) }
-{
-    if !is_served(instance) {
-        return Ok(None);
-    }
-    let (times, jobs, machines) = (instance.times(), instance.jobs(), instance.machines());
-    let own = instance_of(alloc, times, jobs, machines, NO_NOTES)?;
-    match PreparedLanes::new(alloc, own) {
-        Ok(lanes) => Ok(Some(lanes)),
-        Err(_) => Err(CallFault::Memory),
+        let (times, machines) = (self.instance.times(), self.instance.machines());
+        span_of(times, self.instance.jobs(), machines, sequence)
     }
 }

@@ -1,92 +1,69 @@
 //! Passes over a list of jobs.
-ghost use Rattle.std.specs.Prelude.{◌≡◌, ◌<◌, ◌≤◌, ℕ, length, filter, insert, slice_index, not, nat_eq, All, Contains};
-ghost use Rattle.std.specs.Prelude.{vec_len, vec_capacity};
-ghost use Rattle.pfs_order.specs.Sequence.{IsSequence};
+ghost use Rattle.std.specs.Prelude.{◌≡◌, ◌<◌, All, Contains, filter, not, nat_eq};
 ghost use Rattle.pfs_search.specs.Greedy.{moved};
+ghost use Rattle.pfs_search.specs.Search.{IsSearchOf};
 ghost use Rattle.pfs_c.specs.Building.{after_visits, visited};
 
-use crate::kept::Tables;
+use pfs_base::Instance;
+use pfs_order::Seq;
+use pfs_search::Search;
+use std::alloc::Global;
 
 /// Makes passes over a list of jobs: each job leaves its place in a sequence, if it has one, for its first best one.
-pub(crate) fn make_visits(tables: &mut Tables, jobs: &mut Vec<u32>, list: &[u32], passes: u32)
-    requires sequence { IsSequence tables.old.jobs jobs.old.items }
-    requires small { All (λ job. job < tables.old.jobs) list.now }
-    requires room { tables.old.jobs ≤ vec_capacity jobs.old }
-    ensures jobs { jobs.new.items ≡ after_visits tables.old list.now passes jobs.old.items }
-    ensures sequence { IsSequence tables.old.jobs jobs.new.items }
-    ensures room { tables.old.jobs ≤ vec_capacity jobs.new }
-    ensures shop { tables.new ≡ tables.old }
+pub(crate) fn make_visits(
+    alloc: Global,
+    instance: &Instance,
+    search: &mut Search,
+    seq: &mut Seq,
+    list: &[u32],
+    passes: u32,
+)
+    requires search { IsSearchOf instance.now.shop search.old }
+    requires size { seq.old.size ≡ instance.now.shop.jobs }
+    requires small { All (λ job. job < instance.now.shop.jobs) list.now }
+    ensures jobs { seq.new ≡ record seq.old { jobs = after_visits instance.now.shop list.now passes seq.old.jobs } }
+    ensures search { IsSearchOf instance.now.shop search.new }
 {
     for _pass in 0..passes {
-        visit_once(tables, jobs, list);
+        visit_once(alloc, instance, search, seq, list);
     }
 }
 
 // One pass.
-fn visit_once(tables: &mut Tables, jobs: &mut Vec<u32>, list: &[u32])
-    requires sequence { IsSequence tables.old.jobs jobs.old.items }
-    requires small { All (λ job. job < tables.old.jobs) list.now }
-    requires room { tables.old.jobs ≤ vec_capacity jobs.old }
-    ensures jobs { jobs.new.items ≡ visited tables.old list.now jobs.old.items }
-    ensures sequence { IsSequence tables.old.jobs jobs.new.items }
-    ensures room { tables.old.jobs ≤ vec_capacity jobs.new }
-    ensures shop { tables.new ≡ tables.old }
+fn visit_once(alloc: Global, instance: &Instance, search: &mut Search, seq: &mut Seq, list: &[u32])
+    requires search { IsSearchOf instance.now.shop search.old }
+    requires size { seq.old.size ≡ instance.now.shop.jobs }
+    requires small { All (λ job. job < instance.now.shop.jobs) list.now }
+    ensures jobs { seq.new ≡ record seq.old { jobs = visited instance.now.shop list.now seq.old.jobs } }
+    ensures search { IsSearchOf instance.now.shop search.new }
 {
     for job in list {
-        move_job(tables, jobs, *job);
+        move_job(alloc, instance, search, seq, *job as usize);
     }
 }
 
 // A job leaves its place, if it has one, for its first best one.
-fn move_job(tables: &mut Tables, jobs: &mut Vec<u32>, job: u32)
-    requires sequence { IsSequence tables.old.jobs jobs.old.items }
-    requires small { job < tables.old.jobs }
-    requires room { tables.old.jobs ≤ vec_capacity jobs.old }
-    ensures jobs { jobs.new.items ≡ moved tables.old jobs.old.items job }
-    ensures sequence { IsSequence tables.old.jobs jobs.new.items }
-    ensures room { tables.old.jobs ≤ vec_capacity jobs.new }
-    ensures shop { tables.new ≡ tables.old }
+fn move_job(alloc: Global, instance: &Instance, search: &mut Search, seq: &mut Seq, job: usize)
+    requires search { IsSearchOf instance.now.shop search.old }
+    requires size { seq.old.size ≡ instance.now.shop.jobs }
+    requires small { job < instance.now.shop.jobs }
+    ensures jobs { seq.new ≡ record seq.old { jobs = moved instance.now.shop seq.old.jobs job } }
+    ensures search { IsSearchOf instance.now.shop search.new }
 {
-    take_out(jobs, job);
-    let best = tables.best(jobs, job as usize);
-    put_in_room(jobs, best.place, job);
+    take_out(seq, job);
+    let best = search.best(alloc, instance, seq, job);
+    seq.insert_at(best.place, job);
 }
 
 // Removes a job from a sequence that may contain it.
-fn take_out(jobs: &mut Vec<u32>, job: u32)
-    requires { (size : ℕ) × IsSequence size jobs.old.items }
-    ensures jobs { jobs.new.items ≡ filter (λ other. not (nat_eq other job)) jobs.old.items }
-    ensures sequence { (size : ℕ) → IsSequence size jobs.old.items → IsSequence size jobs.new.items }
-    ensures absent { Contains jobs.new.items job → ⊥ }
-    ensures capacity { vec_capacity jobs.new ≡ vec_capacity jobs.old }
+fn take_out(seq: &mut Seq, job: usize)
+    ensures jobs { seq.new ≡ record seq.old { jobs = filter (λ other. not (nat_eq other job)) seq.old.jobs } }
+    ensures absent { Contains seq.new.jobs job → ⊥ }
 {
-    if jobs.contains(&job) {
-        let place = place_of(jobs, job);
-        jobs.remove(place);
-    }
-}
-
-// The place of a job that a list contains.
-fn place_of(jobs: &[u32], job: u32) -> usize
-    requires { Contains jobs.now job }
-    ensures within { result < length jobs.now }
-    ensures job { slice_index jobs.now result ≡ job }
-{
-    match jobs.iter().position(|other| *other == job) {
-        Some(place) => place,
-        None => unreachable!(),
-    }
-}
-
-// Inserts a job at a place of a list that has room.
-fn put_in_room(jobs: &mut Vec<u32>, place: usize, job: u32)
-    requires place { place ≤ vec_len jobs.old }
-    requires room { vec_len jobs.old < vec_capacity jobs.old }
-    ensures items { jobs.new.items ≡ insert jobs.old.items place job }
-    ensures capacity { vec_capacity jobs.old ≤ vec_capacity jobs.new }
-{
-    match jobs.insert(place, job) {
-        Ok(()) => {}
-        Err(_) => unreachable!(),
+    // Called for its contract, which says that the jobs of a sequence are distinct.
+    let _size = seq.size();
+    if seq.has(job) {
+        let place = seq.place_of(job);
+        seq.remove_at(place);
     }
 }

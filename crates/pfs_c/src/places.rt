@@ -1,8 +1,7 @@
-//! The best place for a job, and the makespan with it at each place, by rows of heads and tails.
+//! The makespan with a job at each place, by rows of heads and tails.
 ghost use Rattle.std.specs.Prelude.{◌≡◌, ◌+◌, ◌*◌, ◌<◌, length};
 ghost use Rattle.pfs_base.specs.FlowShop.{IsWithin};
 ghost use Rattle.pfs_base.specs.Limits.{limits};
-ghost use Rattle.pfs_insert.specs.Inserter.{IsBestPlace};
 ghost use Rattle.pfs_order.specs.Sequence.{IsSequence};
 ghost use Rattle.pfs_c.specs.Inserting.{AreInsertions};
 ghost use Rattle.pfs_c.specs.Validation.{shop_of};
@@ -10,28 +9,9 @@ ghost use Rattle.pfs_c.specs.Private.Rows.{TailsFrom};
 
 use crate::rows::{add_head, add_tail, span_with};
 use pfs_base::{Instance, MOST_MACHINES};
-use pfs_insert::Placed;
 
-/// The best place for a job in a sequence, and the makespan with the job there. It overwrites `tails`, which has a row
+/// Writes the makespan with a job at each place of a sequence. It overwrites `tails`, which has a row
 /// for each job and one more.
-pub(crate) fn best_by_rows(
-    instance: &Instance,
-    tails: &mut [u64],
-    sequence: &[u32],
-    job: usize,
-) -> Placed<u64>
-    requires sequence { IsSequence instance.now.shop.jobs sequence.now }
-    requires job { job < instance.now.shop.jobs }
-    requires room { length tails.old ≡ (instance.now.shop.jobs + 1) * instance.now.shop.machines }
-    ensures { IsBestPlace instance.now.shop sequence.now job result.place result.span }
-{
-    let (times, jobs, machines) = (instance.times(), instance.jobs(), instance.machines());
-    let rows = &mut tails[..(sequence.len() + 1) * machines];
-    fill_tails(times, jobs, machines, sequence, rows);
-    first_best(times, jobs, machines, sequence, job, rows)
-}
-
-/// Writes the makespan with a job at each place of a sequence. It overwrites `tails`, as `best_by_rows` does.
 pub(crate) fn insertions_by_rows(
     instance: &Instance,
     tails: &mut [u64],
@@ -61,40 +41,6 @@ fn fill_tails(times: &[u32], jobs: usize, machines: usize, sequence: &[u32], tai
     tails[sequence.len() * machines..].fill(0);
     for place in (0..sequence.len()).rev() {
         add_tail(times, jobs, machines, sequence, place, tails);
-    }
-}
-
-// The first place with the least makespan, and that makespan.
-fn first_best(
-    times: &[u32],
-    jobs: usize,
-    machines: usize,
-    sequence: &[u32],
-    job: usize,
-    tails: &[u64],
-) -> Placed<u64>
-    requires within { IsWithin limits (shop_of times.now jobs machines) }
-    requires sequence { IsSequence jobs sequence.now }
-    requires job { job < jobs }
-    requires long { length tails.now ≡ (length sequence.now + 1) * machines }
-    requires tails { TailsFrom (shop_of times.now jobs machines) sequence.now 0 tails.now }
-    ensures { IsBestPlace (shop_of times.now jobs machines) sequence.now job result.place result.span }
-{
-    let mut heads = [0; MOST_MACHINES];
-    let mut best = 0;
-    let mut least = span_with(times, jobs, machines, sequence, job, 0, &heads, tails);
-    for place in 0..sequence.len() {
-        add_head(times, jobs, machines, sequence, place, &mut heads);
-        let next = place + 1;
-        let span = span_with(times, jobs, machines, sequence, job, next, &heads, tails);
-        if span < least {
-            best = next;
-            least = span;
-        }
-    }
-    Placed {
-        place: best,
-        span: least,
     }
 }
 

@@ -37,7 +37,7 @@ pub extern "C" fn pfs_makespan(
         Ok(kept) => kept,
         Err(why) => return why.number(),
     };
-    let done = makespan_in(kept.tables.instance(), sequence, span);
+    let done = makespan_in(kept.instance(), sequence, span);
     instance.put(kept);
     number_of(done)
 }
@@ -63,7 +63,7 @@ pub extern "C" fn pfs_bound(alloc: Global, instance: &mut Prepared, least: &mut 
 {
     match instance.take(alloc) {
         Ok(kept) => {
-            *least = bound(kept.tables.instance());
+            *least = bound(kept.instance());
             instance.put(kept);
             PFS_OK
         }
@@ -92,7 +92,7 @@ pub extern "C" fn pfs_makespans(
         Ok(kept) => kept,
         Err(why) => return why.number(),
     };
-    let done = makespans_in(kept.tables.instance(), sequences, len, makespans);
+    let done = makespans_in(kept.instance(), sequences, len, makespans);
     instance.put(kept);
     number_of(done)
 }

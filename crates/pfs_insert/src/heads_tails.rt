@@ -12,31 +12,26 @@ use crate::tails::fill_tails;
 use pfs_base::{Bench, Length};
 use pfs_order::Seq;
 use std::alloc::Global;
-use std::marker::{Model, PhantomData};
+use std::marker::Model;
 
 /// An inserter that computes heads and tails of the sequence without the job, and from them the makespan
 /// with the job at each place (Taillard, 1990). One insertion counts (4k - 2)·m cells, where the order has
 /// k jobs with the inserted one, on m machines. It reserves its memory when it is made, so `best`
 /// allocates nothing.
-#[derive(Drop)]
-pub struct HeadsTails<B: Bench> {
-    table: Table<B::Span>,
-    bench: PhantomData<B>,
-}
-
-// A table of 2n + 1 rows of m lengths, for n jobs on m machines: a row of zeros, n - 1 rows of heads,
-// n - 1 rows of tails, a row of zeros, and the inserted row. The heads of a sequence begin directly after
-// the first row of zeros, and its tails end directly before the second. A loop that computes the heads of
-// two jobs at once doesn't store the first job's: their row takes the inserted row before the second job
+//
+// `lengths` is a table of 2n + 1 rows of m lengths, for n jobs on m machines: a row of zeros, n - 1 rows of
+// heads, n - 1 rows of tails, a row of zeros, and the inserted row. The heads of a sequence begin directly
+// after the first row of zeros, and its tails end directly before the second. A loop that computes the heads
+// of two jobs at once doesn't store the first job's: their row takes the inserted row before the second job
 // instead. The rows that a loop borrows are disjoint parts of the table, and none is copied.
 #[derive(Drop)]
-struct Table<S: Length> {
+pub struct HeadsTails<S: Length> {
     jobs: usize,
     machines: usize,
     lengths: Vec<S>,
 }
 
-impl<S: Length> Model for Table<S> {
+impl<S: Length> Model for HeadsTails<S> {
     ghost use Rattle.pfs_insert.specs.Inserter.{Sizes};
     ghost use Rattle.pfs_insert.specs.Private.Rows.{IsTable};
 
@@ -47,14 +42,12 @@ impl<S: Length> Model for Table<S> {
     ghost invariant = { λ a. IsTable S.number (record { jobs = a.jobs; machines = a.machines }) a.lengths.items };
 }
 
-impl<B: Bench> HeadsTails<B> {
+impl<S: Length> HeadsTails<S> {
     /// An inserter for shops of the bench's sizes. It allocates its table, 2n + 1 rows of m lengths for
     /// n jobs on m machines, and returns `Memory` where that fails.
-    pub fn new(alloc: Global, bench: &B) -> Result<HeadsTails<B>, InsertFault>
-        ensures jobs { IfOk result (λ made.
-            (⟦<HeadsTails<B> as Inserter<B>>⟧.sizes made).jobs ≡ (B.shop bench.now).jobs) }
-        ensures machines { IfOk result (λ made.
-            (⟦<HeadsTails<B> as Inserter<B>>⟧.sizes made).machines ≡ (B.shop bench.now).machines) }
+    pub fn new<B: Bench<Span = S>>(alloc: Global, bench: &B) -> Result<HeadsTails<S>, InsertFault>
+        ensures jobs { IfOk result (λ made. made.jobs ≡ (B.shop bench.now).jobs) }
+        ensures machines { IfOk result (λ made. made.machines ≡ (B.shop bench.now).machines) }
     {
         let jobs = bench.jobs();
         let machines = bench.machines();
@@ -64,18 +57,15 @@ impl<B: Bench> HeadsTails<B> {
             return Err(InsertFault::Memory);
         }
         Ok(HeadsTails {
-            table: Table {
-                jobs,
-                machines,
-                lengths,
-            },
-            bench: PhantomData,
+            jobs,
+            machines,
+            lengths,
         })
     }
 }
 
-impl<B: Bench> Inserter<B> for HeadsTails<B> {
-    ghost sizes = { λ a. a.table };
+impl<B: Bench> Inserter<B> for HeadsTails<B::Span> {
+    ghost sizes = { λ a. a };
 
     ghost cost = { heads_tails_cost };
 
@@ -89,7 +79,7 @@ impl<B: Bench> Inserter<B> for HeadsTails<B> {
         seq: &Seq,
         job: usize,
     ) -> Result<Placed<B::Span>, InsertFault> {
-        Ok(best_in_table(bench, seq, job, &mut self.table.lengths))
+        Ok(best_in_table(bench, seq, job, &mut self.lengths))
     }
 }
 

@@ -85,6 +85,15 @@ impl Order {
         self.seq.at(place)
     }
 
+    /// Replaces the order by these jobs.
+    pub fn set(&mut self, jobs: &[u32])
+        requires full { length jobs.now ≡ length self.old }
+        requires sequence { IsSequence (length self.old) jobs.now }
+        ensures { self.new ≡ jobs.now }
+    {
+        self.seq.set(jobs);
+    }
+
     /// Replaces the order by a sequence of all jobs.
     pub fn copy_from(&mut self, other: &Seq)
         requires sizes { length self.old ≡ other.now.size }

@@ -50,7 +50,6 @@ impl Seq {
 
     /// A sequence of these jobs below a size, with memory for all jobs below it. The only error is `Memory`, if the
     /// allocation fails.
-    #[tactic(auto, using(crate::proofs::Published::Sequences::size_limit))]
     pub fn from_jobs(alloc: Global, size: usize, jobs: &[u32]) -> Result<Seq, OrderFault>
         requires some { 1 ≤ size }
         requires few { size ≤ MOST_JOBS }
@@ -58,13 +57,9 @@ impl Seq {
         ensures made { IfOk result (λ made. made ≡ record { size = size; jobs = jobs.now }) }
         ensures memory { IfErr result (λ fault. fault ≡ OrderFault.Memory) }
     {
-        let Ok(mut list) = Vec::with_capacity(alloc, size) else {
-            return Err(OrderFault::Memory);
-        };
-        for job in jobs {
-            list.push_reserved(*job as usize);
-        }
-        Ok(Seq { size, jobs: list })
+        let mut seq = Seq::new(alloc, size)?;
+        seq.set(jobs);
+        Ok(seq)
     }
 
     /// The size: every job is below this number.
@@ -144,6 +139,14 @@ impl Seq {
         self.jobs.remove(place)
     }
 
+    /// Replaces the sequence's jobs by these.
+    pub fn set(&mut self, jobs: &[u32])
+        requires { IsSequence self.old.size jobs.now }
+        ensures { self.new ≡ record self.old { jobs = jobs.now } }
+    {
+        set_in_room(&mut self.jobs, jobs);
+    }
+
     /// Replaces the sequence's jobs by those of another sequence of the same size.
     #[tactic(auto, using(crate::proofs::Published::Sequences::size_limit))]
     pub fn copy_from(&mut self, other: &Seq)
@@ -177,5 +180,17 @@ fn copy_in_room(jobs: &mut Vec<usize>, others: &[usize])
     match jobs.extend_from_slice(others) {
         Ok(()) => {}
         Err(_) => unreachable!(),
+    }
+}
+
+// Makes a list equal to a list of 32-bit jobs, for which it has room.
+fn set_in_room(jobs: &mut Vec<usize>, others: &[u32])
+    requires { length others.now ≤ vec_capacity jobs.old }
+    ensures items { jobs.new.items ≡ others.now }
+    ensures capacity { vec_capacity jobs.old ≤ vec_capacity jobs.new }
+{
+    jobs.clear();
+    for job in others {
+        jobs.push_reserved(*job as usize);
     }
 }

@@ -6,7 +6,7 @@ use Rattle.rand_core.specs.Steps.{stream_of, steps_u32}
 use Rattle.rand_core.specs.Stream.{Stream}
 use Rattle.rand_pcg.specs.Lcg.{Lcg, advance}
 use Rattle.rand_pcg.specs.Pcg.{multiplier_64, pcg32, pcg32_of_seed}
-use Rattle.pfs_base.specs.declared.limits.TheConstants.{MOST_JOBS, MOST_PASSES, MOST_ROUNDS}
+use Rattle.pfs_base.specs.declared.limits.TheConstants.{MOST_JOBS, MOST_MACHINES, MOST_PASSES, MOST_ROUNDS}
 use Rattle.pfs_base.specs.Limits.{limits}
 use Rattle.pfs_base.specs.FlowShop.{FlowShop, IsWithin}
 use Rattle.pfs_base.specs.Paths.{makespan}
@@ -17,7 +17,7 @@ use Rattle.pfs_search.specs.Costs.{neh_cost, neh_cost_on, round_cost, round_cost
 use Rattle.pfs_search.specs.Greedy.{after_rounds, words_of}
 use Rattle.pfs_search.specs.MostCells.{most_neh_cells, most_rounds_cells, FewNehCells, FewRoundsCells}
 use Rattle.pfs_search.specs.Neh.{neh_order}
-use Rattle.pfs_search.specs.Solution.{rounds_cells, searched, improved, IsFound, IsImproved}
+use Rattle.pfs_search.specs.Solution.{neh_cells, rounds_cells, searched, improved, IsFound, IsImproved, IsNeh}
 use Rattle.pfs_search.specs.Solution.{JoinedPartsLaw, LongerSearchLaw}
 use Rattle.pfs_search.proofs.Parts.{words_are, words_after_are, parts_law, searched_law}
 use Rattle.pfs_search.proofs.Published.CostSums.{costs_law}
@@ -92,6 +92,9 @@ few_rounds_cells shop rounds take passes within few short scarce =
     through _ _ most_rounds_cells (rounds_cells_few shop rounds take passes few)
     (mul-le-mul (mul-le-mul (mul-le-mul short moved) sizes.few_machines) width)
 
+pub neh_is : (shop : FlowShop) → neh_cost_on heads_tails_cost shop ≡ neh_cells shop
+neh_is shop = closed.neh shop.jobs shop.machines
+
 -- a count of 64 bits has room for these cells
 pub neh_room : (shop : FlowShop) → IsWithin limits shop → neh_cost heads_tails_cost shop.jobs shop.machines < 2 ^ 62
 neh_room shop within = rw (closed.neh shop.jobs shop.machines)
@@ -102,6 +105,21 @@ pub rounds_room : (shop : FlowShop) (rounds take passes : ℕ) → IsWithin limi
     → rounds * round_cost heads_tails_cost shop.jobs shop.machines take passes < 2 ^ 62
 rounds_room shop rounds take passes within few short scarce = rw (rounds_cells_are shop rounds take passes few)
     (below_room _ most_rounds_cells (few_rounds_cells shop rounds take passes within few short scarce) (lit< tt))
+
+pub insertion_room : (count machines : ℕ) → count ≤ MOST_JOBS → machines ≤ MOST_MACHINES
+    → heads_tails_cost (count + 1) machines < 2 ^ 62
+insertion_room count machines few few_machines =
+    let width : 4 * (count + 1) - 2 ≤ 4 * (MOST_JOBS + 1) - 2 = omega arith in
+    below_room _ ((4 * (MOST_JOBS + 1) - 2) * MOST_MACHINES) (mul-le-mul width few_machines) (lit< tt)
+
+pub both_fit : (shop : FlowShop) (rounds take passes one other : ℕ) → IsWithin limits shop → take ≤ shop.jobs
+    → rounds ≤ MOST_ROUNDS → passes ≤ MOST_PASSES → one ≡ neh_cells shop → other ≡ rounds_cells shop rounds take passes
+    → one + other < 2 ^ 64
+both_fit shop rounds take passes one other within few short scarce is_one is_other =
+    let one_fits : one < 2 ^ 62 = rw is_one (below_room _ most_neh_cells (few_neh_cells shop within) (lit< tt)) in
+    let other_fits : other < 2 ^ 62 =
+    rw is_other (below_room _ most_rounds_cells (few_rounds_cells shop rounds take passes within few short scarce) (lit< tt)) in
+    omega (arith, one_fits, other_fits)
 
 -- the costs where insertions cost as much as by heads and tails
 pub same_neh : {cost : ℕ → ℕ → ℕ} (shop : FlowShop) → cost ≡ heads_tails_cost
@@ -120,12 +138,6 @@ makespan_short shop order within e = omega (arith, none_longer shop order within
 
 -- ---- results
 
--- NEH is completed
-pub record NehDone (shop : FlowShop) (order : List ℕ) (span cells : ℕ) : Type 0 where
-  pub is_order : order ≡ neh_order shop
-  pub is_span : span ≡ makespan shop order
-  pub counted : cells ≡ neh_cost heads_tails_cost shop.jobs shop.machines
-
 -- a number of rounds on the random words of a stream are completed
 pub record RoundsDone (shop : FlowShop) (rounds take passes : ℕ) (stream : Stream) (old : List ℕ)
     (old_span old_cells : ℕ) (order : List ℕ) (span cells : ℕ) : Type 0 where
@@ -133,23 +145,6 @@ pub record RoundsDone (shop : FlowShop) (rounds take passes : ℕ) (stream : Str
   pub is_span : span ≡ makespan shop order
   pub never_rises : span ≤ old_span
   pub counted : cells ≡ old_cells + rounds * round_cost heads_tails_cost shop.jobs shop.machines take passes
-
-pub found_is : (shop : FlowShop) (rounds take passes seed : ℕ) (generator : Lcg) (old : List ℕ) (old_span old_cells : ℕ)
-    (order : List ℕ) (span cells : ℕ) → take ≤ shop.jobs → generator ≡ pcg32_of_seed (pcg32_seed 16 seed)
-    → NehDone shop old old_span old_cells
-    → RoundsDone shop rounds take passes (stream_of (steps_u32 pcg32) generator) old old_span old_cells order span cells
-    → length order ≡ shop.jobs → IsSequence shop.jobs order → IsFound shop rounds take passes seed order span cells
-found_is shop rounds take passes seed generator old old_span old_cells order span cells few seeded neh done all
-    distinct = record {
-      found = done.is_order ∙ rw (neh.is_order, words_are seed generator (rounds * take) seeded);
-      all = all;
-      distinct = distinct;
-      spanned = done.is_span;
-      no_longer = rw (← neh.is_order, ← neh.is_span) done.never_rises;
-      counted = done.counted ∙ ap₂ ◌+◌ (neh.counted ∙ closed.neh shop.jobs shop.machines)
-          (rounds_cells_are shop rounds take passes few);
-      few_cells = rounds_cells_few shop rounds take passes few;
-    }
 
 pub improved_is : (shop : FlowShop) (first count take passes seed : ℕ) (generator : Lcg) (start : List ℕ)
     (start_span old_cells : ℕ) (order : List ℕ) (span cells : ℕ) → take ≤ shop.jobs
@@ -204,3 +199,24 @@ longer_search_law shop one other take passes seed between order between_span spa
   counted = rw (begun.counted, gone_on.counted, cells-add shop one other take passes) (omega arith);
   few_cells = few-add shop one other take passes begun.few_cells gone_on.few_cells;
 }
+
+-- NEH alone is a search of no rounds
+neh_found : (shop : FlowShop) (take passes seed : ℕ) (order : List ℕ) (span cells : ℕ) → IsNeh shop order span cells
+    → IsFound shop 0 take passes seed order span cells
+neh_found shop take passes seed order span cells neh = record {
+  found = neh.found;
+  all = neh.all;
+  distinct = neh.distinct;
+  spanned = neh.spanned;
+  no_longer = rw (← neh.found) (omega (arith, neh.spanned));
+  counted = omega (arith, neh.counted);
+  few_cells = omega arith;
+}
+
+pub found_after : (shop : FlowShop) (rounds take passes seed : ℕ) (start order : List ℕ)
+    (start_span span cells more : ℕ) → IsNeh shop start start_span cells
+    → IsImproved shop start 0 rounds take passes seed order span more
+    → IsFound shop rounds take passes seed order span (cells + more)
+found_after shop rounds take passes seed start order start_span span cells more neh gone_on = rw zero-add at
+    (longer_search_law shop 0 rounds take passes seed start order start_span span cells more
+    (neh_found shop take passes seed start start_span cells neh) gone_on)

@@ -6,5 +6,6 @@ pub mod Neh
 pub mod Private
 pub mod Ranking
 pub mod RoundsStop
+pub mod Search
 pub mod SearcherView
 pub mod Solution

@@ -43,6 +43,15 @@ pub record InLimits (shop : FlowShop) (first : ℕ) (rounds : Rounds) : Type 0 w
 abbrev pub neh_cells : FlowShop → ℕ
 neh_cells shop = 2 * shop.machines * (shop.jobs * shop.jobs)
 
+-- NEH's order, its makespan, and the number of cells that NEH counts
+pub record IsNeh (shop : FlowShop) (order : List ℕ) (span cells : ℕ) : Type 0 where
+  pub found : order ≡ neh_order shop
+  -- it contains each job once
+  pub all : length order ≡ shop.jobs
+  pub distinct : IsSequence shop.jobs order
+  pub spanned : span ≡ makespan shop order
+  pub counted : cells ≡ neh_cells shop
+
 -- the cells of R rounds that each remove d jobs and make L passes: 2Rdm(2n - d) + RLnm(4n - 2)
 abbrev pub rounds_cells : FlowShop → ℕ → ℕ → ℕ → ℕ
 rounds_cells shop rounds take passes =

@@ -1,4 +1,5 @@
 pub mod Parts
 pub mod Private
 pub mod Served
+pub mod Tables
 pub mod Wavefront

@@ -1,5 +1,5 @@
 //! A bench over an instance that also computes in lanes.
-ghost use Rattle.std.specs.Prelude.{◌≡◌, ◌+◌, ◌<◌, ◌^◌, length, Contains, IfOk};
+ghost use Rattle.std.specs.Prelude.{◌≡◌, ◌+◌, ◌<◌, ◌^◌, length, Contains};
 ghost use Rattle.pfs_base.specs.Limits.{limits};
 ghost use Rattle.pfs_base.specs.FlowShop.{IsWithin};
 ghost use Rattle.pfs_insert.specs.Inserter.{IsBestPlace};
@@ -7,19 +7,19 @@ ghost use Rattle.pfs_insert.specs.Insertion.{heads_tails_cost};
 ghost use Rattle.pfs_wave.specs.Private.Narrow.{HasNarrow};
 ghost use Rattle.pfs_wave.specs.Private.Payment.{IsPaid};
 ghost use Rattle.pfs_wave.specs.Private.Waves.{Serves};
-ghost use Rattle.pfs_wave.specs.Served.{IsServed};
 
-use crate::narrow::{Narrow, narrow_lanes};
+use crate::narrow::Narrow;
+use crate::of_shop::OfShop;
 use crate::permits::Permits;
+use crate::tables::LaneTables;
 use crate::wave::Wave;
 use pfs_base::{Bench, Instance, Length, Metered, Paid, Shop, Span};
 use pfs_insert::Placed;
 use pfs_order::Seq;
-use std::alloc::{AllocError, Global};
 use std::marker::Model;
 
-/// A metered bench over an instance that a wavefront serves, with the times of each job in lanes. A mixed bench also
-/// has narrow lanes, of 16 bits, for the insertions whose makespans are known to fit in them.
+/// A metered bench over an instance that a wavefront serves, with its times in lanes. It computes in the narrow lanes,
+/// if there are any, the insertions whose makespans are known to fit in them.
 #[derive(Drop)]
 pub struct MeteredLanes<'a> {
     bench: Metered<'a>,
@@ -31,36 +31,27 @@ pub struct MeteredLanes<'a> {
 }
 
 impl<'a> MeteredLanes<'a> {
-    /// A bench over an instance, with a count of 0 cells. It reserves memory for the rows of its jobs and for the times
-    /// of a sequence, and returns `AllocError` where that fails.
-    pub fn new(alloc: Global, instance: &'a Instance) -> Result<MeteredLanes<'a>, AllocError>
-        requires { IsServed instance.now.shop 2147483647 }
-        ensures shop { IfOk result (λ made. ⟦<MeteredLanes<'a> as Bench>⟧.shop made ≡ instance.now.shop) }
-        ensures counted { IfOk result (λ made. ⟦<MeteredLanes<'a> as Bench>⟧.counted made ≡ 0) }
+    /// A bench over an instance and its tables, with a count of 0 cells.
+    pub fn over(instance: &'a Instance, tables: LaneTables) -> MeteredLanes<'a>
+        requires { ⟦<LaneTables as OfShop>⟧.is_of tables instance.now.shop }
+        ensures shop { ⟦<MeteredLanes<'a> as Bench>⟧.shop result ≡ instance.now.shop }
+        ensures counted { ⟦<MeteredLanes<'a> as Bench>⟧.counted result ≡ 0 }
     {
-        let wave = Wave::new(alloc, instance)?;
-        Ok(MeteredLanes {
+        MeteredLanes {
             bench: instance.metered(),
-            wave,
-            narrow: None,
-        })
+            wave: tables.wave,
+            narrow: tables.narrow,
+        }
     }
 
-    /// A mixed bench over an instance, with a count of 0 cells, for one insertion after another. It has narrow lanes
-    /// where its own have more bits and all times fit in 16. It also reserves the memory of these insertions, and returns
-    /// `AllocError` where allocation fails.
-    pub fn mixed(alloc: Global, instance: &'a Instance) -> Result<MeteredLanes<'a>, AllocError>
-        requires { IsServed instance.now.shop 2147483647 }
-        ensures shop { IfOk result (λ made. ⟦<MeteredLanes<'a> as Bench>⟧.shop made ≡ instance.now.shop) }
-        ensures counted { IfOk result (λ made. ⟦<MeteredLanes<'a> as Bench>⟧.counted made ≡ 0) }
+    /// The tables, for another bench over the same instance.
+    pub fn into_tables(self) -> LaneTables
+        ensures { ⟦<LaneTables as OfShop>⟧.is_of result (⟦<MeteredLanes<'a> as Bench>⟧.shop self.entry) }
     {
-        let wave = Wave::new(alloc, instance)?;
-        let narrow = narrow_lanes(alloc, instance)?;
-        Ok(MeteredLanes {
-            bench: instance.metered(),
-            wave,
-            narrow,
-        })
+        LaneTables {
+            wave: self.wave,
+            narrow: self.narrow,
+        }
     }
 
     // The best place for a job in a sequence, and the makespan with the job there, in the narrow lanes where they serve

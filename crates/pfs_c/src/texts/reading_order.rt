@@ -6,7 +6,7 @@ ghost use Rattle.pfs_c.specs.Numbers.{fault_number};
 ghost use Rattle.pfs_c.specs.Texts.{order_fault, order_place, order_file_of};
 ghost use Rattle.pfs_c.specs.Texts.{ReturnsReadOrder};
 
-use crate::given::copy_order;
+use crate::given::copy_sequence;
 use crate::numbers::{CallFault, PFS_OK, PFS_ROOM, PFS_SYNTAX};
 use crate::texts::bytes::Bytes;
 use pfs_order::{OrderFault, OrderFile, read_order};
@@ -58,7 +58,7 @@ pub extern "C" fn pfs_read_order(
     if order.len() < file.order().len() {
         return CallFault::Room.number();
     }
-    copy_order(file.order(), order);
+    copy_sequence(file.order().seq(), order);
     PFS_OK
 }
 

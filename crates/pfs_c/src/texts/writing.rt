@@ -55,7 +55,7 @@ fn file_of(
     ensures shop { instance.new.shop ≡ instance.old.shop }
 {
     let kept = instance.take(alloc)?;
-    let file = file_in(alloc, kept.tables.instance(), notes, layout);
+    let file = file_in(alloc, kept.instance(), notes, layout);
     instance.put(kept);
     file
 }

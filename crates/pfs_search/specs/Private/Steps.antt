@@ -12,10 +12,8 @@ use Rattle.pfs_order.specs.Sequence.{IsSequence, Sequence, all_jobs}
 use Rattle.pfs_insert.specs.Inserter.{Counts, Fits, Sizes}
 use Rattle.pfs_search.specs.Greedy.{jobs_left, jobs_taken, stream_after, words_of}
 use Rattle.pfs_search.specs.Ranking.{ranking}
-use Rattle.pfs_search.specs.Solution.{InLimits, IsFound, IsImproved}
 use Rattle.pfs_search.specs.declared.fault.SearchFault.{SearchFault}
 use Rattle.pfs_search.specs.declared.fault.SearchFault.TheVariants.{Memory}
-use Rattle.pfs_search.specs.declared.rounds.Rounds.{Rounds}
 
 -- ---- steps over a sequence
 
@@ -106,30 +104,11 @@ pub record AreTotals (shop : FlowShop) (listed : List (Reverse ℕ × ℕ)) : Ty
 
 -- ---- whole searches
 
--- an inserter for shops of this one's sizes that has the cost of heads and tails and can't fail, and a bench that has
--- counted no cell
-pub record MayStart (shop : FlowShop) (counted : ℕ) (sizes : Sizes) (cells : ℕ → ℕ → ℕ) (can_fail : Bool) : Type 0 where
-  pub jobs : sizes.jobs ≡ shop.jobs
-  pub machines : sizes.machines ≡ shop.machines
+-- an inserter that has the cost of heads and tails and can't fail, and a bench that has counted no cell
+pub record MayStart (counted : ℕ) (cells : ℕ → ℕ → ℕ) (can_fail : Bool) : Type 0 where
   pub cost : cells ≡ heads_tails_cost
   pub sure : can_fail ≡ false
   pub fresh : counted ≡ 0
-
--- rounds within the limits can continue from an order of all jobs and its makespan
-pub record MayContinue (shop : FlowShop) (start : List ℕ) (span first : ℕ) (rounds : Rounds) : Type 0 where
-  pub has_span : HasSpan shop start shop.jobs span
-  pub limits : InLimits shop first rounds
-
--- the result of a search of these rounds, with a makespan below 10^18
-pub record IsFoundBy (shop : FlowShop) (rounds : Rounds) (order : List ℕ) (span cells : ℕ) : Type 0 where
-  pub found : IsFound shop rounds.count rounds.take rounds.passes rounds.seed order span cells
-  pub short : span < 10 ^ 18
-
--- the result of these rounds from an order, with a makespan below 10^18
-pub record IsImprovedBy (shop : FlowShop) (start : List ℕ) (first : ℕ) (rounds : Rounds) (order : List ℕ)
-    (span cells : ℕ) : Type 0 where
-  pub found : IsImproved shop start first rounds.count rounds.take rounds.passes rounds.seed order span cells
-  pub short : span < 10 ^ 18
 
 -- `Holds` of what a search returns; where it fails, memory allocation failed before its first round
 abbrev pub UnlessMemory : {A : Type 0} → Result A SearchFault → (A → Type 0) → Type 0

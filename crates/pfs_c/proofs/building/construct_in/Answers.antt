@@ -9,7 +9,7 @@ use Rattle.pfs_c.proofs.building.construct_in.Goals as goal
 pub visit-requires-clause-small : goal.visit-requires-clause-small
 visit-requires-clause-small c =
     let shop = c.args.kept.now in
-    let same = c.jobs-jobs.ensures.value ∙ ap (λ (s : FlowShop). s.jobs) (c.instance.ensures.value ∙ c.kept.view_is) in
+    let same = c.jobs-jobs.ensures.value ∙ ap (λ (s : FlowShop). s.jobs) c.instance.ensures.value in
     more_small shop.jobs c.args.sequence.now c.args.more.now
     (subst (λ n. IsSequence n (c.args.sequence.now ++ c.args.more.now)) same c.in_ok-validate_more.ensures.together)
 
@@ -17,7 +17,7 @@ pub visit-requires-clause-long : goal.visit-requires-clause-long
 visit-requires-clause-long c =
     let shop = c.args.kept.now in
     let sequence = c.args.sequence.now in
-    let same = c.jobs-jobs.ensures.value ∙ ap (λ (s : FlowShop). s.jobs) (c.instance.ensures.value ∙ c.kept.view_is) in
+    let same = c.jobs-jobs.ensures.value ∙ ap (λ (s : FlowShop). s.jobs) c.instance.ensures.value in
     let found = construct_is shop sequence c.args.more.now (visited shop c.args.more.now sequence)
     (subst (λ n. IsSequence n (sequence ++ c.args.more.now)) same c.in_ok-validate_more.ensures.together) refl in
     rw (
@@ -36,7 +36,7 @@ pub returns-clause-done : goal.returns-clause-done
 returns-clause-done c =
     let shop = c.args.kept.now in
     let sequence = c.args.sequence.now in
-    let same = c.jobs-jobs.ensures.value ∙ ap (λ (s : FlowShop). s.jobs) (c.instance.ensures.value ∙ c.kept.view_is) in
+    let same = c.jobs-jobs.ensures.value ∙ ap (λ (s : FlowShop). s.jobs) c.instance.ensures.value in
     let is = rw (
       c.copy_from_slice.ensures.after,
       take_at sequence (drop (length sequence) c.args.order.now) (length sequence) refl,

@@ -1,15 +1,18 @@
-use Rattle.std.proofs.Common.{sym, ◌∙◌}
+use Rattle.std.proofs.Common.{ap, sym, ◌∙◌}
+use Rattle.pfs_order.specs.Sequence.{Sequence}
+use Rattle.pfs_c.specs.Building.{visited}
 use Rattle.pfs_c.proofs.Visits.{visits_more}
 use Rattle.pfs_c.proofs.moving.make_visits.Goals as goal
 
 pub loop-pass-preserved : goal.loop-pass-preserved
 loop-pass-preserved c =
-    let invariant = c.loop-pass.invariant in
-    let gives = c.visit_once.ensures in
+    let shop = c.args.instance.now.shop in
+    let seq = c.args.seq.now in
+    let list = c.args.list.now in
     record {
-      same = gives.shop ∙ invariant.same;
-      room = rw gives.shop gives.room;
-      sequence = rw gives.shop gives.sequence;
-      order = rw (gives.jobs, invariant.same, invariant.order)
-          (sym (visits_more c.args.tables.now c.args.list.now c.loop-pass._pass c.args.jobs.now.items));
+      search = c.visit_once.ensures.search;
+      size = ap (λ (s : Sequence). s.size) c.visit_once.ensures.jobs ∙ c.loop-pass.invariant.size;
+      order = c.visit_once.ensures.jobs
+          ∙ ap (λ (s : Sequence). record s { jobs = visited shop list s.jobs }) c.loop-pass.invariant.order
+          ∙ ap (λ jobs. record seq { jobs = jobs }) (sym (visits_more shop list c.loop-pass._pass seq.jobs));
     }

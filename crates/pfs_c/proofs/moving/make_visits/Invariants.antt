@@ -1,12 +1,11 @@
-use Rattle.std.proofs.Common.{◌≡◌, ◌≤◌, vec_capacity}
-use Rattle.pfs_order.specs.Sequence.{IsSequence}
+use Rattle.std.proofs.Common.{◌≡◌}
+use Rattle.pfs_search.specs.Search.{IsSearchOf}
 use Rattle.pfs_c.specs.Building.{after_visits}
 use Rattle.pfs_c.proofs.moving.make_visits.Given as goal
 
 abbrev pub invariant-loop-pass : goal.invariant-loop-pass
 invariant-loop-pass l = record {
-  same : l.tables ≡ l.fn.tables;
-  room : l.tables.jobs ≤ vec_capacity l.jobs;
-  sequence : IsSequence l.tables.jobs l.jobs.items;
-  order : l.jobs.items ≡ after_visits l.fn.tables l.list l._pass l.fn.jobs.items;
+  search : IsSearchOf l.instance.shop l.search;
+  size : l.seq.size ≡ l.instance.shop.jobs;
+  order : l.seq ≡ record l.fn.seq { jobs = after_visits l.instance.shop l.list l._pass l.fn.seq.jobs };
 }

@@ -1,16 +1,19 @@
-use Rattle.std.proofs.Common.{sym, ◌∙◌}
+use Rattle.std.proofs.Common.{ap, get_or, sym, ◌∙◌}
+use Rattle.pfs_order.specs.Sequence.{Sequence}
+use Rattle.pfs_search.specs.Greedy.{moved}
 use Rattle.pfs_c.proofs.Visits.{visited_more}
 use Rattle.pfs_c.proofs.moving.visit_once.Goals as goal
 
 pub loop-job-preserved : goal.loop-job-preserved
 loop-job-preserved c =
-    let invariant = c.loop-job.invariant in
-    let gives = c.move_job.ensures in
+    let shop = c.args.instance.now.shop in
+    let seq = c.args.seq.now in
+    let list = c.args.list.now in
+    let done = c.loop-job.job-index in
     record {
-      same = gives.shop ∙ invariant.same;
-      room = rw gives.shop gives.room;
-      sequence = rw gives.shop gives.sequence;
-      order = rw (gives.jobs, invariant.same, invariant.order)
-          (sym (visited_more c.args.tables.now c.args.list.now c.args.jobs.now.items c.loop-job.job-index
-          c.loop-job-test.true));
+      search = c.move_job.ensures.search;
+      size = ap (λ (s : Sequence). s.size) c.move_job.ensures.jobs ∙ c.loop-job.invariant.size;
+      order = c.move_job.ensures.jobs
+          ∙ ap (λ (s : Sequence). record s { jobs = moved shop s.jobs (get_or list done 0) }) c.loop-job.invariant.order
+          ∙ ap (λ jobs. record seq { jobs = jobs }) (sym (visited_more shop list seq.jobs done c.loop-job-test.true));
     }

@@ -1,12 +1,11 @@
-use Rattle.std.proofs.Common.{◌≡◌, ◌≤◌, take, vec_capacity}
-use Rattle.pfs_order.specs.Sequence.{IsSequence}
+use Rattle.std.proofs.Common.{◌≡◌, take}
+use Rattle.pfs_search.specs.Search.{IsSearchOf}
 use Rattle.pfs_c.specs.Building.{visited}
 use Rattle.pfs_c.proofs.moving.visit_once.Given as goal
 
 abbrev pub invariant-loop-job : goal.invariant-loop-job
 invariant-loop-job l = record {
-  same : l.tables ≡ l.fn.tables;
-  room : l.tables.jobs ≤ vec_capacity l.jobs;
-  sequence : IsSequence l.tables.jobs l.jobs.items;
-  order : l.jobs.items ≡ visited l.fn.tables (take l.job-index l.list) l.fn.jobs.items;
+  search : IsSearchOf l.instance.shop l.search;
+  size : l.seq.size ≡ l.instance.shop.jobs;
+  order : l.seq ≡ record l.fn.seq { jobs = visited l.instance.shop (take l.job-index l.list) l.fn.seq.jobs };
 }

@@ -1,9 +1,23 @@
-use Rattle.std.proofs.Common.{ap, arith}
+use Rattle.std.proofs.Common.{◌≡◌, length, take, ap, subst, sym, ◌∙◌}
 use Rattle.pfs_base.specs.FlowShop.{FlowShop}
-use Rattle.pfs_order.proofs.Published.Sequences.{length-le-size}
+use Rattle.pfs_order.specs.Sequence.{IsSequence, Sequence}
+use Rattle.pfs_c.specs.Building.{after_visits}
 use Rattle.pfs_c.proofs.kept.Kept.visit.Goals as goal
 
-pub copy_in_room-requires : goal.copy_in_room-requires
-copy_in_room-requires c =
-    let few = length-le-size c.args.self.now.jobs _ c.requires.sequence in
-    omega (arith, few, c.self.invariant, ap (λ (s : FlowShop). s.jobs) c.self.view_is)
+pub span_of-requires : goal.span_of-requires
+span_of-requires c =
+    let list = c.args.list.now in
+    let passes = c.args.passes in
+    let shop = c.self.inside.instance.shop in
+    let start = take c.args.count c.args.order.now in
+    let seq = c.make_visits.new.seq in
+    let jobs_are : seq.jobs ≡ after_visits c.args.self.now list passes start =
+    ap (λ (s : Sequence). s.jobs) c.make_visits.ensures.jobs
+    ∙ ap (λ (s : Sequence). after_visits shop list passes s.jobs) c.set.ensures
+    ∙ ap (λ (s : FlowShop). after_visits s list passes start) c.self.view_is in
+    let size_is : seq.size ≡ shop.jobs =
+    ap (λ (s : Sequence). s.size) c.make_visits.ensures.jobs
+    ∙ ap (λ (s : Sequence). s.size) c.set.ensures
+    ∙ c.self.invariant.size in
+    let same = c.copy_sequence.ensures.whole (ap length jobs_are ∙ sym c.requires.long) in
+    rw same (subst (λ n. IsSequence n seq.jobs) size_is c.size-size.ensures.sequence)
