@@ -1,6 +1,5 @@
 use Rattle.std.proofs.Common.{Contains, ap, sym, ◌∙◌, rules}
 use Rattle.pfs_order.proofs.Published.Sequences.{absent-remove, others_are}
-use Rattle.pfs_order.specs.Sequence.{Sequence}
 use Rattle.pfs_c.proofs.Visits.{others_absent}
 use Rattle.pfs_c.proofs.moving.take_out.Goals as goal
 
