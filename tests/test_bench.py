@@ -106,7 +106,8 @@ def errors_in(top: pathlib.Path, folder: pathlib.Path, modules: dict[str, str]) 
     done = subprocess.run(["rt", "try", "--test"], cwd=crate, env=with_path(folder / "shell"), timeout=MOST_SECONDS,
                           stdin=subprocess.DEVNULL, stdout=subprocess.PIPE, stderr=subprocess.STDOUT, text=True)
     found: dict[str, list[str]] = {name: [] for name in ("lib", *modules)}
-    for module, error in re.findall(r"^src/(\w+)\.rt:[0-9:]* (error\[.*?)(?=: help: |: note: |$)", done.stdout, re.MULTILINE):
+    line = r"^src/(\w+)\.rt:[0-9:]* (error\[.*?)(?=: help: |: note: |$)"
+    for module, error in re.findall(line, done.stdout, re.MULTILINE):
         found[module].append(error)
     return found
 

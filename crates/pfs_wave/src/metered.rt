@@ -57,7 +57,7 @@ impl<'a> MeteredLanes<'a> {
     // The best place for a job in a sequence, and the makespan with the job there, in the narrow lanes where they serve
     // the insertion. The permits pay for its cells.
     #[inline(always)]
-    fn find(&mut self, permits: Permits, seq: &Seq, job: usize) -> Placed<Paid>
+    pub(crate) fn find(&mut self, permits: Permits, seq: &Seq, job: usize) -> Placed<Paid>
         requires size { seq.now.size ≡ (⟦<MeteredLanes<'a> as Bench>⟧.shop self.old).jobs }
         requires job { job < (⟦<MeteredLanes<'a> as Bench>⟧.shop self.old).jobs }
         requires absent { Contains seq.now.jobs job → ⊥ }
