@@ -11,6 +11,7 @@ from typing import NamedTuple
 
 import pytest
 from pfs import _drawing
+from support import second_program
 from support.colours import least_difference
 from support.files import generated
 from support.large import run_limited
@@ -118,17 +119,8 @@ class Case(NamedTuple):
 
 
 def schedule_of(times: list[list[int]]) -> Schedule:
-    """Start and end of each operation, jobs in their order, by the recurrence."""
-    free = [0] * len(times[0])
-    rows = []
-    for job in times:
-        row, end = [], 0
-        for machine, time in enumerate(job):
-            start = max(end, free[machine])
-            end = free[machine] = start + time
-            row.append((start, end))
-        rows.append(row)
-    return rows
+    """Start and end of each operation, jobs in their order."""
+    return second_program.spans_of(second_program.instance_of(times), range(len(times)))
 
 
 def read_table(name: str, text: str, *options: str) -> Case:
@@ -151,8 +143,7 @@ def units(jobs: int, machines: int = 1) -> Case:
 
 
 def drawn_by_taillard(jobs: int, machines: int, seed: int) -> Case:
-    rows = [[int(word) for word in line.split()] for line in generated(jobs, machines, seed).splitlines()[3:]]
-    times = [list(job) for job in zip(*rows)]
+    times = [list(job) for job in zip(*second_program.generated(jobs, machines, seed).times)]
     return Case(f"{jobs} by {machines}", list(range(jobs, 0, -1)), schedule_of(times[::-1]))
 
 

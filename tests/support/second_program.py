@@ -152,6 +152,13 @@ class Instance:
         return sum(row[job] for row in self.times)
 
 
+def instance_of(times: Sequence[Sequence[int]]) -> Instance:
+    """The instance of these times, job by job."""
+    shop = Instance(len(times), len(times[0]), [0, 0, 0])
+    shop.times = [list(row) for row in zip(*times)]
+    return shop
+
+
 class Body:
     """The numbers of a block that have been read, of those that are due."""
 
@@ -346,6 +353,12 @@ def ends_of(shop: Instance, order: Sequence[int]) -> list[list[int]]:
     return rows
 
 
+def spans_of(shop: Instance, order: Sequence[int]) -> list[list[tuple[int, int]]]:
+    """Start and end of each operation, by place and machine."""
+    return [[(end - row[job], end) for row, end in zip(shop.times, ends)]
+            for job, ends in zip(order, ends_of(shop, order))]
+
+
 def makespan(shop: Instance, order: Sequence[int]) -> int:
     return ends_of(shop, order)[-1][-1] if order else 0
 
@@ -501,8 +514,7 @@ def tabled(shop: Instance, jobs: list[int], machines: int | None) -> tuple[bytes
         return wrong, 1
     order = [job - 1 for job in jobs]
     text = b"table %d %d\n" % (shop.jobs, shop.machines)
-    for job, ends in zip(order, ends_of(shop, order)):
-        spans = [(end - shop.times[machine][job], end) for machine, end in enumerate(ends)]
+    for job, spans in zip(order, spans_of(shop, order)):
         text += numbers([job + 1] + [it for span in spans for it in span])
     return text + b"makespan %d\n" % makespan(shop, order), 0
 
