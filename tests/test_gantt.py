@@ -538,8 +538,10 @@ def test_the_pages_state_the_exit_statuses() -> None:
     assert re.findall(r"rejected with one line on standard error and status (\d)", PAGE) == ["2"]
 
 
-def test_the_example_of_the_manual_page(gantt: Gantt, folder: pathlib.Path, pfs: Program,
-                                        scripts: pathlib.Path) -> None:
+@pytest.mark.quick
+def test_the_example_of_the_manual_page(folder: pathlib.Path, pfs: Program, scripts: pathlib.Path,
+                                        matplotlib: None) -> None:
+    """It draws what pfs prints."""
     line = re.search(r"^\.Dl \$ (.*)$", MANUAL, re.MULTILINE)
     assert line
     (folder / "instance").write_bytes(generated(20, 5, 873654221))
@@ -547,7 +549,9 @@ def test_the_example_of_the_manual_page(gantt: Gantt, folder: pathlib.Path, pfs:
     for name, path in (("pfs", pfs.path), ("pfs-gantt", scripts / "pfs-gantt")):
         (folder / name).symlink_to(path)
     assert run_tool(["sh", "-c", line[1]], folder, env=with_path(folder)) == Done(0, "", "")
-    assert {"critical-1", "critical-5"} <= Picture(folder / "chart.svg").groups.keys()
+    picture = Picture(folder / "chart.svg")
+    assert {"critical-1", "critical-5"} <= picture.groups.keys()
+    assert [len(picture.bars(f"machine-{machine}")) for machine in range(1, 6)] == [20] * 5
 
 
 def test_the_fonts_of_a_pdf_are_truetype(gantt: Gantt, folder: pathlib.Path) -> None:
@@ -675,16 +679,6 @@ def test_the_greatest_table_is_drawn_soon_and_small(ending: str, scripts: pathli
 
 
 # Files
-
-@pytest.mark.quick
-def test_what_pfs_prints_is_drawn(pfs: Program, gantt: Gantt, folder: pathlib.Path) -> None:
-    (folder / "shop").write_bytes(generated(60, 5, 5))
-    (folder / "order").write_bytes(pfs.run("solve --layout taillard shop", folder).stdout)
-    table = pfs.run("table --layout taillard shop order", folder).stdout.decode()
-    case = read_table("60 by 5", table)
-    picture = picture_of(gantt, folder, "--critical", text=table)
-    assert [len(picture.bars(f"machine-{machine + 1}")) for machine in case.machines()] == [60] * 5
-
 
 @pytest.mark.parametrize("ending", BEGINNINGS)
 def test_a_kind_of_picture_is_the_same_each_time(ending: str, scripts: pathlib.Path, gantt: Gantt,
