@@ -85,6 +85,11 @@ def order_file(order: Sequence[int], machines: int | None, span: int) -> str:
     return second_program.order_text(order, machines, span).decode()
 
 
+def written(folder: pathlib.Path, text: str, name: str = "file") -> pathlib.Path:
+    (folder / name).write_bytes(text.encode())
+    return folder / name
+
+
 def run(words: list[str], status: int = 0) -> str:
     """The output of a program, or, for another status, its errors."""
     done = subprocess.run(words, capture_output=True, text=True, timeout=60, stdin=subprocess.DEVNULL)

@@ -267,28 +267,22 @@ def test_a_state_with_more_rounds_than_are_due(folder: pathlib.Path) -> None:
     assert run([*LONG, "--rounds", "30", "--state", "state"], folder) == printed
 
 
-@pytest.mark.parametrize("path", ["/dev/full", "/dev/zero", "long"])
-def test_a_state_without_end(folder: pathlib.Path, path: str) -> None:
-    with open(folder / "long", "wb") as file:
-        file.truncate(67_108_865)
-    error = f"pfs: {path}: not the state of a search: longer than 67,108,864 bytes\n"
-    run([*LONG, "--rounds", "9", "--state", path], folder, 2, error)
-    assert os.path.getsize(folder / "long") == 67_108_865
-
-
 @pytest.mark.parametrize(("words", "error"), [
     (["plan", "/dev/zero"], "pfs: /dev/zero: line 1, the table has more than 67,108,864 bytes\n"),
     (["plan", "long"], "pfs: long: line 1, the table has more than 67,108,864 bytes\n"),
     (["search", "/dev/zero", "--layout", "taillard"], "pfs: input too long\n"),
     ([*LONG, "--start", "/dev/zero"], "pfs: order file too long\n"),
+    *(([*LONG, "--state", path], f"pfs: {path}: not the state of a search: longer than 67,108,864 bytes\n")
+      for path in ("/dev/full", "/dev/zero", "long")),
 ])
-def test_other_files_without_end(folder: pathlib.Path, words: list[str], error: str) -> None:
+def test_files_without_end(folder: pathlib.Path, words: list[str], error: str) -> None:
     """Less memory is taken than the file would need."""
     with open(folder / "long", "wb") as file:
         file.truncate(67_108_865)
     child = subprocess.run(["prlimit", "--as=4000000000", sys.executable, "-m", "pfs", *words], cwd=folder,
                            env=environment(), capture_output=True, text=True, timeout=60)
     assert (child.returncode, child.stdout, child.stderr) == (2, "", error)
+    assert os.path.getsize(folder / "long") == 67_108_865
 
 
 def test_two_searches_with_one_state(folder: pathlib.Path) -> None:
