@@ -14,7 +14,7 @@ from support.needs import missing, prepare_process
 from support.program import Program
 
 pytest_plugins = ["support.needs", "support.folders", "support.tools", "support.warm", "support.ssh", "support.slurm",
-                  "support.experiments", "support.installed"]
+                  "support.experiments", "support.growths", "support.installed"]
 
 TOP = pathlib.Path(__file__).resolve().parent.parent
 LIBRARY = TOP / "lib" / "out" / "libpfs.so.1"

@@ -11,6 +11,7 @@ from typing import NamedTuple
 
 import pytest
 from pfs import _drawing
+from support import second_program
 from support.colours import least_difference
 from support.files import generated
 from support.large import run_limited
@@ -118,17 +119,8 @@ class Case(NamedTuple):
 
 
 def schedule_of(times: list[list[int]]) -> Schedule:
-    """Start and end of each operation, jobs in their order, by the recurrence."""
-    free = [0] * len(times[0])
-    rows = []
-    for job in times:
-        row, end = [], 0
-        for machine, time in enumerate(job):
-            start = max(end, free[machine])
-            end = free[machine] = start + time
-            row.append((start, end))
-        rows.append(row)
-    return rows
+    """Start and end of each operation, jobs in their order."""
+    return second_program.spans_of(second_program.instance_of(times), range(len(times)))
 
 
 def read_table(name: str, text: str, *options: str) -> Case:
@@ -151,8 +143,7 @@ def units(jobs: int, machines: int = 1) -> Case:
 
 
 def drawn_by_taillard(jobs: int, machines: int, seed: int) -> Case:
-    rows = [[int(word) for word in line.split()] for line in generated(jobs, machines, seed).splitlines()[3:]]
-    times = [list(job) for job in zip(*rows)]
+    times = [list(job) for job in zip(*second_program.generated(jobs, machines, seed).times)]
     return Case(f"{jobs} by {machines}", list(range(jobs, 0, -1)), schedule_of(times[::-1]))
 
 
@@ -547,8 +538,10 @@ def test_the_pages_state_the_exit_statuses() -> None:
     assert re.findall(r"rejected with one line on standard error and status (\d)", PAGE) == ["2"]
 
 
-def test_the_example_of_the_manual_page(gantt: Gantt, folder: pathlib.Path, pfs: Program,
-                                        scripts: pathlib.Path) -> None:
+@pytest.mark.quick
+def test_the_example_of_the_manual_page(folder: pathlib.Path, pfs: Program, scripts: pathlib.Path,
+                                        matplotlib: None) -> None:
+    """It draws what pfs prints."""
     line = re.search(r"^\.Dl \$ (.*)$", MANUAL, re.MULTILINE)
     assert line
     (folder / "instance").write_bytes(generated(20, 5, 873654221))
@@ -556,7 +549,9 @@ def test_the_example_of_the_manual_page(gantt: Gantt, folder: pathlib.Path, pfs:
     for name, path in (("pfs", pfs.path), ("pfs-gantt", scripts / "pfs-gantt")):
         (folder / name).symlink_to(path)
     assert run_tool(["sh", "-c", line[1]], folder, env=with_path(folder)) == Done(0, "", "")
-    assert {"critical-1", "critical-5"} <= Picture(folder / "chart.svg").groups.keys()
+    picture = Picture(folder / "chart.svg")
+    assert {"critical-1", "critical-5"} <= picture.groups.keys()
+    assert [len(picture.bars(f"machine-{machine}")) for machine in range(1, 6)] == [20] * 5
 
 
 def test_the_fonts_of_a_pdf_are_truetype(gantt: Gantt, folder: pathlib.Path) -> None:
@@ -684,16 +679,6 @@ def test_the_greatest_table_is_drawn_soon_and_small(ending: str, scripts: pathli
 
 
 # Files
-
-@pytest.mark.quick
-def test_what_pfs_prints_is_drawn(pfs: Program, gantt: Gantt, folder: pathlib.Path) -> None:
-    (folder / "shop").write_bytes(generated(60, 5, 5))
-    (folder / "order").write_bytes(pfs.run("solve --layout taillard shop", folder).stdout)
-    table = pfs.run("table --layout taillard shop order", folder).stdout.decode()
-    case = read_table("60 by 5", table)
-    picture = picture_of(gantt, folder, "--critical", text=table)
-    assert [len(picture.bars(f"machine-{machine + 1}")) for machine in case.machines()] == [60] * 5
-
 
 @pytest.mark.parametrize("ending", BEGINNINGS)
 def test_a_kind_of_picture_is_the_same_each_time(ending: str, scripts: pathlib.Path, gantt: Gantt,

@@ -100,12 +100,6 @@ STILL: dict[str, bytes] = {
 }
 
 
-@pytest.fixture(scope="session")
-def shim(tmp_path_factory: pytest.TempPathFactory) -> Shim:
-    """The library that lets allocations fail, and counts them."""
-    return Shim(tmp_path_factory.mktemp("shim"))
-
-
 def refuse_each(shim: Shim, program: Program, words: Words, folder: pathlib.Path, expected: Ran, refusals: list[Ran],
                 stdin: bytes = b"") -> None:
     """Let each allocation fail in turn. Such a run returns one of the `refusals`, and the run without a failure

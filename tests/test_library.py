@@ -241,12 +241,6 @@ def test_valgrind_finds_nothing_in_any_call(calls: Program, folder: pathlib.Path
     assert ran == Ran(printed, b"", 0)
 
 
-@pytest.fixture(scope="session")
-def shim(tmp_path_factory: pytest.TempPathFactory) -> Shim:
-    """The library that lets allocations fail."""
-    return Shim(tmp_path_factory.mktemp("shim"))
-
-
 @OF_CALLS
 @pytest.mark.parametrize("name", NAMED)
 def test_a_failed_allocation_leaves_every_output_unchanged(calls: Program, shim: Shim, folder: pathlib.Path,

@@ -309,18 +309,6 @@ def test_each_setting_of_a_method_is_compared_by_means_of_the_instances_that_bot
         "a", "100", "2", "101", "103", f"{8 ** 0.5:.15g}", f"{200 / 101:.3f}"]
 
 
-def test_settings_of_one_method_are_compared(report: Reported, folder: pathlib.Path) -> None:
-    """Take 2 and take 4 of the same rounds. Settings with other rounds aren't compared. A column names the method."""
-    text = HEAD + ",method\n" + "".join(
-        f"i{at},20,5,{rounds},{take},0,1,1,{1000 + take * at - rounds},900,1.0,1,0.1,ok,mine\n"
-        for at in range(1, 5) for rounds in (1, 2) for take in (2, 4))
-    got = report(text)
-    names = ("method", "rounds", "take", "other_method", "other_rounds", "other_take", "won")
-    rows = [tuple(row[name] for name in names) for row in csv_rows(folder / "report" / "comparison.csv")]
-    assert rows == [("mine", rounds, "2", "mine", rounds, "4", "4") for rounds in "12"]
-    assert (folder / "report" / "comparison.md").read_text() in got.stdout
-
-
 def test_methods_without_a_common_instance_are_reported(report: Reported, folder: pathlib.Path) -> None:
     """Files of one name are methods by their paths. Where others have a reference, those without have no RPD."""
     for name, instance, reference in (("x", "i", "1000"), ("y", "j", "")):
@@ -385,17 +373,20 @@ def test_the_effect_size_is_the_mean_over_the_instances(report: Reported, folder
 
 
 def test_only_equal_rounds_or_times_are_compared(report: Reported, folder: pathlib.Path) -> None:
-    """And Holm's correction is for these. A method that tells neither is compared with all."""
-    texts = {name: "instance,makespan,reference,rounds,time_factor\n" + "".join(
-        f"i{at},{1000 + at + more},1000,{budget}\n" for at in range(6) for more, budget in enumerate(budgets))
-        for name, budgets in {"a": (",10", ",30"), "b": (",30", ",10", "5,"), "published": (",",)}.items()}
-    assert report(**texts).status == 0
-    rows = csv_rows(folder / "report" / "comparison.csv")
-    pairs = [(row["method"], row["rounds"] + row["time_factor"], row["other_method"],
-              row["other_rounds"] + row["other_time_factor"]) for row in rows]
-    assert sorted(pairs) == [("a", "10", "b", "10"), ("a", "10", "published", ""), ("a", "30", "b", "30"),
-                             ("a", "30", "published", ""), ("b", "10", "published", ""), ("b", "30", "published", ""),
-                             ("b", "5", "published", "")]
+    """And Holm's correction is for these. Settings of one method are compared too, and a method that tells neither is
+    compared with all."""
+    budgets = {"a": (",10,", ",30,"), "b": (",30,", ",10,", "5,,"), "c": ("7,,2", "7,,4"), "published": (",,",)}
+    got = report(**{name: "instance,makespan,reference,rounds,time_factor,take\n" + "".join(
+        f"i{at},{1000 + at + more},1000,{budget}\n" for at in range(6) for more, budget in enumerate(own))
+        for name, own in budgets.items()})
+    assert got.status == 0 and (folder / "report" / "comparison.md").read_text() in got.stdout
+    rows, names = csv_rows(folder / "report" / "comparison.csv"), ("method", "rounds", "time_factor", "take")
+    pairs = [tuple(" ".join(row[of + name] for name in names if row[of + name]) for of in ("", "other_"))
+             for row in rows]
+    assert sorted(pairs) == [
+        ("a 10", "b 10"), ("a 10", "published"), ("a 30", "b 30"), ("a 30", "published"), ("b 10", "published"),
+        ("b 30", "published"), ("b 5", "published"), ("c 7 2", "c 7 4"), ("c 7 2", "published"), ("c 7 4", "published")]
+    assert [row["won"] for row in rows if row["other_method"] == "c"] == ["6"]
 
 
 def test_many_pairs_have_the_normal_approximation(report: Reported, folder: pathlib.Path) -> None:

@@ -71,15 +71,19 @@ def with_script(page: pathlib.Path, folder: pathlib.Path, script: str, injected:
     return copy
 
 
+def browsed(chromium: str, page: pathlib.Path, folder: pathlib.Path, width: int,
+            *flags: str) -> subprocess.CompletedProcess[str]:
+    words = [chromium, "--headless", "--no-sandbox", "--disable-gpu", "--disable-dev-shm-usage",
+             f"--user-data-dir={folder / 'profile'}", f"--window-size={width},600", "--virtual-time-budget=5000"]
+    return subprocess.run([*words, *flags, page.as_uri()], capture_output=True, text=True, timeout=120)
+
+
 def looked_at(chromium: str, page: pathlib.Path, folder: pathlib.Path, script: str,
               injected: str = "", scale: int = 1, flags: Sequence[str] = ()) -> dict[str, Any]:
     """What this script sees of a page in a browser. The browser gets these flags too."""
     copy = with_script(page, folder, script, injected)
-    words = [chromium, "--headless", "--no-sandbox", "--disable-gpu", "--disable-dev-shm-usage",
-             f"--user-data-dir={folder / 'profile'}", "--window-size=1000,600", "--virtual-time-budget=5000",
-             f"--force-device-scale-factor={scale}", "--enable-logging=stderr", "--dump-dom", *flags,
-             copy.as_uri()]
-    done = subprocess.run(words, capture_output=True, text=True, timeout=120)
+    done = browsed(chromium, copy, folder, 1000, f"--force-device-scale-factor={scale}", "--enable-logging=stderr",
+                   "--dump-dom", *flags)
     found = re.search(r'<pre id="seen">(.*?)</pre>', done.stdout, re.DOTALL)
     faults = re.findall(r"CONSOLE.*", done.stderr)
     assert found, f"the page's script ended with {faults or done.stderr[-500:]}"
@@ -89,9 +93,6 @@ def looked_at(chromium: str, page: pathlib.Path, folder: pathlib.Path, script: s
 
 def printed(chromium: str, page: pathlib.Path, folder: pathlib.Path, width: int) -> bytes:
     """The PDF file as which a page is printed from a window of this width."""
-    words = [chromium, "--headless", "--no-sandbox", "--disable-gpu", "--disable-dev-shm-usage",
-             f"--user-data-dir={folder / 'profile'}", f"--window-size={width},600", "--virtual-time-budget=5000",
-             "--no-pdf-header-footer", f"--print-to-pdf={folder / 'page.pdf'}", page.as_uri()]
-    done = subprocess.run(words, capture_output=True, text=True, timeout=120)
+    done = browsed(chromium, page, folder, width, "--no-pdf-header-footer", f"--print-to-pdf={folder / 'page.pdf'}")
     assert done.returncode == 0, done.stderr[-500:]
     return (folder / "page.pdf").read_bytes()

@@ -10,7 +10,7 @@ from collections.abc import Sequence
 import pfs
 from hypothesis import strategies as st
 from support import second_program
-from support.second_program import Instance
+from support.second_program import instance_of
 
 Table = list[list[int]]
 
@@ -39,16 +39,9 @@ def shops_and_sequences(draw: st.DrawFn, most_jobs: int = 6) -> tuple[Table, lis
     return times, order[:draw(st.integers(0, len(order)))]
 
 
-def instance_of(times: Table) -> Instance:
-    shop = Instance(len(times), len(times[0]), [0, 0, 0])
-    shop.times = [list(row) for row in zip(*times)]
-    return shop
-
-
 def schedule(times: Table, order: Sequence[int]) -> list[list[tuple[int, int]]]:
     """Start and end of each operation, by place and machine."""
-    rows = second_program.ends_of(instance_of(times), order)
-    return [[(end - time, end) for time, end in zip(times[job], ends)] for job, ends in zip(order, rows)]
+    return second_program.spans_of(instance_of(times), order)
 
 
 def makespan(times: Table, order: Sequence[int]) -> int:
@@ -90,6 +83,11 @@ def neh(times: Table) -> list[int]:
 def order_file(order: Sequence[int], machines: int | None, span: int) -> str:
     """The order file, of version 1 if it states no machines."""
     return second_program.order_text(order, machines, span).decode()
+
+
+def written(folder: pathlib.Path, text: str, name: str = "file") -> pathlib.Path:
+    (folder / name).write_bytes(text.encode())
+    return folder / name
 
 
 def run(words: list[str], status: int = 0) -> str:

@@ -8,7 +8,7 @@ import subprocess
 import sys
 import threading
 import time
-from collections.abc import Callable, Iterator
+from collections.abc import Iterator
 from typing import Any
 
 import numpy as np
@@ -193,44 +193,31 @@ def test_memory_that_runs_out_in_a_search_is_reported(monkeypatch: pytest.Monkey
         pfs.solve_all(SHOPS, [1], 9, workers=2)
 
 
-REFUSED: dict[str, tuple[Callable[[], object], type[Exception], str]] = {
-    "no instance": (lambda: pfs.solve_all([]), ValueError, "0 instances and 1 seeds"),
-    "no seed": (lambda: pfs.solve_all(SHOPS, []), ValueError, "3 instances and 0 seeds"),
-    "an array": (lambda: pfs.solve_all([[[1]]]), TypeError,  # type: ignore[list-item]
-                 r"instances: \[\[1\]\] at place 0 isn't an Instance"),
-    "a seed twice": (lambda: pfs.solve_all(SHOPS, [1, 2, 1]), ValueError, "seeds: 1 occurs twice"),
-    "a seed below 0": (lambda: pfs.solve_all(SHOPS, [-1]), ValueError, "seed must be from 0 to [0-9,]+, not -1"),
-    "a truth value": (lambda: pfs.solve_all(SHOPS, [True]), TypeError, "seed must be an integer, not True"),
-    "rounds": (lambda: pfs.solve_all(SHOPS, [1], 1_000_001), ValueError, "rounds must be from .*, not 1000001"),
-    "take": (lambda: pfs.solve_all(SHOPS, [1], 5, take=9), ValueError, "take must be from 1 to 8, not 9"),
-    "passes": (lambda: pfs.solve_all(SHOPS, [1], 5, passes=101), ValueError, "passes must be from .*, not 101"),
-    "a time limit": (lambda: pfs.solve_all(SHOPS, [1], time_limit=-1), ValueError,
-                     "time_limit must be 0 or more seconds, not -1.0"),
-    "a target": (lambda: pfs.solve_all(SHOPS, [1], target=-1), ValueError, "target must be from .*, not -1"),
-    "workers": (lambda: pfs.solve_all(SHOPS, [1], workers=0), ValueError, "workers must be from 1 to 1,000, not 0"),
-    "half a worker": (lambda: pfs.solve_all(SHOPS, [1], workers=1.5), TypeError,  # type: ignore[arg-type]
-                      "workers must be an integer"),
-    "a number as progress": (lambda: pfs.solve_all(SHOPS, [1], progress=3), TypeError,  # type: ignore[arg-type]
-                             "progress must be callable"),
-    "no solution": (lambda: pfs.solve_all(SHOPS, [1], found={(0, 1): 7}), TypeError,  # type: ignore[dict-item]
-                    "found must contain solutions, not 7"),
-    "another number of machines": (lambda: pfs.solve_all(SHOPS, [1], found={(0, 1): pfs.generate(8, 2, 1).neh()}),
-                                   ValueError, "found is an order for 2 machines, but the instance has 3"),
-    "another number of jobs": (lambda: pfs.solve_all(SHOPS, [1], found={(0, 1): pfs.generate(7, 3, 1).neh()}),
-                               ValueError, "found has 7 jobs, but the instance has 8"),
-    "another makespan": (lambda: pfs.solve_all(SHOPS, [1], found={(0, 1): pfs.generate(8, 3, 9).neh()}), ValueError,
-                         "found: a solution for .* has the wrong makespan"),
-    "another search": (lambda: pfs.solve_all(SHOPS, [1], found={(0, 7): SHOPS[0].solve(3, seed=7)}), ValueError,
-                       r"found: \(0, 7\) isn't the index of an instance and a seed of this call"),
-    "another seed": (lambda: pfs.solve_all(SHOPS, [1], 5, found={(0, 1): SHOPS[0].solve(5, seed=2)}), ValueError,
-                     "has 5 rounds of seed 2, and the search 5 of seed 1"),
-    "more rounds": (lambda: pfs.solve_all(SHOPS, [1], 5, found={(0, 1): SHOPS[0].solve(6, seed=1)}), ValueError,
-                    "has 6 rounds of seed 1, and the search 5 of seed 1"),
-}
-
-
-@pytest.mark.parametrize("case", REFUSED)
-def test_calls_that_are_rejected(case: str) -> None:
-    call, kind, why = REFUSED[case]
+@pytest.mark.parametrize(("words", "kind", "why"), [
+    ({"instances": []}, ValueError, "0 instances and 1 seeds"), ({"seeds": []}, ValueError, "3 instances and 0 seeds"),
+    ({"instances": [[[1]]]}, TypeError, r"instances: \[\[1\]\] at place 0 isn't an Instance"),
+    ({"seeds": [1, 2, 1]}, ValueError, "seeds: 1 occurs twice"),
+    ({"seeds": [-1]}, ValueError, "seed must be from 0 to [0-9,]+, not -1"),
+    ({"seeds": [True]}, TypeError, "seed must be an integer, not True"),
+    ({"rounds": 1_000_001}, ValueError, "rounds must be from .*, not 1000001"),
+    ({"take": 9}, ValueError, "take must be from 1 to 8, not 9"),
+    ({"passes": 101}, ValueError, "passes must be from .*, not 101"),
+    ({"time_limit": -1}, ValueError, "time_limit must be 0 or more seconds, not -1.0"),
+    ({"target": -1}, ValueError, "target must be from .*, not -1"),
+    ({"workers": 0}, ValueError, "workers must be from 1 to 1,000, not 0"),
+    ({"workers": 1.5}, TypeError, "workers must be an integer"),
+    ({"progress": 3}, TypeError, "progress must be callable"),
+    ({"found": {(0, 1): 7}}, TypeError, "found must contain solutions, not 7"),
+    ({"found": {(0, 1): pfs.generate(8, 2, 1).neh()}}, ValueError,
+     "found is an order for 2 machines, but the instance has 3"),
+    ({"found": {(0, 1): pfs.generate(7, 3, 1).neh()}}, ValueError, "found has 7 jobs, but the instance has 8"),
+    ({"found": {(0, 1): pfs.generate(8, 3, 9).neh()}}, ValueError, "found: a solution for .* has the wrong makespan"),
+    ({"found": {(0, 7): SHOPS[0].solve(3, seed=7)}}, ValueError,
+     r"found: \(0, 7\) isn't the index of an instance and a seed of this call"),
+    ({"found": {(0, 1): SHOPS[0].solve(5, seed=2)}}, ValueError, "has 5 rounds of seed 2, and the search 5 of seed 1"),
+    ({"found": {(0, 1): SHOPS[0].solve(6, seed=1)}}, ValueError, "has 6 rounds of seed 1, and the search 5 of seed 1"),
+])
+def test_calls_that_are_rejected(words: dict[str, Any], kind: type[Exception], why: str) -> None:
+    given: dict[str, Any] = {"instances": SHOPS, "seeds": [1], "rounds": 5} | words
     with pytest.raises(kind, match=why):
-        call()
+        pfs.solve_all(**given)

@@ -7,6 +7,7 @@ from typing import Any
 import pfs
 import pytest
 from browser import PEN, looked_at, printed
+from test_py_chart_pages import schedule
 
 TOGETHER = pytest.mark.xdist_group("chart in hands")
 # 0 is dark to the browser.
@@ -91,20 +92,14 @@ tell(seen);
 """
 
 
-def plan() -> pfs.Schedule:
-    shop = pfs.Instance([[30, 25, 0], [20, 50, 15], [40, 10, 20]], name="plan", job_names=["table", "chair", "box"],
-                        machine_names=["saw", "drill", "paint"])
-    return shop.schedule([1, 0, 2])
-
-
 @pytest.fixture(scope="module")
 def seen(chromium: str, tmp_path_factory: pytest.TempPathFactory) -> dict[str, Any]:
     folder = tmp_path_factory.mktemp("hands")
-    plan().plot(folder / "chart.html", critical=True, bound=True)
+    schedule().plot(folder / "chart.html", critical=True, bound=True)
     return looked_at(chromium, folder / "chart.html", folder, MOVES)
 
 
-TIP = "job table\nmachine saw\nstart 20\nend 50"
+TIP = "job table\nmachine saw\nstart 2.0\nend 5.0"
 
 
 @TOGETHER
@@ -166,7 +161,7 @@ def brightness(colour: str) -> float:
 def test_a_dark_screen_has_colours_of_its_own_and_paper_is_white(flags: tuple[str, ...], chromium: str,
                                                                  tmp_path: pathlib.Path) -> None:
     """Also where the browser would darken the pages that have none, which leaves charts alone."""
-    plan().plot(tmp_path / "chart.html", critical=True, bound=True)
+    schedule().plot(tmp_path / "chart.html", critical=True, bound=True)
     seen = looked_at(chromium, tmp_path / "chart.html", tmp_path, COLOURS, flags=flags)
     due = DARK_COLOURS if DARK in flags else LIGHT_COLOURS
     for when in ("screen", "after"):

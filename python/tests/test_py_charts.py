@@ -153,21 +153,16 @@ DANGEROUS = [
     "${document.title='PWNED'}", "javascript:document.title='PWNED'", "\u202eright to left", "</title><b>",
 ]
 # The page's title, heading, elements with their attributes, and what it says of each operation.
-STRUCTURE = """
+STRUCTURE = PEN + """
 const seen = {title: document.title, heading: document.querySelector("h1").textContent,
               label: canvas.getAttribute("aria-label"), focus: document.activeElement.tagName, tips: []};
-seen.elements = [...document.querySelectorAll("*")].filter(one => one !== document.currentScript && one.id !== "extra")
+seen.elements = [...document.querySelectorAll("*")].filter(one => one !== document.currentScript)
   .map(one => [one.tagName, [...one.attributes].map(kept => kept.name)]);
 for (let place = 0; place < jobs; ++place) {
-  const box = canvas.getBoundingClientRect();
-  const middle = (table.starts[0][place] + table.ends[0][place]) / 2;
-  canvas.dispatchEvent(new PointerEvent("pointermove", {clientX: box.left + xOf(middle), clientY: box.top + ROW / 2}));
+  send("pointermove", PointerEvent, xOf((table.starts[0][place] + table.ends[0][place]) / 2), yOf(0) + ROW / 2);
   seen.tips.push(tip.textContent);
 }
-const seenElement = document.createElement("pre");
-seenElement.id = "seen";
-seenElement.textContent = JSON.stringify(seen);
-document.body.append(seenElement);
+tell(seen);
 """
 
 
@@ -229,10 +224,10 @@ def test_the_policy_keeps_other_scripts_and_styles_out(chromium: str, tmp_path: 
                                                        named: pfs.Schedule) -> None:
     named.plot(tmp_path / "chart.html")
     assert "unsafe" not in (tmp_path / "chart.html").read_text("utf-8")
-    injected = ("<div id=extra><script>document.title = 'PWNED'</script><style>h1 { display: none }</style>"
-                "<img src='data:image/png;base64,x' onerror=\"document.title = 'PWNED'\"></div>")
-    script = STRUCTURE + 'seenElement.textContent = JSON.stringify([document.title, getComputedStyle(' \
-                         'document.querySelector("h1")).display, getComputedStyle(canvas).display]);'
+    injected = ("<script>document.title = 'PWNED'</script><style>h1 { display: none }</style>"
+                "<img src='data:image/png;base64,x' onerror=\"document.title = 'PWNED'\">")
+    script = PEN + "tell([document.title, ...[document.querySelector('h1'), canvas].map(" \
+                   "each => getComputedStyle(each).display)]);"
     title, heading, chart = looked_at(chromium, tmp_path / "chart.html", tmp_path, script, injected)
     assert title.startswith("plan: 3 jobs"), "the page's policy lets a foreign script in"
     assert heading == "block", "the page's policy lets a foreign style in"

@@ -12,7 +12,6 @@ import pathlib
 import pty
 import random
 import re
-import select
 import shlex
 import shutil
 import signal
@@ -27,6 +26,9 @@ import pfs
 import plainly
 import pytest
 from pfs import _commands, _library, _search, _state
+from plainly import environment
+from support.terminals import Terminal
+from support.tools import wait_until
 
 # A search that would take minutes.
 LONG = ["search", "shop", "--layout", "taillard"]
@@ -43,15 +45,10 @@ def shop_in(folder: pathlib.Path) -> pfs.Instance:
     return pfs.read(folder / "shop", "taillard")
 
 
-def environment(*first: pathlib.Path) -> dict[str, str]:
-    """What a child needs to find the package. Modules in the first folders come before those of the system."""
-    places = [*map(str, first), str(pathlib.Path(pfs.__file__).parents[1])]
-    return plainly.environment(PYTHONPATH=os.pathsep.join(places))
-
-
-def start(words: list[str], folder: pathlib.Path, env: dict[str, str] | None = None) -> "subprocess.Popen[bytes]":
+def start(words: list[str], folder: pathlib.Path, env: dict[str, str] | None = None,
+          stderr: int = subprocess.PIPE) -> "subprocess.Popen[bytes]":
     return subprocess.Popen([sys.executable, "-m", "pfs", *words], cwd=folder, env=env or environment(),
-                            stdin=subprocess.DEVNULL, stdout=subprocess.PIPE, stderr=subprocess.PIPE)
+                            stdin=subprocess.DEVNULL, stdout=subprocess.PIPE, stderr=stderr)
 
 
 def ended(words: list[str], folder: pathlib.Path) -> tuple[int | str | None, str, str]:
@@ -74,13 +71,6 @@ def run(words: list[str], folder: pathlib.Path, status: int = 0, error: str = ""
 def without_summary(got: str) -> str:
     """What a plan prints on standard error after the line that says what it read."""
     return re.sub(r"\A\d+ jobs?, \d+ machines? \(.*\), times .*\n", "", got)
-
-
-def wait_until(has_come: Callable[[], bool]) -> None:
-    end = time.monotonic() + 60
-    while not has_come():
-        assert time.monotonic() < end, "not yet"
-        time.sleep(0.01)
 
 
 def catches(process: int, number: signal.Signals) -> bool:
@@ -145,7 +135,7 @@ def test_a_time_limit(folder: pathlib.Path, program: str) -> None:
 @pytest.mark.parametrize("number", [signal.SIGINT, signal.SIGTERM])
 def test_a_signal_ends_it_with_the_best_order(folder: pathlib.Path, program: str, number: signal.Signals) -> None:
     child = start([*LONG, "--state", "state"], folder)
-    wait_until(lambda: rounds_in(folder) > 20)
+    wait_until(lambda: rounds_in(folder) > 20, "rounds are made")
     child.send_signal(number)
     printed, got = child.communicate(timeout=30)
     assert (child.returncode, got) == (128 + number, b"")
@@ -180,7 +170,7 @@ def test_a_search_that_ignores_signals_at_first_is_ended_by_them(folder: pathlib
     words = [sys.executable, "-m", "pfs", *LONG, "--state", "state"]
     child = subprocess.Popen(["sh", "-c", 'trap "" INT; exec "$@"', "sh", *words], cwd=folder, env=environment(),
                              stdin=subprocess.DEVNULL, stdout=subprocess.PIPE, stderr=subprocess.PIPE)
-    wait_until(lambda: rounds_in(folder) > 0)
+    wait_until(lambda: rounds_in(folder) > 0, "rounds are made")
     child.send_signal(signal.SIGINT)
     assert child.communicate(timeout=60)[1] == b"" and child.returncode == 128 + signal.SIGINT
 
@@ -192,7 +182,7 @@ def test_kill_leaves_a_whole_state(folder: pathlib.Path) -> None:
     for _ in range(6):
         child = start([*LONG, "--state", "state"], folder)
         before = done
-        wait_until(lambda: rounds_in(folder) > before)
+        wait_until(lambda: rounds_in(folder) > before, "rounds are made")
         time.sleep(chance.random() * 0.3)
         child.kill()
         child.communicate()
@@ -277,33 +267,27 @@ def test_a_state_with_more_rounds_than_are_due(folder: pathlib.Path) -> None:
     assert run([*LONG, "--rounds", "30", "--state", "state"], folder) == printed
 
 
-@pytest.mark.parametrize("path", ["/dev/full", "/dev/zero", "long"])
-def test_a_state_without_end(folder: pathlib.Path, path: str) -> None:
-    with open(folder / "long", "wb") as file:
-        file.truncate(67_108_865)
-    error = f"pfs: {path}: not the state of a search: longer than 67,108,864 bytes\n"
-    run([*LONG, "--rounds", "9", "--state", path], folder, 2, error)
-    assert os.path.getsize(folder / "long") == 67_108_865
-
-
 @pytest.mark.parametrize(("words", "error"), [
     (["plan", "/dev/zero"], "pfs: /dev/zero: line 1, the table has more than 67,108,864 bytes\n"),
     (["plan", "long"], "pfs: long: line 1, the table has more than 67,108,864 bytes\n"),
     (["search", "/dev/zero", "--layout", "taillard"], "pfs: input too long\n"),
     ([*LONG, "--start", "/dev/zero"], "pfs: order file too long\n"),
+    *(([*LONG, "--state", path], f"pfs: {path}: not the state of a search: longer than 67,108,864 bytes\n")
+      for path in ("/dev/full", "/dev/zero", "long")),
 ])
-def test_other_files_without_end(folder: pathlib.Path, words: list[str], error: str) -> None:
+def test_files_without_end(folder: pathlib.Path, words: list[str], error: str) -> None:
     """Less memory is taken than the file would need."""
     with open(folder / "long", "wb") as file:
         file.truncate(67_108_865)
     child = subprocess.run(["prlimit", "--as=4000000000", sys.executable, "-m", "pfs", *words], cwd=folder,
                            env=environment(), capture_output=True, text=True, timeout=60)
     assert (child.returncode, child.stdout, child.stderr) == (2, "", error)
+    assert os.path.getsize(folder / "long") == 67_108_865
 
 
 def test_two_searches_with_one_state(folder: pathlib.Path) -> None:
     first = start([*LONG, "--state", "state"], folder)
-    wait_until(lambda: rounds_in(folder) > 0)
+    wait_until(lambda: rounds_in(folder) > 0, "rounds are made")
     run([*LONG, "--state", "state"], folder, 4, "pfs: state: another search is using this state\n")
     run([*LONG, "--state", "other", "--rounds", "2"], folder)
     assert first.poll() is None, "the second search has ended the first"
@@ -391,18 +375,10 @@ def test_the_state_of_another_instance(folder: pathlib.Path) -> None:
 
 def on_a_terminal(words: list[str], folder: pathlib.Path) -> tuple[str, str]:
     """What goes to standard output, and what to standard error, which is a terminal."""
-    ours, theirs = pty.openpty()
-    child = subprocess.Popen([sys.executable, "-m", "pfs", *words], cwd=folder, env=environment(),
-                             stdin=subprocess.DEVNULL, stdout=subprocess.PIPE, stderr=theirs)
-    os.close(theirs)
-    got, end = b"", time.monotonic() + 60
-    with contextlib.suppress(OSError):
-        while select.select([ours], [], [], end - time.monotonic())[0]:
-            got += os.read(ours, 65536)
-    os.close(ours)
-    printed = child.communicate(timeout=30)[0]
-    assert child.returncode == 0
-    return printed.decode(), got.decode()
+    words = [sys.executable, "-m", "pfs", *words]
+    with open(folder / "printed", "wb") as out, Terminal(words, folder, env=environment(), stdout=out) as terminal:
+        assert terminal.read_all() == 0
+    return (folder / "printed").read_text(), terminal.seen.decode()
 
 
 def test_progress_is_reported_on_a_terminal_only(folder: pathlib.Path) -> None:
@@ -542,11 +518,8 @@ def test_words_that_no_command_takes(folder: pathlib.Path, words: list[str]) -> 
 
 
 def test_a_full_disk(folder: pathlib.Path) -> None:
-    with open("/dev/full", "wb") as full:
-        done = subprocess.run([sys.executable, "-m", "pfs", *LONG, "--rounds", "1", "--state", "state"], cwd=folder,
-                              stdout=full, stderr=subprocess.PIPE, env=environment())
-    assert (done.returncode, done.stderr) == (4, b"pfs: No space left on device\n")
-    assert rounds_in(folder) == 1
+    got = in_shell(f"{' '.join(LONG)} --rounds 1 --state state > /dev/full", folder)
+    assert got == (4, "", "pfs: No space left on device\n") and rounds_in(folder) == 1
 
 
 def in_shell(line: str, folder: pathlib.Path) -> tuple[int, str, str]:
@@ -574,8 +547,7 @@ def test_closed_streams(folder: pathlib.Path, words: str) -> None:
 def test_a_terminal_that_goes_away(folder: pathlib.Path) -> None:
     """Progress isn't shown any more; the search continues."""
     ours, theirs = pty.openpty()
-    child = subprocess.Popen([sys.executable, "-m", "pfs", *LONG, "--seconds", "1", "--state", "state"], cwd=folder,
-                             env=environment(), stdin=subprocess.DEVNULL, stdout=subprocess.PIPE, stderr=theirs)
+    child = start([*LONG, "--seconds", "1", "--state", "state"], folder, stderr=theirs)
     os.close(theirs)
     os.read(ours, 10)
     os.close(ours)
@@ -794,7 +766,8 @@ def test_pages_and_searches_need_no_other_package(folder: pathlib.Path) -> None:
         (folder / "without" / name).mkdir(parents=True)
         (folder / "without" / name / "__init__.py").write_text(f"raise ImportError('no {name}')\n")
     words = ["plan", "times.csv", "--rounds", "1", "--schedule", "out.csv", "--chart", "page.html"]
-    child = start(words, folder, environment(folder / "without"))
+    env = environment()
+    child = start(words, folder, env | {"PYTHONPATH": f"{folder / 'without'}:{env['PYTHONPATH']}"})
     printed, got = child.communicate(timeout=60)
     assert child.returncode == 0, f"a plan with a page needs an optional package: {got.decode()}"
     assert printed.startswith(b"makespan ") and (folder / "page.html").stat().st_size > 0
@@ -843,7 +816,7 @@ def test_a_state_that_cant_be_written_loses_no_order(folder: pathlib.Path) -> No
     # Later, when some rounds are done.
     (folder / "kept").mkdir()
     child = start([*LONG, "--state", "kept/state"], folder)
-    wait_until(lambda: rounds_in(folder / "kept") > 20)
+    wait_until(lambda: rounds_in(folder / "kept") > 20, "rounds are made")
     (folder / "kept").rename(folder / "moved")
     printed, got = child.communicate(timeout=60)
     assert child.returncode == 4 and got.count(b"\n") == 1, got
@@ -902,7 +875,7 @@ def test_a_plan_that_is_interrupted(folder: pathlib.Path) -> None:
     text = "\n".join(",".join(row) for row in [["job", *(f"machine {at}" for at in range(10))], *rows])
     (folder / "times.csv").write_text(text + "\n")
     child = start(["plan", "times.csv", "--seconds", "100", "--schedule", "out.csv"], folder)
-    wait_until(lambda: catches(child.pid, signal.SIGTERM))
+    wait_until(lambda: catches(child.pid, signal.SIGTERM), "the search handles the signal")
     time.sleep(0.5)
     child.send_signal(signal.SIGTERM)
     printed, got = child.communicate(timeout=30)

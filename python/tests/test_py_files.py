@@ -12,6 +12,7 @@ import plainly
 import pytest
 from hypothesis import given
 from hypothesis import strategies as st
+from plainly import written
 
 TITLE = "number of jobs, number of machines, initial seed, upper bound and lower bound :\n"
 THREE = TITLE + "3 2 7 9 8\nprocessing times :\n3 2 4\n2 5 1\n"
@@ -35,11 +36,6 @@ BAD_ORDERS = {
     "a job twice": ("order 3\n2 2 3\nmakespan 10\n", "job repeated", 2, "pfs: order file job repeated at place 2"),
     "a long file": ("o" * 65537, "order file too long", 0, "pfs: order file too long"),
 }
-
-
-def written(folder: pathlib.Path, text: str, name: str = "file") -> pathlib.Path:
-    (folder / name).write_bytes(text.encode())
-    return folder / name
 
 
 @pytest.mark.parametrize(("text", "layout", "notes"), [(THREE, "taillard", (7, 9, 8)),

@@ -2,10 +2,10 @@
 import pathlib
 import re
 import subprocess
-import sys
 
+import plainly
 import pytest
-from pfs import _commands, _library
+from pfs import _commands
 
 TOP = pathlib.Path(__file__).resolve().parents[2]
 PAGE = (TOP / "python" / "pfs-plan.1").read_text()
@@ -16,8 +16,7 @@ CALL = "import sys; sys.argv[0] = 'pfs-plan'; from pfs._commands import plan_pro
 
 def run(folder: pathlib.Path, *words: str) -> subprocess.CompletedProcess[str]:
     (folder / "times.csv").write_text(TABLE)
-    env = {"PYTHONPATH": ":".join(sys.path), "PFS_LIBRARY": str(_library.PATH), "COLUMNS": "200"}
-    return subprocess.run([sys.executable, "-c", CALL, *words], cwd=folder, env=env, capture_output=True, text=True)
+    return plainly.python("-c", CALL, *words, cwd=folder, COLUMNS="200")
 
 
 def options_of_usage(folder: pathlib.Path) -> dict[str, str]:
@@ -41,10 +40,8 @@ def test_no_module_is_imported_from_the_current_folder(words: list[str], tmp_pat
     for name in ("csv", "numpy", "argparse", *(["pfs"] if "-m" not in words else [])):
         (tmp_path / f"{name}.py").write_text("raise SystemExit('another module')\n")
     (tmp_path / "times.csv").write_text(TABLE)
-    env = {"PYTHONPATH": ":".join(filter(None, sys.path)), "PFS_LIBRARY": str(_library.PATH)}
     own = [] if "-m" in words else ["-P"]
-    done = subprocess.run([sys.executable, *own, *words, "times.csv"], cwd=tmp_path, env=env, capture_output=True,
-                          text=True)
+    done = plainly.python(*own, *words, "times.csv", cwd=tmp_path)
     assert (done.returncode, done.stdout.splitlines()[:1]) == (0, ["makespan 9 min"]), done.stderr
 
 
@@ -62,10 +59,10 @@ def test_settings_of_matplotlib_in_the_current_folder_change_no_picture(tmp_path
     pytest.importorskip("matplotlib")
     (tmp_path / "times.csv").write_text(TABLE)
     (tmp_path / "table").write_text("table 1 1\n1 0 5\nmakespan 5\n")
-    env, made = {"PYTHONPATH": ":".join(sys.path), "PFS_LIBRARY": str(_library.PATH)}, set()
+    made = set()
     for text in ("", "figure.facecolor: red\n"):
         (tmp_path / "matplotlibrc").write_text(text)
-        subprocess.run([sys.executable, *words], cwd=tmp_path, env=env, check=True, capture_output=True)
+        assert plainly.python(*words, cwd=tmp_path).returncode == 0
         made.add((tmp_path / "made.png").read_bytes())
     assert len(made) == 1
 

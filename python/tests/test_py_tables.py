@@ -10,6 +10,7 @@ import pfs
 import pytest
 from hypothesis import given
 from hypothesis import strategies as st
+from plainly import written
 
 MISSING = "the time is missing: write 0 where a job skips a machine (it still waits there for its turn)"
 SAVE_AS = "save it as CSV UTF-8 (Excel), or as CSV with the character set Unicode (UTF-8) (LibreOffice)"
@@ -175,11 +176,6 @@ RIGHT_TABLES = {
     "titles": ("Plan, week 48\nof the workshop;;\njob;saw;drill\na;3;2\nb;1;4\n", [[3, 2], [1, 4]]),
     "hours and minutes": ("job;saw;drill\na;1:30;0:05\n", [[90, 5]]),
 }
-
-
-def written(folder: pathlib.Path, text: str, name: str = "file") -> pathlib.Path:
-    (folder / name).write_bytes(text.encode())
-    return folder / name
 
 
 @pytest.mark.parametrize("case", TABLES)

@@ -162,6 +162,10 @@ class Experiment(NamedTuple):
                 found |= {path.name} if path.name.isdigit() and path.read_text().endswith(",ok\n") else set()
         return found
 
+    def written(self) -> dict[str, int]:
+        """When each result was written."""
+        return {path.name: path.stat().st_mtime_ns for path in (self.runs / "results").iterdir()}
+
     def left(self) -> list[str]:
         """The processes that starts have left in the folder of the runs."""
         found = []

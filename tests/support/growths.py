@@ -3,6 +3,7 @@ import os
 import pathlib
 import subprocess
 
+import pytest
 from support.needs import tool
 from support.program import Program, Ran, Words
 
@@ -36,3 +37,8 @@ class Shim:
         os.close(write_end)
         with open(read_end, "rb") as file:
             return ran, file.read()
+
+
+@pytest.fixture(scope="session")
+def shim(tmp_path_factory: pytest.TempPathFactory) -> Shim:
+    return Shim(tmp_path_factory.mktemp("shim"))

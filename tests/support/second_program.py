@@ -32,10 +32,6 @@ UNREADABLE = None
 DIGITS = re.compile(rb"[0-9]+")
 DIGIT = re.compile(rb"[0-9]")
 WORD_BYTE = re.compile(rb"[^0-9 \t\r]")
-# The first word of an order file, for each version, and the greatest value of each number after it; the least is 1.
-FIRST_LINES = {b"order": [MOST_JOBS], b"order2": [MOST_JOBS, MOST_MACHINES]}
-JOB = re.compile(rb"0|[1-9][0-9]{0,8}")
-MAKESPAN = re.compile(rb"0|[1-9][0-9]{0,17}")
 
 
 class Stop(Exception):
@@ -156,6 +152,13 @@ class Instance:
         return sum(row[job] for row in self.times)
 
 
+def instance_of(times: Sequence[Sequence[int]]) -> Instance:
+    """The instance of these times, job by job."""
+    shop = Instance(len(times), len(times[0]), [0, 0, 0])
+    shop.times = [list(row) for row in zip(*times)]
+    return shop
+
+
 class Body:
     """The numbers of a block that have been read, of those that are due."""
 
@@ -259,6 +262,20 @@ def read_line(body: Body, line: bytes, offset: int, ends: bool) -> bool:
 
 # Order files
 
+# What may stand for each number of a line.
+Numbers = list[Callable[[bytes], object]]
+
+
+def up_to(most: int) -> Callable[[bytes], object]:
+    return lambda digits: re.fullmatch(rb"[1-9][0-9]{0,3}", digits) and int(digits) <= most
+
+
+JOB = re.compile(rb"0|[1-9][0-9]{0,8}").fullmatch
+MAKESPAN = re.compile(rb"0|[1-9][0-9]{0,17}").fullmatch
+FIRST_LINES: dict[bytes, Numbers] = {b"order ": [up_to(MOST_JOBS)],
+                                     b"order2 ": [up_to(MOST_JOBS), up_to(MOST_MACHINES)]}
+
+
 def read_order(text: Contents) -> tuple[list[int], int | None, int]:
     """The jobs of an order file, counted from 1, the machines, if it states them, and the makespan that it states."""
     if text is None:
@@ -276,7 +293,7 @@ def read_order(text: Contents) -> tuple[list[int], int | None, int]:
         if job in seen:
             raise refused(b"order file job repeated at place %d", place)
         seen.add(job)
-    _, *machines = first_line(parts[0])
+    machines = [int(number) for number in parts[0].split(b" ")[2:]]
     return jobs, machines[0] if machines else None, int(parts[2].removeprefix(b"makespan "))
 
 
@@ -294,50 +311,28 @@ def longest_front(text: bytes) -> int:
 
 def can_be_completed(front: bytes) -> bool:
     """Whether a text of the grammar begins with these bytes."""
+    size = re.match(rb"\w+ ([0-9]{1,4})[ \n]", front)
+    rest: list[tuple[bytes, Numbers]] = [
+        (b"", [JOB] * int(size[1] if size else 0)), (b"makespan ", [MAKESPAN]), (b"", [])]
+    return any(begins_lines(front, [first, *rest]) for first in FIRST_LINES.items())
+
+
+def begins_lines(front: bytes, lines: list[tuple[bytes, Numbers]]) -> bool:
+    """Whether a text of these lines, each a name and numbers, begins so."""
     *ended, last = front.split(b"\n")
-    if len(ended) > 3 or (len(ended) == 3 and last != b""):
-        return False
-    if len(ended) == 0:
-        return any(begins_first_line(last, name + b" ", limits) for name, limits in FIRST_LINES.items())
-    sizes = first_line(ended[0])
-    if not sizes:
-        return False
-    size = sizes[0]
-    if len(ended) == 1:
-        *jobs, last_job = last.split(b" ")
-        return len(jobs) < size and all(map(JOB.fullmatch, jobs)) and bool(last_job == b"" or JOB.fullmatch(last_job))
-    jobs = ended[1].split(b" ")
-    if len(jobs) != size or not all(map(JOB.fullmatch, jobs)):
-        return False
-    if len(ended) == 2:
-        return begins_named(last, b"makespan ", MAKESPAN.fullmatch)
-    return ended[2].startswith(b"makespan ") and bool(MAKESPAN.fullmatch(ended[2][9:]))
+    return (len(ended) < len(lines) and all(is_line(line, *due) for line, due in zip(ended, lines))
+            and begins_line(last, *lines[len(ended)]))
 
 
-def begins_named(line: bytes, name: bytes, is_numeral: Callable[[bytes], object]) -> bool:
-    """Whether a line of this name and a numeral begins so."""
-    return name.startswith(line) or (line.startswith(name) and bool(is_numeral(line[len(name):])))
+def is_line(line: bytes, name: bytes, numbers: Numbers) -> bool:
+    words = line.removeprefix(name).split(b" ")
+    return (line.startswith(name) and len(words) == len(numbers)
+            and all(is_one(word) for is_one, word in zip(numbers, words)))
 
 
-def first_line(line: bytes) -> list[int]:
-    """The numbers of a whole first line; a line that is none has none."""
-    name, *words = line.split(b" ")
-    limits = FIRST_LINES.get(name, [])
-    is_one = len(words) == len(limits) and all(map(is_size, words, limits))
-    return list(map(int, words)) if is_one else []
-
-
-def begins_first_line(line: bytes, name: bytes, limits: list[int]) -> bool:
-    """Whether a line of this name and of as many numbers as there are limits begins so."""
-    if name.startswith(line):
-        return True
-    *ended, last = line[len(name):].split(b" ")
-    return (line.startswith(name) and len(ended) < len(limits) and all(map(is_size, ended, limits))
-            and (last == b"" or is_size(last, limits[len(ended)])))
-
-
-def is_size(digits: bytes, most: int) -> bool:
-    return bool(re.fullmatch(rb"[1-9][0-9]{0,3}", digits)) and int(digits) <= most
+def begins_line(line: bytes, name: bytes, numbers: Numbers) -> bool:
+    whole = line + b"1" if line.endswith(b" ") else line
+    return name.startswith(line) or is_line(whole, name, numbers[:whole.count(b" ") - name.count(b" ") + 1])
 
 
 # Orders, whose jobs count from 0
@@ -356,6 +351,12 @@ def ends_of(shop: Instance, order: Sequence[int]) -> list[list[int]]:
         rows.append(ends)
         before = ends
     return rows
+
+
+def spans_of(shop: Instance, order: Sequence[int]) -> list[list[tuple[int, int]]]:
+    """Start and end of each operation, by place and machine."""
+    return [[(end - row[job], end) for row, end in zip(shop.times, ends)]
+            for job, ends in zip(order, ends_of(shop, order))]
 
 
 def makespan(shop: Instance, order: Sequence[int]) -> int:
@@ -513,8 +514,7 @@ def tabled(shop: Instance, jobs: list[int], machines: int | None) -> tuple[bytes
         return wrong, 1
     order = [job - 1 for job in jobs]
     text = b"table %d %d\n" % (shop.jobs, shop.machines)
-    for job, ends in zip(order, ends_of(shop, order)):
-        spans = [(end - shop.times[machine][job], end) for machine, end in enumerate(ends)]
+    for job, spans in zip(order, spans_of(shop, order)):
         text += numbers([job + 1] + [it for span in spans for it in span])
     return text + b"makespan %d\n" % makespan(shop, order), 0
 

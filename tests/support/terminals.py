@@ -18,8 +18,8 @@ class Terminal:
     def __init__(self, words: Sequence[str], cwd: pathlib.Path, **how: Any) -> None:
         self.end, other = pty.openpty()
         self.seen = b""
-        self.process = subprocess.Popen(words, cwd=cwd, stdin=other, stdout=other, stderr=other, start_new_session=True,
-                                        **how)
+        how = {"stdin": other, "stdout": other, "stderr": other} | how
+        self.process = subprocess.Popen(words, cwd=cwd, start_new_session=True, **how)
         os.close(other)
 
     def __enter__(self) -> "Terminal":
