@@ -10,7 +10,7 @@ _pfs() {
         --*=*) start=${cur%%=*}= prev=${cur%%=*} cur=${cur#*=} ;;
     esac
     [ "$prev" != = ] || prev=${COMP_WORDS[COMP_CWORD - 2]}
-    ((COMP_CWORD == 1)) || command=${COMP_WORDS[1]}
+    ((COMP_CWORD == 1)) || [[ ${COMP_WORDS[1]} == -* ]] || command=${COMP_WORDS[1]}
     usage=$("$1" ${command:+"$command"} --help 2>&1 | sed -n '/^usage: \|^pfs: usage$/,$p')
     case $1 in
         pfs | */pfs) usage=$(grep "^pfs $command" <<< "$usage") ;;

@@ -417,22 +417,22 @@ def test_a_plan_on_the_calendar(tmp_path: pathlib.Path, monkeypatch: pytest.Monk
 
 @pytest.mark.parametrize(("words", "table", "error"), [
     (["--begin", "tomorrow"], TABLE,
-     "argument --begin: 'tomorrow' is not a local date and time such as 2026-11-30T06:00\n"),
+     "argument --begin: 'tomorrow' is not a local date and time such as 2026-11-30T06:00"),
     (["--begin", "2026-11-30T06:00", "--shift", "6-14"], TABLE,
-     "argument --shift: '6-14' is not a shift such as 06:00-14:00\n"),
+     "argument --shift: '6-14' is not a shift such as 06:00-14:00"),
     (["--begin", "2026-11-30T06:00", "--days", "mo-fr"], TABLE,
-     "argument --days: 'mo-fr' is not a day of the week such as mon, or days such as mon-fri\n"),
-    (["--shift", "06:00-14:00"], TABLE, "pfs: --shift needs --begin, which says when the work begins\n"),
-    (["--days", "mon-fri"], TABLE, "pfs: --days needs --begin, which says when the work begins\n"),
+     "argument --days: 'mo-fr' is not a day of the week such as mon, or days such as mon-fri"),
+    (["--shift", "06:00-14:00"], TABLE, "--shift needs --begin, which says when the work begins"),
+    (["--days", "mon-fri"], TABLE, "--days needs --begin, which says when the work begins"),
     (["--begin", "2026-11-30T06:00", "--shift", "06:00-14:00", "--shift", "13:00-20:00"], TABLE,
-     "pfs: shifts overlap on Mon 2026-11-30 at 13:00\n"),
+     "shifts overlap on Mon 2026-11-30 at 13:00"),
     (["--begin", "2026-11-30T06:00", "--closed", "24.12."], TABLE, "argument --closed: '24.12.' is not a date such as "
-     "2026-12-24, or dates such as 2026-12-24..2027-01-01\n"),
-    (["--closed", "2026-12-24"], TABLE, "pfs: --closed needs --begin, which says when the work begins\n"),
+     "2026-12-24, or dates such as 2026-12-24..2027-01-01"),
+    (["--closed", "2026-12-24"], TABLE, "--closed needs --begin, which says when the work begins"),
     (["--begin", "2026-11-30T06:00"], TABLE.replace(" [min]", ""),
-     f"pfs: the times have no unit, {NEEDED}--unit\n"),
+     f"the times have no unit, {NEEDED}--unit"),
     (["--begin", "2026-11-30T06:00", "--days", "mon-fri", "--unit", "days"], TABLE.replace(" [min]", ""),
-     "pfs: a day of work may be 24 hours or the shifts of a day: write the times in hours\n"),
+     "a day of work may be 24 hours or the shifts of a day: write the times in hours"),
 ])
 def test_calendars_that_the_command_rejects(tmp_path: pathlib.Path, monkeypatch: pytest.MonkeyPatch, words: list[str],
                                             table: str, error: str, capsys: pytest.CaptureFixture[str]) -> None:
@@ -443,7 +443,8 @@ def test_calendars_that_the_command_rejects(tmp_path: pathlib.Path, monkeypatch:
     except SystemExit as end:
         status = int(str(end.code))
     seen = capsys.readouterr()
-    assert (status, seen.out) == (3, "") and seen.err.endswith(error), seen.err
+    assert (status, seen.out) == (3, "") and seen.err.startswith(f"pfs: {error}"), seen.err
+    assert seen.err.count("\n") == 1, seen.err
     assert not (tmp_path / "out.csv").exists()
 
 

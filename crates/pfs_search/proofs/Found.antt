@@ -1,5 +1,5 @@
 -- The result and the count of a search, and of some of its rounds from a given order.
-use Rattle.std.proofs.Common.{◌≡◌, ℕ, ◌+◌, ◌-◌, ◌*◌, ◌<◌, ◌≤◌, ◌^◌, List, length, refl, ap, ap₂, ◌∙◌, arith, lit<}
+use Rattle.std.proofs.Common.{◌≡◌, ℕ, ◌+◌, ◌-◌, ◌*◌, ◌<◌, ◌≤◌, ◌^◌, List, length, refl, ap, ◌∙◌, arith, lit<}
 use Rattle.std.proofs.Math.Nat.{mul-le-mul, mul-le-mul_left, zero-add}
 use Rattle.rand_core.specs.Pcg32Seed.{pcg32_seed}
 use Rattle.rand_core.specs.Steps.{stream_of, steps_u32}
@@ -19,7 +19,7 @@ use Rattle.pfs_search.specs.MostCells.{most_neh_cells, most_rounds_cells, FewNeh
 use Rattle.pfs_search.specs.Neh.{neh_order}
 use Rattle.pfs_search.specs.Solution.{neh_cells, rounds_cells, searched, improved, IsFound, IsImproved, IsNeh}
 use Rattle.pfs_search.specs.Solution.{JoinedPartsLaw, LongerSearchLaw}
-use Rattle.pfs_search.proofs.Parts.{words_are, words_after_are, parts_law, searched_law}
+use Rattle.pfs_search.proofs.Parts.{words_after_are, parts_law, searched_law}
 use Rattle.pfs_search.proofs.Published.CostSums.{costs_law}
 
 -- ---- cells

@@ -1,4 +1,4 @@
-use Rattle.std.proofs.Common.{◌≤◌, length, subst, sym, arith}
+use Rattle.std.proofs.Common.{subst, sym, arith}
 use Rattle.pfs_order.specs.Sequence.{Sequence, IsSequence}
 use Rattle.pfs_order.proofs.Published.Sequences.{length-le-size}
 use Rattle.pfs_order.proofs.seq.Seq.set.Goals as goal
