@@ -84,25 +84,24 @@ def test_the_version_is_printed(tmp_path: pathlib.Path, capsys: pytest.CaptureFi
 
 # A table that is rejected, options, and what is said of it: with options, where the package for Python has arguments.
 MESSAGES = [
-    ("job;saw\na;1.000\n", [], 2, "cell B2, column 'saw': '1.000' may be 1000, or have decimals: leave out thousands "
+    ("job;saw\na;1.000\n", [], "cell B2, column 'saw': '1.000' may be 1000, or have decimals: leave out thousands "
      "separators, or say which decimal sign the table has (--decimal point or --decimal comma)"),
-    ("job [min];saw\na;1\n", ["--unit", "h"], 2,
-     "cell A1: the times are in min, and --unit is h: use one unit"),
-    ("job [min];saw\na;1:30\n", [], 2, "cell A1: times such as 1:30 may be hours and minutes, or minutes and "
+    ("job [min];saw\na;1\n", ["--unit", "h"], "cell A1: the times are in min, and --unit is h: use one unit"),
+    ("job [min];saw\na;1:30\n", [], "cell A1: times such as 1:30 may be hours and minutes, or minutes and "
      "seconds: write [h:mm] instead of min, or numbers"),
-    ("job;saw;eta\na;1;soon\n", [], 2, "cell C2, column 'eta': 'soon' isn't a time: leave the column out if it is no "
+    ("job;saw;eta\na;1;soon\n", [], "cell C2, column 'eta': 'soon' isn't a time: leave the column out if it is no "
      "machine, or say which columns are machines (--machines)"),
-    ("job;saw;drill;all\na;1;2;3\nb;3;4;7\n", [], 2, "cell D1: the column 'all' has the sums of the columns "
+    ("job;saw;drill;all\na;1;2;3\nb;3;4;7\n", [], "cell D1: the column 'all' has the sums of the columns "
      "before: leave it out, or allow totals (--allow-totals)"),
 ]
 
 
-@pytest.mark.parametrize(("table", "words", "status", "error"), MESSAGES)
+@pytest.mark.parametrize(("table", "words", "error"), MESSAGES)
 def test_messages_name_options(tmp_path: pathlib.Path, monkeypatch: pytest.MonkeyPatch, table: str, words: list[str],
-                               status: int, error: str, capsys: pytest.CaptureFixture[str]) -> None:
+                               error: str, capsys: pytest.CaptureFixture[str]) -> None:
     monkeypatch.chdir(tmp_path)
     (tmp_path / "times.csv").write_text(table)
-    assert _commands.main(["plan", "times.csv", *words]) == status
+    assert _commands.main(["plan", "times.csv", *words]) == 2
     assert capsys.readouterr() == ("", f"pfs: times.csv: {error}\n")
 
 
