@@ -75,47 +75,69 @@ def lines_for(shops: dict[str, pfs.Instance]) -> list[Line]:
 
 
 class Planted(NamedTuple):
-    """An error: the order, the stated makespan, and the verdict with its reason."""
+    """An error: the text of the order, the stated makespan, and the verdict with its reason."""
 
-    order: list[int]
+    text: str
     stated: int
     verdict: str
     why: str
 
 
 def with_errors(lines: list[Line]) -> dict[int, Planted]:
-    """Return errors by row, most of which another row explains or the reversed order. Rows 0, 4, 8.. are of IG."""
-    _, _, stated, order, _ = lines[0]
-    planted = {0: Planted(order, stated - 100, "wrong makespan", f"states {stated - 100}, takes {stated}")}
-    name, _, stated, order, _ = lines[44]
-    planted[40] = Planted(order, stated, "wrong makespan", f"the order takes {stated} on {name}")
-    _, _, stated, order, _ = lines[57]
-    planted[57] = Planted(order[::-1], stated, "wrong makespan", f"the reversed order takes {stated}")
-    name, _, stated, _, _ = lines[208]
-    planted[204] = Planted(lines[204].order, stated, "wrong makespan", f"{name} is stated to take {stated}")
-    name, _, stated, order, _ = lines[33]
-    why = f"30 jobs, but the instance has 40; the order takes {stated} on {name}"
-    planted[48] = Planted(order, stated, "wrong size", why)
-    _, _, stated, order, _ = lines[218]
-    why = f"job 100 at place 1: the jobs are 0 to 99; job {order[0]} is missing"
-    return planted | {218: Planted([100, *order[1:]], stated, "job out of range", why)}
+    """Return twelve errors by row. Rows 0, 4, 8.. are of IG, 1, 5, 9.. of HGA, 2, 6, 10.. of TSM."""
+    def change(row: int, verdict: str, why: str, numbers: list[int] | None = None, stated: int | None = None) -> None:
+        line, (first, write) = lines[row], METHODS[lines[row].method]
+        text = write([job + first for job in line.order] if numbers is None else numbers)
+        planted[row] = Planted(text, line.stated if stated is None else stated, verdict, why)
+
+    def numbers_of(row: int) -> list[int]:
+        return [job + METHODS[lines[row].method][0] for job in lines[row].order]
+
+    planted: dict[int, Planted] = {}
+    less = lines[0].stated - 100
+    change(0, "wrong makespan", f"states {less}, takes {lines[0].stated}", stated=less)
+    change(191, "wrong makespan", f"states {lines[191].stated + 1}, takes {lines[191].stated}",
+           stated=lines[191].stated + 1)
+    twice = numbers_of(84)
+    change(84, "job twice", f"job {twice[2]} at places 3 and 8; job {twice[7]} is missing", [*twice[:7], twice[2],
+                                                                                          *twice[8:]])
+    from_0 = numbers_of(20)
+    change(20, "job out of range", f"job 0 at place 5: the jobs are 1 to 20; job {from_0[4]} is missing",
+           [*from_0[:4], 0, *from_0[5:]])
+    other = lines[44]
+    change(40, "wrong makespan", f"the order takes {other.stated} on {other.name}", numbers_of(44), other.stated)
+    change(105, "job missing", f"job {numbers_of(105)[-1]} is missing", numbers_of(105)[:-1])
+    change(57, "wrong makespan", f"the reversed order takes {lines[57].stated}", numbers_of(57)[::-1])
+    swapped = numbers_of(61)
+    swapped[0], swapped[-1] = swapped[-1], swapped[0]
+    order = [job - 1 for job in swapped]
+    change(61, "wrong makespan", f"states {lines[61].stated}, takes {makespan(lines[61].shop, order)}", swapped)
+    change(204, "wrong makespan", f"{lines[208].name} is stated to take {lines[208].stated}", stated=lines[208].stated)
+    change(218, "job out of range", f"job 100 at place 1: the jobs are 0 to 99; job {lines[218].order[0]} is missing",
+           [100, *lines[218].order[1:]])
+    change(36, "counted from 0", f"others count from 1; counted from 0, it takes {lines[36].stated}", lines[36].order)
+    other = lines[33]
+    change(48, "wrong size", f"30 jobs, but the instance has 40; the order takes {other.stated} on {other.name}",
+           [job + 1 for job in other.order], other.stated)
+    return planted
 
 
 @pytest.mark.seconds(5)
-def test_a_table_with_errors(tmp_path: pathlib.Path, monkeypatch: pytest.MonkeyPatch,
-                             capsys: pytest.CaptureFixture[str]) -> None:
+def test_a_table_with_twelve_errors(tmp_path: pathlib.Path, monkeypatch: pytest.MonkeyPatch,
+                                    capsys: pytest.CaptureFixture[str]) -> None:
     (tmp_path / "instances").mkdir()
     shops = write_instances(tmp_path / "instances")
     lines = lines_for(shops)
     planted = with_errors(lines)
-    assert len(lines) == 240
+    assert (len(lines), len(planted)) == (240, 12)
     with open(tmp_path / "supplement.csv", "w", newline="") as file:
         writer = csv.writer(file, delimiter=";")
         writer.writerow(["SEQUENCE", "Algorithm", "C_max", "seconds", "Instance"])
         for row, line in enumerate(lines):
             first, write = METHODS[line.method]
-            order, stated = planted[row][:2] if row in planted else (line.order, line.stated)
-            writer.writerow([write([job + first for job in order]), line.method, stated, "", line.name])
+            text, stated = planted[row][:2] if row in planted else (write([job + first for job in line.order]),
+                                                                    line.stated)
+            writer.writerow([text, line.method, stated, "", line.name])
     found = pfs.audit(tmp_path / "supplement.csv", tmp_path / "instances")
     assert [each.row for each in found] == list(range(2, len(lines) + 2))
     wrong = {each.row - 2: each for each in found if not each.valid}
@@ -132,7 +154,7 @@ def test_a_table_with_errors(tmp_path: pathlib.Path, monkeypatch: pytest.MonkeyP
     *printed, last = capsys.readouterr().out.splitlines()
     assert printed == [f"line {each.row}, {each.instance} {each.method}: {each.verdict}: {each.why}"
                        for each in found if not each.valid]
-    assert last.startswith("supplement.csv: 240 orders audited, 234 valid (") and last.endswith(" optimal), 6 wrong")
+    assert last.startswith("supplement.csv: 240 orders audited, 228 valid (") and last.endswith(" optimal), 12 wrong")
     rows = list(csv.reader(open("audited.csv")))
     assert rows == [["line", *pfs.Audited._fields[1:]], *([str(cell) if cell is not None else "" for cell in each]
                                                           for each in found)]
