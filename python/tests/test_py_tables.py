@@ -59,6 +59,8 @@ BAD_TABLES = {
     "a digit of another script": ("job,saw\na,\u0663\n", 2, 2, "'\u0663' isn't a time"),
     "no time": ("job,saw,drill\na,3,\n", 2, 3, MISSING),
     "a short row": ("job,saw,drill\na,3\n", 2, 3, MISSING),
+    "a note below": ("job,saw,drill\na,3,2\nMade by Ann\n", 3, 1,
+                     "the row has no times: leave it out if it is no job, or write 0 where the job skips a machine"),
     "a long row": ("job,saw\na,3,4\n", 1, 3, TITLE),
     "a decimal comma": ('job,saw\na,"3,5"\n', 2, 2, "'3,5' isn't a time"),
     "ten decimals": ("job,saw\na,0.0123456789\n", 2, 2, "'0.0123456789' has more than 9 decimals"),

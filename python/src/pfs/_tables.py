@@ -29,6 +29,7 @@ HOURS = re.compile(r"([0-9]{1,6}):([0-5][0-9])(?::00)?\Z", re.ASCII)
 ZERO = re.compile(r"0(?:[.,]0+)?\Z")
 MISSING = "the time is missing: write 0 where a job skips a machine (it still waits there for its turn)"
 ONE_UNIT = "use one unit"
+EMPTY_ROW = "the row has no times: leave it out if it is no job, or write 0 where the job skips a machine"
 NO_MACHINE = "leave the column out if it is no machine, or say which columns are machines (`machines`)"
 # What isn't a time, and what to write instead.
 HINTS = (
@@ -124,6 +125,9 @@ class Rows:
         """Read each time. Of each column the first cell that isn't one is noted for each cause."""
         times = np.zeros((len(self.jobs), len(self.machines)), dtype=np.int64)
         for at, row in enumerate(self.times()):
+            if not any(cell.text for cell in row):
+                self.report(self.jobs[at], EMPTY_ROW)
+                continue
             for machine, cell in enumerate(row):
                 try:
                     times[at, machine] = read(cell)
