@@ -334,7 +334,7 @@ choice.dispatchEvent(new Event("change"));
 document.body.style.width = `${130 + 60 * days.length}px`;
 seen.days = drawnBy(draw).texts.filter(text => text.y < TOP).map(text => text.text);
 document.body.style.width = "160px";
-const range = document.createRange(), cells = [...document.querySelectorAll(".number")];
+const range = document.createRange(), cells = [...document.querySelectorAll("#lists th, #lists td")];
 seen.lines = cells.filter(cell => !cell.textContent.includes(" ")).map(cell => {
   range.selectNodeContents(cell);
   return range.getClientRects().length;
@@ -366,7 +366,7 @@ def test_a_page_has_the_dates_of_the_schedule(chromium: str, tmp_path: pathlib.P
     due = [f"job {job}\nmachine {machine}\nstart {start}\nend {end}" for each in by_machine
            for job, machine, start, end in each]
     assert [tip for tip in seen["tips"] if tip] == [text for text in due if " 0\n" not in text and not is_empty(text)]
-    assert set(seen["lines"]) == {1}, "a time is broken where a list is narrow"
+    assert set(seen["lines"]) == {1}, "a word is broken where a list is narrow"
     assert all(re.fullmatch(r"\w{3}( (\d{4}-)?\d\d-\d\d)?", day) for day in seen["days"]), seen["days"]
     marks = [text for text in seen["scale"] if re.fullmatch(r"\w{3} \d{4}-\d\d-\d\d", text["text"])]
     assert all(after["x"] - before["x"] > 95 for before, after in zip(marks, marks[1:])), "dates overlap"
