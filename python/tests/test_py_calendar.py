@@ -329,6 +329,16 @@ for (let machine = 0; machine < machines; ++machine) {
   const rows = [...lists[machine].querySelectorAll("tbody tr")];
   seen.lists.push(rows.map(row => [...row.cells].map(cell => cell.textContent)));
 }
+choice.value = "all";
+choice.dispatchEvent(new Event("change"));
+document.body.style.width = `${130 + 60 * days.length}px`;
+seen.days = drawnBy(draw).texts.filter(text => text.y < TOP).map(text => text.text);
+document.body.style.width = "160px";
+const range = document.createRange(), cells = [...document.querySelectorAll("#lists th, #lists td")];
+seen.lines = cells.filter(cell => !cell.textContent.includes(" ")).map(cell => {
+  range.selectNodeContents(cell);
+  return range.getClientRects().length;
+});
 tell(seen);
 """
 PAGES: dict[str, tuple[str, dict[str, Any], str]] = {
@@ -356,7 +366,11 @@ def test_a_page_has_the_dates_of_the_schedule(chromium: str, tmp_path: pathlib.P
     due = [f"job {job}\nmachine {machine}\nstart {start}\nend {end}" for each in by_machine
            for job, machine, start, end in each]
     assert [tip for tip in seen["tips"] if tip] == [text for text in due if " 0\n" not in text and not is_empty(text)]
-    dates = [text["text"] for text in seen["scale"] if re.fullmatch(r"\w{3} \d{4}-\d\d-\d\d", text["text"])]
+    assert set(seen["lines"]) == {1}, "a word is broken where a list is narrow"
+    assert all(re.fullmatch(r"\w{3}( (\d{4}-)?\d\d-\d\d)?", day) for day in seen["days"]), seen["days"]
+    marks = [text for text in seen["scale"] if re.fullmatch(r"\w{3} \d{4}-\d\d-\d\d", text["text"])]
+    assert all(after["x"] - before["x"] > 95 for before, after in zip(marks, marks[1:])), "dates overlap"
+    dates = [text["text"] for text in marks]
     days = [datetime.date.fromisoformat(text[4:]) for text in dates]
     assert days and days == sorted(set(days)), "each date once, from left to right"
     assert dates[0] == with_day(rows[0][2][:10]) and dates == [with_day(str(day)) for day in days]

@@ -60,6 +60,8 @@ BAD_TABLES = {
     "a digit of another script": ("job,saw\na,\u0663\n", 2, 2, "'\u0663' isn't a time"),
     "no time": ("job,saw,drill\na,3,\n", 2, 3, MISSING),
     "a short row": ("job,saw,drill\na,3\n", 2, 3, MISSING),
+    "a note below": ("job,saw,drill\na,3,2\nMade by Ann\n", 3, 1,
+                     "the row has no times: leave it out if it is no job, or write 0 where the job skips a machine"),
     "a long row": ("job,saw\na,3,4\n", 1, 3, TITLE),
     "a decimal comma": ('job,saw\na,"3,5"\n', 2, 2, "'3,5' isn't a time"),
     "ten decimals": ("job,saw\na,0.0123456789\n", 2, 2, "'0.0123456789' has more than 9 decimals"),
@@ -155,8 +157,10 @@ RIGHT_TABLES = {
     "one job": ("job;saw;drill;paint\na;1;2;3\n", [[1, 2, 3]]),
     "no work": ("job;saw;drill;paint\na;0;0;0\nb;0;0;0\nc;0;0;0\n", [[0, 0, 0]] * 3),
     "names that begin like a total": ("job;saw;Summer\na;1;2\nMeansteel;3;4\nTotally;4;7\n", [[1, 2], [3, 4], [4, 7]]),
-    "numbers of orders below a usual name": ("Auftrags-Nr.;saw;drill\n4711;3;12\n4713;20;5\n", [[3, 12], [20, 5]]),
-    "numbers of orders in the US": ("Job #,saw,drill\n4711,3,12\n4713,20,5\n", [[3, 12], [20, 5]]),
+    "numbers of orders below a usual name": ("Fertigungsauftrags-Nr.;saw;drill\n4711;3;12\n4713;20;5\n",
+                                             [[3, 12], [20, 5]]),
+    "numbers of orders in the US": ("Work order #,saw,drill\n4711,3,12\n4713,20,5\n", [[3, 12], [20, 5]]),
+    "numbers of orders in France": ("N\u00b0 OF;saw;drill\n4711;3;12\n4713;20;5\n", [[3, 12], [20, 5]]),
     "a date beside the title": ("Plan;;30.11.2026\nAuftrag;saw;drill\na;3;2\n", [[3, 2]]),
     "a title above some machines": ("Week;;minutes;;\nOF;saw;drill;paint\na;3;2;1\n", [[3, 2, 1]]),
     "empty columns": ("job;saw;;drill;\na;3;;2;\n", [[3, 2]]),
@@ -324,7 +328,7 @@ def test_other_encodings_are_rejected(tmp_path: pathlib.Path) -> None:
 
 # A table as a shop has it, saved by Excel in Germany.
 MESSY = """Wochenplan KW 49;;;Stand: 27.11.2026;;;;
-Auftrag [min];Kunde;Menge;S\u00e4gen;Drehen;Fr\u00e4sen;Termin;Bemerkung
+Auftrag;Kunde;Menge;S\u00e4gen [min];Drehen [min];Fr\u00e4sen [min];Termin;Bemerkung
 A-1001 Welle;Meyer;10;12,5;30;0;04.12.2026;
 A-1002 Flansch;Schmidt;5;8;1.250,5;;05.12.2026;eilig
 Summe;;15;20,5;1280,5;0;;
@@ -337,7 +341,8 @@ def test_all_faults_of_a_table_are_reported_at_once(tmp_path: pathlib.Path) -> N
         pfs.read_csv(tmp_path / "file")
     faults = [fault.value, *fault.value.others]
     assert [(each.line, each.column, each.head) for each in faults] == [
-        (2, 0, ""), (2, 3, ""), (3, 2, "Kunde"), (3, 7, "Termin"), (4, 5, "Drehen"), (4, 6, "Fr\u00e4sen"),
+        (2, 0, ""), (2, 3, ""), (3, 2, "Kunde"), (3, 7, "Termin"), (4, 5, "Drehen [min]"),
+        (4, 6, "Fr\u00e4sen [min]"),
         (4, 8, "Bemerkung"), (5, 1, "")]
     assert str(fault.value).split("\n")[2] == f"{tmp_path / 'file'}: cell B3, column 'Kunde': 'Meyer' isn't a time: " \
                                               f"{NO_MACHINE} (and 1 more cell of the column)"
@@ -363,8 +368,9 @@ def test_columns_that_are_machines(tmp_path: pathlib.Path) -> None:
     assert pfs.read_csv(units, machines=["qty"], unit="min").times.tolist() == [[3]], "it was chosen"
     with pytest.raises(pfs.TableFault) as fault:
         pfs.read_csv(path, machines=["Drehen", "Bohren"])
-    assert (fault.value.line, fault.value.text) == (2, "no column is named 'Bohren': this row has Kunde, Menge, "
-                                                    "S\u00e4gen, Drehen, Fr\u00e4sen, Termin, Bemerkung (`machines`)")
+    assert (fault.value.line, fault.value.text) == (
+        2, "no column is named 'Bohren': this row has Kunde, Menge, S\u00e4gen [min], Drehen [min], Fr\u00e4sen [min], "
+        "Termin, Bemerkung (`machines`)")
 
 
 def test_workbooks(tmp_path: pathlib.Path) -> None:

@@ -28,6 +28,8 @@ NUMBER = re.compile(r"([0-9]{1,20})(?:([.,])([0-9]{1,20}))?\Z", re.ASCII)
 HOURS = re.compile(r"([0-9]{1,6}):([0-5][0-9])(?::00)?\Z", re.ASCII)
 ZERO = re.compile(r"0(?:[.,]0+)?\Z")
 MISSING = "the time is missing: write 0 where a job skips a machine (it still waits there for its turn)"
+ONE_UNIT = "use one unit"
+EMPTY_ROW = "the row has no times: leave it out if it is no job, or write 0 where the job skips a machine"
 NO_MACHINE = "leave the column out if it is no machine, or say which columns are machines (`machines`)"
 # What isn't a time, and what to write instead.
 HINTS = (
@@ -50,8 +52,9 @@ QUANTITIES = (r"|menge|anzahl|st(?:\u00fc|ue)ck(?:zahl)?|stk|quantity|qty|pieces
 NO_JOB = re.compile(rf"(?:{TOTALS})(?!\w)", re.IGNORECASE)
 NO_TIMES = re.compile(rf"(?:{TOTALS}{QUANTITIES})(?!\w)", re.IGNORECASE)
 # The first cell of a table in which the names may be numbers.
-SAYS_JOB = re.compile(r"(?:(?:jobs?|orders?|auftr(?:ag|\u00e4ge)s?|fa|of|ordres?|commandes?|pedidos?|ordin[ei]|parts?"
-                      r"|lots?|los|teile?|artikel|items?|pos(?:ition)?|id|nr|no|number|nummer|num\u00e9ro)"
+SAYS_JOB = re.compile(r"(?:(?:jobs?|(?:work)?orders?|wo(?:rk)?|(?:fertigungs)?auftr(?:ag|\u00e4ge)s?|fa|of|ordres?"
+                      r"|commandes?|pedidos?|ordin[ei]|parts?|lots?|los|teile?|artikel|items?|pos(?:ition)?|id|nr|no"
+                      r"|n(?=\u00b0)|number|nummer|num\u00e9ro)"
                       r"[\s.#\u00b0_:-]*)*\Z", re.IGNORECASE)
 # The first cell of a table whose rows are machines.
 SAYS_MACHINE = re.compile(r"(?:machines?|maschinen?|m\u00e1quinas?|macchin[ae])\b", re.IGNORECASE)
@@ -122,6 +125,9 @@ class Rows:
         """Read each time. Of each column the first cell that isn't one is noted for each cause."""
         times = np.zeros((len(self.jobs), len(self.machines)), dtype=np.int64)
         for at, row in enumerate(self.times()):
+            if not any(cell.text for cell in row):
+                self.report(self.jobs[at], EMPTY_ROW)
+                continue
             for machine, cell in enumerate(row):
                 try:
                     times[at, machine] = read(cell)
@@ -133,8 +139,8 @@ class Rows:
 
     def check(self) -> None:
         """Raise the faults that were found, if there are any, in the order of their cells."""
-        faults = list(self.faults)
         others = {column for column, cause in self.wrong if NO_MACHINE in cause}
+        faults = [fault for fault in self.faults if fault.column not in others or ONE_UNIT not in fault.text]
         for (column, cause), (fault, count) in self.wrong.items():
             if column not in others or NO_MACHINE in cause:
                 more = f" (and {counted(count - 1, 'more cell')} of the column)" if count > 1 else ""
@@ -422,7 +428,7 @@ def without_units(table: Rows, unit: str) -> tuple[list[Cell], str]:
     """The names of the machines without a unit that they all have, and the unit of the table."""
     first = unit_in(table.corner.text)
     if unit and seconds_in(first) and not is_same_unit(unit, first):
-        table.report(table.corner, f"the times are in {first}, and `unit` is {unit}: use one unit")
+        table.report(table.corner, f"the times are in {first}, and `unit` is {unit}: {ONE_UNIT}")
     named = unit or first
     units = [own if seconds_in(own := unit_in(head.text)) else "" for head in table.machines]
     if not any(units):
@@ -432,8 +438,7 @@ def without_units(table: Rows, unit: str) -> tuple[list[Cell], str]:
         if not is_same_unit(own, expected) and (own or not named):
             others = "`unit` is" if unit else "others are in"
             name = UNIT.sub("", head.text).rstrip()
-            table.report(head, f"the times of {name!r} are in {own or 'no unit'}, and {others} {expected}: use "
-                               "one unit")
+            table.report(head, f"the times of {name!r} are in {own or 'no unit'}, and {others} {expected}: {ONE_UNIT}")
     return [head._replace(text=UNIT.sub("", head.text).rstrip() if own else head.text)
             for head, own in zip(table.machines, units)], expected
 
