@@ -39,8 +39,9 @@ def test_many_orders_and_places_cost_little_more_than_the_library() -> None:
         (1.25, 1, lambda: shop.makespans(orders), lambda: shop._call("pfs_makespans", *words)),
         (1.8, 50, lambda: shop.places(others, 0), lambda: shop.best_place(others, 0))]
     for most, number, *both in calls:
-        took, base = (min(timeit.repeat(call, number=number, repeat=500)) for call in both)
-        assert took < most * base, f"{took / number * 1e6:.2f} and {base / number * 1e6:.2f} microseconds"
+        # The least of ten ratios, since other programs run too.
+        turns = ([min(timeit.repeat(call, number=number, repeat=50)) for call in both] for _ in range(10))
+        assert (ratio := min(took / base for took, base in turns)) < most, f"{ratio:.2f} times as long"
 
 
 COMPARED = """

@@ -12,26 +12,69 @@ use crate::tails::fill_tails;
 use pfs_base::{Bench, Length};
 use pfs_order::Seq;
 use std::alloc::Global;
-use std::marker::Model;
+use std::marker::{Model, PhantomData};
 
 /// An inserter that computes heads and tails of the sequence without the job, and from them the makespan
 /// with the job at each place (Taillard, 1990). One insertion counts (4k - 2)·m cells, where the order has
 /// k jobs with the inserted one, on m machines. It reserves its memory when it is made, so `best`
 /// allocates nothing.
+#[derive(Drop)]
+pub struct HeadsTails<B: Bench> {
+    table: RowTable<B::Span>,
+    bench: PhantomData<B>,
+}
+
+impl<B: Bench> HeadsTails<B> {
+    /// An inserter for shops of the bench's sizes. It allocates its table, 2n + 1 rows of m lengths for
+    /// n jobs on m machines, and returns `Memory` where that fails.
+    pub fn new(alloc: Global, bench: &B) -> Result<HeadsTails<B>, InsertFault>
+        ensures jobs { IfOk result (λ made.
+            (⟦<HeadsTails<B> as Inserter<B>>⟧.sizes made).jobs ≡ (B.shop bench.now).jobs) }
+        ensures machines { IfOk result (λ made.
+            (⟦<HeadsTails<B> as Inserter<B>>⟧.sizes made).machines ≡ (B.shop bench.now).machines) }
+    {
+        Ok(HeadsTails {
+            table: RowTable::new(alloc, bench)?,
+            bench: PhantomData,
+        })
+    }
+}
+
+impl<B: Bench> Inserter<B> for HeadsTails<B> {
+    ghost sizes = { λ a. a.table };
+
+    ghost cost = { heads_tails_cost };
+
+    ghost can_refuse = { false };
+
+    #[inline(always)]
+    fn best(
+        &mut self,
+        alloc: Global,
+        bench: &mut B,
+        seq: &Seq,
+        job: usize,
+    ) -> Result<Placed<B::Span>, InsertFault> {
+        self.table.best(alloc, bench, seq, job)
+    }
+}
+
+/// The same for benches of all types with these lengths. A bench borrows its instance; a table can be kept
+/// while there is none.
 //
-// `lengths` is a table of 2n + 1 rows of m lengths, for n jobs on m machines: a row of zeros, n - 1 rows of
-// heads, n - 1 rows of tails, a row of zeros, and the inserted row. The heads of a sequence begin directly
-// after the first row of zeros, and its tails end directly before the second. A loop that computes the heads
-// of two jobs at once doesn't store the first job's: their row takes the inserted row before the second job
+// `lengths` has 2n + 1 rows of m lengths, for n jobs on m machines: a row of zeros, n - 1 rows of heads,
+// n - 1 rows of tails, a row of zeros, and the inserted row. The heads of a sequence begin directly after
+// the first row of zeros, and its tails end directly before the second. A loop that computes the heads of
+// two jobs at once doesn't store the first job's: their row takes the inserted row before the second job
 // instead. The rows that a loop borrows are disjoint parts of the table, and none is copied.
 #[derive(Drop)]
-pub struct HeadsTails<S: Length> {
+pub struct RowTable<S: Length> {
     jobs: usize,
     machines: usize,
     lengths: Vec<S>,
 }
 
-impl<S: Length> Model for HeadsTails<S> {
+impl<S: Length> Model for RowTable<S> {
     ghost use Rattle.pfs_insert.specs.Inserter.{Sizes};
     ghost use Rattle.pfs_insert.specs.Private.Rows.{IsTable};
 
@@ -42,10 +85,9 @@ impl<S: Length> Model for HeadsTails<S> {
     ghost invariant = { λ a. IsTable S.number (record { jobs = a.jobs; machines = a.machines }) a.lengths.items };
 }
 
-impl<S: Length> HeadsTails<S> {
-    /// An inserter for shops of the bench's sizes. It allocates its table, 2n + 1 rows of m lengths for
-    /// n jobs on m machines, and returns `Memory` where that fails.
-    pub fn new<B: Bench<Span = S>>(alloc: Global, bench: &B) -> Result<HeadsTails<S>, InsertFault>
+impl<S: Length> RowTable<S> {
+    /// A table for shops of the bench's sizes. It returns `Memory` where allocation fails.
+    pub fn new<B: Bench<Span = S>>(alloc: Global, bench: &B) -> Result<RowTable<S>, InsertFault>
         ensures jobs { IfOk result (λ made. made.jobs ≡ (B.shop bench.now).jobs) }
         ensures machines { IfOk result (λ made. made.machines ≡ (B.shop bench.now).machines) }
     {
@@ -56,7 +98,7 @@ impl<S: Length> HeadsTails<S> {
         if lengths.reserve_exact(size).is_err() || lengths.resize(size, bench.zero()).is_err() {
             return Err(InsertFault::Memory);
         }
-        Ok(HeadsTails {
+        Ok(RowTable {
             jobs,
             machines,
             lengths,
@@ -64,7 +106,7 @@ impl<S: Length> HeadsTails<S> {
     }
 }
 
-impl<B: Bench> Inserter<B> for HeadsTails<B::Span> {
+impl<B: Bench> Inserter<B> for RowTable<B::Span> {
     ghost sizes = { λ a. a };
 
     ghost cost = { heads_tails_cost };

@@ -13,5 +13,5 @@ mod tails;
 
 pub use afresh::Afresh;
 pub use fault::InsertFault;
-pub use heads_tails::HeadsTails;
+pub use heads_tails::{HeadsTails, RowTable};
 pub use inserter::{Inserter, Placed};

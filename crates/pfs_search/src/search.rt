@@ -15,7 +15,7 @@ use crate::kept::Kept;
 use crate::rounds::Rounds;
 use crate::searcher::{Searcher, best_by_rows};
 use pfs_base::{Bench, Instance, Length, Shop, Span};
-use pfs_insert::{HeadsTails, Inserter, Placed};
+use pfs_insert::{Inserter, Placed, RowTable};
 use pfs_order::{Order, Seq};
 use pfs_wave::{LaneTables, MeteredLanes, OfShop, Wavefront, is_served};
 use rand_core::SeedableRng;
@@ -35,7 +35,7 @@ pub struct Search {
 #[derive(Drop)]
 enum Method {
     Lanes(Option<LaneTables>, Searcher<Wavefront>),
-    Rows(Searcher<HeadsTails<Span>>),
+    Rows(Searcher<RowTable<Span>>),
 }
 
 impl OfShop for Search {
@@ -161,7 +161,7 @@ fn by_rows(alloc: Global, instance: &Instance, kept: Kept<Span>) -> Result<Searc
     ensures made { IfOk result (λ made. IsSearchOf instance.now.shop made) }
     ensures fault { IfErr result (λ fault. fault ≡ SearchFault.Memory 0) }
 {
-    let Ok(inserter) = HeadsTails::new(alloc, &instance.metered()) else {
+    let Ok(inserter) = RowTable::new(alloc, &instance.metered()) else {
         return Err(SearchFault::Memory { done: 0 });
     };
     let searcher = Searcher::new(alloc, instance.jobs(), inserter)?;

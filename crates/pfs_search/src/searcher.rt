@@ -15,7 +15,7 @@ use crate::kept::Kept;
 use crate::rankings::rank_jobs;
 use crate::workspace::Workspace;
 use pfs_base::{Bench, Instance, Length, MOST_JOBS, MOST_PASSES, Shop, Span};
-use pfs_insert::{HeadsTails, Inserter, Placed};
+use pfs_insert::{Inserter, Placed, RowTable};
 use pfs_order::Seq;
 use rand_core::Rng;
 use std::alloc::Global;
@@ -196,7 +196,7 @@ impl<I> Searcher<I> {
 pub(crate) fn best_by_rows(
     alloc: Global,
     instance: &Instance,
-    searcher: &mut Searcher<HeadsTails<Span>>,
+    searcher: &mut Searcher<RowTable<Span>>,
     seq: &Seq,
     job: usize,
 ) -> Placed<u64>
