@@ -4,13 +4,15 @@ use Rattle.std.proofs.Common.{◌≡◌, ℕ, zero, suc, ◌+◌, ◌-◌, ◌*�
 use Rattle.std.proofs.Common.{get_or, sum, inl, inr, arith, refl, ap, sym, ◌∙◌, add-zero, add-one}
 use Rattle.std.proofs.Common.{get_or-drop, take_all}
 use Rattle.std.proofs.lemmas.Bool.{cases_lt}
-use Rattle.std.proofs.lemmas.List.{get_or_past}
+use Rattle.std.proofs.lemmas.List.{append_assoc, get_or_past}
 use Rattle.std.proofs.lemmas.List.Edits.{insert_end}
+use Rattle.std.proofs.Math.Seq.{take-suc}
 use Rattle.std.proofs.lemmas.List.Sums.{sum_by_more}
-use Rattle.pfs_base.specs.FlowShop.{FlowShop, time_of}
+use Rattle.pfs_base.specs.FlowShop.{FlowShop, time_of, total_of}
 use Rattle.pfs_base.specs.Paths.{operation, makespan}
 use Rattle.pfs_base.proofs.Published.Heads.{head, head_step, makespan_is}
-use Rattle.pfs_wave.specs.Parts.{IsPart, empty, same, left_out, PartLaw, AppendedLaw}
+use Rattle.pfs_insert.specs.Insertion.{makespan_with}
+use Rattle.pfs_wave.specs.Parts.{IsPart, empty, same, left_out, PartLaw}
 
 -- when a job with these times ends on each machine, after jobs that end at `before`
 abbrev pub ends : (ℕ → ℕ) → (ℕ → ℕ) → ℕ → ℕ
@@ -172,7 +174,9 @@ part_law shop part whole some is =
     rw (makespan_ends shop part, makespan_ends shop whole)
     (part_after shop (λ machine. 0) (λ machine. 0) is (λ machine. omega arith) (shop.machines - 1))
 
-pub appended_law : AppendedLaw
+-- with a job after all others, the makespan is at most that of the others and the sum of the job's times
+pub appended_law : (shop : FlowShop) (jobs : List ℕ) (job : ℕ) → 1 ≤ shop.machines
+    → makespan_with shop jobs job (length jobs) ≤ makespan shop jobs + total_of shop job
 appended_law shop jobs job some =
     let last = shop.machines - 1 in
     let none : ℕ → ℕ = λ machine. 0 in
@@ -192,3 +196,112 @@ appended_law shop jobs job some =
     ∙ after_append shop none jobs job last in
     let jobs_is = makespan_ends shop jobs in
     omega arith
+
+-- when a job that is alone ends
+abbrev pub alone_ends : (ℕ → ℕ) → ℕ → ℕ
+alone_ends = ends (λ machine. 0)
+
+-- between two machines a job ends later by at least as much as alone
+ends_apart : (before times : ℕ → ℕ) (machine more : ℕ)
+    → ends before times machine + alone_ends times (more + machine)
+    ≤ ends before times (more + machine) + alone_ends times machine
+ends_apart before times machine zero =
+    let e : 0 + machine ≡ machine = omega arith in
+    let one = ap (ends before times) e in
+    let other = ap (alone_ends times) e in
+    omega arith
+ends_apart before times machine (suc more) =
+    let e : suc more + machine ≡ suc (more + machine) = omega arith in
+    let one = ap (ends before times) e in
+    let other = ap (alone_ends times) e in
+    let prev = ends_apart before times machine more in
+    omega arith
+
+ends_apart_to : (before times : ℕ → ℕ) (last machine : ℕ) → machine ≤ last
+    → ends before times machine + alone_ends times last ≤ ends before times last + alone_ends times machine
+ends_apart_to before times last machine le =
+    let e : (last - machine) + machine ≡ last = omega arith in
+    let one = ap (ends before times) e in
+    let other = ap (alone_ends times) e in
+    let apart = ends_apart before times machine (last - machine) in
+    omega arith
+
+-- the job after it ends later than it by at most as much as where both are alone
+ends_after : (before times others : ℕ → ℕ) (last machine : ℕ) → machine ≤ last
+    → ends (ends before times) others machine + alone_ends times last
+    ≤ ends before times last + ends (alone_ends times) others machine
+ends_after before times others last zero le =
+    let apart = ends_apart_to before times last zero le in
+    omega arith
+ends_after before times others last (suc machine) le =
+    let apart = ends_apart_to before times last (suc machine) le in
+    let prev = ends_after before times others last machine (omega arith) in
+    omega arith
+
+-- with a job after all others, the makespan grows by at most as much as with the job after the last of them alone
+after_last_law : (shop : FlowShop) (jobs : List ℕ) (last job : ℕ) → 1 ≤ shop.machines
+    → makespan shop (jobs ++ last ∷ job ∷ []) + makespan shop (last ∷ [])
+    ≤ makespan shop (jobs ++ last ∷ []) + makespan shop (last ∷ job ∷ [])
+after_last_law shop jobs last job some =
+    let end = shop.machines - 1 in
+    let none : ℕ → ℕ = λ machine. 0 in
+    let before = last_ends shop none jobs in
+    let times = time_of shop last in
+    let others = time_of shop job in
+    let ends_is : (machine : ℕ) → last_ends shop none (jobs ++ last ∷ []) machine ≡ ends before times machine =
+    after_append shop none jobs last in
+    let with_is = makespan_ends shop (jobs ++ last ∷ job ∷ [])
+    ∙ ap (λ l. last_ends shop none l end) (sym (append_assoc jobs (last ∷ []) (job ∷ [])))
+    ∙ after_append shop none (jobs ++ last ∷ []) job end
+    ∙ ends_same (last_ends shop none (jobs ++ last ∷ [])) (ends before times) others others ends_is (λ machine. refl) end in
+    let jobs_is = makespan_ends shop (jobs ++ last ∷ []) ∙ ends_is end in
+    let last_is = makespan_ends shop (last ∷ []) in
+    let both_is = makespan_ends shop (last ∷ job ∷ []) in
+    let bound = ends_after before times others end end (omega arith) in
+    omega arith
+
+-- the same, where the last job is that at a place
+pub after_last_of : (shop : FlowShop) (jobs : List ℕ) (job : ℕ) → 1 ≤ shop.machines → 1 ≤ length jobs
+    → makespan_with shop jobs job (length jobs) + makespan shop (get_or jobs (length jobs - 1) 0 ∷ [])
+    ≤ makespan shop jobs + makespan shop (get_or jobs (length jobs - 1) 0 ∷ job ∷ [])
+after_last_of shop jobs job some any =
+    let at = length jobs - 1 in
+    let last = get_or jobs at 0 in
+    let front = take at jobs in
+    let split : jobs ≡ front ++ last ∷ [] =
+    sym (take_all (suc at) jobs (omega arith)) ∙ take-suc jobs at 0 (omega arith) in
+    let with_is = ap (makespan shop) (insert_end jobs job ∙ ap (λ l. l ++ job ∷ []) split
+    ∙ append_assoc front (last ∷ []) (job ∷ [])) in
+    let jobs_is = ap (makespan shop) split in
+    let law = after_last_law shop front last job some in
+    omega arith
+
+-- when a job ends alone, and when another one ends after it, on the machines before one
+pub record AreAlone (times others : ℕ → ℕ) (machine alone both : ℕ) : Type 0 where
+  pub none : machine ≡ 0 → (alone ≡ 0) × (both ≡ 0)
+  pub ends_are : (at : ℕ) → suc at ≡ machine → (alone ≡ alone_ends times at) × (both ≡ ends (alone_ends times) others at)
+
+pub alone_more : (times others : ℕ → ℕ) (machine alone both : ℕ) → AreAlone times others machine alone both
+    → AreAlone times others (machine + 1) (alone + times machine) (max (alone + times machine) both + others machine)
+alone_more times others zero alone both are =
+    let alone_is = (are.none refl).0 in
+    let both_is = (are.none refl).1 in
+    record {
+      none = λ is. absurd (omega arith);
+      ends_are = λ at is. let here : at ≡ 0 = omega arith in rw here (omega arith, omega arith);
+    }
+alone_more times others (suc machine) alone both are =
+    let alone_is = (are.ends_are machine refl).0 in
+    let both_is = (are.ends_are machine refl).1 in
+    record {
+      none = λ is. absurd (omega arith);
+      ends_are = λ at is. let here : at ≡ suc machine = omega arith in rw here (omega arith, omega arith);
+    }
+
+pub alone_makespans : (shop : FlowShop) (last job machine alone both : ℕ) → 1 ≤ shop.machines → machine ≡ shop.machines
+    → AreAlone (time_of shop last) (time_of shop job) machine alone both
+    → (alone ≡ makespan shop (last ∷ [])) × (both ≡ makespan shop (last ∷ job ∷ []))
+alone_makespans shop last job machine alone both some all are =
+    let end = shop.machines - 1 in
+    let here = are.ends_are end (omega arith) in
+    (here.0 ∙ sym (makespan_ends shop (last ∷ [])), here.1 ∙ sym (makespan_ends shop (last ∷ job ∷ [])))

@@ -2,7 +2,8 @@
 use Rattle.std.proofs.Common.{◌≡◌, ℕ, ◌+◌, ◌-◌, ◌<◌, ◌≤◌, List, ◌++◌, length, take, drop, map, get_or}
 use Rattle.std.proofs.Common.{ap, ◌∙◌, sym, arith}
 use Rattle.std.proofs.lemmas.List.{length-map, get_or-take, get_or-drop, take-map, drop-map, map-append, length-take-le}
-use Rattle.std.proofs.lemmas.List.{length-append, length-drop, get_or-append_right}
+use Rattle.std.proofs.lemmas.List.{length-append, length-drop, get_or-append_right, drop_all, append-nil, append_assoc}
+use Rattle.std.proofs.lemmas.List.{take-append-le, drop-append-le}
 use Rattle.std.proofs.lemmas.Slice.{take-put_mid, take-put_mid_below, drop-put_mid}
 use borrow.Rule.Slice.PartMut.{put_mid}
 
@@ -19,6 +20,20 @@ put_long a k xs ys inside same =
       length-drop k (drop a xs),
       length-drop a xs,
     )
+
+-- values written over the rest of the first part of a list
+pub put_front : {X : Type 0} (a k : ℕ) (xs zs ys : List X) → length xs ≡ a + k
+    → put_mid a (length xs - a) xs ys ++ zs ≡ put_mid a k (xs ++ zs) ys
+put_front a k xs zs ys long =
+    let back = length-drop a xs in
+    let n = length xs - a in
+    let ends : ys ++ drop n (drop a xs) ≡ ys = ap (λ l. ys ++ l) (drop_all n (drop a xs) (omega arith)) ∙ append-nil ys in
+    let rest : drop k (drop a (xs ++ zs)) ≡ zs =
+    ap (drop k) (drop-append-le a xs zs (omega arith)) ∙ drop-append-le k (drop a xs) zs (omega arith)
+    ∙ ap (λ l. l ++ zs) (drop_all k (drop a xs) (omega arith)) in
+    ap (λ l. (take a xs ++ l) ++ zs) ends ∙ append_assoc (take a xs) ys zs
+    ∙ ap (λ l. l ++ (ys ++ zs)) (sym (take-append-le a xs zs (omega arith)))
+    ∙ ap (λ l. take a (xs ++ zs) ++ (ys ++ l)) (sym rest)
 
 -- values written over a part of a list
 module _ {X V : Type 0} (value : X → V) (a k : ℕ) (xs ys : List X) (inside : a ≤ length xs) (same : length ys ≡ k)

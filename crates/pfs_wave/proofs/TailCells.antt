@@ -1,6 +1,6 @@
 -- The pass of the tails, one vector after the other.
 use Rattle.std.proofs.Common.{ℕ, suc, ◌≡◌, ◌≢◌, ◌+◌, ◌-◌, ◌*◌, ◌<◌, ◌≤◌, List, [], length, map, get_or, slice_set, ap, ◌∙◌}
-use Rattle.std.proofs.Common.{sym, arith, inl, inr, subst, replicate}
+use Rattle.std.proofs.Common.{sym, refl, arith, inl, inr, subst, replicate}
 use Rattle.std.proofs.lemmas.Bool.{cases_lt}
 use Rattle.std.proofs.lemmas.List.{get_or_past, get_or-map, get_or-replicate, length-set, length-replicate}
 use Rattle.std.proofs.lemmas.Nat.{mul-add-lt}
@@ -78,59 +78,56 @@ module _ (cap count : ℕ) (time tail : Cells) (are : AreTails cap count time ta
       (s (suc row) lane lt (omega arith)) (t row lane lt all)
       ∙ sym (are.next row machine (machine_inside count lane k lt (omega arith)))
 
--- ---- a step: the last vectors, as many as have passed, have their cells; `row` has them too
+-- ---- a step: the last vectors of both tables, as many as have passed, have their cells
 
-pub record AreTailsSoFar {X : Type 0} (lanes : X → List ℕ) (count step : ℕ) (tail : Cells) (rows row : List X)
-    (now : List ℕ) (passed : ℕ) : Type 0 where
-  pub now_is : IsColumn count step tail (count - passed) now
-  pub done : (k : ℕ) → k < count → count ≤ k + passed → IsColumn count step tail k (vectors_of (map lanes rows) k)
+pub record AreTailsSoFar {X : Type 0} (lanes : X → List ℕ) (count step : ℕ) (tail : Cells) (now row : List X)
+    (last : List ℕ) (passed : ℕ) : Type 0 where
+  pub last_is : IsColumn count step tail (count - passed) last
+  pub done : (k : ℕ) → k < count → count ≤ k + passed → IsColumn count step tail k (vectors_of (map lanes now) k)
   pub row_done : (k : ℕ) → k < count → count ≤ k + passed → IsColumn count step tail k (vectors_of (map lanes row) k)
 
-pub record AreStepTails {X : Type 0} (lanes : X → List ℕ) (cap count : ℕ) (times after : Vectors) (rows row : List X)
-    (now : List ℕ) (passed : ℕ) : Type 0 where
-  pub long : length rows ≡ count
+pub record AreStepTails {X : Type 0} (lanes : X → List ℕ) (cap count : ℕ) (times after : Vectors) (first : List ℕ)
+    (now row : List X) (last : List ℕ) (passed : ℕ) : Type 0 where
+  pub long : length now ≡ count
   pub row_long : length row ≡ count
-  pub rest : (k : ℕ) → k + passed < count → vectors_of (map lanes rows) k ≡ after k
   pub cells : (time tail : Cells) (step : ℕ) → AreTails cap count time tail → IsStep count step time times
-      → IsStep count (suc step) tail after → AreTailsSoFar lanes count step tail rows row now passed
+      → IsStep count (suc step) tail after → IsColumn count (suc step) tail 0 first
+      → AreTailsSoFar lanes count step tail now row last passed
 
-module _ {X : Type 0} (lanes : X → List ℕ) (cap count : ℕ) (times after : Vectors) (some : 1 ≤ count) where
-  pub step_tails_none : (rows row : List X) (first carry : List ℕ) → length rows ≡ count → length row ≡ count
-      → ((k : ℕ) → k < count → vectors_of (map lanes rows) k ≡ after k) → first ≡ after 0 → length first ≡ 8
+module _ {X : Type 0} (lanes : X → List ℕ) (cap count : ℕ) (times after : Vectors) (first : List ℕ)
+    (eight : length first ≡ 8) where
+  pub step_tails_none : (now row : List X) (carry : List ℕ) → length now ≡ count → length row ≡ count
       → ((lane : ℕ) → lane < 8 → get_or carry lane 0 ≡ get_or first (suc lane) 0)
-      → AreStepTails lanes cap count times after rows row carry 0
-  step_tails_none rows row first carry long row_long same first_is eight moved = record {
+      → AreStepTails lanes cap count times after first now row carry 0
+  step_tails_none now row carry long row_long moved = record {
     long = long;
     row_long = row_long;
-    rest = λ k lt. same k (omega arith);
-    cells = λ time tail step are times_are after_are. record {
-      now_is = subst (λ j. IsColumn count step tail j carry) (omega arith)
-          (tail_carried cap count time tail are step first carry eight
-          (column_as count (suc step) tail 0 first_is (after_are 0 (omega arith))) moved);
+    cells = λ time tail step are times_are after_are first_is. record {
+      last_is = subst (λ j. IsColumn count step tail j carry) (omega arith)
+          (tail_carried cap count time tail are step first carry eight first_is moved);
       done = λ k lt le. absurd (omega arith);
       row_done = λ k lt le. absurd (omega arith);
     };
   }
 
-  module _ (rows row : List X) (now : List ℕ) (passed k : ℕ) (new : X) (carry second : List ℕ)
-      (so_far : AreStepTails lanes cap count times after rows row now passed) (lt : passed < count)
+  module _ (now row : List X) (last : List ℕ) (passed k : ℕ) (new : X) (carry second : List ℕ)
+      (so_far : AreStepTails lanes cap count times after first now row last passed) (lt : passed < count)
       (k_is : k ≡ count - 1 - passed)
-      (carried : (lane : ℕ) → lane < 8 → get_or carry lane 0 ≡ get_or (after 0) (suc lane) 0)
-      (eight : length (after 0) ≡ 8)
+      (carried : (lane : ℕ) → lane < 8 → get_or carry lane 0 ≡ get_or first (suc lane) 0)
       (second_is : 2 ≤ count → IsSecond cap carry (after (count - 1)) (times (count - 1)) (after (count - 2))
       (times (count - 2)) second)
-      (one : passed ≡ 1 → lanes new ≡ second)
-      (more : passed ≢ 1 → IsNext cap now (vectors_of (map lanes rows) k) (times k) (lanes new)) where
+      (one : passed ≡ 1 → lanes new ≡ second) (more : passed ≢ 1 → IsNext cap last (after k) (times k) (lanes new)) where
     new_is : (time tail : Cells) (step : ℕ) → AreTails cap count time tail → IsStep count step time times
-        → IsStep count (suc step) tail after → IsColumn count step tail k (lanes new)
-    new_is time tail step are times_are after_are =
+        → IsStep count (suc step) tail after → IsColumn count (suc step) tail 0 first
+        → IsColumn count step tail k (lanes new)
+    new_is time tail step are times_are after_are first_is =
         let next : passed ≢ 1 → IsColumn count step tail k (lanes new) =
         λ other.
         let beside : count - passed ≡ suc k = omega arith in
-        tail_more cap count time tail are step k now (vectors_of (map lanes rows) k) (times k) (lanes new) (omega arith)
-        (subst (λ j. IsColumn count step tail j now) beside
-        (so_far.cells time tail step are times_are after_are).now_is)
-        (column_as count (suc step) tail k (so_far.rest k (omega arith)) (after_are k (omega arith))) (times_are k (omega arith)) (more other) in
+        tail_more cap count time tail are step k last (after k) (times k) (lanes new) (omega arith)
+        (subst (λ j. IsColumn count step tail j last) beside
+        (so_far.cells time tail step are times_are after_are first_is).last_is)
+        (after_are k (omega arith)) (times_are k (omega arith)) (more other) in
         elim (cases_lt passed 1) [
           | inl none ↦ next (λ is. omega arith)
           | inr some_passed ↦ elim (cases_lt 1 passed) [
@@ -144,7 +141,7 @@ module _ {X : Type 0} (lanes : X → List ℕ) (cap count : ℕ) (times after : 
                 (tail_second cap count time tail are step (count - 2) carry (after (count - 1)) (times (count - 1))
                 (after (count - 2)) (times (count - 2)) second (omega arith)
                 (subst (λ j. IsColumn count step tail j carry) (sym all) (tail_carried cap count time tail are step
-                (after 0) carry eight (after_are 0 (omega arith)) carried))
+                first carry eight first_is carried))
                 (subst (λ j. IsColumn count (suc step) tail j (after (count - 1))) (sym before)
                 (after_are (count - 1) (omega arith)))
                 (subst (λ j. IsColumn count step time j (times (count - 1))) (sym before)
@@ -166,76 +163,91 @@ module _ {X : Type 0} (lanes : X → List ℕ) (cap count : ℕ) (times after : 
               (column_as count step tail k (set_same lanes table k new (omega arith)) next)
         ]
 
-    pub step_tails_more : AreStepTails lanes cap count times after (slice_set rows k new) (slice_set row k new)
+    pub step_tails_more : AreStepTails lanes cap count times after first (slice_set now k new) (slice_set row k new)
         (lanes new) (passed + 1)
     step_tails_more = record {
-      long = length-set rows k new ∙ so_far.long;
+      long = length-set now k new ∙ so_far.long;
       row_long = length-set row k new ∙ so_far.row_long;
-      rest = λ j less. set_other lanes rows k new j (omega arith) ∙ so_far.rest j (omega arith);
-      cells = λ time tail step are times_are after_are.
-          let so = so_far.cells time tail step are times_are after_are in
-          let next = new_is time tail step are times_are after_are in
-          let now_at : k ≡ count - (passed + 1) = omega arith in
+      cells = λ time tail step are times_are after_are first_is.
+          let so = so_far.cells time tail step are times_are after_are first_is in
+          let next = new_is time tail step are times_are after_are first_is in
+          let last_at : k ≡ count - (passed + 1) = omega arith in
           record {
-            now_is = subst (λ j. IsColumn count step tail j (lanes new)) now_at next;
-            done = wrote rows step tail so_far.long so.done next;
+            last_is = subst (λ j. IsColumn count step tail j (lanes new)) last_at next;
+            done = wrote now step tail so_far.long so.done next;
             row_done = wrote row step tail so_far.row_long so.row_done next;
           };
     }
 
--- ---- the pass: the last steps have their cells
+-- ---- the pass: the last steps have their cells, and so have `now` and `first`
 
 pub record AreTailsFilled {X : Type 0} (lanes : X → List ℕ) (count steps : ℕ) (tail : Cells) (tails now : List X)
-    (left : ℕ) : Type 0 where
+    (first : List ℕ) (left : ℕ) : Type 0 where
+  pub first_is : IsColumn count (steps - left) tail 0 first
   pub now_is : IsStep count (steps - left) tail (vectors_of (map lanes now))
-  pub tails_are : (step : ℕ) → step < steps → steps ≤ step + left
+  pub tails_are : (step : ℕ) → step ≤ steps → steps ≤ step + left
       → IsStep count step tail (step_of count (map lanes tails) step)
 
 module _ {X : Type 0} (lanes : X → List ℕ) (count steps : ℕ) where
-  pub tails_filled_none : (tail : Cells) (zero : X) (tails : List X) → lanes zero ≡ zeros 8
+  pub tails_filled_none : (tail : Cells) (zero : X) (tails : List X) → 1 ≤ count → lanes zero ≡ zeros 8
       → ((row lane k : ℕ) → lane < 8 → k < count → row + lane ≡ steps → tail row (lane * count + k) ≡ 0)
-      → AreTailsFilled lanes count steps tail tails (replicate count zero) 0
-  tails_filled_none tail zero tails none last = record {
-    now_is = λ k lt row lane lane_lt all.
-        let inside = length-replicate count zero in
-        ap (λ v. get_or v lane 0) (get_or-map lanes (replicate count zero) k zero [] (omega arith)
-        ∙ ap lanes (get_or-replicate count k zero zero lt) ∙ none)
-        ∙ zeros-get_or 8 lane lane_lt ∙ sym (last row lane k lane_lt lt (omega arith));
-    tails_are = λ step lt le. absurd (omega arith);
-  }
+      → ((k : ℕ) → k < count
+      → step_of count (map lanes tails) steps k ≡ vectors_of (map lanes (replicate count zero)) k)
+      → AreTailsFilled lanes count steps tail tails (replicate count zero) (lanes zero) 0
+  tails_filled_none tail zero tails some none last written =
+      let zeros_are : (k : ℕ) → k < count → IsColumn count steps tail k (lanes zero) =
+      λ k lt row lane lane_lt all.
+      ap (λ v. get_or v lane 0) none ∙ zeros-get_or 8 lane lane_lt ∙ sym (last row lane k lane_lt lt all) in
+      let now_is : IsStep count steps tail (vectors_of (map lanes (replicate count zero))) =
+      λ k lt.
+      let inside = length-replicate count zero in
+      column_as count steps tail k (get_or-map lanes (replicate count zero) k zero [] (omega arith)
+      ∙ ap lanes (get_or-replicate count k zero zero lt)) (zeros_are k lt) in
+      let start : steps ≡ steps - 0 = omega arith in
+      record {
+        first_is = subst (λ s. IsColumn count s tail 0 (lanes zero)) start (zeros_are 0 (omega arith));
+        now_is = subst (λ s. IsStep count s tail (vectors_of (map lanes (replicate count zero)))) start now_is;
+        tails_are = λ step le more k lt.
+            let here : steps ≡ step = omega arith in
+            subst (λ s. IsColumn count s tail k (step_of count (map lanes tails) s k)) here
+            (column_as count steps tail k (written k lt) (now_is k lt));
+      }
 
-  pub tails_filled_more : (cap : ℕ) (time tail : Cells) (times : List (List ℕ)) (tails now new written : List X)
-      (read : Vectors) (left step at n : ℕ) → AreTails cap count time tail → HoldCells count steps time times
-      → AreTailsFilled lanes count steps tail tails now left → left < steps → step ≡ steps - 1 - left
-      → length tails ≡ steps * count → at ≡ step * count → n ≡ count → length written ≡ count
+  pub tails_filled_more : (cap : ℕ) (time tail : Cells) (times : List (List ℕ)) (tails now new row : List X)
+      (first next : List ℕ) (read after : Vectors) (left step at : ℕ) → AreTails cap count time tail
+      → HoldCells count steps time times
+      → AreTailsFilled lanes count steps tail tails now first left → left < steps → step ≡ steps - 1 - left
+      → length tails ≡ steps * count + count → at ≡ step * count → length row ≡ count
       → ((k : ℕ) → k < count → read k ≡ step_of count times step k)
+      → ((k : ℕ) → k < count → after k ≡ step_of count (map lanes tails) (suc step) k)
       → ((time tail : Cells) (step : ℕ) → AreTails cap count time tail → IsStep count step time read
-      → IsStep count (suc step) tail (vectors_of (map lanes now))
-      → IsStep count step tail (vectors_of (map lanes new)))
-      → ((time tail : Cells) (step : ℕ) → AreTails cap count time tail → IsStep count step time read
-      → IsStep count (suc step) tail (vectors_of (map lanes now))
-      → IsStep count step tail (vectors_of (map lanes written)))
-      → AreTailsFilled lanes count steps tail (put_mid at n tails written) new (left + 1)
-  tails_filled_more cap time tail times tails now new written read left step at n are held so_far lt step_is long at_is
-      n_is written_long read_is made wrote =
+      → IsStep count (suc step) tail after → IsStep count (suc step) tail (vectors_of (map lanes now))
+      → IsColumn count (suc step) tail 0 first
+      → IsStep count step tail (vectors_of (map lanes new)) × IsStep count step tail (vectors_of (map lanes row))
+      × IsColumn count step tail 0 next)
+      → AreTailsFilled lanes count steps tail (put_mid at count tails row) new next (left + 1)
+  tails_filled_more cap time tail times tails now new row first next read after left step at are held so_far lt step_is
+      long at_is row_long read_is after_is made =
       let room = step_after count step steps (omega arith) in
       let now_step : steps - left ≡ suc step = omega arith in
       let next_step : step ≡ steps - (left + 1) = omega arith in
-      let now_is = subst (λ s. IsStep count s tail (vectors_of (map lanes now))) now_step so_far.now_is in
-      let time_is : IsStep count step time read =
-      λ k less. column_as count step time k (read_is k less) (held step (omega arith) k less) in
+      let done = made time tail step are
+      (λ k less. column_as count step time k (read_is k less) (held step (omega arith) k less))
+      (λ k less. column_as count (suc step) tail k (after_is k less) (so_far.tails_are (suc step) (omega arith) (omega arith) k less))
+      (subst (λ s. IsStep count s tail (vectors_of (map lanes now))) now_step so_far.now_is)
+      (subst (λ s. IsColumn count s tail 0 first) now_step so_far.first_is) in
       record {
-        now_is = subst (λ s. IsStep count s tail (vectors_of (map lanes new))) next_step
-            (made time tail step are time_is now_is);
+        first_is = subst (λ s. IsColumn count s tail 0 next) next_step done.2;
+        now_is = subst (λ s. IsStep count s tail (vectors_of (map lanes new))) next_step done.0;
         tails_are = λ other less end k inside.
             elim (cases_lt step other) [
               | inl later ↦
-                  column_as count other tail k (part_kept lanes count step at n tails at_is written n_is (omega arith) written_long other k
+                  column_as count other tail k (part_kept lanes count step at count tails at_is row refl (omega arith) row_long other k
                   later) (so_far.tails_are other less (omega arith) k inside)
               | inr here ↦
                   let same : step ≡ other = omega arith in
-                  subst (λ s. IsColumn count s tail k (step_of count (map lanes (put_mid at n tails written)) s k)) same
-                  (column_as count step tail k (part_written lanes count step at n tails at_is written n_is (omega arith) written_long k
-                  inside) (wrote time tail step are time_is now_is k inside))
+                  subst (λ s. IsColumn count s tail k (step_of count (map lanes (put_mid at count tails row)) s k)) same
+                  (column_as count step tail k (part_written lanes count step at count tails at_is row refl (omega arith) row_long k
+                  inside) (done.1 k inside))
             ];
       }

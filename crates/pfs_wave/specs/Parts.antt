@@ -1,8 +1,7 @@
--- Sequences with some jobs left out, and with a job after all others.
-use Rattle.std.specs.Prelude.{ℕ, ◌+◌, ◌≤◌, List, [], ◌∷◌, length}
-use Rattle.pfs_base.specs.FlowShop.{FlowShop, total_of}
+-- Sequences with some jobs left out.
+use Rattle.std.specs.Prelude.{ℕ, ◌≤◌, List, [], ◌∷◌}
+use Rattle.pfs_base.specs.FlowShop.{FlowShop}
 use Rattle.pfs_base.specs.Paths.{makespan}
-use Rattle.pfs_insert.specs.Insertion.{makespan_with}
 
 -- the list `part` is the list `whole` with some members left out, in the same order
 pub data IsPart : List ℕ → List ℕ → Type 0 where
@@ -15,9 +14,3 @@ abbrev pub PartLaw : Type 0
 PartLaw =
     (shop : FlowShop) (part whole : List ℕ) → 1 ≤ shop.machines → IsPart part whole
     → makespan shop part ≤ makespan shop whole
-
--- with a job after all others, the makespan is at most that of the others and the sum of the job's times
-abbrev pub AppendedLaw : Type 0
-AppendedLaw =
-    (shop : FlowShop) (jobs : List ℕ) (job : ℕ) → 1 ≤ shop.machines
-    → makespan_with shop jobs job (length jobs) ≤ makespan shop jobs + total_of shop job

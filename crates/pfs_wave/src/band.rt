@@ -24,6 +24,9 @@ pub trait Band: Copy + Drop {
     /// The greatest value of a lane.
     const CAP: u32;
 
+    /// The number of vectors up to which a pass keeps those of a step in registers.
+    const IN_REGISTERS: usize;
+
     /// A band of zeros.
     fn zeros() -> Self
         ensures { lanes result ≡ zeros 8 };

@@ -34,7 +34,7 @@ pub fn best_place<V: Band, const N: usize>(
     requires small { steps * N + N < 2 ^ 32 }
     requires times { length times.now ≡ steps * N }
     requires job { length job.now ≡ N }
-    requires tails { steps * N ≤ length tails.old }
+    requires tails { steps * N + N ≤ length tails.old }
     requires sums { steps + 7 ≤ length sums.old }
     ensures tails { length tails.new ≡ length tails.old }
     ensures sums { length sums.new ≡ length sums.old }
@@ -50,7 +50,7 @@ pub fn best_place<V: Band, const N: usize>(
         tails: for_tails,
         sums: for_sums,
     } = permits;
-    let tails = &mut tails[..steps * N];
+    let tails = &mut tails[..steps * N + N];
     let sums = &mut sums[..steps + 7];
     fill_tails::<V, N>(for_tails, steps, times, tails);
     let paid = fill_sums::<V, N>(for_sums, steps, times, tails, job, sums);

@@ -59,7 +59,7 @@ impl<V: Band> Model for Blocks<V> {
       rows : length a.rows.items ≡ a.jobs * vectors_in a.width + vectors_in a.width;
       holds : IsHolding (vectors_in a.width) a.jobs (map V.lanes a.rows.items) a.len a.order.items
           (map V.lanes a.times.items);
-      tails : length a.tails.items ≡ (a.jobs + 8) * vectors_in a.width;
+      tails : length a.tails.items ≡ (a.jobs + 9) * vectors_in a.width;
       sums : length a.sums.items ≡ a.jobs + 15;
     } };
 }
@@ -93,7 +93,7 @@ impl<V: Band> Blocks<V> {
         order.reserve_exact(steps)?;
         order.resize(steps, jobs)?;
         let times = zero_vectors(alloc, steps * count)?;
-        let tails = zero_vectors(alloc, steps * count)?;
+        let tails = zero_vectors(alloc, (jobs + 9) * count)?;
         let mut sums = Vec::new(alloc);
         sums.reserve_exact(jobs + 15)?;
         sums.resize(jobs + 15, V::nothing())?;

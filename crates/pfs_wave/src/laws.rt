@@ -1,6 +1,6 @@
 //! Laws of the definitions.
 ghost use Rattle.pfs_wave.specs.Wavefront.{CappedLeastLaw, LongestWithLaw};
-ghost use Rattle.pfs_wave.specs.Parts.{PartLaw, AppendedLaw};
+ghost use Rattle.pfs_wave.specs.Parts.{PartLaw};
 
 /// The first place of the least capped value, where that is below the cap, is the first place of the least value.
 pub fn least()
@@ -16,9 +16,4 @@ pub fn longest_with()
 /// Leaving jobs out of a sequence doesn't make its makespan longer.
 pub fn parts()
     ensures { PartLaw }
-{}
-
-/// With a job after all others the makespan grows by at most the job's total time.
-pub fn appended()
-    ensures { AppendedLaw }
 {}

@@ -26,6 +26,8 @@ impl Band for Long {
 
     const CAP: u32 = 2147483647;
 
+    const IN_REGISTERS: usize = 4;
+
     ghost eight = { λ band. band.eight };
 
     #[inline(always)]

@@ -23,9 +23,11 @@ use std::marker::Model;
 #[derive(Drop)]
 pub struct MeteredLanes<'a> {
     bench: Metered<'a>,
+    instance: &'a Instance,
     wave: Wave,
     narrow: Option<Narrow>,
     ghost within: { IsWithin limits (⟦<Metered<'static> as Bench>⟧.shop bench) },
+    ghost same: { instance.now.shop ≡ ⟦<Metered<'static> as Bench>⟧.shop bench },
     ghost serves: { Serves (⟦<Metered<'static> as Bench>⟧.shop bench) wave },
     ghost tables: { HasNarrow (⟦<Metered<'static> as Bench>⟧.shop bench) narrow },
 }
@@ -39,6 +41,7 @@ impl<'a> MeteredLanes<'a> {
     {
         MeteredLanes {
             bench: instance.metered(),
+            instance,
             wave: tables.wave,
             narrow: tables.narrow,
         }
@@ -54,8 +57,8 @@ impl<'a> MeteredLanes<'a> {
         }
     }
 
-    // The best place for a job in a sequence, and the makespan with the job there, in the narrow lanes where they serve
-    // the insertion. The permits pay for its cells.
+    /// The best place for a job in a sequence, and the makespan with the job there, in the narrow lanes where they serve
+    /// the insertion. The permits pay for its cells.
     #[inline(always)]
     pub(crate) fn find(&mut self, permits: Permits, seq: &Seq, job: usize) -> Placed<Paid>
         requires size { seq.now.size ≡ (⟦<MeteredLanes<'a> as Bench>⟧.shop self.old).jobs }
@@ -71,8 +74,7 @@ impl<'a> MeteredLanes<'a> {
             ≡ ⟦<MeteredLanes<'a> as Bench>⟧.shop self.old }
     {
         if let Some(narrow) = &mut self.narrow {
-            let total = self.bench.total(job);
-            return narrow.best_or_wide(permits, &mut self.wave, seq, job, total);
+            return narrow.best_or_wide(permits, &mut self.wave, self.instance, seq, job);
         }
         self.wave.best(permits, seq.as_slice(), job)
     }

@@ -1,9 +1,10 @@
 //! Lanes of 16 bits, for the insertions whose makespans are known to fit in them.
 ghost use Rattle.std.specs.Prelude.{◌≡◌, ◌+◌, ◌<◌, ◌≤◌, ◌↔◌, length, Contains, IsTrue, IfOk, IsSome};
 ghost use Rattle.std.specs.List.{All};
-ghost use Rattle.pfs_base.specs.FlowShop.{FlowShop, total_of};
+ghost use Rattle.pfs_base.specs.FlowShop.{FlowShop};
 ghost use Rattle.pfs_base.specs.Paths.{greatest, makespan};
 ghost use Rattle.pfs_insert.specs.Inserter.{IsBestPlace};
+ghost use Rattle.pfs_insert.specs.Insertion.{makespan_with};
 ghost use Rattle.pfs_wave.specs.Private.Narrow.{AreNarrow, HasNarrow, after_best};
 ghost use Rattle.pfs_wave.specs.Private.Payment.{IsPaid};
 ghost use Rattle.pfs_wave.specs.Private.Waves.{Serves, blocks_of};
@@ -15,7 +16,7 @@ use crate::permits::Permits;
 use crate::served::{fits_short, longest_time};
 use crate::short::Short;
 use crate::wave::Wave;
-use pfs_base::{Instance, Paid};
+use pfs_base::{Instance, Paid, Shop};
 use pfs_insert::Placed;
 use pfs_order::Seq;
 use std::alloc::{AllocError, Global};
@@ -70,15 +71,30 @@ impl Narrow {
         })
     }
 
-    // Whether the insertion of a job of this total time is known to fit in the narrow lanes: after all other jobs it
-    // makes the makespan longer by at most its total time, so the makespan at its best place is below 65,535.
+    // Whether the makespan of a sequence plus this time is known to be below 65,535.
     #[inline(always)]
-    fn fits(&self, seq: &Seq, total: u64) -> bool
+    fn has_room(&self, seq: &Seq, time: u64) -> bool
         ensures { IsTrue result → (shop : FlowShop) → 1 ≤ shop.machines → AreNarrow shop self.now
-            → makespan shop seq.now.jobs + total < 65535 }
+            → makespan shop seq.now.jobs + time < 65535 }
     {
         let jobs = seq.as_slice();
-        self.last.has_room(jobs, total) || self.kept.has_room(jobs, total)
+        self.last.has_room(jobs, time) || self.kept.has_room(jobs, time)
+    }
+
+    // Whether the insertion of a job is known to fit in the narrow lanes: the makespan with it after all others, and so
+    // that at its best place, is below 65,535. The job makes the makespan longer by at most its total time. The sharper
+    // bound by the last job takes longer to compute, so it comes second.
+    #[inline(always)]
+    fn fits(&self, instance: &Instance, seq: &Seq, job: usize) -> bool
+        requires narrow { AreNarrow instance.now.shop self.now }
+        requires size { seq.now.size ≡ instance.now.shop.jobs }
+        requires job { job < seq.now.size }
+        ensures { IsTrue result
+            → makespan_with instance.now.shop seq.now.jobs job (length seq.now.jobs) < 65535 }
+    {
+        let jobs = seq.as_slice();
+        self.has_room(seq, instance.metered().total(job))
+            || (!jobs.is_empty() && self.has_room(seq, most_added(instance, jobs, job)))
     }
 
     // Keeps a sequence with a job at its best place.
@@ -98,29 +114,30 @@ impl Narrow {
     }
 
     /// The best place for a job in a sequence, and the makespan with the job there: in the narrow lanes where the
-    /// insertion is known to fit in them, and else in wide ones. `total` is the job's total time. It is not inlined, so
-    /// that a search over it stays small enough to be inlined.
+    /// insertion is known to fit in them, and else in wide ones. It is not inlined, so that a search over it stays small
+    /// enough to be inlined.
     #[inline(never)]
     pub fn best_or_wide(
         &mut self,
         permits: Permits,
         wide: &mut Wave,
+        instance: &Instance,
         seq: &Seq,
         job: usize,
-        total: u64,
     ) -> Placed<Paid>
+        requires narrow { AreNarrow instance.now.shop self.old }
         requires size { seq.now.size ≡ self.old.blocks.jobs }
         requires wide { (blocks_of wide.old).jobs ≡ self.old.blocks.jobs }
         requires job { job < seq.now.size }
         requires absent { Contains seq.now.jobs job → ⊥ }
-        ensures best { (shop : FlowShop) → AreNarrow shop self.old → Serves shop wide.old → total ≡ total_of shop job
-            → IsPaid permits.tails permits.sums (length seq.now.jobs) shop.machines
-            → IsBestPlace shop seq.now.jobs job result.place result.span }
+        ensures best { Serves instance.now.shop wide.old
+            → IsPaid permits.tails permits.sums (length seq.now.jobs) instance.now.shop.machines
+            → IsBestPlace instance.now.shop seq.now.jobs job result.place result.span }
         ensures known { self.new ≡ after_best self.old seq.now job result.place result.span }
         ensures wide { wide.new ≡ wide.old }
     {
         let jobs = seq.as_slice();
-        let best = if self.fits(seq, total) {
+        let best = if self.fits(instance, seq, job) {
             self.blocks.best(permits, jobs, job)
         } else {
             wide.best(permits, jobs, job)
@@ -135,6 +152,25 @@ impl Narrow {
         );
         best
     }
+}
+
+// The most that a job can make the makespan longer, after all others: what it makes it longer after the last one alone.
+#[inline(never)]
+fn most_added(instance: &Instance, jobs: &[usize], job: usize) -> u64
+    requires some { 1 ≤ length jobs.now }
+    requires jobs { All (λ other. other < instance.now.shop.jobs) jobs.now }
+    requires job { job < instance.now.shop.jobs }
+    ensures { makespan_with instance.now.shop jobs.now job (length jobs.now)
+        ≤ makespan instance.now.shop jobs.now + result }
+{
+    let last = jobs[jobs.len() - 1];
+    let mut alone = 0;
+    let mut both = 0;
+    for machine in 0..instance.machines() {
+        alone += u64::from(instance.time(last, machine));
+        both = alone.max(both) + u64::from(instance.time(job, machine));
+    }
+    both - alone
 }
 
 /// Narrow lanes for an instance whose paths are too long for 16 bits, if all its times fit in them. It returns

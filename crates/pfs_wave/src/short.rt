@@ -34,6 +34,8 @@ impl Band for Short {
 
     const CAP: u32 = 65535;
 
+    const IN_REGISTERS: usize = 8;
+
     ghost eight = { λ band. band.eight };
 
     #[inline(always)]

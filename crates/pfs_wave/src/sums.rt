@@ -71,7 +71,7 @@ pub fn fill_sums<V: Band, const N: usize>(
     requires steps { 1 ≤ steps }
     requires small { steps * N + N < 2 ^ 32 }
     requires times { length times.now ≡ steps * N }
-    requires tails { length tails.now ≡ steps * N }
+    requires tails { steps * N ≤ length tails.now }
     requires job { length job.now ≡ N }
     requires sums { length sums.old ≡ steps + 7 }
     ensures length { length sums.new ≡ length sums.old }

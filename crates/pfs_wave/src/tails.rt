@@ -1,18 +1,19 @@
 //! The pass of the tails.
-ghost use Rattle.std.specs.Prelude.{◌≡◌, ℕ, suc, ◌+◌, ◌-◌, ◌*◌, ◌<◌, ◌≤◌, ◌≢◌, ◌^◌, length, map};
+ghost use Rattle.std.specs.Prelude.{◌≡◌, ℕ, suc, ◌+◌, ◌-◌, ◌*◌, ◌<◌, ◌≤◌, ◌≢◌, ◌^◌, ◌⊎◌, length, map};
 ghost use Rattle.std.specs.List.{slice_index_or};
-ghost use Rattle.pfs_wave.specs.Private.Blocks.{Cells, HoldCells, IsStep, next_cell, vectors_of};
+ghost use Rattle.pfs_wave.specs.Private.Blocks.{Cells, HoldCells, IsColumn, IsStep, next_cell, vectors_of};
 ghost use Rattle.pfs_wave.specs.Private.Payment.{AreTimesOf};
 ghost use Rattle.pfs_wave.specs.Private.Recurrences.{AreTails};
 
 use crate::band::Band;
-use crate::vectors::{array_of, from_after, next_value, second_value};
+use crate::vectors::{from_after, next_value, second_value};
 use pfs_base::Permit;
 
 // The second vector of a step, if there is one, from what the step after it leaves for the first vector.
 #[inline(always)]
-fn second_tail<V: Band, const N: usize>(carry: V, after: &[V; N], times: &[V]) -> V
-    requires { length times.now ≡ N }
+fn second_tail<V: Band, const N: usize>(carry: V, after: &[V], times: &[V]) -> V
+    requires after { length after.now ≡ N }
+    requires times { length times.now ≡ N }
     ensures { 2 ≤ N → (lane : ℕ) → lane < 8 → slice_index_or (V.lanes result) lane 0
         ≡ next_cell V.CAP (next_cell V.CAP (slice_index_or (V.lanes carry) lane 0)
         (slice_index_or (vectors_of (map V.lanes after.now) (N - 1)) lane 0)
@@ -47,35 +48,54 @@ fn next_tail<V: Band>(passed: usize, second: V, tail: V, above: V, time: V) -> V
     }
 }
 
-// The tails of a step, in place of those of the step after it. They are written to `row` too.
+// The row that tails are computed from: the array where registers have room for it, and else the table's.
 #[inline(always)]
-fn step_tails<V: Band, const N: usize>(tails: &mut [V; N], times: &[V], row: &mut [V])
+fn chosen<'a, V: Band, const N: usize>(array: &'a [V], table: &'a [V]) -> &'a [V]
+    ensures { (result.now ≡ array.now) ⊎ (result.now ≡ table.now) }
+{
+    if N <= V::IN_REGISTERS { array } else { table }
+}
+
+// The tails of a step, from those of the step after it, which `now` and `after` both have. `first` is the first of these.
+// They are written to `now` and to `row`, and the first one is returned.
+#[inline(always)]
+fn step_tails<V: Band, const N: usize>(
+    first: V,
+    after: &[V],
+    times: &[V],
+    now: &mut [V; N],
+    row: &mut [V],
+) -> V
     requires some { 1 ≤ N }
+    requires after { length after.now ≡ N }
     requires times { length times.now ≡ N }
     requires row { length row.old ≡ N }
-    ensures length { length tails.new ≡ N }
+    ensures length { length now.new ≡ N }
     ensures row_length { length row.new ≡ N }
     ensures tails { (time tail : Cells) (step : ℕ) → AreTails V.CAP N time tail
         → IsStep N step time (vectors_of (map V.lanes times.now))
-        → IsStep N (suc step) tail (vectors_of (map V.lanes tails.old))
-        → IsStep N step tail (vectors_of (map V.lanes tails.new)) }
-    ensures row { (time tail : Cells) (step : ℕ) → AreTails V.CAP N time tail
-        → IsStep N step time (vectors_of (map V.lanes times.now))
-        → IsStep N (suc step) tail (vectors_of (map V.lanes tails.old))
-        → IsStep N step tail (vectors_of (map V.lanes row.new)) }
+        → IsStep N (suc step) tail (vectors_of (map V.lanes after.now))
+        → IsStep N (suc step) tail (vectors_of (map V.lanes now.old))
+        → IsColumn N (suc step) tail 0 (V.lanes first)
+        → IsStep N step tail (vectors_of (map V.lanes now.new))
+        × IsStep N step tail (vectors_of (map V.lanes row.new))
+        × IsColumn N step tail 0 (V.lanes result) }
 {
-    let mut tail = from_after(tails[0]);
-    let second = second_tail(tail, tails, times);
+    let held = *now;
+    let after = chosen::<V, N>(&held, after);
+    let mut tail = from_after(first);
+    let second = second_tail::<V, N>(tail, after, times);
     for passed in 0..N {
         let k = N - 1 - passed;
-        tail = next_tail(passed, second, tail, tails[k], times[k]);
-        tails[k] = tail;
+        tail = next_tail(passed, second, tail, after[k], times[k]);
+        now[k] = tail;
         row[k] = tail;
     }
+    tail
 }
 
-/// Fills the tails of all steps, from the last step to the first. It promises those of a sequence whose rows and
-/// machines have as many cells as the permit.
+/// Fills the tails of all steps, from the last step to the first, and zeros after them. It promises those of a sequence
+/// whose rows and machines have as many cells as the permit.
 #[inline(never)]
 pub fn fill_tails<V: Band, const N: usize>(
     permit: Permit,
@@ -86,7 +106,7 @@ pub fn fill_tails<V: Band, const N: usize>(
     requires some { 1 ≤ N }
     requires small { steps * N + N < 2 ^ 32 }
     requires times { length times.now ≡ steps * N }
-    requires tails { length tails.old ≡ steps * N }
+    requires tails { length tails.old ≡ steps * N + N }
     ensures length { length tails.new ≡ length tails.old }
     ensures tails { (rows machines : ℕ) (time tail : Cells) → permit ≡ rows * machines
         → AreTimesOf rows machines time → AreTails V.CAP N time tail
@@ -94,9 +114,18 @@ pub fn fill_tails<V: Band, const N: usize>(
         → HoldCells N steps time (map V.lanes times.now) → HoldCells N steps tail (map V.lanes tails.new) }
 {
     permit.spend();
-    let mut now = [V::zeros(); N];
+    let mut first = V::zeros();
+    let mut now = [first; N];
+    tails[steps * N..].copy_from_slice(&now);
     for left in 0..steps {
         let at = (steps - 1 - left) * N;
-        step_tails(&mut now, &times[at..at + N], &mut tails[at..at + N]);
+        let (rows, after) = tails.split_at_mut(at + N);
+        first = step_tails(
+            first,
+            &after[..N],
+            &times[at..at + N],
+            &mut now,
+            &mut rows[at..],
+        );
     }
 }

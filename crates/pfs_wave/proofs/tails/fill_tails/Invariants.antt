@@ -13,5 +13,6 @@ invariant-loop-left g l =
       now_long : length l.now ≡ count;
       cells : (time tail : Cells) → AreTails g.V.Band.CAP count time tail
           → ((row lane k : ℕ) → lane < 8 → k < count → row + lane ≡ l.steps → tail row (lane * count + k) ≡ 0)
-          → HoldCells count l.steps time (map lanes l.times) → AreTailsFilled lanes count l.steps tail l.tails l.now l.left;
+          → HoldCells count l.steps time (map lanes l.times)
+          → AreTailsFilled lanes count l.steps tail l.tails l.now (lanes l.first) l.left;
     }

@@ -1,55 +1,49 @@
-use Rattle.std.proofs.Common.{suc, ◌-◌, map, get_or, length, ap, ◌∙◌, sym, refl, arith}
-use Rattle.pfs_wave.specs.Private.Blocks.{vectors_of}
-use Rattle.pfs_wave.proofs.StepTables.{read, read_as}
+use Rattle.std.proofs.Common.{suc, ◌≡◌, ◌-◌, map, length, get_or, subst, ap, ◌∙◌, refl, arith, inl, inr}
+use Rattle.pfs_wave.specs.Private.Blocks.{IsColumn, IsStep, vectors_of}
+use Rattle.pfs_wave.proofs.StepTables.{read_as}
 use Rattle.pfs_wave.proofs.TailCells.{later_same, step_tails_none, step_tails_more}
 use Rattle.pfs_wave.proofs.tails.step_tails.Goals as goal
 
 pub loop-passed-init : goal.loop-passed-init
 loop-passed-init g c =
     let lanes = g.V.Band.lanes in
-    let tails = c.args.tails.now in
-    let first = c.index-tails-0.result in
-    let long = c.told-tails in
-    let some = c.requires.some in
-    step_tails_none lanes g.V.Band.CAP g.row.N (vectors_of (map lanes c.args.times.now)) (vectors_of (map lanes tails))
-    some tails c.args.row.now (lanes (get_or tails 0 first)) (lanes c.from_after-tail.result) long c.requires.row
-    (λ k lt. refl) (read lanes tails 0 first (omega arith)) (g.met.V.Band.eight (get_or tails 0 first))
-    c.from_after-tail.ensures
+    step_tails_none lanes g.V.Band.CAP g.row.N (vectors_of (map lanes c.args.times.now))
+    (vectors_of (map lanes c.chosen-after.result.now)) (lanes c.args.first) (g.met.V.Band.eight c.args.first) c.args.now.now
+    c.args.row.now (lanes c.from_after-tail.result) c.told-now c.requires.row c.from_after-tail.ensures
 
 pub loop-passed-preserved : goal.loop-passed-preserved
 loop-passed-preserved g c =
     let lanes = g.V.Band.lanes in
     let cap = g.V.Band.CAP in
     let count = g.row.N in
-    let old = c.args.tails.now in
-    let tails = c.loop-passed.tails in
+    let after = c.chosen-after.result.now in
     let times = c.args.times.now in
-    let first = c.index-tails-0.result in
-    let some = c.requires.some in
-    let long = c.told-tails in
+    let first = c.args.first in
     let so_far = c.loop-passed.invariant in
-    let rows_long = so_far.long in
     let inside = c.loop-passed-test.true in
     let k = count - 1 - c.loop-passed.passed in
-    let same = c.requires.times in
-    let first_is = read lanes old 0 first (omega arith) in
-    let above = read lanes tails k c.index-tails-k.result (omega arith) in
+    let after_long : length after ≡ count =
+    elim c.chosen-after.ensures [ inl is ↦ ap length is ∙ c.told-now | inr is ↦ ap length is ∙ c.requires.after ] in
+    let times_long = c.requires.times in
+    let above = read_as lanes after k c.index-after-k.result (omega arith) c.index-after-k.is in
     let time = read_as lanes times k c.index-times-k.result (omega arith) c.index-times-k.is in
-    step_tails_more lanes cap count (vectors_of (map lanes times)) (vectors_of (map lanes old)) some tails
-    c.loop-passed.row (lanes c.loop-passed.tail) c.loop-passed.passed k c.next_tail-tail.result
-    (lanes c.from_after-tail.result) (lanes c.second_tail-second.result) so_far inside refl
-    (λ lane lt. c.from_after-tail.ensures lane lt ∙ ap (λ v. get_or v (suc lane) 0) first_is)
-    (ap length (sym first_is) ∙ g.met.V.Band.eight (get_or old 0 first)) c.second_tail-second.ensures
-    c.next_tail-tail.ensures.second
+    step_tails_more lanes cap count (vectors_of (map lanes times)) (vectors_of (map lanes after)) (lanes first)
+    (g.met.V.Band.eight first) c.loop-passed.now c.loop-passed.row (lanes c.loop-passed.tail) c.loop-passed.passed k
+    c.next_tail-tail.result (lanes c.from_after-tail.result) (lanes c.second_tail-second.result) so_far inside refl
+    c.from_after-tail.ensures c.second_tail-second.ensures c.next_tail-tail.ensures.second
     (λ other lane lt. c.next_tail-tail.ensures.next other lane lt
     ∙ later_same cap refl (ap (λ v. get_or v lane 0) above) (ap (λ v. get_or v lane 0) time))
 
 pub returns-clause-tails : goal.returns-clause-tails
-returns-clause-tails g c time tail step are times_are after_are k lt =
+returns-clause-tails g c time tail step are times_are after_are now_are first_is =
+    let lanes = g.V.Band.lanes in
+    let chosen_are : IsStep g.row.N (suc step) tail (vectors_of (map lanes c.chosen-after.result.now)) =
+    elim c.chosen-after.ensures [ inl is ↦ rw is now_are | inr is ↦ rw is after_are ] in
     let outside = c.loop-passed-test.false in
-    (c.loop-passed.invariant.cells time tail step are times_are after_are).done k lt (omega arith)
-
-pub returns-clause-row : goal.returns-clause-row
-returns-clause-row g c time tail step are times_are after_are k lt =
-    let outside = c.loop-passed-test.false in
-    (c.loop-passed.invariant.cells time tail step are times_are after_are).row_done k lt (omega arith)
+    let some = c.requires.some in
+    let cells = c.loop-passed.invariant.cells time tail step are times_are chosen_are first_is in
+    let here : g.row.N - c.loop-passed.passed ≡ 0 = omega arith in (
+      λ k lt. cells.done k lt (omega arith),
+      λ k lt. cells.row_done k lt (omega arith),
+      subst (λ j. IsColumn g.row.N step tail j (lanes c.loop-passed.tail)) here cells.last_is,
+    )

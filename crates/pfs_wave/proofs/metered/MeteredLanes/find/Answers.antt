@@ -14,14 +14,20 @@ best_or_wide-requires-clause-wide c =
     let are = c.args.self.now.tables.are c.in-Some.narrow c.in-Some.is in
     omega (arith, c.args.self.now.serves.blocks.jobs, are.blocks.jobs)
 
+pub best_or_wide-requires-clause-narrow : goal.best_or_wide-requires-clause-narrow
+best_or_wide-requires-clause-narrow c =
+    rw c.args.self.now.same (c.args.self.now.tables.are c.in-Some.narrow c.in-Some.is)
+
 pub invariant_of-self : goal.invariant_of-self
 invariant_of-self c =
     let bench = c.args.self.now.bench in
     let shop : FlowShop = record { jobs = bench.jobs; machines = bench.machines; times = bench.times.now } in
     let are = c.args.self.now.tables.are c.in-Some.narrow c.in-Some.is in
-    let best = c.best_or_wide.ensures.best shop are c.args.self.now.serves c.total-total.ensures c.requires.paid in
+    let same = c.args.self.now.same in
+    let best = rw same at (c.best_or_wide.ensures.best (rw same c.args.self.now.serves) (rw same c.requires.paid)) in
     record {
       within = c.args.self.now.within;
+      same = same;
       serves = rw c.best_or_wide.ensures.wide c.args.self.now.serves;
       tables =
           rw c.best_or_wide.ensures.known (has_narrow shop _
@@ -31,10 +37,8 @@ invariant_of-self c =
 
 pub returns-in-Some-clause-best : goal.returns-in-Some-clause-best
 returns-in-Some-clause-best c =
-    let bench = c.args.self.now.bench in
-    let shop : FlowShop = record { jobs = bench.jobs; machines = bench.machines; times = bench.times.now } in
-    let are = c.args.self.now.tables.are c.in-Some.narrow c.in-Some.is in
-    c.best_or_wide.ensures.best shop are c.args.self.now.serves c.total-total.ensures c.requires.paid
+    let same = c.args.self.now.same in
+    rw same at (c.best_or_wide.ensures.best (rw same c.args.self.now.serves) (rw same c.requires.paid))
 
 pub returns-clause-best : goal.returns-clause-best
 returns-clause-best c =

@@ -1,6 +1,5 @@
 use Rattle.std.proofs.Common.{length, refl, arith, ap}
 use Rattle.pfs_order.proofs.Published.Sequences.{length-lt-size}
-use Rattle.pfs_wave.proofs.PartLaws.{appended_law}
 use Rattle.pfs_wave.proofs.narrow.Narrow.best_or_wide.Goals as goal
 use Rattle.pfs_wave.proofs.narrow.Narrow.best_or_wide.Goals.{then-fits, else-fits}
 
@@ -27,15 +26,13 @@ best-best-requires-else-fits-clause-few c =
     )
 
 pub returns-clause-best : goal.returns-clause-best
-returns-clause-best c shop are serves total paid =
-    let jobs = c.args.seq.now.jobs in
+returns-clause-best c serves paid =
+    let shop = c.args.instance.now.shop in
     elim c.if-fits.branch [
       | then-fits w ↦
           let best = rw c.as_slice-jobs.ensures.value at w.best-best.ensures.best in
-          let room = w.if-fits.ensures refl shop are.blocks.some are in
-          let blocks = rw (← ap (λ tables. tables.blocks) c.self.view_is) at are.blocks in
-          rw w.best-is (best shop blocks paid (length jobs) (omega arith)
-          (omega (arith, appended_law shop jobs c.args.job are.blocks.some, room, total)))
+          let blocks = rw (← ap (λ tables. tables.blocks) c.self.view_is) at c.requires.narrow.blocks in
+          rw w.best-is (best shop blocks paid (length c.args.seq.now.jobs) (omega arith) (omega (arith, w.if-fits.ensures refl)))
       | else-fits w ↦
           let best = rw c.as_slice-jobs.ensures.value at w.best-best-else-fits.ensures.best in
           rw w.best-is (best shop serves paid)
