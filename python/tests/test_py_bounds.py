@@ -1,7 +1,7 @@
-"""The tests of values and of bad input run again: over a library that first touches all memory of a call, and then calls
-the library that is tested, where gcc's sanitizers end the process if a list is longer than the memory at its pointer;
-and by the rules by which NumPy 2 promotes numbers, where a limit takes the type of the array that it is compared with,
-for which NumPy 1.24 has a switch."""
+"""The tests of values and of bad input run again. Once they run over a library that first touches all memory of a call,
+and then calls the library that is tested: gcc's sanitizers end the process if a list is longer than the memory at its
+pointer. And once numbers are promoted as by NumPy 2, where a limit takes the type of the array that it is compared
+with; NumPy 1.24 has a switch for it."""
 import os
 import pathlib
 import re

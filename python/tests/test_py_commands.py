@@ -115,23 +115,6 @@ def test_search_from_an_order_of_ones_own(folder: pathlib.Path, program: str) ->
     run([*LONG, "--rounds", "60", "--state", "state"], folder, 2, error)
 
 
-def test_a_block_in_the_other_layout(folder: pathlib.Path) -> None:
-    shop = shop_in(folder)
-    (folder / "two").write_text("1 1\n0 7\n" + shop.to_text("orlib"))
-    printed = run(["search", "two", "--layout", "orlib", "--block", "2", "--rounds", "20"], folder)
-    assert printed == shop.solve(20).to_text()
-
-
-def test_a_time_limit(folder: pathlib.Path, program: str) -> None:
-    begun = time.monotonic()
-    printed = run([*LONG, "--seconds", "0.7", "--state", "state"], folder)
-    assert time.monotonic() - begun > 0.6
-    (folder / "order").write_text(printed)
-    got = plainly.run([program, "check", "--layout", "taillard", str(folder / "shop"), str(folder / "order")])
-    assert got.startswith("valid\n")
-    assert rounds_in(folder) > 0 and printed == shop_in(folder).solve(rounds_in(folder)).to_text()
-
-
 @pytest.mark.parametrize("number", [signal.SIGINT, signal.SIGTERM])
 def test_a_signal_ends_it_with_the_best_order(folder: pathlib.Path, program: str, number: signal.Signals) -> None:
     child = start([*LONG, "--state", "state"], folder)
@@ -466,6 +449,7 @@ def test_the_defaults_that_the_help_states(folder: pathlib.Path, monkeypatch: py
         assert given == usual, f"the help of {command} tells {value} as the default of --{name}"
         assert asked(folder, monkeypatch, [*line, f"--{name}", OTHERS[name]])[name] != usual[name]
     limited = asked(folder, monkeypatch, [*line, "--seconds", "5"])
+    assert limited["seconds"] == 5
     assert limited["rounds"] == 1_000_000 == int(re.findall(r"else ([\d,]+), and", text)[0].replace(",", ""))
 
 

@@ -530,16 +530,6 @@ def test_an_event_ends_the_search(cut: Callable[[list[int]], None]) -> None:
     assert shop.solve(50, stop=threading.Event()) == shop.solve(50)
 
 
-def test_an_event_of_another_thread_ends_searches_soon() -> None:
-    stop = threading.Event()
-    timer = threading.Timer(0.3, stop.set)
-    timer.start()
-    begun = time.monotonic()
-    found = pfs.generate(100, 20, 5).solve(1_000_000, stop=stop)
-    assert time.monotonic() - begun < 10 and 0 < found.rounds < 1_000_000
-    timer.join()
-
-
 def test_a_search_by_time_continues_with_another_seed(monkeypatch: pytest.MonkeyPatch) -> None:
     """After round 1,000,000 with round 0 of the seed that the plans of experiments continue with."""
     shop = pfs.generate(6, 3, 1)
