@@ -153,10 +153,6 @@ def read(source: Source, layout: str, block: int = 1) -> Instance:
     block : int
         The number of the block to read, counted from 1. A file of the layout ``"matrix"`` has one block.
 
-    Returns
-    -------
-    Instance
-
     Raises
     ------
     FileFault
@@ -342,10 +338,6 @@ def from_frame(frame: Any, *, unit: str = "", decimals: int = 0) -> Instance:
         The number of decimals of the times in the frame, 0 to 9. The times of the instance are integers: with 1
         decimal, 2.5 becomes 25.
 
-    Returns
-    -------
-    Instance
-
     Raises
     ------
     TypeError
@@ -398,10 +390,6 @@ def generate(jobs: int, machines: int, seed: int) -> Instance:
         The number of jobs and of machines.
     seed : int
         1 to 2,147,483,646.
-
-    Returns
-    -------
-    Instance
 
     Examples
     --------
