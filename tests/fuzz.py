@@ -20,7 +20,7 @@ import tempfile
 import time
 from collections.abc import Iterable, Sequence
 from random import Random
-from typing import Any
+from typing import IO, Any
 
 sys.dont_write_bytecode = True
 from support import second_program
@@ -45,7 +45,7 @@ Answer = tuple[bytes, bytes, int | None]
 
 @dataclasses.dataclass
 class Case:
-    """Words, files by their names, and standard input. `pieces` has for a file (standard input is `-`) the lengths
+    """Words, files by their names, and standard input. `pieces` has for a file (standard input is `stdin`) the lengths
     of the pieces in which the program gets it through a pipe; the others lie there whole. `is_full`: standard output
     takes no byte."""
     words: list[bytes]
@@ -115,9 +115,10 @@ def cut(text: bytes, lengths: list[int]) -> list[bytes]:
 
 
 def lay_files(case: Case, folder: pathlib.Path) -> list[Feeder]:
-    """Makes the files of a case, and feeders for those that are pipes."""
+    """Makes the files of a case and its standard input, and feeders for those that are pipes."""
     feeders = []
-    for name, text in case.files.items():
+    texts: dict[bytes, Contents] = {b"stdin": case.stdin, **case.files}
+    for name, text in texts.items():
         if name.startswith(b"/"):
             continue
         path = folder / os.fsdecode(name)
@@ -132,39 +133,23 @@ def lay_files(case: Case, folder: pathlib.Path) -> list[Feeder]:
     return feeders
 
 
-def given_input(case: Case, feeders: list[Feeder]) -> int:
-    """The descriptor of standard input."""
-    read_end, write_end = os.pipe()
-    if b"-" in case.pieces:
-        feeders.append(Feeder(write_end, case.stdin, case.pieces[b"-"]))
-        return read_end
-    os.close(write_end)
-    os.close(read_end)
-    file = os.memfd_create("input")
-    os.write(file, case.stdin)
-    os.lseek(file, 0, os.SEEK_SET)
-    return file
-
-
 def run(program: pathlib.Path, case: Case) -> Answer:
     """What the program writes to standard output and to standard error, and its status."""
     with tempfile.TemporaryDirectory(prefix="fuzz-") as name:
         folder = pathlib.Path(name)
+        output, errors = pathlib.Path("/dev/full") if case.is_full else folder / "stdout", folder / "stderr"
         feeders = lay_files(case, folder)
-        stdin = given_input(case, feeders)
-        stdout = os.open("/dev/full", os.O_WRONLY) if case.is_full else os.memfd_create("output")
-        stderr = os.memfd_create("errors")
         try:
-            status = run_fed([os.fsencode(program)] + case.words, folder, stdin, stdout, stderr, feeders)
-            return b"" if case.is_full else contents(stdout), contents(stderr), status
+            with (open(folder / "stdin", "rb", buffering=0) as stdin, open(output, "wb") as stdout,
+                  open(errors, "wb") as stderr):
+                status = run_fed([os.fsencode(program)] + case.words, folder, stdin, stdout, stderr, feeders)
         finally:
             for feeder in feeders:
                 feeder.close()
-            for descriptor in (stdin, stdout, stderr):
-                os.close(descriptor)
+        return b"" if case.is_full else output.read_bytes(), errors.read_bytes(), status
 
 
-def run_fed(words: list[bytes], folder: pathlib.Path, stdin: int, stdout: int, stderr: int,
+def run_fed(words: list[bytes], folder: pathlib.Path, stdin: IO[bytes], stdout: IO[bytes], stderr: IO[bytes],
             feeders: list[Feeder]) -> int | None:
     """The status of a program that is fed, or None where it doesn't end."""
     end = time.monotonic() + MOST_SECONDS
@@ -180,14 +165,6 @@ def run_fed(words: list[bytes], folder: pathlib.Path, stdin: int, stdout: int, s
         child.kill()
         child.wait()
         return None
-
-
-def contents(descriptor: int) -> bytes:
-    os.lseek(descriptor, 0, os.SEEK_SET)
-    text = b""
-    while piece := os.read(descriptor, 1 << 20):
-        text += piece
-    return text
 
 
 # Random instance files
@@ -488,10 +465,10 @@ def random_case(random: Random) -> Case:
 
 def in_pieces(random: Random, case: Case) -> Case:
     """The case with some of its files in pieces. A file that is named twice, and an empty one, lies there whole."""
-    texts: dict[bytes, Contents] = {b"-": case.stdin, **case.files}
+    texts: dict[bytes, Contents] = {b"stdin": case.stdin, **case.files}
     pieces = {}
     for name, text in texts.items():
-        is_read = case.words.count(name) == 1 if name != b"-" else not case.words
+        is_read = case.words.count(name) == 1 if name != b"stdin" else not case.words
         if is_read and text and random.random() < 0.5:
             pieces[name] = lengths_of_pieces(random, text)
     return case.changed(pieces=pieces)
@@ -503,7 +480,6 @@ def tell(program: pathlib.Path, case: Case) -> None:
     """Keeps the files of the case in a folder and prints how to run it."""
     folder = pathlib.Path(tempfile.mkdtemp(prefix="pfs-differs-"))
     lay_files(case.changed(pieces={}), folder)
-    (folder / "stdin").write_bytes(case.stdin)
     words = " ".join(shlex.quote(os.fsdecode(word)) for word in case.words)
     output = " > /dev/full" if case.is_full else ""
     print(f"in a shell: cd {folder} && {program} {words} < stdin{output}".encode(errors="replace").decode())

@@ -9,6 +9,7 @@ import pytest
 from support.installed import (LIBRARY, NEW, OLD, PLACES, PROGRAM, SHARED, VERSION, VERSIONED, Copy,
                                assert_completions_are_found, assert_runs, assert_same_files, assert_usual_modes,
                                files_below)
+from support.library import Library
 from support.needs import tool
 from support.program import Program
 from support.tools import output_of, run_tool, write_script
@@ -113,29 +114,32 @@ def prefix(request: pytest.FixtureRequest, copy: Copy, tmp_path_factory: pytest.
     return place
 
 
-def test_a_program_is_built_by_pkg_config(prefix: pathlib.Path, folder: pathlib.Path) -> None:
+@pytest.fixture
+def caller(folder: pathlib.Path) -> pathlib.Path:
+    """A folder with the source of a program that calls the library."""
     (folder / "caller.c").write_text(CALLER)
+    return folder
+
+
+def test_a_program_is_built_by_pkg_config(prefix: pathlib.Path, caller: pathlib.Path) -> None:
     [library] = prefix.rglob("libpfs.so")
     env = dict(os.environ, PKG_CONFIG_PATH=str(library.with_name("pkgconfig")), LD_LIBRARY_PATH=str(library.parent))
-    flags = output_of([tool("pkg-config"), "--cflags", "--libs", "pfs"], folder, env=env)
+    flags = output_of([tool("pkg-config"), "--cflags", "--libs", "pfs"], caller, env=env)
     for words in (flags, flags.replace("-lpfs", "-l:libpfs.a")):
-        output_of(["cc", "caller.c", "-o", "caller", *words.split()], folder)
-        assert output_of(["./caller"], folder, env=env) == f"{VERSION} {VERSION}\n"
+        output_of(["cc", "caller.c", "-o", "caller", *words.split()], caller)
+        assert output_of(["./caller"], caller, env=env) == f"{VERSION} {VERSION}\n"
 
 
-@pytest.mark.parametrize("wanted", [VERSION, "99.0"])
-def test_a_program_is_built_by_cmake(wanted: str, prefix: pathlib.Path, folder: pathlib.Path) -> None:
+def test_a_program_is_built_by_cmake(prefix: pathlib.Path, caller: pathlib.Path) -> None:
     """But not where it asks for a later library."""
-    (folder / "caller.c").write_text(CALLER)
-    (folder / "CMakeLists.txt").write_text(CMAKE.format(wanted=wanted))
     words = [tool("cmake"), "-S", ".", "-B", "made", f"-DCMAKE_PREFIX_PATH={prefix}"]
-    if wanted != VERSION:
-        assert f"version: {VERSION}" in run_tool(words, folder).stderr
-        return
-    output_of(words, folder)
-    output_of(["cmake", "--build", "made"], folder)
+    (caller / "CMakeLists.txt").write_text(CMAKE.format(wanted="99.0"))
+    assert f"version: {VERSION}" in run_tool(words, caller).stderr
+    (caller / "CMakeLists.txt").write_text(CMAKE.format(wanted=VERSION))
+    output_of(words, caller)
+    output_of(["cmake", "--build", "made"], caller)
     for target in ("pfs", "pfs_static"):
-        assert output_of([f"made/{target}_caller"], folder) == f"{VERSION} {VERSION}\n"
+        assert output_of([f"made/{target}_caller"], caller) == f"{VERSION} {VERSION}\n"
 
 
 # Building before that
@@ -163,14 +167,15 @@ def test_a_program_that_is_older_than_a_source_or_missing_is_built(name: str, is
 
 # What the program needs
 
-def test_the_page_names_the_c_library_that_the_program_needs(top: pathlib.Path, pfs: Program,
-                                                             folder: pathlib.Path) -> None:
-    """Its newest version of which the program needs a symbol, and its libraries."""
-    page = (top / "docs" / "INSTALL.md").read_text()
-    versions = [list(map(int, found.decode().split("."))) for found in
-                re.findall(rb"GLIBC_([0-9.]+)", pfs.path.read_bytes())]
-    assert re.findall(r"needs the GNU C library ([0-9.]+) or newer", page) == [".".join(map(str, max(versions)))]
-    assert re.findall(r"of which it takes `([^`]+)` alone", page) \
+def test_the_pages_name_the_c_library_that_is_needed(top: pathlib.Path, pfs: Program, libpfs: Library,
+                                                     folder: pathlib.Path) -> None:
+    """Its newest version of which the program or the library needs a symbol, and the program's libraries."""
+    for name, built in (("INSTALL.md", pfs.path), ("LIBRARY.md", libpfs.path)):
+        versions = [list(map(int, found.decode().split("."))) for found in
+                    re.findall(rb"GLIBC_([0-9.]+)", built.read_bytes())]
+        page = (top / "docs" / name).read_text()
+        assert re.findall(r"the GNU C library ([0-9.]+) or newer", page) == [".".join(map(str, max(versions)))], name
+    assert re.findall(r"of which it takes `([^`]+)` alone", (top / "docs" / "INSTALL.md").read_text()) \
         == re.findall(r"(\S+) => /", output_of(["ldd", pfs.path], folder))
 
 

@@ -41,13 +41,6 @@ def test_a_program_runs_with_musl(libpfs: Library, folder: pathlib.Path, library
     assert output_of([made], folder) == "0, makespan 10\n"
 
 
-def test_the_page_names_the_gnu_c_library_that_the_library_needs(libpfs: Library) -> None:
-    versions = re.findall(rb"GLIBC_(\d+)\.(\d+)", libpfs.path.read_bytes())
-    major, minor = max((int(major), int(minor)) for major, minor in versions)
-    page = HEADER.parent.parent / "docs" / "LIBRARY.md"
-    assert f"the GNU C library {major}.{minor} or newer" in page.read_text()
-
-
 def test_the_stack_is_not_executable(libpfs: Library, folder: pathlib.Path) -> None:
     flags = re.search(r"^ *GNU_STACK(?: +0x\w+){5} +([RWE]+)", output_of([tool("readelf"), "-lW", libpfs.path], folder),
                       re.MULTILINE)

@@ -68,10 +68,13 @@ def extracted(made: Made, tmp_path_factory: pytest.TempPathFactory) -> pathlib.P
 
 
 def test_made_again_all_has_the_same_bytes_and_is_signed(made: Made, tmp_path_factory: pytest.TempPathFactory) -> None:
-    """Later, with another umask, language and folder, where a signature of other sums is removed. The page's lines
-    accept the sums and the signature, and reject others."""
+    """Later, with another umask, language and folder, from which what an earlier version listed is removed, and the
+    signature. The page's lines accept the sums and the signature, and reject others."""
     folder = tmp_path_factory.mktemp("second")
-    (folder / "SHA256SUMS.asc").write_text("of other sums\n")
+    (folder / "SHA256SUMS").write_text(f"{'0' * 64}  pfs_0.deb\n{'0' * 64}  ../second.txt\n")
+    kept = [folder / "mine", folder.with_name("second.txt")]
+    for path in (folder / "SHA256SUMS.asc", folder / "pfs_0.deb", *kept):
+        path.touch()
     output_of([tool("ssh-keygen"), "-q", "-t", "ed25519", "-N", "", "-f", "key"], folder.parent)
     old = os.umask(0o077)
     try:
@@ -82,7 +85,8 @@ def test_made_again_all_has_the_same_bytes_and_is_signed(made: Made, tmp_path_fa
     assert got.status == 0, got
     sums = [{path.name: hashlib.sha256(path.read_bytes()).hexdigest() for path in each.iterdir()}
             for each in (made.folder, folder)]
-    assert sums[1].pop("SHA256SUMS.sig") and sums[0] == sums[1] and "Containerfile" in sums[0]
+    assert sums[1].pop("SHA256SUMS.sig") and sums[1].pop("mine") and kept[1].exists()
+    assert sums[0] == sums[1] and "Containerfile" in sums[0]
     (folder / "signers").write_text(f"pfs {(folder.parent / 'key.pub').read_text()}")
     lines = ["ssh-keygen -Y verify .*$", "sha256sum --check .*$"]
     for line in lines:
@@ -284,12 +288,6 @@ def test_apt_installs_from_the_folder(made: Made, folder: pathlib.Path) -> None:
     assert "release o=pfs" in output_of(["apt-cache", *words[1:], "policy"], folder)
 
 
-def test_the_symbols_are_the_headers() -> None:
-    """A build of the packages compares them with the library's."""
-    header = re.findall(r"^(?:int|void|const char \*)\s*(pfs_\w+)\(", (TOP / "lib" / "pfs.h").read_text(), re.MULTILINE)
-    assert re.findall(r"^ (pfs_\w+)@PFS_1 [\d.]+$", SYMBOLS, re.MULTILINE) == sorted(header)
-
-
 @pytest.mark.usefixtures("matplotlib")
 def test_the_programs_of_the_packages_run(extracted: pathlib.Path, made: Made, folder: pathlib.Path) -> None:
     """And shells complete them, and pages lead to pages that are there."""
@@ -313,42 +311,35 @@ def test_the_programs_of_the_packages_run(extracted: pathlib.Path, made: Made, f
 
 # The wheel
 
-@pytest.fixture(scope="module")
-def wheel(made: Made) -> dict[str, bytes]:
-    """What the wheel holds, without its version in front of what is about it."""
+def test_a_wheel_holds_the_package_and_the_library(made: Made) -> None:
+    """With the licences of what is built into the library. It needs what the settings and README say."""
+    top = made.copy.top
     with zipfile.ZipFile(made.path(".whl")) as archive:
-        modes = {name: archive.getinfo(name).external_attr >> 16 & 0o777 for name in archive.namelist()}
-        # All users can read each file, and only its owner or group writes it.
-        assert {name: mode for name, mode in modes.items() if mode & 0o444 != 0o444 or mode & 0o002} == {}
-        return {re.sub(r"^pfs-[^/]*\.(?=dist-info|data)", "", name): archive.read(name) for name in archive.namelist()}
-
-
-def test_a_wheel_holds_the_package_and_the_library(wheel: dict[str, bytes], made: Made) -> None:
-    found = {name: text for name, text in wheel.items() if not name.startswith("dist-info/")}
-    wanted = {f"pfs/{name}": text for name, text in files_below(made.copy.top / "python" / "src" / "pfs").items()}
-    wanted |= {f"pfs/{SHARED}": (made.copy.top / f"lib/out/{SHARED}").read_bytes(),
+        modes = {each.filename: each.external_attr >> 16 & 0o777 for each in archive.infolist()}
+        # Without the version in front of what is about the wheel.
+        found = {re.sub(r"^pfs-[^/]*\.(?=dist-info|data)", "", name): archive.read(name) for name in modes}
+    # All users can read each file, and only its owner or group writes it.
+    assert {name: mode for name, mode in modes.items() if mode & 0o444 != 0o444 or mode & 0o002} == {}
+    about = {name: found.pop(name) for name in list(found) if name.startswith("dist-info/")}
+    wanted = {f"pfs/{name}": text for name, text in files_below(top / "python" / "src" / "pfs").items()}
+    wanted |= {f"pfs/{SHARED}": (top / f"lib/out/{SHARED}").read_bytes(),
                "pfs/_version.py": wanted["pfs/_version.py"].replace(VERSION.encode(), BETWEEN.encode())}
-    wanted |= {f"data/data/share/man/man1/{name}.1": (made.copy.top / "python" / f"{name}.1").read_bytes()
-               for name in PROGRAMS}
+    wanted |= {f"data/data/share/man/man1/{name}.1": (top / "python" / f"{name}.1").read_bytes() for name in PROGRAMS}
     assert_same_files(found, wanted)
-
-
-def test_what_a_wheel_says_of_itself(wheel: dict[str, bytes], made: Made) -> None:
-    """It needs what the settings and README say, and has the licences of what is built into its library."""
-    fields = email.message_from_string(wheel["dist-info/METADATA"].decode())
-    project = tomllib.loads((made.copy.top / "python" / "pyproject.toml").read_text())["project"]
+    fields = email.message_from_string(about["dist-info/METADATA"].decode())
+    project = tomllib.loads((top / "python" / "pyproject.toml").read_text())["project"]
     assert (fields["Name"], fields["Version"]) == ("pfs", BETWEEN.replace(".014640", ".14640"))
     needed, due = ([re.sub("[ ()'\"]", "", str(each)) for each in lines] for lines in
                    (fields.get_all("Requires-Dist") or [], project["dependencies"]))
     assert [each for each in needed if "extra" not in each] == due and "numpy>=1.24" in due
-    readme = (made.copy.top / "python" / "README.md").read_text()
+    readme = (top / "python" / "README.md").read_text()
     assert str(fields.get_payload()).strip() == readme.strip()
     pythons = re.findall(r"needs Python ([\d.]+) or newer and NumPy", readme)
     assert [f">={python}" for python in pythons] == [fields["Requires-Python"]] == [project["requires-python"]]
     licences = {"LICENSE-APACHE": "LICENSE-APACHE", "LICENSE-MIT": "LICENSE-MIT", "NOTICES": "debian/copyright"}
     assert fields.get_all("License-File") == list(licences)
-    assert {name: wheel[f"dist-info/{name}"] for name in licences} \
-        == {name: (made.copy.top / file).read_bytes() for name, file in licences.items()}
+    assert {name: about[f"dist-info/{name}"] for name in licences} \
+        == {name: (top / file).read_bytes() for name, file in licences.items()}
 
 
 def test_pip_replaces_a_wheel_by_one_of_a_later_commit(made: Made, folder: pathlib.Path) -> None:

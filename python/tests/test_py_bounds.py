@@ -1,6 +1,7 @@
-"""Nothing that the package passes to the library is read or written out of bounds. The tests of bad input run again
-over a library that first touches all memory of a call, and then calls the library that is tested. gcc's sanitizers end
-the process if a list is longer than the memory at its pointer."""
+"""The tests of values and of bad input run again. Once they run over a library that first touches all memory of a call,
+and then calls the library that is tested: gcc's sanitizers end the process if a list is longer than the memory at its
+pointer. And once numbers are promoted as by NumPy 2, where a limit takes the type of the array that it is compared
+with; NumPy 1.24 has a switch for it."""
 import os
 import pathlib
 import re
@@ -9,6 +10,7 @@ import subprocess
 import sys
 from collections.abc import Iterator
 
+import numpy as np
 import pytest
 from pfs import _library
 
@@ -73,21 +75,30 @@ def touching(tmp_path_factory: pytest.TempPathFactory) -> dict[str, str]:
                    check=True)
     asan = subprocess.run(["gcc", "-print-file-name=libasan.so"], capture_output=True, text=True).stdout.strip()
     return {"LD_PRELOAD": asan, "PYTHONMALLOC": "malloc", "ASAN_OPTIONS": "detect_leaks=0",
-            "PFS_LIBRARY": str(library), "PFS_TOUCHED": str(pathlib.Path(_library.PATH).resolve()),
-            "PYTHONDONTWRITEBYTECODE": "1"}
+            "PFS_LIBRARY": str(library), "PFS_TOUCHED": str(pathlib.Path(_library.PATH).resolve())}
 
 
-def ran(words: list[str], touching: dict[str, str]) -> subprocess.CompletedProcess[str]:
-    return subprocess.run([sys.executable, *words], cwd=TOP / "python", env=os.environ | touching, capture_output=True,
-                          text=True, timeout=500)
+def ran(words: list[str], env: dict[str, str]) -> subprocess.CompletedProcess[str]:
+    return subprocess.run([sys.executable, *words], cwd=TOP / "python", capture_output=True, text=True, timeout=500,
+                          env=os.environ | {"PYTHONDONTWRITEBYTECODE": "1"} | env)
+
+
+def assert_passed_again(env: dict[str, str]) -> None:
+    words = ["-m", "pytest", "-q", "-s", "-p", "no:cacheprovider", "-p", "no:xdist", "-x", "-o", "addopts=",
+             "--hypothesis-profile=few"]
+    done = ran([*words, "tests/test_py_validate.py", "tests/test_py_values.py"], env)
+    assert done.returncode == 0, done.stdout + done.stderr
 
 
 @pytest.mark.seconds(40)
 def test_bad_input_under_the_sanitizers(touching: dict[str, str]) -> None:
-    words = ["-m", "pytest", "-q", "-s", "-p", "no:cacheprovider", "-p", "no:xdist", "-x", "-o", "addopts=",
-             "--hypothesis-profile=few"]
-    done = ran([*words, "tests/test_py_validate.py", "tests/test_py_values.py"], touching)
-    assert done.returncode == 0, done.stdout + done.stderr
+    assert_passed_again(touching)
+
+
+@pytest.mark.seconds(15)
+@pytest.mark.skipif(np.lib.NumpyVersion(np.__version__) >= "2.0.0", reason="this is NumPy 2")
+def test_the_rules_of_numpy_2() -> None:
+    assert_passed_again({"NPY_PROMOTION_STATE": "weak"})
 
 
 PLANTED = """

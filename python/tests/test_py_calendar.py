@@ -12,7 +12,6 @@ import pytest
 from browser import PEN, looked_at
 from hypothesis import assume, given
 from hypothesis import strategies as st
-from pfs import _commands
 from pfs._calendar import Clock
 
 DAYS = ["mon", "tue", "wed", "thu", "fri", "sat", "sun"]
@@ -398,75 +397,3 @@ def is_empty(text: str) -> bool:
     """Whether an operation takes no time."""
     start, end = re.findall(r"(?:start|end) (.*)", text)
     return bool(start == end)
-
-
-# The command line
-
-TABLE = "job [min];saw;drill\ntable;300;200\nchair;250;400\n"
-
-
-def planned(folder: pathlib.Path, monkeypatch: pytest.MonkeyPatch, *words: str, table: str = TABLE) -> int:
-    monkeypatch.chdir(folder)
-    (folder / "times.csv").write_text(table)
-    return _commands.main(["plan", "times.csv", "--rounds", "10", *words])
-
-
-def test_a_plan_on_the_calendar(tmp_path: pathlib.Path, monkeypatch: pytest.MonkeyPatch,
-                                capsys: pytest.CaptureFixture[str]) -> None:
-    words = ["--begin", "2026-11-30T06:00", "--shift", "06:00-09:00,09:30-11:30", "--shift", "12:00-15:00", "--days",
-             "mon-wed", "--days", "fri"]
-    assert planned(tmp_path, monkeypatch, *words, "--schedule", "out.csv", "--chart", "out.html") == 0
-    printed = capsys.readouterr().out
-    # 8 hours a day: chair up to minute 250 and 650, table from 250 to 550 and from 650 to 850.
-    assert printed == "makespan 850 min\nbound 850 min\noptimal\nend 2026-12-01 13:10\n1 chair\n2 table\n"
-    assert (tmp_path / "out.csv").read_text("utf-8-sig").splitlines() == [
-        "job;machine;start;end", "chair;saw;2026-11-30 06:00;2026-11-30 10:40",
-        "chair;drill;2026-11-30 10:40;2026-12-01 08:50", "table;saw;2026-11-30 10:40;2026-12-01 07:10",
-        "table;drill;2026-12-01 08:50;2026-12-01 13:10"]
-    for order in ("out.csv", "printed"):
-        (tmp_path / "printed").write_text(printed)
-        assert planned(tmp_path, monkeypatch, *words, "--order", order) == 0
-        assert capsys.readouterr().out == printed, f"the order of {order} is read back"
-
-
-@pytest.mark.parametrize(("words", "table", "error"), [
-    (["--begin", "tomorrow"], TABLE,
-     "argument --begin: 'tomorrow' is not a local date and time such as 2026-11-30T06:00"),
-    (["--begin", "2026-11-30T06:00", "--shift", "6-14"], TABLE,
-     "argument --shift: '6-14' is not a shift such as 06:00-14:00"),
-    (["--begin", "2026-11-30T06:00", "--days", "mo-fr"], TABLE,
-     "argument --days: 'mo-fr' is not a day of the week such as mon, or days such as mon-fri"),
-    (["--shift", "06:00-14:00"], TABLE, "--shift needs --begin, which says when the work begins"),
-    (["--days", "mon-fri"], TABLE, "--days needs --begin, which says when the work begins"),
-    (["--begin", "2026-11-30T06:00", "--shift", "06:00-14:00", "--shift", "13:00-20:00"], TABLE,
-     "shifts overlap on Mon 2026-11-30 at 13:00"),
-    (["--begin", "2026-11-30T06:00", "--closed", "24.12."], TABLE, "argument --closed: '24.12.' is not a date such as "
-     "2026-12-24, or dates such as 2026-12-24..2027-01-01"),
-    (["--closed", "2026-12-24"], TABLE, "--closed needs --begin, which says when the work begins"),
-    (["--begin", "2026-11-30T06:00"], TABLE.replace(" [min]", ""),
-     f"the times have no unit, {NEEDED}--unit"),
-    (["--begin", "2026-11-30T06:00", "--days", "mon-fri", "--unit", "days"], TABLE.replace(" [min]", ""),
-     "a day of work may be 24 hours or the shifts of a day: write the times in hours"),
-])
-def test_calendars_that_the_command_rejects(tmp_path: pathlib.Path, monkeypatch: pytest.MonkeyPatch, words: list[str],
-                                            table: str, error: str, capsys: pytest.CaptureFixture[str]) -> None:
-    """Before the search."""
-    monkeypatch.setattr(_commands, "searched", None)
-    try:
-        status = planned(tmp_path, monkeypatch, *words, "--schedule", "out.csv", table=table)
-    except SystemExit as end:
-        status = int(str(end.code))
-    seen = capsys.readouterr()
-    assert (status, seen.out) == (3, "") and seen.err.startswith(f"pfs: {error}"), seen.err
-    assert seen.err.count("\n") == 1, seen.err
-    assert not (tmp_path / "out.csv").exists()
-
-
-def test_a_schedule_that_no_calendar_has(tmp_path: pathlib.Path, monkeypatch: pytest.MonkeyPatch,
-                                         capsys: pytest.CaptureFixture[str]) -> None:
-    """The order is printed all the same."""
-    words = ["--begin", "9999-12-30T06:00", "--shift", "06:00-07:00", "--schedule", "out.csv"]
-    assert planned(tmp_path, monkeypatch, *words) == 4
-    seen = capsys.readouterr()
-    assert seen.out == "makespan 850 min\nbound 850 min\noptimal\n1 chair\n2 table\n"
-    assert seen.err.endswith("pfs: the schedule ends after the year 9999\n")

@@ -38,9 +38,16 @@ if (!IS_PLAIN) {
     press("0");
     seen.moved[name] = drawnBy(move);
   }
+  const point = time => send("pointermove", PointerEvent, xOf(time) + 5, yOf(1) + ROW / 2);
+  const saidBy = done => ({...drawnBy(done), tip: tip.style.display === "block" ? tip.textContent : ""});
   press("0");
-  seen.pointed = drawnBy(() => send("pointermove", PointerEvent, xOf(table.starts[0][1]) + 5, yOf(0) + ROW / 2));
-  seen.unpointed = drawnBy(() => send("pointerleave", PointerEvent, 5, -5));
+  seen.pointed = saidBy(() => point(table.starts[1][1]));
+  seen.idle = saidBy(() => point(0));
+  point(table.starts[1][1]);
+  seen.unpointed = saidBy(() => send("pointerleave", PointerEvent, 5, -5));
+  press("+", "+");
+  seen.zoomed = saidBy(() => point(table.starts[1][1]));
+  press("0");
   canvas.style.width = "600px";
   seen.narrow = drawnBy(() => window.dispatchEvent(new Event("resize")));
 }
@@ -314,16 +321,18 @@ def test_keys_and_the_wheel_show_other_times(seen: dict[str, Any], move: str) ->
 
 
 @TOGETHER
-def test_the_operation_that_one_points_at_is_outlined(seen: dict[str, Any]) -> None:
+def test_the_operation_that_one_points_at_is_outlined_and_told(seen: dict[str, Any]) -> None:
     """By a wide line, and the job's other operations by a narrower one."""
     made = schedule()
     sheet = Sheet(seen["pointed"], made.instance)
     boxes = [box for box in sheet.boxes if box.line != 2]
     near = 4 * sheet.unit
-    assert [(box.machine, box.line) for box in boxes] == [(0, 3), (1, 1.5)]
+    assert [(box.machine, box.line) for box in boxes] == [(0, 1.5), (1, 3)]
     for box in boxes:
         assert (box.start, box.end) == pytest.approx((made.starts[1, box.machine], made.ends[1, box.machine]), abs=near)
-    assert {box.line for box in Sheet(seen["unpointed"], made.instance).boxes} == {2}
+    told = "job table\nmachine drill\nstart 7.0\nend 9.5"
+    assert [seen[name]["tip"] for name in ("pointed", "idle", "unpointed", "zoomed")] == [told, "", "", told]
+    assert {box.line for name in ("idle", "unpointed") for box in Sheet(seen[name], made.instance).boxes} == {2}
 
 
 @TOGETHER

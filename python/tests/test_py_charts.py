@@ -104,47 +104,6 @@ def test_settings_stay_as_they_are(tmp_path: pathlib.Path, path: str) -> None:
     assert json.loads(done.stdout) == {}, "settings of the process that a chart has changed"
 
 
-# For each operation, what the page says when one points at its middle, beside them, and at the first one zoomed in.
-LOOKING = PEN + """
-function said(machine, place) {
-  const middle = (table.starts[machine][place] + table.ends[machine][place]) / 2;
-  send("pointermove", PointerEvent, xOf(middle), yOf(machine) + ROW / 2);
-  return tip.style.display === "block" ? tip.textContent : null;
-}
-const seen = {pointed: []};
-for (let machine = 0; machine < machines; ++machine) {
-  for (let place = 0; place < jobs; ++place) seen.pointed.push(said(machine, place));
-}
-send("pointermove", PointerEvent, xOf(table.makespan) - 1, yOf(0) + ROW / 2);
-seen.idle = tip.style.display;
-const x = xOf((table.starts[0][0] + table.ends[0][0]) / 2);
-for (let at = 0; at < 4; ++at) send("wheel", WheelEvent, x, yOf(0) + 1, {deltaY: -100});
-seen.zoomed = said(0, 0);
-said(0, 0);
-send("pointerleave", PointerEvent, x, -5);
-seen.left = tip.style.display;
-tell(seen);
-"""
-
-
-@pytest.mark.seconds(5)
-def test_a_page_says_what_one_points_at(chromium: str, tmp_path: pathlib.Path, named: pfs.Schedule) -> None:
-    named.plot(tmp_path / "chart.html", critical=True, bound=True)
-    seen = looked_at(chromium, tmp_path / "chart.html", tmp_path, LOOKING)
-    shop = named.instance
-    expected = [
-        f"job {shop.job_name(int(job))}\nmachine {shop.machine_name(machine)}\nstart {start / 10}\nend {end / 10}"
-        if end > start else None
-        for machine in range(3)
-        for job, start, end in zip(named.order, named.starts[:, machine], named.ends[:, machine])]
-    for said, due in zip(seen["pointed"], expected, strict=True):
-        # One can't point at an operation that takes no time.
-        assert due is None or said == due
-    assert None in expected
-    assert seen["idle"] == "none" and seen["zoomed"] == expected[0]
-    assert seen["left"] == "none", "what was said of an operation is still shown when one points beside the chart"
-
-
 # Names that a page, a formula, a template or a replacement could take for something else.
 DANGEROUS = [
     "{{data}}", "{{title}}", "{{policy}}", "x autofocus onfocus=document.title=/PWNED/.source y", "</script><b id=x>",

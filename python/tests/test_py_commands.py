@@ -115,23 +115,6 @@ def test_search_from_an_order_of_ones_own(folder: pathlib.Path, program: str) ->
     run([*LONG, "--rounds", "60", "--state", "state"], folder, 2, error)
 
 
-def test_a_block_in_the_other_layout(folder: pathlib.Path) -> None:
-    shop = shop_in(folder)
-    (folder / "two").write_text("1 1\n0 7\n" + shop.to_text("orlib"))
-    printed = run(["search", "two", "--layout", "orlib", "--block", "2", "--rounds", "20"], folder)
-    assert printed == shop.solve(20).to_text()
-
-
-def test_a_time_limit(folder: pathlib.Path, program: str) -> None:
-    begun = time.monotonic()
-    printed = run([*LONG, "--seconds", "0.7", "--state", "state"], folder)
-    assert time.monotonic() - begun > 0.6
-    (folder / "order").write_text(printed)
-    got = plainly.run([program, "check", "--layout", "taillard", str(folder / "shop"), str(folder / "order")])
-    assert got.startswith("valid\n")
-    assert rounds_in(folder) > 0 and printed == shop_in(folder).solve(rounds_in(folder)).to_text()
-
-
 @pytest.mark.parametrize("number", [signal.SIGINT, signal.SIGTERM])
 def test_a_signal_ends_it_with_the_best_order(folder: pathlib.Path, program: str, number: signal.Signals) -> None:
     child = start([*LONG, "--state", "state"], folder)
@@ -246,10 +229,12 @@ def test_other_states_are_rejected(folder: pathlib.Path, case: str) -> None:
     ([], ["--take", "5"], "take 4, not 5"), (["--take", "5"], [], "take 5, not 4"),
     ([], ["--passes", "1"], "passes 0, not 1"), (["--passes", "1"], [], "passes 1, not 0"),
     (["--start", "order"], [], "another start"), ([], ["--start", "order"], "another start"),
+    ([], ["--block", "2"], "another instance"),
 ])
 def test_a_state_is_for_the_options_of_its_search(folder: pathlib.Path, before: list[str], after: list[str],
                                                   why: str) -> None:
     (folder / "order").write_text(plainly.order_file(range(60), 10, 1))
+    (folder / "shop").write_text(shop_in(folder).to_text() + pfs.generate(60, 10, 5).to_text())
     run([*LONG, *before, "--rounds", "5", "--state", "state"], folder)
     kept = (folder / "state").read_bytes()
     error = f"pfs: state: the state of a search with {why}\n"
@@ -366,13 +351,6 @@ def test_a_state_is_on_the_disk_before_it_replaces_the_old_one(folder: pathlib.P
     assert not any("O_WRONLY" in line or "O_RDWR" in line or "O_TRUNC" in line for line in opened), opened
 
 
-def test_the_state_of_another_instance(folder: pathlib.Path) -> None:
-    run([*LONG, "--rounds", "5", "--state", "state"], folder)
-    pfs.generate(60, 10, 5).write(folder / "shop")
-    run([*LONG, "--rounds", "5", "--state", "state"], folder, 2,
-        "pfs: state: the state of a search with another instance\n")
-
-
 def on_a_terminal(words: list[str], folder: pathlib.Path) -> tuple[str, str]:
     """What goes to standard output, and what to standard error, which is a terminal."""
     words = [sys.executable, "-m", "pfs", *words]
@@ -471,6 +449,7 @@ def test_the_defaults_that_the_help_states(folder: pathlib.Path, monkeypatch: py
         assert given == usual, f"the help of {command} tells {value} as the default of --{name}"
         assert asked(folder, monkeypatch, [*line, f"--{name}", OTHERS[name]])[name] != usual[name]
     limited = asked(folder, monkeypatch, [*line, "--seconds", "5"])
+    assert limited["seconds"] == 5
     assert limited["rounds"] == 1_000_000 == int(re.findall(r"else ([\d,]+), and", text)[0].replace(",", ""))
 
 
@@ -561,7 +540,7 @@ TABLE = "job [h];saw;drill;paint\ntable;3;2,5;4\nchair;2;5;1,5\n\"shelf; oak\";4
 
 def test_a_plan(folder: pathlib.Path) -> None:
     (folder / "times.csv").write_text(TABLE)
-    printed = run(["plan", "times.csv", "--schedule", "out.csv", "--chart", "out.svg"], folder)
+    printed = run(["plan", "times.csv", "--schedule", "out.csv", "--chart", "out.svg", "--chart", "out.html"], folder)
     times = [[30, 25, 40], [20, 50, 15], [40, 10, 20], [10, 10, 60]]
     best = plainly.shortest(times)
     names = ["table", "chair", "shelf; oak", "box"]
@@ -576,18 +555,9 @@ def test_a_plan(folder: pathlib.Path) -> None:
             for job, row in zip(order, plainly.schedule(times, order))
             for machine, (start, end) in zip(["saw", "drill", "paint"], row)]
     assert (folder / "out.csv").read_text().splitlines() == ["\ufeffjob;machine;start;end", *rows]
-    picture = (folder / "out.svg").read_text()
-    assert ">drill<" in picture and ">table<" in picture
-    groups = set(re.findall(r'<g id="([\w-]+)"', picture))
-    assert {"bound", "critical-1", "critical-3"} <= groups, "a plan's chart has no bound or no critical path"
-    assert f"makespan {best / 10}, bound {plainly.bound(times) / 10} (dashed), critical path outlined" in picture
-    assert run(["plan", "times.csv", "--chart", "out.html"], folder) == printed
-    page = re.search(r'id="data">(.*?)</script>', (folder / "out.html").read_text())
-    assert page
-    data = json.loads(page[1])
-    assert (data["bound"], data["makespan"], data["unit"]) == (plainly.bound(times), best, "h")
-    assert data["jobs"] == [names[job] for job in order] and data["machines"] == ["saw", "drill", "paint"]
-    assert data["critical"][0] == [0, 0] and data["critical"][-1] == [3, 2]
+    drawn = f"bound {plainly.bound(times) / 10} (dashed), critical path outlined"
+    assert f"makespan {best / 10}, {drawn}" in (folder / "out.svg").read_text()
+    assert f"makespan {best / 10} h, {drawn}" in (folder / "out.html").read_text()
     assert run(["plan", "times.csv", "--unit", "Stunden", "--rounds", "0"], folder).startswith("makespan ")
 
 
@@ -706,8 +676,33 @@ def test_another_order_is_compared(folder: pathlib.Path) -> None:
         "other: not in the plan: done\nother: new in the plan: shelf; oak\nother: moved: box (place 1 to 4)\n")
 
 
-PLAN = ["plan", "times.csv"]
+def test_a_plan_on_a_calendar(folder: pathlib.Path) -> None:
+    """The order is printed also where no calendar has the schedule."""
+    (folder / "times.csv").write_text("job [min];saw;drill\ntable;300;200\nchair;250;400\n")
+    words = ["plan", "times.csv", "--begin", "2026-11-30T06:00", "--shift", "06:00-09:00,09:30-11:30", "--shift",
+             "12:00-15:00", "--days", "mon", "--days", "wed,fri"]
+    printed = run([*words, "--schedule", "out.csv"], folder)
+    # 8 hours a day: chair up to minute 250 and 650, table from 250 to 550 and from 650 to 850.
+    assert printed == "makespan 850 min\nbound 850 min\noptimal\nend 2026-12-02 13:10\n1 chair\n2 table\n"
+    assert (folder / "out.csv").read_text("utf-8-sig").splitlines() == [
+        "job;machine;start;end", "chair;saw;2026-11-30 06:00;2026-11-30 10:40",
+        "chair;drill;2026-11-30 10:40;2026-12-02 08:50", "table;saw;2026-11-30 10:40;2026-12-02 07:10",
+        "table;drill;2026-12-02 08:50;2026-12-02 13:10"]
+    (folder / "printed").write_text(printed)
+    for order in ("out.csv", "printed"):
+        assert run([*words, "--order", order], folder) == printed, f"the order of {order} is read back"
+    words = ["plan", "times.csv", "--begin", "9999-12-30T06:00", "--shift", "06:00-07:00", "--schedule", "out.csv"]
+    assert run(words, folder, 4, "pfs: the schedule ends after the year 9999\n") == printed.replace(
+        "end 2026-12-02 13:10\n", "")
+
+
+PLAN, BEGIN = ["plan", "times.csv"], ["--begin", "2026-11-30T06:00"]
 NOT_THERE = ": No such file or directory"
+# Options whose texts are read as the parameters of a calendar are.
+NO_CALENDARS = {"--begin tomorrow": "'tomorrow' is not a local date and time such as 2026-11-30T06:00",
+                "--shift 6-14": "'6-14' is not a shift such as 06:00-14:00",
+                "--days mo-fr": "'mo-fr' is not a day of the week such as mon, or days such as mon-fri",
+                "--closed 24.12.": "'24.12.' is not a date such as 2026-12-24, or dates such as 2026-12-24..2027-01-01"}
 
 
 @pytest.mark.parametrize(("words", "status", "error"), [
@@ -731,6 +726,15 @@ NOT_THERE = ": No such file or directory"
     ([*LONG, "--state", "state", "--start", "none"], 4, "none" + NOT_THERE),
     ([*LONG, "--state", "order.html"], 2, "order.html: not the state of a search"),
     ([*LONG, "--take", "61"], 3, "--take must be from 1 to 60, not 61"),
+    *(([*PLAN, *BEGIN, *words.split()], 3, f"argument {words.split()[0]}: {why} (python3 -m pfs plan --help lists what "
+       "there is)") for words, why in NO_CALENDARS.items()),
+    *(([*PLAN, *words.split()], 3, f"{words.split()[0]} needs --begin, which says when the work begins")
+      for words in ("--shift 06:00-14:00", "--days mon-fri", "--closed 2026-12-24")),
+    ([*PLAN, *BEGIN, "--shift", "06:00-14:00,13:00-20:00"], 3, "shifts overlap on Mon 2026-11-30 at 13:00"),
+    (["plan", "plain.csv", *BEGIN], 3, "the times have no unit, which dates need: write min, h, s or d in brackets "
+     "into the first cell of the table, as in 'job [min]', or set --unit"),
+    (["plan", "plain.csv", *BEGIN, "--days", "mon-fri", "--unit", "days"], 3,
+     "a day of work may be 24 hours or the shifts of a day: write the times in hours"),
 ])
 def test_what_is_rejected_before_the_search(folder: pathlib.Path, monkeypatch: pytest.MonkeyPatch, words: list[str],
                                             status: int, error: str) -> None:
@@ -739,6 +743,7 @@ def test_what_is_rejected_before_the_search(folder: pathlib.Path, monkeypatch: p
     monkeypatch.setitem(modules, "matplotlib", None)
     monkeypatch.setattr(_commands, "searched", None)
     (folder / "times.csv").write_text(TABLE)
+    (folder / "plain.csv").write_text(TABLE.replace(" [h]", ""))
     (folder / "link.csv").symlink_to("times.csv")
     (folder / "order.html").write_text("table\n")
     before = {path: path.read_bytes() for path in folder.iterdir()}

@@ -19,23 +19,35 @@ THREE = TITLE + "3 2 7 9 8\nprocessing times :\n3 2 4\n2 5 1\n"
 THREE_BY_JOB = "flow shop instance\n3 2\n0 3 1 2\n0 2 1 5\n0 4 1 1\n"
 TWO_BLOCKS = "+++\ninstance 1\n+++\nfirst\n1 1\n0 7\n+++\nsecond\n3 2\n0 3 1 2\n0 2 1 5\n0 4 1 1\n+++\n"
 
-# A file for each fault, with its layout, and the fault's name, place and text.
-BAD = {
-    "nothing": ("", "taillard", "no block", 0, "pfs: no block, found 0"),
-    "a short size line": ("x\n3 2\n", "taillard", "size count", 2, "pfs: size line 2 has a wrong count"),
-    "many jobs": ("5001 1\n", "orlib", "size range", 1, "pfs: size line 1 is out of range"),
-    "a word": ("1 2 0 0 0\n3\n4x\n", "taillard", "mixed line", 13, "pfs: mixed line at 13"),
-    "a long time": ("1 1 0 0 0\n1000000001\n", "taillard", "time range", 10, "pfs: time out of range at 10"),
-    "a wrong machine": ("1 2\n0 3 2 4\n", "orlib", "machine number", 8, "pfs: wrong machine number at 8"),
-    "a number more": ("1 1 0 0 0\n3 4\n", "taillard", "extra number", 12, "pfs: extra number at 12"),
-    "an end inside": ("2 2 0 0 0\n3 4\n5", "taillard", "truncated", 3, "pfs: truncated after 3 times"),
+# A file, its layout, and of its fault the name, the place, the line, the column and the hint.
+NO_SIZE_LINE = "the file has no size line: no line consists of numbers alone"
+FAULTS: dict[str, tuple[str, str, str, int, int, int, str]] = {
+    "nothing": ("", "taillard", "no block", 0, 1, 0, NO_SIZE_LINE),
+    "words": ("a\nb 2\n", "orlib", "no block", 0, 2, 0, NO_SIZE_LINE),
+    "the other layout": ("x\n3 2\n", "taillard", "size count", 2, 2, 0,
+                         "the line has 2 numbers, but a size line has 5; in the layout 'orlib' it has 2"),
+    "three numbers": ("1 2 3\n", "orlib", "size count", 1, 1, 0, "the line has 3 numbers, but a size line has 2"),
+    "words beside the size": ("11 5 # 11 jobs\n0 3 1 2 2 7\n", "orlib", "size count", 2, 2, 0,
+                              "line 1 has words next to its numbers, so it isn't read as a size line"),
+    "many jobs": ("5001 1\n", "orlib", "size range", 1, 1, 0,
+                  "a block has 1 to 5,000 jobs and 1 to 200 machines, and the notes are at most 4,294,967,295"),
+    "a decimal": ("2 1 0 0 0\n3 4.5\n", "taillard", "mixed line", 13, 2, 4,
+                  "a line of times has only digits and blanks: no words, signs or decimal points"),
+    "a long time": ("1 1 0 0 0\n 1000000001\n", "taillard", "time range", 11, 2, 2, "times are 0 to 1,000,000,000"),
+    "a time missing": ("2 2\n0 3 1\n0 5 1 2\n1 1\n0 3\n", "orlib", "machine number", 12, 3, 3,
+                       "line 2 has 3 numbers, but a row of this block has 4"),
+    "a time missing in block 2": ("1 1 0 0 0\n7\n3 2 0 0 0\n1 2 3\n4 5\n1 1 0 0 0\n7\n", "taillard", "extra number", 34,
+                                  6, 3, "line 5 has 2 numbers, but a row of this block has 3"),
+    "a plain matrix": ("2 3\n4 5 6\n7 8 9\n", "orlib", "machine number", 4, 2, 1,
+                       "line 2 has 3 numbers: perhaps only times, instead of pairs of machine and time"),
+    "an end inside": ("2 2 0 0 0\n3 4\n5", "taillard", "truncated", 3, 3, 0,
+                      "line 3 has 1 numbers, but a row of this block has 2"),
+    "an end after whole rows": ("2 2 0 0 0\n3 4\n", "taillard", "truncated", 2, 2, 0, ""),
 }
 BAD_ORDERS = {
-    "another text": ("order3 3\n", "syntax", 5, "pfs: order file syntax at 5"),
-    "a job 4 of 3": ("order 3\n2 1 4\nmakespan 10\n", "job range", 3, "pfs: order file job out of range at place 3"),
-    "a job twice": ("order 3\n2 2 3\nmakespan 10\n", "job repeated", 2, "pfs: order file job repeated at place 2"),
-    "a long file": ("o" * 65537, "order file too long", 0, "pfs: order file too long"),
-}
+    "another text": ("order3 3\n", "syntax", 5), "a job 4 of 3": ("order 3\n2 1 4\nmakespan 10\n", "job range", 3),
+    "a job twice": ("order 3\n2 2 3\nmakespan 10\n", "job repeated", 2),
+    "a long file": ("o" * 65537, "order file too long", 0)}
 
 
 @pytest.mark.parametrize(("text", "layout", "notes"), [(THREE, "taillard", (7, 9, 8)),
@@ -288,55 +300,21 @@ def test_all_blocks_up_to_the_limit() -> None:
         pfs.read_all(io.BytesIO(block * 999 + many + b" " + block), "orlib")
 
 
-@pytest.mark.parametrize("case", BAD)
+@pytest.mark.parametrize("case", FAULTS)
 def test_faults_of_instance_files(tmp_path: pathlib.Path, program: str, case: str) -> None:
-    text, layout, name, place, got = BAD[case]
-    path = written(tmp_path, text)
-    with pytest.raises(pfs.FileFault) as fault:
-        pfs.read(path, layout)
-    assert (fault.value.name, fault.value.place, fault.value.text) == (name, place, got)
-    hint = f" ({fault.value.hint})" if fault.value.hint else ""
-    assert fault.value.path == str(path) and str(fault.value) == f"{path}: {got.removeprefix('pfs: ')}{hint}"
-    assert isinstance(fault.value, ValueError)
-    assert plainly.run([program, "value", "--layout", layout, str(path)], 2) == got + "\n"
-
-
-# A file, its layout, and the line, the column and the hint of its fault.
-HINTS = {
-    "nothing": ("", "taillard", 1, 0, "the file has no size line: no line consists of numbers alone"),
-    "words": ("a\nb 2\n", "orlib", 2, 0, "the file has no size line: no line consists of numbers alone"),
-    "the other layout": ("x\n3 2\n", "taillard", 2, 0,
-                         "the line has 2 numbers, but a size line has 5; in the layout 'orlib' it has 2"),
-    "three numbers": ("1 2 3\n", "orlib", 1, 0, "the line has 3 numbers, but a size line has 2"),
-    "words beside the size": ("11 5 # 11 jobs\n0 3 1 2 2 7\n", "orlib", 2, 0,
-                              "line 1 has words next to its numbers, so it isn't read as a size line"),
-    "many jobs": ("5001 1\n", "orlib", 1, 0,
-                  "a block has 1 to 5,000 jobs and 1 to 200 machines, and the notes are at most 4,294,967,295"),
-    "a decimal": ("2 1 0 0 0\n3 4.5\n", "taillard", 2, 4,
-                  "a line of times has only digits and blanks: no words, signs or decimal points"),
-    "a long time": ("1 1 0 0 0\n 1000000001\n", "taillard", 2, 2, "times are 0 to 1,000,000,000"),
-    "a time missing": ("2 2\n0 3 1\n0 5 1 2\n1 1\n0 3\n", "orlib", 3, 3,
-                       "line 2 has 3 numbers, but a row of this block has 4"),
-    "a time missing in the second block": ("1 1 0 0 0\n7\n3 2 0 0 0\n1 2 3\n4 5\n1 1 0 0 0\n7\n", "taillard", 6, 3,
-                                           "line 5 has 2 numbers, but a row of this block has 3"),
-    "a plain matrix": ("2 3\n4 5 6\n7 8 9\n", "orlib", 2, 1,
-                       "line 2 has 3 numbers: perhaps only times, instead of pairs of machine and time"),
-    "an end inside": ("2 2 0 0 0\n3 4\n5\n", "taillard", 3, 0, "line 3 has 1 numbers, but a row of this block has 2"),
-    "an end after whole rows": ("2 2 0 0 0\n3 4\n", "taillard", 2, 0, ""),
-}
-
-
-@pytest.mark.parametrize("case", HINTS)
-def test_where_a_fault_is_and_what_may_be_wrong(case: str) -> None:
-    text, layout, line, column, hint = HINTS[case]
-    reads: list[Callable[[], Any]] = [lambda: pfs.read_all(io.BytesIO(text.encode()), layout)]
-    if "second" not in case:
-        reads.append(lambda: pfs.read(io.BytesIO(text.encode()), layout))
+    """Their texts are those that the program prints."""
+    text, layout, *due = FAULTS[case]
+    path, block = written(tmp_path, text), 2 if "block 2" in case else 1
+    reads: list[Callable[[], Any]] = [lambda: pfs.read(path, layout, block), lambda: pfs.read_all(path, layout)]
     for read in reads:
-        with pytest.raises(pfs.FileFault) as fault:
+        with pytest.raises(pfs.FileFault) as caught:
             read()
-        assert (fault.value.line, fault.value.column, fault.value.hint) == (line, column, hint)
-        assert str(fault.value).endswith(f" ({hint})" if hint else " times")
+        fault = caught.value
+        assert [fault.name, fault.place, fault.line, fault.column, fault.hint] == due and isinstance(fault, ValueError)
+        hint = f" ({fault.hint})" if fault.hint else ""
+        assert fault.path == str(path) and str(fault) == f"{path}: {fault.text.removeprefix('pfs: ')}{hint}"
+        words = [program, "value", "--layout", layout, "--block", str(block), str(path)]
+        assert plainly.run(words, 2) == fault.text + "\n"
 
 
 def test_a_file_that_is_too_long(tmp_path: pathlib.Path) -> None:
@@ -348,12 +326,12 @@ def test_a_file_that_is_too_long(tmp_path: pathlib.Path) -> None:
 
 @pytest.mark.parametrize("case", BAD_ORDERS)
 def test_faults_of_order_files(tmp_path: pathlib.Path, program: str, case: str) -> None:
-    text, name, place, got = BAD_ORDERS[case]
+    text, name, place = BAD_ORDERS[case]
     path, shop = written(tmp_path, text), written(tmp_path, THREE, "three")
     with pytest.raises(pfs.OrderFault) as fault:
         pfs.read_order(path)
-    assert (fault.value.name, fault.value.place, fault.value.text) == (name, place, got)
-    assert plainly.run([program, "check", "--layout", "taillard", str(shop), str(path)], 2) == got + "\n"
+    assert (fault.value.name, fault.value.place) == (name, place)
+    assert plainly.run([program, "check", "--layout", "taillard", str(shop), str(path)], 2) == fault.value.text + "\n"
 
 
 def test_a_file_that_is_not_there(tmp_path: pathlib.Path) -> None:

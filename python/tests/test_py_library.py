@@ -36,19 +36,15 @@ def loaded(library: pathlib.Path | str, folder: pathlib.Path) -> subprocess.Comp
     return plainly.python("-c", LOADING, cwd=folder, PFS_LIBRARY=str(library))
 
 
-@pytest.mark.parametrize("version", [f"{MAJOR + 1}.0.0", f"{MAJOR}0.0.0", f"{MAJOR - 1}.9.9", f"{MAJOR + 1}"])
-def test_a_library_of_another_version_is_rejected(tmp_path: pathlib.Path, version: str) -> None:
+@pytest.mark.parametrize(("version", "fits"), [
+    (f"{MAJOR}.0.0", True), (f"{MAJOR}.7.3", True), (f"{MAJOR}", True), (f"{MAJOR + 1}.0.0", False),
+    (f"{MAJOR}0.0.0", False), (f"{MAJOR - 1}.9.9", False), (f"{MAJOR + 1}", False)])
+def test_a_library_of_another_version_is_rejected(tmp_path: pathlib.Path, version: str, fits: bool) -> None:
     library = library_of(version, tmp_path)
     done = loaded(library, tmp_path)
     got = f"ImportError: the library {library} has version {version}, but this package needs {pfs.__version__}"
-    assert (done.returncode, done.stderr.splitlines()[-1]) == (1, got), f"a library of version {version} is loaded"
-
-
-@pytest.mark.parametrize("version", [f"{MAJOR}.0.0", f"{MAJOR}.7.3", f"{MAJOR}"])
-def test_a_library_of_a_version_that_fits_is_loaded(tmp_path: pathlib.Path, version: str) -> None:
-    library = library_of(version, tmp_path)
-    done = loaded(library, tmp_path)
-    assert (done.stdout, done.stderr) == (f"{library} {pfs.__version__}\n", "")
+    assert (done.stdout, done.stderr.splitlines()[-1:]) == (
+        (f"{library} {pfs.__version__}\n", []) if fits else ("", [got])), f"a library of version {version}"
 
 
 @pytest.mark.parametrize("name", _library.PROTOTYPES)

@@ -82,6 +82,8 @@ def test_a_sequence_is_taken_where_an_order_is() -> None:
         lambda own: shop.solve(2, hold=own), lambda own: shop.insert_all([], own),
         lambda own: pfs.Solution(own, found.makespan)]
     assert [repr(call(found)) for call in calls] == [repr(call(found.jobs.tolist())) for call in calls]
+    assert shop.check(found).valid and not shop.check(found._replace(makespan=1)).valid
+    assert shop.rpd(found) == shop.rpd(found.makespan)
     others = pfs.Sequence(found.jobs[1:], 0)
     assert shop.best_place(others, int(found.jobs[0])) == shop.best_place(others.jobs, int(found.jobs[0]))
     assert (shop.places(others, int(found.jobs[0])) == shop.places(others.jobs, int(found.jobs[0]))).all()

@@ -9,6 +9,7 @@ from pfs import _commands
 
 TOP = pathlib.Path(__file__).resolve().parents[2]
 PAGE = (TOP / "python" / "pfs-plan.1").read_text()
+VERSION = (TOP / "VERSION").read_text().strip()
 TABLE = "job [min],saw,drill\nchair,3,2\ntable,2,5\n"
 # As the wheel's and the package's scripts call it.
 CALL = "import sys; sys.argv[0] = 'pfs-plan'; from pfs._commands import plan_program; sys.exit(plan_program())"
@@ -45,11 +46,20 @@ def test_no_module_is_imported_from_the_current_folder(words: list[str], tmp_pat
     assert (done.returncode, done.stdout.splitlines()[:1]) == (0, ["makespan 9 min"]), done.stderr
 
 
-def test_a_plan_is_printed(tmp_path: pathlib.Path) -> None:
-    done = run(tmp_path, "times.csv", "--chart", "plan.html", "--title", "Week 48")
-    assert done.returncode == 0, done.stderr
-    assert done.stdout == "makespan 9 min\nbound 9 min\noptimal\n1 table\n2 chair\n"
-    assert "2 jobs, 2 machines" in done.stderr and "<title>Week 48</title>" in (tmp_path / "plan.html").read_text()
+@pytest.mark.parametrize(("words", "status", "out", "got"), [
+    (["times.csv"], 0, "makespan 9 min\nbound 9 min\noptimal\n1 table\n2 chair\n",
+     "2 jobs, 2 machines (saw, drill), times in min\n"),
+    (["--nothing", "times.csv"], 3, "",
+     "pfs: unrecognized arguments: --nothing (pfs-plan --help lists what there is)\n"),
+    (["--version"], 0, f"pfs {VERSION}\n", ""), (["times.csv", "--version"], 0, f"pfs {VERSION}\n", "")])
+def test_what_the_program_prints(tmp_path: pathlib.Path, words: list[str], status: int, out: str, got: str) -> None:
+    done = run(tmp_path, *words)
+    assert (done.returncode, done.stdout, done.stderr) == (status, out, got)
+
+
+def test_the_title_of_a_chart(tmp_path: pathlib.Path) -> None:
+    assert run(tmp_path, "times.csv", "--chart", "plan.html", "--title", "Week 48").returncode == 0
+    assert "<title>Week 48</title>" in (tmp_path / "plan.html").read_text()
 
 
 @pytest.mark.parametrize("words", [["-m", "pfs", "plan", "times.csv", "--chart", "made.png"],
@@ -65,21 +75,6 @@ def test_settings_of_matplotlib_in_the_current_folder_change_no_picture(tmp_path
         assert plainly.python(*words, cwd=tmp_path).returncode == 0
         made.add((tmp_path / "made.png").read_bytes())
     assert len(made) == 1
-
-
-def test_wrong_words_end_with_a_line_that_names_the_program(tmp_path: pathlib.Path) -> None:
-    done = run(tmp_path, "--nothing", "times.csv")
-    assert (done.returncode, done.stdout) == (3, "") and done.stderr == \
-        "pfs: unrecognized arguments: --nothing (pfs-plan --help lists what there is)\n"
-
-
-@pytest.mark.parametrize("words", [["--version"], ["times.csv", "--version"]])
-def test_the_version_is_printed(tmp_path: pathlib.Path, capsys: pytest.CaptureFixture[str], words: list[str]) -> None:
-    version = (TOP / "VERSION").read_text().strip()
-    assert run(tmp_path, *words).stdout == f"pfs {version}\n"
-    with pytest.raises(SystemExit, match="0"):
-        _commands.main(["plan", *words])
-    assert capsys.readouterr().out == f"pfs {version}\n"
 
 
 # A table that is rejected, options, and what is said of it: with options, where the package for Python has arguments.

@@ -58,15 +58,17 @@ def test_a_copy_prepares_its_own(counted: dict[str, int], again: Callable[[pfs.I
     assert other.makespan(range(12)) == due and counted == {"pfs_prepare": 2, "pfs_release": 1}
 
 
-def test_threads_on_one_instance_have_the_same_results() -> None:
-    """Also on its first call."""
-    shop = pfs.generate(30, 5, 1)
-    due, place, found = (pfs.generate(30, 5, 1).makespan(range(30)), pfs.generate(30, 5, 1).best_place(range(29), 29),
-                         pfs.generate(30, 5, 1).solve(20))
+def test_threads_share_no_result() -> None:
+    """Each has orders of its own for one instance, also in its first call."""
+    shop, other = pfs.generate(30, 5, 1), pfs.generate(30, 5, 1)
+    orders = [[*range(at, 30), *range(at)] for at in range(8)]
+    due = [(other.makespan(order), other.best_place(order[1:], order[0]), other.solve(20, start=order))
+           for order in orders]
 
     def many(at: int) -> bool:
-        return all(shop.makespan(range(30)) == due and shop.best_place(range(29), 29) == place
-                   and (turn % 50 or shop.solve(20) == found) for turn in range(200))
+        order, (makespan, place, found) = orders[at], due[at]
+        return all(shop.makespan(order) == makespan and shop.best_place(order[1:], order[0]) == place
+                   and (turn % 50 or shop.solve(20, start=order) == found) for turn in range(400))
 
     with ThreadPoolExecutor(8) as threads:
         assert all(threads.map(many, range(8)))

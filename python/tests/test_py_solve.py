@@ -110,35 +110,31 @@ def test_first_is_another_part_of_the_seed() -> None:
     assert len(found) == 4
 
 
-def test_a_bar_is_moved() -> None:
-    class Bar:
-        total = made = closed = 0
-        makespan = 0
+class Closing:
+    """A progress bar that counts how often it is closed."""
+    total = made = closed = makespan = 0
 
-        def __init__(self, total: int) -> None:
-            self.total = total
+    def __init__(self, total: int) -> None:
+        kind = type(self)
+        kind.total, kind.made, kind.closed, kind.makespan = total, 0, 0, 0
 
-        def update(self, n: int = 1) -> None:
-            self.made += n
+    def update(self, n: int = 1) -> None:
+        type(self).made += n
 
-        def set_postfix(self, makespan: int, refresh: bool) -> None:
-            self.makespan = makespan
+    def set_postfix(self, makespan: int, refresh: bool) -> None:
+        type(self).makespan = makespan
 
-        def close(self) -> None:
-            self.closed += 1
+    def close(self) -> None:
+        for _ in range(3):
+            pass
+        type(self).closed += 1
 
-    bar = Bar(total=300)
-    found = pfs.taillard(1).solve(300, progress=bar)
-    assert (bar.made, bar.makespan, bar.closed) == (300, found.makespan, 0)
-    made: list[Bar] = []
 
-    class Kept(Bar):
-        def __init__(self, total: int) -> None:
-            super().__init__(total)
-            made.append(self)
-
-    pfs.taillard(1).solve(300, progress=Kept)
-    assert (made[0].total, made[0].made, made[0].closed) == (300, 300, 1)
+@pytest.mark.parametrize(("make", "closed"), [(lambda: Closing(300), 0), (lambda: Closing, 1)], ids=["bar", "class"])
+def test_a_bar_is_moved(make: Callable[[], Any], closed: int) -> None:
+    """One that the search has made of a class is also closed."""
+    found = pfs.taillard(1).solve(300, progress=make())
+    assert (Closing.total, Closing.made, Closing.makespan, Closing.closed) == (300, 300, found.makespan, closed)
 
 
 def test_tqdm() -> None:
@@ -276,23 +272,6 @@ def test_a_signal_loses_nothing(seconds: float) -> None:
     assert done == shop.solve(done.rounds), "not where so many rounds end"
     on, whole = shop.solve(left, start=done, first=done.rounds), shop.solve(done.rounds + left)
     assert on.to_text() == whole.to_text() and done.cells + on.cells == whole.cells
-
-
-class Closing:
-    """A progress bar that counts how often it is closed."""
-    closed = 0
-    made = 0
-
-    def __init__(self, total: int) -> None:
-        type(self).closed = type(self).made = 0
-
-    def update(self, n: int = 1) -> None:
-        type(self).made += n
-
-    def close(self) -> None:
-        for _ in range(3):
-            pass
-        type(self).closed += 1
 
 
 TRACED = {str(pathlib.Path(pfs.__file__).with_name(f"_{name}.py")) for name in ("search", "solution", "faults")}
@@ -549,16 +528,6 @@ def test_an_event_ends_the_search(cut: Callable[[list[int]], None]) -> None:
     assert shop.solve(50, progress=set_at, stop=stop) == shop.solve(30)
     assert shop.solve(50, stop=stop) == shop.neh()
     assert shop.solve(50, stop=threading.Event()) == shop.solve(50)
-
-
-def test_an_event_of_another_thread_ends_searches_soon() -> None:
-    stop = threading.Event()
-    timer = threading.Timer(0.3, stop.set)
-    timer.start()
-    begun = time.monotonic()
-    found = pfs.generate(100, 20, 5).solve(1_000_000, stop=stop)
-    assert time.monotonic() - begun < 10 and 0 < found.rounds < 1_000_000
-    timer.join()
 
 
 def test_a_search_by_time_continues_with_another_seed(monkeypatch: pytest.MonkeyPatch) -> None:

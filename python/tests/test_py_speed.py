@@ -5,7 +5,6 @@ import subprocess
 import sys
 import timeit
 from collections.abc import Callable
-from concurrent.futures import ThreadPoolExecutor
 
 import numpy as np
 import pfs
@@ -81,18 +80,3 @@ def test_arguments_that_are_ready_make_a_call_faster() -> None:
     words = [sys.executable, "-c", COMPARED]
     runs = (subprocess.run(words, env=env, capture_output=True, text=True, check=True).stdout for _ in range(10))
     assert any(printed.startswith("True ") for printed in runs)
-
-
-def test_threads_do_not_share_a_result() -> None:
-    """No two calls share a buffer, also in several threads."""
-    shops = [pfs.generate(20 + at, 5, 1 + at) for at in range(8)]
-    due = [shop.makespan(range(shop.jobs)) for shop in shops]
-    places = [shop.best_place(range(1, shop.jobs), 0) for shop in shops]
-
-    def many(at: int) -> bool:
-        shop = shops[at]
-        return all(shop.makespan(range(shop.jobs)) == due[at] and shop.best_place(range(1, shop.jobs), 0) == places[at]
-                   for _ in range(1000))
-
-    with ThreadPoolExecutor(8) as threads:
-        assert all(threads.map(many, range(8)))

@@ -320,30 +320,6 @@ def test_an_order_that_changes_while_it_is_used_is_validated_as_a_copy(monkeypat
         word for word in words if isinstance(word, int))], "the library reads the caller's memory"
 
 
-def test_objects_that_change_their_minds() -> None:
-    """A number that is another one each time it is asked."""
-    class Fickle(int):
-        asked = 0
-
-        def __index__(self) -> int:
-            Fickle.asked += 1
-            return 2**31 if Fickle.asked % 2 else 0
-
-        def __gt__(self, other: object) -> bool:
-            return False
-
-    shop = pfs.generate(5, 3, 1)
-    calls: list[Callable[[], Any]] = [
-        lambda: shop.makespan(np.array([Fickle(2**31), 1], dtype=object)),
-        lambda: pfs.Instance(np.array([[Fickle(2**31)]], dtype=object)).bound(),
-        lambda: shop.best_place([0], Fickle(3))]
-    for call in calls:
-        try:
-            assert call()
-        except (TypeError, ValueError):
-            pass
-
-
 def call_everywhere(shop: pfs.Instance) -> dict[str, Callable[[], Any]]:
     """A call of each function of the library."""
     return {

@@ -416,16 +416,3 @@ def test_names_that_are_rejected(order: list[Any], kind: type[Exception], why: s
             call(order)
     with pytest.raises(TypeError, match="order has names, but the jobs of the instance have none"):
         pfs.Instance([[3]]).makespan(["table"])
-
-
-def test_a_sequence_is_taken_where_an_order_is() -> None:
-    shop = pfs.taillard(1)
-    found = shop.local_search(shop.neh())
-    assert shop.makespan(found) == found.makespan and shop.check(found).valid and shop.rpd(found) == shop.rpd(
-        found.makespan)
-    assert shop.schedule(found).makespan == found.makespan
-    assert shop.local_search(found).makespan <= found.makespan
-    assert shop.solve(0, start=found).order.tolist() == found.jobs.tolist()
-    assert shop.insert_all(found, []).jobs.tolist() == found.jobs.tolist()
-    with pytest.raises(ValueError, match="order has 19 jobs"):
-        shop.schedule(found._replace(jobs=found.jobs[1:]))

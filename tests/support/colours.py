@@ -1,6 +1,6 @@
-"""How far apart two colours are for the eye: CIEDE2000 (Sharma, Wu and Dalal, 2005), for eyes with all cones and for
-those without the red ones (protanopia) or the green ones (deuteranopia), as Machado, Oliveira and Fernandes (2009)
-compute what these see."""
+"""The contrast of two colours, and how far apart they are for the eye: CIEDE2000 (Sharma, Wu and Dalal, 2005), for eyes
+with all cones and for those without the red ones (protanopia) or the green ones (deuteranopia), as Machado, Oliveira
+and Fernandes (2009) compute what these see."""
 import math
 
 # Lightness, and how far from grey towards red and towards yellow (CIELAB).
@@ -24,12 +24,17 @@ def times(matrix: Matrix, parts: Lab) -> Lab:
 
 def seen(colour: str, eyes: str) -> Lab:
     """What these eyes see of a colour, which is written as #rrggbb."""
-    red, green, blue = (int(colour[at:at + 2], 16) / 255 for at in (1, 3, 5))
-    linear = times(EYES[eyes], (from_srgb(red), from_srgb(green), from_srgb(blue)))
+    linear = times(EYES[eyes], parts_of(colour))
     x, y, z = times(XYZ, (clipped(linear[0]), clipped(linear[1]), clipped(linear[2])))
     white = times(XYZ, (1, 1, 1))
     f, g, h = (bent(part / full) for part, full in zip((x, y, z), white))
     return 116 * g - 16, 500 * (f - g), 200 * (g - h)
+
+
+def parts_of(colour: str) -> Lab:
+    """The linear parts of red, green and blue of a colour."""
+    red, green, blue = (from_srgb(int(colour[at:at + 2], 16) / 255) for at in (1, 3, 5))
+    return red, green, blue
 
 
 def from_srgb(part: float) -> float:
@@ -72,3 +77,9 @@ def difference(first: Lab, second: Lab) -> float:
 def least_difference(first: str, second: str) -> float:
     """Of two colours, for those eyes which see the least one."""
     return min(difference(seen(first, eyes), seen(second, eyes)) for eyes in EYES)
+
+
+def contrast(first: str, second: str) -> float:
+    """The contrast ratio of two colours, from 1 to 21 (WCAG)."""
+    less, more = sorted(times(XYZ, parts_of(colour))[1] for colour in (first, second))
+    return (more + 0.05) / (less + 0.05)

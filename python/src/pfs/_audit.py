@@ -12,7 +12,7 @@ from typing import Any, NamedTuple, TypeAlias
 from pfs import _library as c
 from pfs._benchmarks import key_of, taillard_number, taillard_rows
 from pfs._faults import Fault, TableFault
-from pfs._files import bytes_of, read, read_all, taillard, words_of
+from pfs._files import content_of, read, read_all, taillard, words_of
 from pfs._instance import Instance
 from pfs._names import is_frame
 from pfs._tables import records, text_of
@@ -249,10 +249,7 @@ class Given(NamedTuple):
 
     @classmethod
     def of_file(cls, path: str) -> Given:
-        content, path = bytes_of(path, c.LONGEST_INPUT)
-        if len(content) > c.LONGEST_INPUT:
-            raise TableFault(path, 1, 0, f"the table has more than {c.LONGEST_INPUT:,} bytes")
-        text = text_of(content, path)
+        text = text_of(content_of(path, "table"), path)
         for delimiter in ";\t,":
             with contextlib.suppress(TableFault):
                 rows = records(text, path, delimiter)

@@ -70,7 +70,7 @@ def plot(schedule: Schedule, path: str | os.PathLike[str] | None, critical: bool
     frame = frame.checked()
     if ending == "html" and frame.ax is not None:
         raise ValueError("ax is for pictures: a page has no axes")
-    jobs, machines = ([shown(name) for name in names or counted(count)]
+    jobs, machines = ([shown(name) for name in names or [*map(str, range(count))]]
                       for names, count in ((shop.job_names, shop.jobs), (shop.machine_names, shop.machines)))
     if ending != "html":
         machines = [_drawing.shortened(name, int(frame.width / 4 / _drawing.NAME_DIGIT)) for name in machines]
@@ -105,11 +105,6 @@ def ending_of(path: str | os.PathLike[str]) -> str:
     return ending
 
 
-def counted(count: int) -> list[str]:
-    """Return the numbers of jobs or machines, from 0."""
-    return [str(number) for number in range(count)]
-
-
 def drawn(table: _drawing.Table, look: _drawing.Look, path: str | os.PathLike[str] | None, ending: str | None,
           frame: Frame) -> Any:
     """Draw the figure, and save it if there is a path. The settings of matplotlib don't change."""
@@ -122,22 +117,12 @@ def drawn(table: _drawing.Table, look: _drawing.Look, path: str | os.PathLike[st
             if frame.ax is not None:
                 figure = frame.ax.figure
                 look = look._replace(width=frame.ax.get_window_extent().width / figure.dpi + look.beside)
-            _drawing.draw(SingleAxes(frame.ax) if frame.ax is not None else figure, table, look)
+            _drawing.draw(figure, table, look, frame.ax)
             if path is not None:
                 atomic_write(path, _drawing.picture_of(figure, str(ending), look))
             return figure
     finally:
         logger.setLevel(level)
-
-
-class SingleAxes:
-    """Replaces a figure where the caller passed the axes. `subplots` returns them."""
-
-    def __init__(self, ax: Any) -> None:
-        self.ax = ax
-
-    def subplots(self) -> Any:
-        return self.ax
 
 
 def scale_of(clock: Clock) -> str:

@@ -191,9 +191,9 @@ def is_image(table: Table, look: Look) -> bool:
     return table.jobs * table.machines > MANY or table.jobs > look.plot_width * look.dpi
 
 
-def draw(figure: Figure, table: Table, look: Look) -> None:
-    """Draw the whole picture on an empty figure."""
-    axis = figure.subplots()
+def draw(figure: Figure, table: Table, look: Look, axis: Axis | None = None) -> None:
+    """Draw the whole picture on an empty figure, or on axes of a caller."""
+    axis = figure.subplots() if axis is None else axis
     fills = colours(table.order)
     if is_image(table, look):
         draw_image(axis, table, look, fills)

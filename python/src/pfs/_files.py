@@ -12,13 +12,13 @@ import numpy as np
 
 from pfs import _library as c
 from pfs._benchmarks import best_known, taillard_rows
-from pfs._faults import INSTANCE_FAULTS, ORDER_FAULTS, FileFault, OrderFault
+from pfs._faults import INSTANCE_FAULTS, ORDER_FAULTS, FileFault, OrderFault, TableFault
 from pfs._hints import EXTRA_NUMBER, MACHINE_NUMBER, NUMBER_LINE, TRUNCATED, hint_of, where
 from pfs._instance import Instance
 from pfs._matrix import matrix_of
 from pfs._names import is_frame
 from pfs._solution import Solution
-from pfs._validate import Order, checked_int, layout_number
+from pfs._validate import Order, Times, checked_int, layout_number
 
 Source: TypeAlias = "str | os.PathLike[str] | IO[bytes]"
 
@@ -29,6 +29,14 @@ def bytes_of(source: Source, most: int) -> tuple[bytes, str]:
         return read_up_to(source.read, most + 1), str(getattr(source, "name", ""))
     with open(source, "rb") as file:
         return read_up_to(file.read, most + 1), os.fspath(source)
+
+
+def content_of(path: str, what: str = "file") -> bytes:
+    """Return the content of a file, which is at most 64 MiB."""
+    content, _ = bytes_of(path, c.LONGEST_INPUT)
+    if len(content) > c.LONGEST_INPUT:
+        raise TableFault(path, 1, 0, f"the {what} has more than {c.LONGEST_INPUT:,} bytes")
+    return content
 
 
 def read_up_to(read_some: Callable[[int], bytes | None], most: int) -> bytes:
@@ -48,8 +56,9 @@ def read_up_to(read_some: Callable[[int], bytes | None], most: int) -> bytes:
     return b"".join(parts)
 
 
-def block_of(text: bytes, path: str, layout: int, block: int, start: int = 0) -> Instance:
-    """Return a block of a file, counted from the offset `start`."""
+def read_block(text: bytes, layout: int, block: int, start: int) -> tuple[int, int, Times, c.Notes]:
+    """Read a block, counted from the offset `start`: the number of the library's call, the place of a fault, the times
+    and the notes."""
     found, place = c.Block(), c_uint64()
     length = len(text) - start
     # Each time takes at least two bytes, except the last, which may take one.
@@ -57,11 +66,16 @@ def block_of(text: bytes, path: str, layout: int, block: int, start: int = 0) ->
     address = cast(c_char_p(text), c_void_p).value or 0
     number = c.library.pfs_read(address + start, length, layout, block, byref(found), times.ctypes.data, times.size,
                                 byref(place))
+    return number, place.value, times[:found.jobs * found.machines].reshape(found.jobs, found.machines), found.notes
+
+
+def block_of(text: bytes, path: str, layout: int, block: int, start: int = 0) -> Instance:
+    """Return a block of a file, counted from the offset `start`."""
+    number, place, times, notes = read_block(text, layout, block, start)
     if number in INSTANCE_FAULTS:
-        raise fault_of(text, path, layout, number, place.value, start)
+        raise fault_of(text, path, layout, number, place, start)
     c.done(number)
-    table, notes = times[:found.jobs * found.machines].reshape(found.jobs, found.machines), found.notes
-    return Instance(table, name=os.path.basename(path), seed=notes.seed, upper=notes.upper, lower=notes.lower)
+    return Instance(times, name=os.path.basename(path), seed=notes.seed, upper=notes.upper, lower=notes.lower)
 
 
 def fault_of(text: bytes, path: str, layout: int, number: int, place: int, start: int) -> FileFault:
@@ -75,15 +89,12 @@ def fault_of(text: bytes, path: str, layout: int, number: int, place: int, start
 
 def start_of_fault(text: bytes, layout: int) -> int:
     """Return the offset of the first block that is invalid."""
-    start, numbers = 0, 2 if layout == c.LAYOUTS["orlib"] else 1
+    start = 0
     for _ in range(c.MOST_BLOCKS):
-        found, place = c.Block(), c_uint64()
-        times = np.empty(min((len(text) - start) // 2 + 1, c.MOST_JOBS * c.MOST_MACHINES), dtype=np.uint32)
-        address = cast(c_char_p(text), c_void_p).value or 0
-        if c.library.pfs_read(address + start, len(text) - start, layout, 1, byref(found), times.ctypes.data,
-                              times.size, byref(place)) != c.OK:
+        number, _, times, _ = read_block(text, layout, 1, start)
+        if number != c.OK:
             break
-        start = end_of_block(text, start, numbers * found.jobs * found.machines)
+        start = end_of_block(text, start, layout, times.size)
     return start
 
 
@@ -98,10 +109,10 @@ def title_of(text: bytes, start: int) -> str:
     return titles[-1].decode("utf-8", "replace") if titles else ""
 
 
-def end_of_block(text: bytes, start: int, numbers: int) -> int:
-    """Return the offset of the next block. A block has a size line and then `numbers` numbers, and ends with the line
-    of the last one. The library has read this block before, so it is valid."""
-    size_line = NUMBER_LINE.search(text, start)
+def end_of_block(text: bytes, start: int, layout: int, times: int) -> int:
+    """Return the offset of the next block. A block has a size line and then its numbers, and ends with the line of the
+    last one. The library has read this block before, so it is valid."""
+    numbers, size_line = times * (2 if layout == c.LAYOUTS["orlib"] else 1), NUMBER_LINE.search(text, start)
     assert size_line is not None
     at, is_inside = size_line.end(), False
     while True:
@@ -117,12 +128,12 @@ def end_of_block(text: bytes, start: int, numbers: int) -> int:
 def blocks_of(text: bytes, path: str, layout: int) -> list[Instance]:
     """Return the blocks before the first fault. Each is read from the end of the one before it."""
     shops: list[Instance] = []
-    start, numbers = 0, 2 if layout == c.LAYOUTS["orlib"] else 1
+    start = 0
     with contextlib.suppress(FileFault):
         while len(shops) < c.MOST_BLOCKS:
             shop = block_of(text, path, layout, 1, start)
             shop.name = title_of(text, start) or f"{shop.name} {len(shops) + 1}".strip()
-            start = end_of_block(text, start, numbers * shop.times.size)
+            start = end_of_block(text, start, layout, shop.times.size)
             if start > c.LONGEST_INPUT:
                 break
             shops.append(shop)
@@ -141,10 +152,6 @@ def read(source: Source, layout: str, block: int = 1) -> Instance:
         then a line for each job with its time on each machine. The package alone reads it, so that isn't proved.
     block : int
         The number of the block to read, counted from 1. A file of the layout ``"matrix"`` has one block.
-
-    Returns
-    -------
-    Instance
 
     Raises
     ------
@@ -331,10 +338,6 @@ def from_frame(frame: Any, *, unit: str = "", decimals: int = 0) -> Instance:
         The number of decimals of the times in the frame, 0 to 9. The times of the instance are integers: with 1
         decimal, 2.5 becomes 25.
 
-    Returns
-    -------
-    Instance
-
     Raises
     ------
     TypeError
@@ -387,10 +390,6 @@ def generate(jobs: int, machines: int, seed: int) -> Instance:
         The number of jobs and of machines.
     seed : int
         1 to 2,147,483,646.
-
-    Returns
-    -------
-    Instance
 
     Examples
     --------

@@ -96,7 +96,8 @@ class Instance:
     Raises
     ------
     TypeError, ValueError
-        If an argument is of the wrong type or shape, or out of range. The message says which.
+        If an argument is of the wrong type or shape, or out of range. Methods raise them too for an argument that isn't
+        as described, such as a list in which a job occurs twice. The message says which argument or element is wrong.
 
     Examples
     --------
@@ -216,15 +217,6 @@ class Instance:
         order : array_like or Solution
             Distinct jobs, by number from 0 or by name: an order of all jobs, or a partial sequence. The makespan of an
             empty sequence is 0.
-
-        Returns
-        -------
-        int
-
-        Raises
-        ------
-        TypeError, ValueError
-            If it isn't a list of distinct jobs. The message says which element is wrong.
         """
         jobs, count = as_uint32_bytes(order, "order", self.job_names)
         prepared = self._taken()
@@ -246,10 +238,6 @@ class Instance:
         stated : int, optional
             The makespan to check. By default it is that of a `Solution` or `Sequence`, and otherwise only the order is
             checked.
-
-        Returns
-        -------
-        Check
 
         Raises
         ------
@@ -291,15 +279,6 @@ class Instance:
             order with lags (Johnson 1954, Mitten 1959; Lageweg, Lenstra and Rinnooy Kan 1978). It is computed in
             Python. It is **not proved**, but tested against all orders of small instances. It takes about a millisecond
             for 20 jobs on 5 machines, and minutes for 5,000 jobs on 200.
-
-        Returns
-        -------
-        int
-
-        Raises
-        ------
-        TypeError, ValueError
-            If there is no such method.
 
         Examples
         --------
@@ -383,12 +362,6 @@ class Instance:
             ``place``, the first place with the least makespan, and this ``makespan``. Insert the job with
             ``sequence.insert(place, job)``.
 
-        Raises
-        ------
-        TypeError, ValueError
-            If the sequence isn't a list of distinct jobs, or the job isn't another job. The message says which element
-            is wrong.
-
         Examples
         --------
         >>> import pfs
@@ -422,12 +395,6 @@ class Instance:
         numpy.ndarray
             An array of int64 with ``len(sequence) + 1`` makespans: element ``p`` is the makespan after
             ``sequence.insert(p, job)``. Its first minimum is the place that :meth:`best_place` returns.
-
-        Raises
-        ------
-        TypeError, ValueError
-            If the sequence isn't a list of distinct jobs, or the job isn't another job. The message says which element
-            is wrong.
 
         Examples
         --------
@@ -471,15 +438,6 @@ class Instance:
         numpy.ndarray
             An array of int64 with a row for each job of the sequence, in its order, and a column for each machine.
 
-        Raises
-        ------
-        TypeError, ValueError
-            If the sequence isn't a list of distinct jobs. The message says which element is wrong.
-
-        See Also
-        --------
-        tails : The longest path from each operation to the end of the sequence.
-
         Examples
         --------
         >>> import pfs
@@ -504,15 +462,6 @@ class Instance:
         -------
         numpy.ndarray
             An array of int64 with a row for each job of the sequence, in its order, and a column for each machine.
-
-        Raises
-        ------
-        TypeError, ValueError
-            If the sequence isn't a list of distinct jobs. The message says which element is wrong.
-
-        See Also
-        --------
-        heads : The earliest end of each operation.
 
         Examples
         --------
@@ -551,12 +500,6 @@ class Instance:
         Sequence
             The ``jobs`` of the longer sequence, an array of int64, and its ``makespan``.
 
-        Raises
-        ------
-        TypeError, ValueError
-            If the arguments aren't lists of distinct jobs, or a job to insert is in the sequence. The message says
-            which element is wrong.
-
         Examples
         --------
         >>> import pfs
@@ -591,12 +534,6 @@ class Instance:
         -------
         Sequence
             The ``jobs`` of the new sequence, an array of int64, and its ``makespan``.
-
-        Raises
-        ------
-        TypeError, ValueError
-            If the arguments aren't lists of distinct jobs, or a job to move isn't in the sequence. The message says
-            which element is wrong.
 
         Examples
         --------
@@ -643,11 +580,6 @@ class Instance:
         -------
         numpy.ndarray
             An array of int64 with the makespan of each row.
-
-        Raises
-        ------
-        TypeError, ValueError
-            If it isn't a table of jobs, or the jobs of a row aren't distinct. The message says which row is wrong.
 
         Examples
         --------
@@ -774,15 +706,6 @@ class Instance:
         ----------
         order : array_like or Solution
             An order of all jobs, by number from 0 or by name.
-
-        Returns
-        -------
-        Schedule
-
-        Raises
-        ------
-        TypeError, ValueError
-            If it isn't an order of all jobs. The message says which element is wrong.
         """
         jobs = checked_order(as_order(order, self), self.jobs, "order", self.job_names)
         starts = np.empty((self.jobs, self.machines), dtype=np.int64)

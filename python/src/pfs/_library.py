@@ -42,7 +42,6 @@ OK: Final = 0
 MEMORY: Final = 1
 JOB: Final = 5
 REPEATED: Final = 6
-ROOM: Final = 14
 NO_BLOCK: Final = 20
 
 NO_MEMORY: Final = "pfs: memory allocation failed"

@@ -7,10 +7,9 @@ from collections.abc import Iterator
 from itertools import chain, islice
 from typing import NamedTuple
 
-from pfs import _library as c
 from pfs._atomic import text_cell
 from pfs._faults import TableFault
-from pfs._files import read_up_to
+from pfs._files import content_of
 from pfs._instance import Instance
 from pfs._names import shown
 from pfs._tables import lines_of, records, text_of
@@ -35,10 +34,7 @@ def order_in(path: str | os.PathLike[str], shop: Instance) -> FoundOrder:
     The file is the output of `plan`, its schedule as a table, or a list of the names of the jobs, one per line, with or
     without a place before it. A `TableFault` says which name occurs twice, or that no name is one of the table's."""
     path = os.fspath(path)
-    with open(path, "rb") as file:
-        content = read_up_to(file.read, c.LONGEST_INPUT + 1)
-    if len(content) > c.LONGEST_INPUT:
-        raise TableFault(path, 1, 0, f"the file has more than {c.LONGEST_INPUT:,} bytes")
+    content = content_of(path)
     numbers = numbers_by_name(shop)
     # The line of each job of the table, and of each other name.
     seen: dict[int | str, int] = {}

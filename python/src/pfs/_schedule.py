@@ -195,7 +195,7 @@ class Schedule:
             9999.
         """
         shop = self.instance
-        times_of = self._numbers if calendar is None else self._dates(calendar)
+        times_of = self._texts(calendar)
         lines = Lines()
         # With this line terminator, cells that contain \r or \n are quoted.
         rows = csv.writer(lines, delimiter=delimiter, lineterminator="\r\n")
@@ -240,21 +240,14 @@ class Schedule:
             (shop.job_name(job), shop.machine_name(machine), *values(start, end))
             for job, machine, start, end in self._operations())])
 
-    def _numbers(self, start: int, end: int) -> tuple[str, str]:
-        """The times of an operation as they are written."""
+    def _texts(self, calendar: Calendar | None) -> Callable[[int, int], list[str]]:
+        """What writes the times of an operation, as numbers or as dates and times of day."""
         shop = self.instance
-        return amount(start, shop.decimals, shop.unit), amount(end, shop.decimals, shop.unit)
-
-    def _dates(self, calendar: Calendar) -> Callable[[int, int], tuple[str, str]]:
-        """What writes the times of an operation as dates and times of day."""
-        clock = Clock(calendar, self.instance)
+        if calendar is None:
+            return lambda *times: [amount(time, shop.decimals, shop.unit) for time in times]
+        clock = Clock(calendar, shop)
         digits = clock.digits(self.starts, self.ends)
-
-        def dates(start: int, end: int) -> tuple[str, str]:
-            first, last = clock.span(start, end)
-            return text_of(first, digits), text_of(last, digits)
-
-        return dates
+        return lambda start, end: [text_of(moment, digits) for moment in clock.span(start, end)]
 
     def plot(self, path: str | os.PathLike[str] | None = None, *, critical: bool = False, bound: bool = False,
              unit: str | None = None, width: float = 12.0, dpi: int = 110, title: bool | str = True,

@@ -13,7 +13,7 @@ import numpy as np
 
 from pfs import _library as c
 from pfs._faults import TableFault, cell_name
-from pfs._files import read_up_to
+from pfs._files import content_of
 from pfs._instance import Instance
 from pfs._names import CLOCK, seconds_in
 from pfs._validate import Order
@@ -219,10 +219,7 @@ def table_of(source: str | os.PathLike[str], unit: str, decimal: str | None = No
     if decimal not in (None, ".", ","):
         raise ValueError(f"decimal must be '.' or ',', not {decimal!r}")
     path = os.fspath(source)
-    with open(path, "rb") as file:
-        content = read_up_to(file.read, c.LONGEST_INPUT + 1)
-    if len(content) > c.LONGEST_INPUT:
-        raise TableFault(path, 1, 0, f"the table has more than {c.LONGEST_INPUT:,} bytes")
+    content = content_of(path, "table")
     faults: list[TableFault] = []
     table = rows_of(text_of(content, path, faults), path, list(machines or ()), faults)
     if not allow_totals:
@@ -378,8 +375,7 @@ def leave_out_totals(table: Rows, is_chosen: bool) -> None:
             (table.jobs, NO_JOB, "the row {!r} looks like a sum or a mean"),
             ([] if is_chosen else table.machines, NO_TIMES, "the column {!r} looks like a sum, a mean or a quantity")):
         for cell in [cell for cell in cells if pattern.match(cell.text)]:
-            table.faults.append(TableFault(table.path, cell.line, cell.column, f"{what.format(cell.text)}: leave it "
-                                           "out, or allow totals (`allow_totals`)"))
+            table.report(cell, f"{what.format(cell.text)}: leave it out, or allow totals (`allow_totals`)")
             cells.remove(cell)
 
 
@@ -388,7 +384,7 @@ def check_sizes(table: Rows) -> None:
     for cells, what, most in ((table.machines, "machine", c.MOST_MACHINES), (table.jobs, "job", c.MOST_JOBS)):
         if not 1 <= len(cells) <= most:
             line = (cells or [table.corner])[-1].line
-            table.faults.append(TableFault(table.path, line, 0, f"{len(cells)} {what}s: there may be 1 to {most:,}"))
+            table.report(Cell(line, 0, ""), f"{len(cells)} {what}s: there may be 1 to {most:,}")
             table.check()
 
 
@@ -398,10 +394,9 @@ def names_in(table: Rows, cells: Iterable[Cell], what: str) -> list[str]:
     for cell in cells:
         title = ": name it, or if the row is a title, leave out all but its first cell" if what == "machine" else ""
         if not cell.text:
-            table.faults.append(TableFault(table.path, cell.line, cell.column, f"the {what} has no name{title}"))
+            table.report(cell, f"the {what} has no name{title}")
         elif cell.text in seen:
-            table.faults.append(TableFault(table.path, cell.line, cell.column,
-                                           f"the {what} {cell.text!r} is in {seen[cell.text].name} too"))
+            table.report(cell, f"the {what} {cell.text!r} is in {seen[cell.text].name} too")
         seen.setdefault(cell.text, cell)
     return list(seen)
 
@@ -558,8 +553,7 @@ def reject_sums(table: Rows, times: Order) -> None:
                               (table.machines[-1], times.T, "column {!r} has the sums of the columns before")):
         total = own[:-1].sum(axis=0)
         if min(own.shape[0] - 1, len(total)) > 1 and total.any() and (total == own[-1]).all():
-            raise TableFault(table.path, last.line, last.column, f"the {others.format(last.text)}: leave it out, or "
-                                                                 "allow totals (`allow_totals`)")
+            raise table.fault(last, f"the {others.format(last.text)}: leave it out, or allow totals (`allow_totals`)")
 
 
 def counted(number: int, what: str) -> str:
