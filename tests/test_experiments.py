@@ -58,10 +58,13 @@ INVALID = {
     "needs method": ALL + 'command = "a {instance}"\n', "must contain {instance}": MINE + 'command = "a"\n',
     "{x}, but there are only {block}, {instance}": MINE + 'command = "a {instance} {x}"\n',
     "needs time_factors": MINE + 'command = "a {instance} {seconds}"\n',
+    "must contain {block}": MINE + 'blocks = [2]\ncommand = "a {instance}"\n',
     "rounds is for pfs": MINE + 'rounds = [1]\ncommand = "a {instance}"\n',
     "no file matches a": MINE + 'command = "./a {instance}"\n', "files needs": MINE + 'files = ["shops/*"]\n',
     "/etc/passwd": MINE + 'command = "a {instance}"\nfiles = ["/etc/passwd"]\n',
     "../": MINE + 'command = "a {instance}"\nfiles = ["../*/shops/a"]\n', "method": ALL + 'method = "a\\nb"\n',
+    "must be tables": ALL + "methods = [1]\n", "key 'layout' of methods": ALL + '[[methods]]\nlayout = "orlib"\n',
+    "each of methods needs method": ALL + "[[methods]]\n[[methods]]\n",
 }
 
 
@@ -85,12 +88,6 @@ def test_readme_has_the_keys_of_a_plan_with_their_defaults_the_columns_and_the_n
     assert ",".join(name for cell in columns for name in re.findall("`([^`]+)`", cell)) == HEAD
     most = re.search(r"Each of at most ([\d,]+) tasks \(`--tasks`\)", README)
     assert most and most[1] == f"{MOST_TASKS:,}"
-
-
-def test_what_a_plan_leaves_out_is_as_readme_says(experiment: Experiment) -> None:
-    assert experiment.plan('instances = ["shops/b", "shops/a"]\n').run().status == 0
-    assert [row[:8] for row in experiment.rows()] == [("shops/b", "3", "2", "0", "3", "0", "0", "1"),
-                                                      ("shops/a", "20", "5", "0", "4", "0", "0", "1")]
 
 
 # Starts
@@ -232,8 +229,7 @@ def test_a_second_start_makes_nothing_again_and_a_smaller_plan_is_rejected(made:
     assert made.run().status == 0
     assert (made.folder / "out.csv").read_text() == first
     for other, said in ((PLAN.replace("[10, 30]", "[30]"), "another plan"), (HALF.replace("*", "a"), "another plan"),
-                        (HALF + "layout = \"orlib\"\n", "another layout"),
-                        (ONLY_B + 'method = "m"\ncommand = "m {instance}"\n', "another command")):
+                        (HALF + "layout = \"orlib\"\n", "another layout")):
         assert_refused(made.plan(other).run(), said)
         assert (made.folder / "out.csv").read_text() == first
 
@@ -279,7 +275,7 @@ def test_each_order_is_kept_and_check_audits_it_again(made: Experiment) -> None:
     got = made.script("check", "out.csv")
     *wrong, last = got.stdout.splitlines()
     assert (got.status, got.stderr, last) == (1, "", "out.csv: 6 orders audited, 4 of them wrong")
-    numbers = [int(name[1]) for name in (re.search(r"run-(\d+)", line) for line in wrong) if name]
+    numbers = [int(name[1]) for name in (re.search(r"number-(\d+)", line) for line in wrong) if name]
     assert numbers == [1, 2, 4] and wrong[3].endswith(": the run has no order file"), wrong
     (made.folder / "old.csv").write_text("instance,makespan\na,1\n")
     assert_refused(made.script("check", "old.csv"), "pfs-experiments check: old.csv: no column rounds, take")
@@ -365,13 +361,19 @@ def test_runs_by_time_take_their_time(experiment: Experiment, with_library: dict
     assert experiment.script("check", "out.csv") == Done(0, "out.csv: 12 orders audited, 0 of them wrong\n", "")
 
 
-def test_readmes_plan_for_files_in_or_librarys_layout(experiment: Experiment, with_library: dict[str, str]) -> None:
-    plan = re.search(r'```\n(instances = \["VFR.*?)```', README, re.DOTALL)
+def test_readmes_plans_by_time(experiment: Experiment, with_library: dict[str, str]) -> None:
+    """For files in OR-Library's layout, and for several methods."""
+    for_vfr, of_mine, methods = re.findall(r"```\n([^`]*time_factors[^`]*)```", README)
     (experiment.folder / "VFR10_5_1_Gap.txt").write_text(
         experiment.printed("convert", "--from", "taillard", "--to", "orlib", "shops/b"))
     (experiment.folder / "best.csv").write_text("instance,makespan\nVFR10_5_1,20\n")
-    assert plan and experiment.plan(plan[1]).run(env=with_library).status == 0
+    assert experiment.plan(for_vfr).run(env=with_library).status == 0
     assert experiment.columns("instance", "time_factor", "reference") == [("VFR10_5_1_Gap.txt", "30", "20")]
+    write_script(experiment.folder / "mine", "#!/bin/sh\necho 1 2 3\n")
+    for text, found in ((of_mine, {("mine", "")}), (methods, {("mine", ""), ("pfs", "1")})):
+        experiment.plan(re.sub("out/taillard/[^\"]*", "shops/b", text))
+        assert experiment.run("methods.csv", env=with_library).status == 0
+        assert {*experiment.columns("method", "passes", csv_name="methods.csv")} == found
 
 
 TIMES = [at * at % 97 for at in range(1, 201)]
@@ -450,11 +452,14 @@ case $2 in
 10) test "$4 $5 $6" = "a 20 5" && echo "$line" | sed 's/ /, /g; s/$/,/' ;;
 11) echo '2 0 1' ;;
 12) printf 'order 20\n%s\nmakespan 1\n' "$line" ;;
+13) echo "π = (J$line)" | sed 's/ \([0-9]\)/ J\1/g' ;;
+14) echo "$line" | tr ' ' - ;;
+15) echo '2 -1 3' ;;
 esac
 """
 OTHER = """instances = ["shops/a"]
 time_factors = [10]
-seeds = [1, 2, 3, 4, 5, 6, 7, 8, 9, 10, 11, 12]
+seeds = [1, 2, 3, 4, 5, 6, 7, 8, 9, 10, 11, 12, 13, 14, 15]
 method = "solve"
 command = "./mine {instance} {seed} {seconds} {name} {jobs} {machines}"
 """
@@ -464,7 +469,7 @@ STATUSES = [
     "check: exit 2, pfs: order file job repeated at place 2",
     r"command: took too long: \d+\.\d\d s of processor time instead of 0.5 s",
     "command: more than 1,048,576 bytes printed", "ok", "command: job 0: jobs count from 1",
-    "check: exit 1, wrong makespan, stated 1, computed 1448",
+    "check: exit 1, wrong makespan, stated 1, computed 1448", "ok", "ok", "command: no order printed: '2 -1 3'",
 ]
 
 
@@ -473,31 +478,45 @@ def with_other(experiment: Experiment, plan: str = OTHER, program: str = PROGRAM
     return experiment.plan(plan)
 
 
-def other_is_right(experiment: Experiment, got: Done) -> None:
-    """The runs of the other program are in the CSV, with their orders or with what is wrong."""
-    assert (got.status, got.stderr.splitlines()[-1]) == (1, "out.csv: 12 runs, 9 of them failed, 0 still to run")
-    rows = experiment.columns("seed", "status", "method", "time_factor", "rounds", "take", "passes", "cells")
-    assert [row[0] for row in rows] == [str(seed) for seed in range(1, 13)]
-    assert [(row[1], wanted) for row, wanted in zip(rows, STATUSES) if not re.fullmatch(wanted, row[1])] == []
-    assert {row[2:] for row in rows} == {("solve", "10", "", "", "", "")}
-    assert experiment.script("check", "out.csv") == Done(0, "out.csv: 3 orders audited, 0 of them wrong\n", "")
-    makespans = {row for row in experiment.columns("status", "makespan", "bound") if row[0] == "ok"}
-    assert makespans == {("ok", "1448", "1232")}, "the makespan of the order by numbers"
-
-
 def test_another_program_is_run_and_audited(experiment: Experiment) -> None:
     """An order file, or the jobs on one line. A run that crashes, prints no order, states a wrong makespan or takes too
     long has failed, and isn't made again."""
-    other_is_right(experiment, with_other(experiment).run())
+    got = with_other(experiment).run()
+    assert (got.status, got.stderr.splitlines()[-1]) == (1, "out.csv: 15 runs, 10 of them failed, 0 still to run")
+    rows = experiment.columns("seed", "status", "method", "time_factor", "rounds", "take", "passes", "cells")
+    assert [row[0] for row in rows] == [str(seed) for seed in range(1, 16)]
+    assert [(row[1], wanted) for row, wanted in zip(rows, STATUSES) if not re.fullmatch(wanted, row[1])] == []
+    assert {row[2:] for row in rows} == {("solve", "10", "", "", "", "")}
+    assert experiment.script("check", "out.csv") == Done(0, "out.csv: 5 orders audited, 0 of them wrong\n", "")
+    makespans = {row for row in experiment.columns("status", "makespan", "bound") if row[0] == "ok"}
+    assert makespans == {("ok", "1448", "1232")}, "the makespan of the order by numbers"
     before = experiment.written()
     assert experiment.run().status == 1
     assert experiment.written() == before, "runs that were made again"
 
 
-@over_ssh
-def test_over_ssh_another_program_is_run(ssh_server: Server, experiment: Experiment) -> None:
-    (experiment.folder / "machines").write_text(ssh_server.line)
-    other_is_right(experiment, with_other(experiment).run("out.csv", "--sshloginfile", "machines"))
+def test_a_plan_has_several_methods(experiment: Experiment) -> None:
+    """Each with its own settings. It may grow by some, whose commands can't change."""
+    first = ONLY_B + 'seeds = [1, 2]\n[[methods]]\nmethod = "=p"\nrounds = [0, 5]\n'
+    more = [f'[[methods]]\nmethod = "{name}"\nseeds = [3]\ncommand = "./{name} {{instance}} {{seed}}"\n'
+            for name in ("mine", "other")]
+    grown = first + "".join(more)
+    write_script(experiment.folder / "other", "#!/bin/sh\necho 2 1 3\n")
+    with_other(experiment, first, "#!/bin/sh\necho 3 2 1\n").run()
+    before = experiment.written()
+    assert experiment.plan(grown).run() == Done(0, "", "out.csv: 5 runs, 0 of them failed, 0 still to run\n")
+    assert before.items() <= experiment.written().items(), "runs that were made again"
+    assert experiment.columns("method", "rounds", "take", "passes", "seed") == [
+        ("'=p", "0", "3", "0", "1"), ("'=p", "5", "3", "0", "1"), ("'=p", "5", "3", "0", "2"),
+        ("mine", "", "", "", "3"), ("other", "", "", "", "3")]
+    orders = [experiment.folder / name for name, in experiment.columns("order")[-2:]]
+    assert [order.read_text().splitlines()[1] for order in orders] == ["3 2 1", "2 1 3"]
+    assert experiment.script("check", "out.csv") == Done(0, "out.csv: 5 orders audited, 0 of them wrong\n", "")
+    orders[1].unlink()
+    assert experiment.script("check", "out.csv").stdout.startswith(
+        "instance shops/b, method other, seed 3, repetition 1: ")
+    assert_refused(experiment.plan(grown.replace("{seed}", "7")).run(), "was started with another command")
+    assert_refused(experiment.plan(first).run(), "was started with another plan, which has block 1, method mine")
 
 
 def test_a_command_cannot_change_the_instance_that_audits_it(experiment: Experiment) -> None:
@@ -670,10 +689,12 @@ def test_on_a_terminal_the_share_that_is_done_is_shown(experiment: Experiment) -
 
 @over_ssh
 def test_over_ssh_the_csv_is_the_same(ssh_server: Server, experiment: Experiment) -> None:
-    """All runs are made on the other machine, and nothing is left there."""
+    """Of pfs and of another program. All runs are made on the other machine, and nothing is left there."""
     (experiment.folder / "machines").write_text(ssh_server.line)
+    with_other(experiment, ALL + 'seeds = [1, 2, 3]\n[[methods]]\nrounds = [10]\n[[methods]]\nmethod = "m"\n'
+               'command = "./mine {instance} {jobs}"\n', "#!/bin/sh\nseq -s ' ' $2\n")
     assert experiment.run("out.csv", "--sshloginfile", "machines") == Done(0, "", TWELVE)
-    assert experiment.rows() == experiment.wanted()
+    assert [*experiment.rows()[:3], *experiment.rows()[6:9]] == experiment.wanted(rounds=(10,))
     lines = (experiment.runs / "joblog").read_text().splitlines()[1:]
     assert {line.split("\t")[1].split()[-1] for line in lines} == {"127.0.0.1"}
     assert [path.name for path in ssh_server.home.iterdir() if path.name != ".parallel"] == []

@@ -62,7 +62,8 @@ def test_the_file_has_the_version_the_sums_and_each_start(mine: Experiment, top:
     mine.run()
     stored = json.loads((mine.runs / "provenance.json").read_text())
     assert stored["version"] == (top / "VERSION").read_text().strip()
-    assert stored["plan"]["seeds"] == [1] and stored["plan"]["method"] == "mine"
+    method, = stored["plan"]["methods"]
+    assert (method["seeds"], method["method"]) == ([1], "mine")
     wanted = {"pfs": mine.pfs.path.read_bytes(), "shops/b": shop, "data": b"1\n",
               "mine": (mine.folder / "mine").read_bytes()}
     assert stored["sha256"] == {name: sum_of(data) for name, data in wanted.items()}

@@ -35,7 +35,7 @@ a,20,5,100,4,0,2,1,105,100,5.0000,100000,0.500000,ok
 b,20,5,100,4,0,2,1,107,100,7.0000,100000,0.500000,ok
 a,20,5,100,4,0,3,1,,,,,,"solve: exit 4, pfs: no memory"
 c,100,10,100,4,0,1,1,200,200,0.0000,1000000,2.000000,ok
-d,100,10,0,4,0,1,1,,,,,,solve: signal 9
+d,100,10,0,4,0,1,1,1,,,,,solve: signal 9
 e,,,0,,0,1,1,,,,,,"solve: exit 2, pfs: no block, found 0"
 """
 TABLE = """method,jobs,machines,rounds,take,passes,runs,failed,audited,mean_rpd_percent,greatest_rpd_percent,\
@@ -165,7 +165,8 @@ NAMES = ["a|b", "<img src=x>", "two\nlines", "_x_", "[l](http://x)", "\x1b[31mre
          "a&amp;b", "x" * 500, "`code`", "*bold*", "~~gone~~", "back\\slash"]
 ESCAPED = {"{x}": r"\{x\}", "50%": r"50\%", "a_b": r"a\_b", "#1": r"\#1", "$": r"\$", "a&b": r"a\&b",
            "^": r"\textasciicircum{}", "~": r"\textasciitilde{}", "\\": r"\textbackslash{}",
-           "<": r"\textless{}", ">": r"\textgreater{}", "|": r"\textbar{}", 'a"': "a''"}
+           "<": r"\textless{}", ">": r"\textgreater{}", "|": r"\textbar{}", 'a"': "a''",
+           "a_b; c, d": r"\shortstack[r]{a\_b; c\\d}"}
 
 
 def test_names_stay_in_their_cells(report: Reported, folder: pathlib.Path) -> None:
@@ -173,14 +174,13 @@ def test_names_stay_in_their_cells(report: Reported, folder: pathlib.Path) -> No
     with open(folder / "out.csv", "w", newline="") as file:
         csv.writer(file).writerows([
             ["instance", "makespan", "method", "seconds", "jobs", "machines", "rounds", "take", "passes"],
-            *(["a|b/=i", at, name, "0.5", 3, 2, 1, 1, 0] for at, name in enumerate(NAMES, 10))])
+            *(["a|b/=i", at, name, "0.5", 3, 2, at // 4, 1, 0] for at, name in enumerate(NAMES, 10))])
     got = report(words="--format svg out.csv report")
     assert got.status == 0 and "\x1b" not in got.stdout + got.stderr, got.stderr
-    for name in ("table.md", "comparison.md", "sizes.md"):
-        if (folder / "report" / name).exists():
-            lines = (folder / "report" / name).read_text().partition("\n\n")[0].splitlines()
-            assert {len(re.findall(r"(?<!\\)\|", line)) for line in lines} == {lines[1].count("|")}, f"cells in {name}"
-            assert re.findall(r"(?<!\\)[<`*\[~&]|(?<![\\A-Za-z0-9])_", "\n".join(lines)) == [], f"marks in {name}"
+    for path in (folder / "report").glob("*.md"):
+        lines = path.read_text().partition("\n\n")[0].splitlines()
+        assert {len(re.findall(r"(?<!\\)\|", line)) for line in lines} == {lines[1].count("|")}, f"cells in {path.name}"
+        assert re.findall(r"(?<!\\)[<`*\[~&]|(?<![\\A-Za-z0-9])_", "\n".join(lines)) == [], f"marks in {path.name}"
     for path in (folder / "report").glob("*.csv"):
         cells = [cell for row in csv.reader(io.StringIO(path.read_text())) for cell in row]
         assert [cell for cell in cells if re.match(r"[=+@\t\r]|-[^0-9]|-1\+", cell)] == [], f"formulas in {path.name}"
@@ -190,8 +190,9 @@ def test_names_stay_in_their_cells(report: Reported, folder: pathlib.Path) -> No
 
 
 def test_names_are_escaped_in_latex(report: Reported, folder: pathlib.Path) -> None:
-    assert report("instance,makespan,method\n" + "".join(f"a,{at},{name}\n"
-                                                         for at, name in enumerate(ESCAPED, 10))).status == 0
+    names = (name.replace('"', '""') for name in ESCAPED)
+    assert report("instance,makespan,method\n" + "".join(f'a,{at},"{name}"\n' for at, name in enumerate(names, 10))
+                  ).status == 0
     head = (folder / "report" / "sizes.tex").read_text().splitlines()[3]
     assert sorted(head.removesuffix(r" \\").split(" & ")[1:]) == sorted(ESCAPED.values()), "names in sizes.tex"
 
@@ -311,15 +312,18 @@ def test_each_setting_of_a_method_is_compared_by_means_of_the_instances_that_bot
 
 def test_methods_without_a_common_instance_are_reported(report: Reported, folder: pathlib.Path) -> None:
     """Files of one name are methods by their paths. Where others have a reference, those without have no RPD."""
-    for name, instance, reference in (("x", "i", "1000"), ("y", "j", "")):
+    for name in "xy":
         (folder / name).mkdir()
-        (folder / name / "out.csv").write_text("instance,makespan,reference\n" + "".join(
-            f"{instance}{at},{1100 + at},{reference}\n" for at in range(12)))
+        (folder / name / "out.csv").write_text("instance,makespan\n" + "".join(
+            f"{name}{at},{1100 + at}\n" for at in range(12)))
+    first, second = (", ".join(f"{name}{at}" for at in (0, 1, 10, 11, *range(2, 8))) for name in "xy")
     got = report(words="x/out.csv y/out.csv report")
-    assert got.stderr == "pfs-experiments report: x/out.csv and y/out.csv have no instance in common\n"
-    assert "\n12 runs of 12 instances have no reference, and no RPD: j0, j1, j2, j3, j4, j5, j6, j7, j8, j9, ...\n" \
-        in got.stdout
+    assert got.stderr == ("pfs-experiments report: no table of sizes: Compared are the instances and seeds that all "
+                          f"have: x/out.csv lacks runs of {second}, ..; y/out.csv lacks runs of {first}, ...\n")
     assert not (folder / "report" / "comparison.csv").exists()
+    (folder / "best.csv").write_text("instance,makespan\nx0,1000\n")
+    assert "\n23 runs of 23 instances have no reference, and no RPD: x1, x2, x3, x4, x5, x6, x7, x8, x9, x10, ...\n" \
+        in report(words="--reference best.csv x/out.csv y/out.csv report").stdout
 
 
 def all_signs(differences: list[float]) -> float:
@@ -387,6 +391,25 @@ def test_only_equal_rounds_or_times_are_compared(report: Reported, folder: pathl
         ("a 10", "b 10"), ("a 10", "published"), ("a 30", "b 30"), ("a 30", "published"), ("b 10", "published"),
         ("b 30", "published"), ("b 5", "published"), ("c 7 2", "c 7 4"), ("c 7 2", "published"), ("c 7 4", "published")]
     assert [row["won"] for row in rows if row["other_method"] == "c"] == ["6"]
+
+
+def test_three_settings_have_average_ranks(report: Reported, folder: pathlib.Path) -> None:
+    """Of each time factor, by their mean makespans. p is that of Friedman's formula, whose distribution for three
+    settings is e^(-x/2). A setting that tells no time is in each group, and settings that are all equal have p = 1."""
+    last = (3, 3, 3, 2, 3)
+    spans = {("a", "3"): (1, 1, 2, 1, 1), ("b", "3"): (2, 2, 1, 2, 2), ("c", ""): last, ("a", "5"): last,
+             ("d", "5"): last, ("e", "7"): (1, 1, 1, 1, 1)}
+    assert report("instance,makespan,method,time_factor,reference\n" + "".join(
+        f"i{at},{10 + span + more},{method},{factor},10\n" for (method, factor), own in spans.items()
+        for at, span in enumerate(own) for more in ((-2, 2) if method == "a" else (0,)))).status == 0
+    names = ("group", "method", "time_factor", "instances", "mean_rank")
+    rows = csv_rows(folder / "report" / "ranks.csv")
+    assert [tuple(row[name] for name in names) for row in rows] == [
+        ("1", "a", "3", "5", "1.20"), ("1", "b", "3", "5", "1.90"), ("1", "c", "", "5", "2.90"),
+        ("2", "a", "5", "5", "2.00"), ("2", "c", "", "5", "2.00"), ("2", "d", "5", "5", "2.00")]
+    ranks, count, ties = (6, 9.5, 14.5), 5, 2 ** 3 - 2
+    statistic = (12 / (count * 3 * 4) * sum(rank ** 2 for rank in ranks) - 3 * count * 4) / (1 - ties / (count * 24))
+    assert [float(row["p"]) for row in rows] == pytest.approx([math.exp(-statistic / 2)] * 3 + [1] * 3, rel=1e-3)
 
 
 def test_many_pairs_have_the_normal_approximation(report: Reported, folder: pathlib.Path) -> None:

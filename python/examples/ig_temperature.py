@@ -7,36 +7,46 @@ usage: ig_temperature.py INSTANCE SEED SECONDS    (Taillard's layout; prints an 
 import math
 import sys
 import time
+from collections.abc import Iterator
 
 import numpy as np
+import numpy.typing as npt
 
 import pfs
 
 TAKE, TEMPERATURE = 4, 0.4
+Shuffled = Iterator[npt.NDArray[np.uint32]]
 
 
-def local_search(shop: pfs.Instance, found: pfs.Sequence, chance: np.random.Generator) -> pfs.Sequence:
+def shuffles(jobs: int, chance: np.random.Generator) -> Shuffled:
+    """Yield random permutations, drawn 100 at a time. The library takes arrays of uint32 as they are."""
+    many = np.tile(np.arange(jobs, dtype=np.uint32), (100, 1))
+    while True:
+        yield from chance.permuted(many, axis=1)
+
+
+def local_search(shop: pfs.Instance, found: pfs.Sequence, shuffled: Shuffled) -> pfs.Sequence:
     """Insert each job, in random order, at its best place, until the makespan doesn't decrease any more."""
     while True:
         before = found.makespan
-        found = shop.local_search(found.jobs, chance.permutation(shop.jobs))
+        found = shop.local_search(found.jobs.astype(np.uint32), next(shuffled))
         if found.makespan == before:
             return found
 
 
-def reconstruct(shop: pfs.Instance, now: pfs.Sequence, chance: np.random.Generator) -> pfs.Sequence:
+def reconstruct(shop: pfs.Instance, now: pfs.Sequence, shuffled: Shuffled) -> pfs.Sequence:
     """Remove some random jobs, and insert each at its best place."""
-    places = chance.permutation(shop.jobs)
-    return shop.insert_all(now.jobs[np.sort(places[TAKE:])], now.jobs[places[:TAKE]])
+    jobs, places = now.jobs.astype(np.uint32), next(shuffled)
+    return shop.insert_all(jobs[np.sort(places[TAKE:])], jobs[places[:TAKE]])
 
 
 def search(shop: pfs.Instance, seed: int, seconds: float) -> pfs.Sequence:
     """Search until the process has used these seconds."""
     chance, temperature = np.random.default_rng(seed), TEMPERATURE * float(shop.times.mean()) / 10
-    first = shop.neh()
-    now = best = local_search(shop, pfs.Sequence(first.order, first.makespan), chance)
+    first, shuffled = shop.neh(), shuffles(shop.jobs, chance)
+    now = best = local_search(shop, pfs.Sequence(first.order, first.makespan), shuffled)
     while time.process_time() < seconds:
-        found = local_search(shop, reconstruct(shop, now, chance), chance)
+        found = local_search(shop, reconstruct(shop, now, shuffled), shuffled)
         more = found.makespan - now.makespan
         if more <= 0 or chance.random() < math.exp(-more / temperature):
             now = found

@@ -4,7 +4,7 @@ the program `pfs`, audits the order, and prints the order file, and then one lin
 bound, cells, processor seconds of the search, `ok` or an error, the rounds of a search by time, and how many processes
 a command has left. Without an order it prints only this line. The exit status is 0 even if the search or the audit
 fails. A search by time, which is made with the library, has a limit and no rounds; what a run doesn't have is a hyphen.
-If the folder has the file `command.json`, its command is the search. The arguments are those of `Run`."""
+A method that the file `commands.json` has is a command, which is the search. The arguments are those of `Run`."""
 from __future__ import annotations
 
 import contextlib
@@ -44,7 +44,7 @@ ENDINGS = (signal.SIGTERM, signal.SIGINT, signal.SIGHUP)
 
 # The arguments.
 Run = namedtuple("Run", "number file layout block rounds limit take passes seed repetition time_factor jobs machines "
-                        "instance")
+                        "instance method")
 
 
 class Failed(Exception):
@@ -222,12 +222,15 @@ def order_of(text: str) -> tuple[str, list[str]]:
         raise Failed("nothing printed")
     if re.match("order2? ", lines[0]):
         return text if text.endswith("\n") else f"{text}\n", []
-    jobs = re.split(r"[\s,]+", lines[0].strip(" \t,"))
-    if len(lines) > 1 or not all(re.fullmatch("[0-9]{1,9}", job, re.ASCII) for job in jobs):
+    listed = re.sub(r"^(\w+\s*[=:])?[\s\[(]*|[\s\]),]*$", "", lines[0])
+    jobs = [re.fullmatch("[A-Za-z]*_?([0-9]{1,9})", job, re.ASCII)
+            for job in re.split(r"[\s,;]+|(?<=[0-9])-(?=\w)", listed)]
+    numbers = [int(job[1]) for job in jobs if job]
+    if len(lines) > 1 or len(numbers) < len(jobs):
         raise Failed(f"no order printed: {lines[0][:40]!r}")
-    if "0" in jobs:
+    if 0 in numbers:
         raise Failed("job 0: jobs count from 1")
-    return "", [str(int(job)) for job in jobs]
+    return "", list(map(str, numbers))
 
 
 def run_command(words: list[str], folder: str, seconds: float | None) -> tuple[str, float, int]:
@@ -305,11 +308,11 @@ def kill_descendants() -> int:
 # The run
 
 def find(run: Run) -> Found:
-    """Searches with the command, by time, or by rounds."""
-    command = os.path.join(HERE, "command.json")
-    if os.path.exists(command):
-        with open(command, encoding="utf-8") as file:
-            return by_command(json.load(file), run)
+    """Searches with the command of the method, by time, or by rounds."""
+    with open(os.path.join(HERE, "commands.json"), encoding="utf-8") as file:
+        command = json.load(file).get(run.method)
+    if command:
+        return by_command(command, run)
     return by_rounds(run) if run.limit == "-" else by_time(run)
 
 

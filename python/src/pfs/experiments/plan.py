@@ -10,18 +10,20 @@ import re
 import shlex
 import sys
 from collections.abc import Iterable
-from typing import Any
+from typing import Any, cast
 
 from pfs._benchmarks import canonical
 from pfs.experiments import ExperimentError
 
+# Lists of numbers: their defaults, and what pfs accepts.
 NUMBERS = {"blocks": [1], "rounds": [0], "takes": None, "passes": [0], "seeds": [0]}
-# What pfs accepts.
 LIMITS = {"blocks": (1, 1000), "rounds": (0, 1_000_000), "takes": (1, 5000), "passes": (0, 100),
           "seeds": (0, 2 ** 64 - 1)}
 TEXTS = {"reference": "the path of a CSV", "command": "a command", "method": "a name"}
-KEYS = {*NUMBERS, *TEXTS, "layout", "instances", "repetitions", "time_factors", "files"}
-# Keys that a plan with a command can't have.
+# What a method may have that a plan lists in `methods`, and what is for the whole plan.
+OF_METHOD = {"rounds", "takes", "passes", "seeds", "repetitions", "time_factors", "command", "method", "files"}
+KEYS = {*OF_METHOD, "methods", "layout", "instances", "blocks", "reference"}
+# Keys that a command can't have.
 OF_PFS = ("rounds", "takes", "passes")
 # What a command may have in braces.
 OF_COMMAND = {"instance", "name", "jobs", "machines", "block", "seed", "seconds"}
@@ -45,34 +47,51 @@ def parse_toml(path: str) -> dict[str, Any]:
     return plan
 
 
+def require(is_right: object, path: str, message: str) -> None:
+    """Raises an error unless a plan is right."""
+    if not is_right:
+        raise ExperimentError(f"{path}: {message}")
+
+
 def read_plan(path: str) -> dict[str, Any]:
-    """Reads a plan and adds the defaults. Patterns are replaced by the files that they match. `time_factors`,
-    `command`, `method` and `files` have no defaults."""
+    """Reads a plan and adds the defaults. Patterns are replaced by the files that they match. A plan without `methods`
+    has one, whose keys are those of the plan."""
     plan = parse_toml(path)
+    listed = plan.pop("methods", [{}])
+    require(isinstance(listed, list) and listed and all(isinstance(each, dict) for each in listed), path,
+            "methods must be tables: write [[methods]] before the keys of each")
+    require(plan.keys() <= KEYS, path, f"unknown key {min(plan.keys() - KEYS, default='')!r}")
+    for each in listed:
+        require(each.keys() <= OF_METHOD, path, f"unknown key {min(each.keys() - OF_METHOD, default='')!r} of methods")
+    methods = [method_of(path, {**plan, **each}) for each in listed]
+    names = [method["method"] for method in methods]
+    require(len({*names}) == len(names), path, "each of methods needs method, a name that no other one has")
+    full = {"layout": "taillard", "blocks": [1], "reference": None, **plan}
+    require(full["layout"] in ("taillard", "orlib"), path, 'layout must be "taillard" or "orlib"')
+    instances = matches(path, "instances", plan.get("instances"))
+    return {**{key: full[key] for key in ("layout", "blocks", "reference")}, "instances": instances, "methods": methods}
 
-    def require(is_right: object, message: str) -> None:
-        if not is_right:
-            raise ExperimentError(f"{path}: {message}")
 
-    require(plan.keys() <= KEYS, f"unknown key {min(plan.keys() - KEYS, default='')!r}")
+def method_of(path: str, plan: dict[str, Any]) -> dict[str, Any]:
+    """Returns the settings of a method, whose keys and those of the plan these are. `time_factors`, `command` and
+    `files` have no defaults."""
     for key, what in TEXTS.items():
-        require(isinstance(plan.get(key, ""), str) and "\0" not in plan.get(key, ""), f"{key} must be {what}")
-    full = {"layout": "taillard", "repetitions": 1, "reference": None, **NUMBERS, **plan}
+        require(isinstance(plan.get(key, ""), str) and "\0" not in plan.get(key, ""), path, f"{key} must be {what}")
+    full: dict[str, Any] = {"repetitions": 1, "method": "", **NUMBERS, **plan}
     for key, (least, most) in LIMITS.items():
-        require(key not in plan or are_numbers(plan[key], (int,), least, most),
+        require(key not in plan or are_numbers(plan[key], (int,), least, most), path,
                 f"{key} must be a list of whole numbers from {least} to {most:,}")
-    require(full["layout"] in ("taillard", "orlib"), 'layout must be "taillard" or "orlib"')
-    require(are_numbers([full["repetitions"]], (int,), 1, MOST_MAKESPAN), "repetitions must be a whole number from 1")
-    full["instances"] = matches(path, "instances", plan.get("instances"))
+    require(are_numbers([full["repetitions"]], (int,), 1, MOST_MAKESPAN), path,
+            "repetitions must be a whole number from 1")
     if "time_factors" in plan:
-        require(are_numbers(plan["time_factors"], (int, float), LEAST_FACTOR, MOST_FACTOR),
+        require(are_numbers(plan["time_factors"], (int, float), LEAST_FACTOR, MOST_FACTOR), path,
                 f"time_factors must be a list of numbers from {LEAST_FACTOR} to {MOST_FACTOR:,}")
         full["rounds"] = plan.get("rounds", [])
-    require(plan.get("method", "m") and plan.get("method", "m").isprintable(),
+    require(plan.get("method", "m") and full["method"].isprintable(), path,
             "method must be a name without control characters")
     if "command" in plan or "files" in plan:
-        full.update(command_of(path, plan))
-    return full
+        full |= command_of(path, plan)
+    return {key: full[key] for key in full.keys() & OF_METHOD}
 
 
 def are_numbers(numbers: object, types: tuple[type, ...], least: float, most: float) -> bool:
@@ -82,54 +101,47 @@ def are_numbers(numbers: object, types: tuple[type, ...], least: float, most: fl
 
 
 def command_of(path: str, plan: dict[str, Any]) -> dict[str, Any]:
-    """Returns the command line of another program, and the files that it needs, as paths from the plan's
-    folder. The program itself is one of them if it is a path from there."""
-    if not plan.get("command") or "method" not in plan:
-        raise ExperimentError(f"{path}: command needs method, the name of the program, and files needs command")
+    """Returns the command line of another program, and the files that it needs, as paths from the plan's folder. The
+    program itself is one of them if it is a path from there."""
+    require(plan.get("command") and "method" in plan, path,
+            "command needs method, the name of the program, and files needs command")
     for key in OF_PFS:
-        if key in plan:
-            raise ExperimentError(f"{path}: {key} is for pfs, not for a command")
+        require(key not in plan, path, f"{key} is for pfs, not for a command")
     try:
         words = shlex.split(plan["command"])
     except ValueError as error:
         raise ExperimentError(f"{path}: command: {error}") from None
     used = {name for word in words for name in re.findall(r"\{(\w*)\}", word)}
-    needed = {"instance"} | ({"block"} if plan.get("blocks", [1]) != [1] else set())
-    if needed - used:
-        raise ExperimentError(f"{path}: command must contain {{{min(needed - used)}}}")
-    if used - OF_COMMAND:
-        raise ExperimentError(f"{path}: command contains {{{min(used - OF_COMMAND)}}}, but there are only "
-                              f"{', '.join(f'{{{name}}}' for name in sorted(OF_COMMAND))}")
-    if "seconds" in used and "time_factors" not in plan:
-        raise ExperimentError(f"{path}: command contains {{seconds}}, which needs time_factors")
+    for name in ("instance", *(["block"] if plan.get("blocks", [1]) != [1] else [])):
+        require(name in used, path, f"command must contain {{{name}}}")
+    for name in sorted(used - OF_COMMAND)[:1]:
+        there = ", ".join(f"{{{each}}}" for each in sorted(OF_COMMAND))
+        raise ExperimentError(f"{path}: command contains {{{name}}}, but there are only {there}")
+    require("seconds" not in used or "time_factors" in plan, path,
+            "command contains {seconds}, which needs time_factors")
     files = [os.path.normpath(name) for name in matches(path, "files", plan["files"])] if "files" in plan else []
     program = os.path.normpath(words[0])
     if "/" in words[0] and not os.path.isabs(program) and program not in files:
         files += matches(path, "command", [glob.escape(program)])
     for name in files:
-        if os.path.isabs(name) or name.startswith(".."):
-            raise ExperimentError(f"{path}: {name} is not in the plan's folder")
+        require(not os.path.isabs(name) and not name.startswith(".."), path, f"{name} is not in the plan's folder")
     return {"command": words, "files": files, "rounds": []}
 
 
 def matches(path: str, key: str, patterns: object) -> list[str]:
     """Returns the files that the patterns match, each once, as paths from the plan's folder."""
-    if not isinstance(patterns, list) or not all(isinstance(pattern, str) for pattern in patterns) or not patterns:
-        raise ExperimentError(f"{path}: {key} must be a list of paths")
+    require(isinstance(patterns, list) and patterns and all(isinstance(each, str) for each in patterns), path,
+            f"{key} must be a list of paths")
     found: dict[str, None] = {}
     top = os.path.join(os.path.dirname(path) or ".", "")
-    for pattern in patterns:
+    for pattern in cast("list[str]", patterns):
         names = sorted(glob.glob(pattern, root_dir=top)) if "\0" not in pattern else []
-        if not names:
-            raise ExperimentError(f"{path}: no file matches {pattern}")
+        require(names, path, f"no file matches {pattern}")
         found.update(dict.fromkeys(names))
     for name in found:
-        if not os.path.isfile(os.path.join(top, name)):
-            raise ExperimentError(f"{path}: {name} is not a file")
-        if set(name) & set("\t\r\n"):
-            raise ExperimentError(f"{path}: the name {name!r} contains a tab or a line end")
-        if any("\udc80" <= sign <= "\udcff" for sign in name):
-            raise ExperimentError(f"{path}: the name {os.fsencode(name)!r} is not UTF-8")
+        require(os.path.isfile(os.path.join(top, name)), path, f"{name} is not a file")
+        require(not set(name) & set("\t\r\n"), path, f"the name {name!r} contains a tab or a line end")
+        require(not re.search("[\udc80-\udcff]", name), path, f"the name {os.fsencode(name)!r} is not UTF-8")
     return list(found)
 
 

@@ -160,8 +160,8 @@ def by_seconds(done: pd.DataFrame, width: float | None) -> Figure | None:
         for at, kind in enumerate(kinds):
             if (*size, *kind) in points.index.droplevel(["rounds", "time_factor"]):
                 line = points.loc[(*size, *kind)].sort_values("seconds")
-                axis.plot(line["seconds"], line["rpd"], color=colour(at / max(1, len(kinds) - 1)),
-                          marker="os^Dv"[at % 5], markersize=4, label=labels[at], clip_on=False, zorder=3)
+                axis.plot(line["seconds"], line["rpd"], color=colour(at / max(1, len(kinds) - 1)), label=labels[at],
+                          marker="os^Dv"[at % 5], fillstyle="none", markersize=4, clip_on=False, zorder=3)
     least, most = (math.log10(each) for each in (points["seconds"].min(), points["seconds"].max()))
     made.axes[0].set_xscale("log")
     made.axes[0].set_xlim(10.0 ** math.floor(least), 10.0 ** max(math.ceil(most), math.floor(least) + 1))

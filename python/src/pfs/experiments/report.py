@@ -5,7 +5,6 @@ from __future__ import annotations
 import argparse
 import csv
 import io
-import itertools
 import logging
 import pathlib
 import re
@@ -35,13 +34,11 @@ NUMBER = r" *-?[0-9]+(?:\.[0-9]*)?(?:[eE][+-]?[0-9]{1,3})? *"
 FORMS = {"rounds": "{:,.0f} rounds", "take": "take {:,.0f}", "passes": "passes {:.0f}",
          "time_factor": "time factor {:g}"}
 # The decimals of the columns of tables.
-DECIMALS = {"mean_seconds": "{:.4f}", "time_factor": "{:g}", "p": "{:.4g}", "p_holm": "{:.4g}",
+DECIMALS = {"mean_seconds": "{:.4f}", "mean_rank": "{:.2f}", "time_factor": "{:g}", "p": "{:.4g}", "p_holm": "{:.4g}",
             **dict.fromkeys(("makespan", "best", "mean", "deviation"), "{:.15g}")}
 LATEX = {"\\": r"\textbackslash{}", "~": r"\textasciitilde{}", "^": r"\textasciicircum{}", "×": r"$\times$",
          "<": r"\textless{}", ">": r"\textgreater{}", "|": r"\textbar{}", '"': "''",
          **{sign: f"\\{sign}" for sign in "&%$#_{}"}}
-# The most pairs of methods without a common instance that are reported.
-MOST_UNRELATED = 5
 
 
 def report(args: argparse.Namespace) -> int:
@@ -70,15 +67,12 @@ def report(args: argparse.Namespace) -> int:
         names = ["instance", "method", "makespan", "order"]
         write_text(args.folder / "best.csv", csv_of(cells_of(best[names])))
     if len(shared):
+        if len(ranks := statistics.ranked(shared)):
+            shown.append(write_table(args.folder / "ranks", ranks, statistics.RANKS))
         write_sizes(shared, [*map(published, means)], args.folder, lacking)
     elif lacking:
         print(f"pfs-experiments report: no table of sizes: {plain(lacking)}", file=sys.stderr)
     plots.plot(done, shared, args.folder, args.format, args.width, args.dpi, not args.no_title)
-    instances = done.groupby("method")["instance"].agg(set)
-    unrelated = [pair for pair in itertools.combinations(instances.index, 2)
-                 if not instances[pair[0]] & instances[pair[1]]]
-    for one, other in unrelated[:MOST_UNRELATED]:
-        print(plain(f"pfs-experiments report: {one} and {other} have no instance in common"), file=sys.stderr)
     print("".join(shown), end="")
     return 0
 
@@ -128,32 +122,22 @@ def orders_of(paths: list[str]) -> list[str] | str:
 def published(path: str) -> pd.DataFrame:
     """Returns published means of the RPD, with a row for each size and a column for each method."""
     import pandas as pd
-    read = pd.DataFrame(rows_of(path, ["jobs", "machines", "rpd"]))
-    means = pd.DataFrame({name: numbers_in(read[name], name, path) for name in ("jobs", "machines", "rpd")})
-    means["method"] = methods_of(read, pathlib.Path(path).stem)
+    read = pd.DataFrame({"method": "", **row} for row in rows_of(path, ["jobs", "machines", "rpd"]))
+    means = read.assign(method=read["method"].replace("", pathlib.Path(path).stem),
+                        **{name: numbers_in(read[name], name, path) for name in ("jobs", "machines", "rpd")})
     return means.pivot_table(index=SIZE, columns="method", values="rpd")
 
 
 def read_one(path: str, name: str) -> pd.DataFrame:
     """Reads the runs of a CSV. The results of a run that failed are unknown."""
     import pandas as pd
-    rows = rows_of(path, ["instance", "makespan"])
-    read = pd.DataFrame(rows)
-    failed = read.get("status", pd.Series("ok", read.index)).ne("ok") | read["makespan"].eq("")
-    runs = pd.DataFrame({"method": methods_of(read, name), "instance": read["instance"],
-                         "seed": read.get("seed", pd.Series("", read.index))})
-    for column in RANGES:
-        texts = read.get(column, pd.Series("", read.index))
-        if column in ("makespan", "cells", "gap_percent", "seconds"):
-            texts = texts.mask(failed, "")
-        runs[column] = numbers_in(texts, column, path)
+    usual = {"method": "", "seed": "", "status": "ok", **dict.fromkeys(RANGES, "")}
+    read = pd.DataFrame(usual | row for row in rows_of(path, ["instance", "makespan"]))
+    read.loc[read["status"].ne("ok") | read["makespan"].eq(""), ["makespan", "cells", "gap_percent", "seconds"]] = ""
+    runs = read[["instance", "seed"]].assign(method=read["method"].replace("", name), **{
+        column: numbers_in(read[column], column, path) for column in RANGES})
     runs.loc[runs["time_factor"].notna(), "rounds"] = float("nan")
     return runs
-
-
-def methods_of(read: pd.DataFrame, name: str) -> Any:
-    """Returns the column `method`, with a name where it is empty or missing."""
-    return read["method"].replace("", name) if "method" in read else name
 
 
 def numbers_in(texts: pd.Series, column: str, path: str) -> pd.Series:
@@ -251,7 +235,7 @@ def write_sizes(shared: pd.DataFrame, published: list[pd.DataFrame], folder: pat
                      *([f"Not audited, only stated: {', '.join(stated)}."] if stated else [])])
     write_text(folder / "sizes.csv", csv_of([heads, *rows]))
     write_text(folder / "sizes.md", markdown_of([heads, *rows], markdown(note)))
-    lines = [" & ".join(map(latex, row)) + r" \\" for row in [heads, *rows]]
+    lines = [" & ".join(row) + r" \\" for row in [map(stacked, heads), *(map(latex, row) for row in rows)]]
     write_text(folder / "sizes.tex", "\n".join([
         r"% \usepackage{booktabs}", rf"\begin{{tabular}}{{l{'r' * (len(heads) - 1)}}}", r"\toprule", lines[0],
         r"\midrule", *lines[1:-1], r"\midrule", lines[-1], r"\bottomrule", r"\end{tabular}",
@@ -308,6 +292,11 @@ def markdown_of(rows: list[list[str]], note: str) -> str:
 
 def latex(text: str) -> str:
     return "".join(LATEX.get(sign, sign) for sign in plain(text))
+
+
+def stacked(head: str) -> str:
+    """Returns the head of a column for LaTeX, with the parts of a name one below the other."""
+    return rf"\shortstack[r]{{{latex(head)}}}".replace(", ", r"\\") if ", " in head else latex(head)
 
 
 def size_name(size: tuple[float, ...]) -> str:

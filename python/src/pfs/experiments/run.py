@@ -29,10 +29,10 @@ KILLED = re.compile("(?:solve|check): (?:signal [0-9]+|exit 4, pfs: no memory)|l
 LOGGED = re.compile(r"\t([0-9]+)\t([0-9]+)\t\S+/one ([0-9]+) [^\n]*$", re.ASCII | re.MULTILINE)
 # The most kinds of errors that are reported, and the columns that describe the first run of each.
 MOST_KINDS = 10
-DISTINCT = ["rounds", "time_factor", "take", "passes", "seed"]
+DISTINCT = ["method", "rounds", "time_factor", "take", "passes", "seed"]
 # The columns of a CSV that identify a run, and all that `check` needs.
-SAME = ["instance", "rounds", "take", "passes", "seed", "repetition"]
-NEEDED = [*SAME, "makespan", "bound", "status", "order"]
+SAME = ["instance", "method", "rounds", "time_factor", "take", "passes", "seed", "repetition"]
+NEEDED = ["instance", "rounds", "take", "passes", "seed", "repetition", "makespan", "bound", "status", "order"]
 
 
 def run(args: argparse.Namespace) -> int:
@@ -161,7 +161,7 @@ def write_csv(experiment: Experiment, csv_path: str) -> tuple[int, int]:
             continue
         row = {**run, **result, "instance": path_cell(run["instance"]), "status": text_cell(result["status"])}
         if result.get("order"):
-            name = order_name(row, run["number"])
+            name = order_name(run)
             if not (orders / name).exists() or (orders / name).read_bytes() != result["order"].encode():
                 write_text(orders / name, result["order"])
             row["order"] = path_cell(f"{folder.name}/orders/{name}")
@@ -170,10 +170,10 @@ def write_csv(experiment: Experiment, csv_path: str) -> tuple[int, int]:
             row["gap_percent"] = f"{100 * (makespan - bound) / bound:.4f}" if bound else "0.0000"
         known = reference_for(experiment.reference, run["instance"])
         row |= {"reference": str(known[0]), "source": text_cell(known[1])} if known else {}
-        rows.append(row | {"method": text_cell(experiment.plan.get("method", ""))})
+        rows.append(row | {"method": text_cell(run["method"])})
         killed += int(result.get("left") or 0)
     text = io.StringIO()
-    more = [column for column, key in (("time_factor", "time_factors"), ("method", "method")) if key in experiment.plan]
+    more = [column for column in ("time_factor", "method") if any(run[column] for run in experiment.runs)]
     writer = csv.DictWriter(text, [*COLUMNS, *more], lineterminator="\n", extrasaction="ignore")
     writer.writeheader()
     writer.writerows(rows)
@@ -201,14 +201,12 @@ def report_errors(rows: list[Row]) -> None:
         print(f"{len(kinds) - MOST_KINDS} more kinds of errors", file=sys.stderr)
 
 
-def order_name(row: Row, number: str) -> str:
+def order_name(run: Row) -> str:
     """Returns the name of a run's order file. It has the number of the run, as instances in several folders may have
     the same name."""
-    file = os.path.basename(row["instance"]).encode()[:100].decode(errors="ignore").replace(":", "-block-")
-    known = {**row, "time": row["time_factor"], "rounds": "" if row["time_factor"] else row["rounds"]}
-    parts = [f"{column}-{known[column]}" for column in ("rounds", "time", "take", "passes", "seed", "repetition")
-             if known[column]]
-    return "-".join([file, *parts, "run", number])
+    file = os.path.basename(run["instance"]).encode()[:100].decode(errors="ignore").replace(":", "-block-")
+    parts = [f"{column}-{run[column]}" for column in (*SAME[2:], "number") if run[column]]
+    return "-".join([file, *parts])
 
 
 # Audits
@@ -222,11 +220,12 @@ def check(args: argparse.Namespace) -> int:
         raise ExperimentError(f"{args.csv}.d, the folder of the instances and the orders, is missing")
     program = stage.find_pfs(args.pfs)
     runs = stage.stored_plan(folder)["runs"]
-    listed = {same({**run, "instance": path_cell(run["instance"])}): run for run in runs}
+    listed = {same({**run, "instance": path_cell(run["instance"]), "method": text_cell(run["method"])}): run
+              for run in runs}
     faults = [(row, wrong(row, program, folder, listed.get(same(row)))) for row in rows]
     for row, fault in faults:
         if fault:
-            print(plain(", ".join(f"{column} {row[column]}" for column in SAME) + f": {fault}"))
+            print(plain(", ".join(f"{column} {row[column]}" for column in SAME if row.get(column)) + f": {fault}"))
     count = sum(fault != "" for _, fault in faults)
     print(f"{args.csv}: {len(rows)} orders audited, {count} of them wrong")
     return 1 if count else 0
@@ -234,8 +233,7 @@ def check(args: argparse.Namespace) -> int:
 
 def same(row: Row) -> tuple[str, ...]:
     """Returns what identifies a run. Runs by time have other rounds in the CSV than in the list of runs."""
-    factor = row.get("time_factor", "")
-    return (factor, *("" if factor and column == "rounds" else row.get(column, "") for column in SAME))
+    return tuple("" if row.get("time_factor") and column == "rounds" else row.get(column, "") for column in SAME)
 
 
 def wrong(row: Row, program: str, folder: pathlib.Path, run: Row | None) -> str:

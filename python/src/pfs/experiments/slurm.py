@@ -3,11 +3,12 @@ from __future__ import annotations
 
 import argparse
 import math
+import pathlib
 import shlex
 import subprocess
 import sys
 
-from pfs.experiments import stage
+from pfs.experiments import one, stage
 from pfs.experiments.plan import Row
 from pfs.experiments.run import gather, list_left
 
@@ -24,8 +25,9 @@ def slurm(args: argparse.Namespace) -> int:
     experiment = stage.prepare(args.plan, args.csv, args.pfs)
     left = list_left(experiment, args.retry)
     tasks = min(len(left), int(args.tasks)) if args.tasks else tasks_for(left)
+    task = str(pathlib.Path(one.__file__).with_name("task"))
     words = ["sbatch", "--wait", f"--array=1-{tasks}", f"--job-name={experiment.stage}", "--dependency=singleton",
-             "--output=slurm/%A-%a.log", *args.options, str(stage.PACKAGE / "experiments" / "task"), experiment.stage]
+             "--output=slurm/%A-%a.log", *args.options, task, experiment.stage]
     (experiment.folder / "slurm").mkdir(exist_ok=True)
     if args.dry_run:
         if left:

@@ -22,12 +22,11 @@ from pfs._benchmarks import taillard_rows
 from pfs.experiments import ExperimentError, listed, one, plain, provenance
 from pfs.experiments.plan import Row, read_plan, reference_for, reference_of
 
-PACKAGE = pathlib.Path(__file__).resolve().parent.parent
 # What plan.json has of a run: columns of the CSV, its number, the copy of its instance, and the seconds of a search by
 # time. Unknown values are empty, and hyphens in runs.tsv, which is made of it: a line for each number.
 RUN = list(one.Run._fields)
 # The columns that identify a run.
-KEY = ["file", "block", "rounds", "time_factor", "take", "passes", "seed", "repetition"]
+KEY = ["file", "block", "method", "rounds", "time_factor", "take", "passes", "seed", "repetition"]
 # Those that don't change a search of 0 rounds.
 OF_ROUNDS = ["take", "passes", "seed"]
 # What `pfs generate 1 1 1` prints.
@@ -100,10 +99,11 @@ def prepare(plan_path: str, csv_path: str, program: str | None) -> Experiment:
     try:
         if not (folder / "plan.json").exists():
             begin(folder, pfs or find_pfs(program))
-        stored: dict[str, Any] = {"places": {}, "runs": [], **stored_plan(folder)}
-        for key in ("command", "layout"):
-            if "layout" in stored and stored.get(key) != plan.get(key):
-                raise ExperimentError(f"{csv_path} was started with another {key}: use another CSV")
+        stored = {"places": {}, "runs": [], "methods": [], "layout": plan["layout"], **stored_plan(folder)}
+        commands, before = commands_of(plan), commands_of(stored)
+        if stored["layout"] != plan["layout"] or any(commands.get(name, was) != was for name, was in before.items()):
+            what = "command" if stored["layout"] == plan["layout"] else "layout"
+            raise ExperimentError(f"{csv_path} was started with another {what}: use another CSV")
         inputs = copied_inputs(plan, stored["places"], top, folder / stage_of(folder))
         experiment = Experiment(plan, folder, add_runs(plan, stored, top, folder, csv_path), reference)
         provenance.note_start(folder, plan, inputs)
@@ -178,18 +178,22 @@ def copied_inputs(plan: dict[str, Any], places: dict[str, int], top: str, stage:
     """Copies what the runs need: a command with its files, or the library for searches by time, and the instances.
     Returns them and the program. Where the program and the library are is left out: every version of them finds the
     same orders."""
-    if "command" in plan:
-        (stage / "files").mkdir(exist_ok=True)
-        write_text(stage / "command.json", json.dumps(plan["command"]))
-    elif "time_factors" in plan:
+    (stage / "files").mkdir(exist_ok=True)
+    if any("time_factors" in each and "command" not in each for each in plan["methods"]):
         copy(library(), stage / one.LIBRARY)
-    inputs = [(name, os.path.join(top, name), stage / "files" / name) for name in plan.get("files", [])]
+    files = dict.fromkeys(name for each in plan["methods"] for name in each.get("files", []))
+    inputs = [(name, os.path.join(top, name), stage / "files" / name) for name in files]
     for name in plan["instances"]:
         place = places.setdefault(name, len(places) + 1)
         inputs.append((name, os.path.join(top, name), stage / "instances" / str(place)))
     for _, path, to in inputs:
         copy(path, to)
     return [(name, "", stage / name) for name in ("pfs", one.LIBRARY) if (stage / name).exists()] + inputs
+
+
+def commands_of(plan: dict[str, Any]) -> dict[str, list[str] | None]:
+    """Returns the command line of each method, None for pfs."""
+    return {each["method"]: each.get("command") for each in plan["methods"]}
 
 
 def library() -> str:
@@ -217,6 +221,7 @@ def add_runs(plan: dict[str, Any], stored: dict[str, Any], top: str, folder: pat
         what = ", ".join(f"{column} {value}" for column, value in zip(KEY[1:], min(gone)[1:]) if value)
         raise ExperimentError(f"{csv_path} was started with another plan, which has {what}: use another CSV, or delete "
                               f"{folder}")
+    write_text(folder / stage_of(folder) / "commands.json", json.dumps(commands_of(plan)))
     write_text(folder / "runs.tsv", table_of(added))
     order = [run["number"] for run in runs.values()]
     write_text(folder / "plan.json", json.dumps({**plan, "top": top, "places": places, "runs": added, "order": order}))
@@ -244,25 +249,33 @@ def key_of(run: Row) -> tuple[str, ...]:
 def planned_runs(plan: dict[str, Any], folder: pathlib.Path, places: dict[str, int],
                  listed: dict[tuple[str, str], Row]) -> Iterator[Row]:
     """Yields the runs of a plan, but for their numbers, in the order of the CSV, instance by instance."""
-    is_pfs = "command" not in plan
     for name, block in itertools.product(plan["instances"], plan["blocks"]):
         file = f"instances/{places[name]}"
         known = listed.get((file, str(block)))
         jobs, machines = (known["jobs"], known["machines"]) if known else size_of(
             folder / stage_of(folder), "--from", plan["layout"], "--block", str(block), file)
         label = label_of(plan, name, block)
-        usual = str(min(4, int(jobs))) if jobs and is_pfs else ""
-        # the milliseconds of a time factor are jobs times half the machines times the factor
-        unit = int(jobs) * int(machines) / 2000 if jobs else 0
-        budgets = [(str(rounds), "", "") for rounds in plan["rounds"]]
-        budgets += [("", decimal(unit * factor), decimal(factor)) for factor in plan.get("time_factors", [])]
-        for (rounds, seconds, factor), take, passes, seed, repetition in itertools.product(
-                budgets or [("", "", "")], map(str, plan["takes"] or [usual]), plan["passes"] if is_pfs else [""],
-                plan["seeds"], range(1, plan["repetitions"] + 1)):
-            if jobs and take and int(take) > int(jobs):
-                raise ExperimentError(f"takes has {take}, but {label} has only {jobs} jobs")
-            yield dict(zip(RUN, map(str, ("", file, plan["layout"], block, rounds, seconds, take, passes, seed,
-                                          repetition, factor, jobs, machines, label))))
+        for method in plan["methods"]:
+            for numbers in settings_of(method, jobs, machines, label):
+                yield dict(zip(RUN, ("", file, plan["layout"], str(block), *numbers, jobs, machines, label,
+                                     method["method"])))
+
+
+def settings_of(method: dict[str, Any], jobs: str, machines: str, label: str) -> Iterator[tuple[str, ...]]:
+    """Yields the rounds, seconds, take, passes, seed, repetition and time factor of each run of a method on an
+    instance, whose size is unknown if pfs rejects it."""
+    is_pfs = "command" not in method
+    usual = str(min(4, int(jobs))) if jobs and is_pfs else ""
+    # the milliseconds of a time factor are jobs times half the machines times the factor
+    unit = int(jobs) * int(machines) / 2000 if jobs else 0
+    budgets = [(str(rounds), "", "") for rounds in method["rounds"]]
+    budgets += [("", decimal(unit * factor), decimal(factor)) for factor in method.get("time_factors", [])]
+    for (rounds, seconds, factor), take, passes, seed, repetition in itertools.product(
+            budgets or [("", "", "")], map(str, method["takes"] or [usual]), method["passes"] if is_pfs else [""],
+            method["seeds"], range(1, method["repetitions"] + 1)):
+        if jobs and take and int(take) > int(jobs):
+            raise ExperimentError(f"takes has {take}, but {label} has only {jobs} jobs")
+        yield rounds, seconds, take, str(passes), str(seed), str(repetition), factor
 
 
 def decimal(number: float) -> str:

@@ -12,12 +12,17 @@ from pfs.experiments.fair import SETTING, common, made_of
 
 # The exact test is for at most this number of pairs; for more, SciPy's normal approximation is used.
 MOST_EXACT = 50
+# The rounds and the time factor of a setting that tells neither.
+UNKNOWN = (-1, -1)
 NOTE = ("Compared are settings of the same rounds or time factor, on the instances and seeds that both have. Won, "
         "tied, lost: the numbers of instances on which the first setting's mean makespan is less than, equal to or "
         "greater than the other's. p: Wilcoxon's signed-rank test, two-sided, of the differences in RPD that are not "
         "0, exact up to 50 pairs. p holm: p with Holm's correction for all rows. Median difference: the median of the "
         "first setting's RPD minus the other's. Vargha-Delaney A: the probability that a run of the first setting is "
         "shorter than one of the other on the same instance, as a mean over the instances; ties count half.")
+
+RANKS = ("Average ranks of the settings of the same rounds or time factor, which are a group, on the instances that "
+         "all have: the shortest mean makespan has rank 1, and equal ones the mean of their ranks. p: Friedman's test.")
 
 
 def compared(done: pd.DataFrame) -> pd.DataFrame:
@@ -37,10 +42,30 @@ def compared(done: pd.DataFrame) -> pd.DataFrame:
     return table
 
 
+def ranked(shared: pd.DataFrame) -> pd.DataFrame:
+    """Returns the average rank of each of three or more settings that can be compared, by their mean makespans of each
+    instance, and the p-value of Friedman's test. A setting without rounds and time factor is in every group."""
+    table = shared.pivot_table(index="instance", columns=SETTING, values="makespan").round(9)
+    budgets = sorted({*map(budget_of, table)} - {UNKNOWN}) or [UNKNOWN]
+    groups = [table[[setting for setting in table if budget_of(setting) in (budget, UNKNOWN)]] for budget in budgets]
+    rows = []
+    for number, group in enumerate((each for each in groups if len(each) > 1 and each.shape[1] > 2), 1):
+        all_tied = (group.nunique(axis=1) == 1).all()
+        p = 1.0 if all_tied else scipy.stats.friedmanchisquare(*group.to_numpy().T).pvalue
+        rows += [{"group": number, **dict(zip(SETTING, setting)), "instances": len(group), "mean_rank": rank, "p": p}
+                 for setting, rank in group.rank(axis=1).mean().sort_values(kind="stable").items()]
+    return pd.DataFrame(rows)
+
+
 def are_comparable(one: tuple[Any, ...], other: tuple[Any, ...]) -> bool:
     """Whether two settings have the same rounds or time factor, or are of two methods of which one has neither."""
-    budgets = [(setting[1], setting[4]) for setting in (one, other)]
-    return budgets[0] == budgets[1] or (one[0] != other[0] and (-1, -1) in budgets)
+    budgets = [budget_of(one), budget_of(other)]
+    return budgets[0] == budgets[1] or (one[0] != other[0] and UNKNOWN in budgets)
+
+
+def budget_of(setting: tuple[Any, ...]) -> tuple[float, float]:
+    """Returns the rounds and the time factor of a setting."""
+    return setting[1], setting[4]
 
 
 def by_instance(runs: pd.DataFrame, setting: tuple[Any, ...]) -> pd.DataFrame:
