@@ -15,8 +15,8 @@ NAMED = re.compile(r"`((?:[\w.-]+/)+[\w.-]*|[\w-]+\.(?:antt|cpp|edit|hpp|md|py|r
 # The pages also name modules without these endings.
 MODULES = {".antt", ".edit", ".py", ".rt"}
 # What a build, a report or a wheel makes, any crate's name, a page of the kit, and a folder of an example.
-ELSEWHERE = re.compile(r"\bout(?:/|$)|\bNAME/|^START-HERE\.md$|/PROVED$|^(?:table|sizes|comparison)\.md$|^_gantt\.py$"
-                       r"|^(?:instances|orders)/$|^\./$")
+ELSEWHERE = re.compile(r"\bout(?:/|$)|\bNAME/|^START-HERE\.md$|/PROVED$|^(?:table|sizes|comparison|ranks)\.md$"
+                       r"|^_gantt\.py$|^(?:instances|orders)/$|^\./$")
 # A name of more than one word, or of a function that is called.
 NAME = re.compile(r"[A-Za-z]\w*(?:_|[a-z][A-Z])\w*|[a-z]\w*(?=\(\))")
 # Types of Julia and R that a page names.
