@@ -3,6 +3,7 @@ from __future__ import annotations
 
 import contextlib
 import os
+import signal
 import threading
 from collections import deque
 from collections.abc import Callable, Collection, Iterable, Mapping
@@ -184,9 +185,15 @@ def run(tasks: Collection[Task], workers: int, progress: Callable[[int, int], An
                     ended.put(error)
 
     threads = [threading.Thread(target=work, daemon=True) for _ in range(min(workers, len(left)))]
+    mask = signal.pthread_sigmask(signal.SIG_BLOCK, [])
     try:
-        for thread in threads:
-            thread.start()
+        try:
+            # Ctrl-C waits until all threads have started, so that they are joined.
+            signal.pthread_sigmask(signal.SIG_BLOCK, [signal.SIGINT])
+            for thread in threads:
+                thread.start()
+        finally:
+            signal.pthread_sigmask(signal.SIG_SETMASK, mask)
         for number in range(first, len(tasks) + 1):
             if (error := ended.get()) is not None:
                 raise error
