@@ -185,15 +185,8 @@ def run(tasks: Collection[Task], workers: int, progress: Callable[[int, int], An
                     ended.put(error)
 
     threads = [threading.Thread(target=work, daemon=True) for _ in range(min(workers, len(left)))]
-    mask = signal.pthread_sigmask(signal.SIG_BLOCK, [])
     try:
-        try:
-            # Ctrl-C waits until all threads have started, so that they are joined.
-            signal.pthread_sigmask(signal.SIG_BLOCK, [signal.SIGINT])
-            for thread in threads:
-                thread.start()
-        finally:
-            signal.pthread_sigmask(signal.SIG_SETMASK, mask)
+        start_all(threads)
         for number in range(first, len(tasks) + 1):
             if (error := ended.get()) is not None:
                 raise error
@@ -204,3 +197,14 @@ def run(tasks: Collection[Task], workers: int, progress: Callable[[int, int], An
         for thread in threads:
             if thread.is_alive():
                 thread.join()
+
+
+def start_all(threads: Iterable[threading.Thread]) -> None:
+    """Start threads. Ctrl-C waits until all of them have started, so that each can be joined."""
+    mask = signal.pthread_sigmask(signal.SIG_BLOCK, [])
+    try:
+        signal.pthread_sigmask(signal.SIG_BLOCK, [signal.SIGINT])
+        for thread in threads:
+            thread.start()
+    finally:
+        signal.pthread_sigmask(signal.SIG_SETMASK, mask)
