@@ -166,6 +166,21 @@ def test_ctrl_c_before_the_first_search_keeps_what_was_found() -> None:
     assert stop.value.found == found
 
 
+def test_ctrl_c_leaves_no_thread_that_is_just_starting(monkeypatch: pytest.MonkeyPatch) -> None:
+    """It comes once all have started."""
+    start, started = threading.Thread.start, list[threading.Thread]()
+
+    def interrupted(thread: threading.Thread) -> None:
+        started.append(thread)
+        signal.raise_signal(signal.SIGINT)
+        start(thread)
+
+    monkeypatch.setattr(threading.Thread, "start", interrupted)
+    with pytest.raises(pfs.InterruptedAll):
+        pfs.solve_all(SHOPS, [1], 1_000_000, workers=2)
+    assert len(started) == 2 and not any(thread.is_alive() for thread in started)
+
+
 def test_a_thread_that_cant_be_started_loses_nothing(monkeypatch: pytest.MonkeyPatch) -> None:
     start, started = threading.Thread.start, list[threading.Thread]()
 

@@ -104,9 +104,12 @@ def test_a_forked_process_prepares_its_own_instance() -> None:
     search = threading.Thread(target=lambda: shop.solve(100_000, stop=stop))
     search.start()
     time.sleep(0.3)
+    assert shop.makespan(range(200)) == due
+    kept = list(shop._prepared)
     child = os.fork()
     if child == 0:
-        os._exit(0 if shop.makespan(range(200)) == due and shop.solve(1).rounds == 1 else 1)
+        is_right = shop.makespan(range(200)) == due and shop.solve(1).rounds == 1
+        os._exit(0 if is_right and not any(one is other for one in kept for other in shop._prepared) else 1)
     deadline = time.monotonic() + 30
     while (ended := os.waitpid(child, os.WNOHANG))[0] == 0 and time.monotonic() < deadline:
         time.sleep(0.01)
@@ -116,6 +119,8 @@ def test_a_forked_process_prepares_its_own_instance() -> None:
 
 
 def test_nothing_is_printed_when_python_ends_with_an_instance(tmp_path: pathlib.Path) -> None:
-    script = "import pfs; shop = pfs.taillard(1); pfs.kept = [shop, shop.solve(1)]; print(shop.bound())"
+    """Also where the names of the module are gone before."""
+    script = "import pfs; shop = pfs.taillard(1); pfs.kept = [shop, shop.solve(1)]; print(shop.bound()); " \
+             "pfs._library.Prepared = pfs._library.library = None"
     done = plainly.python("-c", script, cwd=tmp_path)
     assert (done.stdout, done.stderr, done.returncode) == ("1232\n", "", 0)

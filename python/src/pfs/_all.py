@@ -3,6 +3,7 @@ from __future__ import annotations
 
 import contextlib
 import os
+import signal
 import threading
 from collections import deque
 from collections.abc import Callable, Collection, Iterable, Mapping
@@ -185,8 +186,7 @@ def run(tasks: Collection[Task], workers: int, progress: Callable[[int, int], An
 
     threads = [threading.Thread(target=work, daemon=True) for _ in range(min(workers, len(left)))]
     try:
-        for thread in threads:
-            thread.start()
+        start_all(threads)
         for number in range(first, len(tasks) + 1):
             if (error := ended.get()) is not None:
                 raise error
@@ -197,3 +197,14 @@ def run(tasks: Collection[Task], workers: int, progress: Callable[[int, int], An
         for thread in threads:
             if thread.is_alive():
                 thread.join()
+
+
+def start_all(threads: Iterable[threading.Thread]) -> None:
+    """Start threads. Ctrl-C waits until all of them have started, so that each can be joined."""
+    mask = signal.pthread_sigmask(signal.SIG_BLOCK, [])
+    try:
+        signal.pthread_sigmask(signal.SIG_BLOCK, [signal.SIGINT])
+        for thread in threads:
+            thread.start()
+    finally:
+        signal.pthread_sigmask(signal.SIG_SETMASK, mask)

@@ -161,9 +161,10 @@ class Prepared:
 
     def is_own(self) -> bool:
         """Whether it was made in this process."""
-        return self.made == Prepared.forks
+        return self.made == self.forks
 
-    def __del__(self) -> None:
+    def __del__(self, library: ctypes.CDLL = library) -> None:
+        """Release it. When Python ends, the names of this module may be gone."""
         if self.is_own():
             library.pfs_release(self.address)
 
