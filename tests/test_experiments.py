@@ -455,11 +455,12 @@ case $2 in
 13) echo "π = (J$line)" | sed 's/ \([0-9]\)/ J\1/g' ;;
 14) echo "$line" | tr ' ' - ;;
 15) echo '2 -1 3' ;;
+16) printf '1%900000s\n' 2 ;;
 esac
 """
 OTHER = """instances = ["shops/a"]
 time_factors = [10]
-seeds = [1, 2, 3, 4, 5, 6, 7, 8, 9, 10, 11, 12, 13, 14, 15]
+seeds = [1, 2, 3, 4, 5, 6, 7, 8, 9, 10, 11, 12, 13, 14, 15, 16]
 method = "solve"
 command = "./mine {instance} {seed} {seconds} {name} {jobs} {machines}"
 """
@@ -470,6 +471,7 @@ STATUSES = [
     r"command: took too long: \d+\.\d\d s of processor time instead of 0.5 s",
     "command: more than 1,048,576 bytes printed", "ok", "command: job 0: jobs count from 1",
     "check: exit 1, wrong makespan, stated 1, computed 1448", "ok", "ok", "command: no order printed: '2 -1 3'",
+    "check: exit 1, wrong size, .*",
 ]
 
 
@@ -482,9 +484,9 @@ def test_another_program_is_run_and_audited(experiment: Experiment) -> None:
     """An order file, or the jobs on one line. A run that crashes, prints no order, states a wrong makespan or takes too
     long has failed, and isn't made again."""
     got = with_other(experiment).run()
-    assert (got.status, got.stderr.splitlines()[-1]) == (1, "out.csv: 15 runs, 10 of them failed, 0 still to run")
+    assert (got.status, got.stderr.splitlines()[-1]) == (1, "out.csv: 16 runs, 11 of them failed, 0 still to run")
     rows = experiment.columns("seed", "status", "method", "time_factor", "rounds", "take", "passes", "cells")
-    assert [row[0] for row in rows] == [str(seed) for seed in range(1, 16)]
+    assert [row[0] for row in rows] == [str(seed) for seed in range(1, 17)]
     assert [(row[1], wanted) for row, wanted in zip(rows, STATUSES) if not re.fullmatch(wanted, row[1])] == []
     assert {row[2:] for row in rows} == {("solve", "10", "", "", "", "")}
     assert experiment.script("check", "out.csv") == Done(0, "out.csv: 5 orders audited, 0 of them wrong\n", "")

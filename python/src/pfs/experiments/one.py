@@ -222,7 +222,7 @@ def order_of(text: str) -> tuple[str, list[str]]:
         raise Failed("nothing printed")
     if re.match("order2? ", lines[0]):
         return text if text.endswith("\n") else f"{text}\n", []
-    listed = re.sub(r"^(\w+\s*[=:])?[\s\[(]*|[\s\]),]*$", "", lines[0])
+    listed = re.sub(r"^\s*\w+\s*[=:]", "", lines[0]).strip(" \t,[]()")
     jobs = [re.fullmatch("[A-Za-z]*_?([0-9]{1,9})", job, re.ASCII)
             for job in re.split(r"[\s,;]+|(?<=[0-9])-(?=\w)", listed)]
     numbers = [int(job[1]) for job in jobs if job]
