@@ -132,11 +132,18 @@ impl Kept {
     pub(crate) fn insertions(&mut self, sequence: &[u32], job: usize, spans: &mut [u64])
         requires sequence { IsSequence self.old.jobs sequence.now }
         requires job { job < self.old.jobs }
+        requires absent { Contains sequence.now job → ⊥ }
         requires room { length spans.old ≡ length sequence.now + 1 }
         ensures done { AreInsertions self.old sequence.now job spans.new }
         ensures shop { self.new ≡ self.old }
     {
-        insertions_by_rows(&self.instance, &mut self.tails, sequence, job, spans);
+        self.sequence.set(sequence);
+        if !self
+            .search
+            .insertions(&self.instance, &self.sequence, job, spans)
+        {
+            insertions_by_rows(&self.instance, &mut self.tails, sequence, job, spans);
+        }
     }
 
     /// Makes passes over a list of jobs, from the sequence of the first `count` jobs of `order`, and overwrites `order`

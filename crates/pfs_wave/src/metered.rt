@@ -74,7 +74,7 @@ impl<'a> MeteredLanes<'a> {
             let total = self.bench.total(job);
             return narrow.best_or_wide(permits, &mut self.wave, seq, job, total);
         }
-        self.wave.best(permits, seq.as_slice(), job)
+        self.wave.best(permits, seq.as_slice(), job, &mut [])
     }
 
     /// The best place for a job that is not in the sequence, and the makespan with the job there. It counts the cells
