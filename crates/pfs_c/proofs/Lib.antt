@@ -7,10 +7,8 @@ pub mod ManyLemmas
 pub mod Marks
 pub mod MemoryLemmas
 pub mod RandomWords
-pub mod Rooms
 pub mod RowCopies
 pub mod RowSteps
-pub mod TailRows
 pub mod TextLemmas
 pub mod Times
 pub mod Visits

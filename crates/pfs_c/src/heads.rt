@@ -1,21 +1,18 @@
 //! Time tables, and the heads and tails of a sequence, for C.
-ghost use Rattle.std.specs.Prelude.{◌≡◌, ◌≢◌, ◌*◌, ◌<◌, ◌≤◌, ◌+◌, ℕ, length, slice_index, IfOk, IfErr, IfSome};
+ghost use Rattle.std.specs.Prelude.{◌≡◌, ◌≢◌, length, IfOk, IfErr, IfSome};
 ghost use Rattle.pfs_audit.specs.Schedule.{IsLeastSchedule};
-ghost use Rattle.pfs_base.specs.FlowShop.{IsWithin};
-ghost use Rattle.pfs_base.specs.Limits.{limits};
-ghost use Rattle.pfs_order.specs.Sequence.{IsSequence};
 ghost use Rattle.pfs_c.specs.HeadsTails.{AreRowHeads, AreRowTails, heads_tails_fault};
 ghost use Rattle.pfs_c.specs.Numbers.{Returns, number_returned};
 ghost use Rattle.pfs_c.specs.Tables.{EndAfterTimes, table_entry, table_fault};
-ghost use Rattle.pfs_c.specs.Validation.{on_shop, shop_of};
+ghost use Rattle.pfs_c.specs.Validation.{on_shop};
 ghost use Rattle.pfs_c.specs.Private.Outcomes.{Rejects, Validates};
 
 use crate::given::{order_of, validate_jobs, validate_length, validate_product};
 use crate::handle::Prepared;
 use crate::numbers::{CallFault, PFS_OK, number_of};
-use crate::rows::{add_head, add_tail_row};
+use crate::rows::{fill_heads, fill_tails};
 use pfs_audit::{TimeTable, table};
-use pfs_base::{Instance, MOST_MACHINES};
+use pfs_base::Instance;
 use std::alloc::Global;
 
 /// Computes when each operation of an order of all jobs starts and ends, each as early as possible. Both tables are
@@ -136,54 +133,11 @@ fn heads_tails_in(
     ensures kept_heads { IfErr result (λ _. heads.new ≡ heads.old) }
     ensures kept_tails { IfErr result (λ _. tails.new ≡ tails.old) }
 {
-    let (times, jobs, machines) = (instance.times(), instance.jobs(), instance.machines());
+    let machines = instance.machines();
     validate_product(heads.len(), sequence.len(), machines)?;
     validate_product(tails.len(), sequence.len(), machines)?;
-    validate_jobs(jobs, sequence)?;
-    fill_heads(times, jobs, machines, sequence, heads);
-    fill_tails(times, jobs, machines, sequence, tails);
+    validate_jobs(instance.jobs(), sequence)?;
+    fill_heads(instance, sequence, heads);
+    fill_tails(instance, sequence, tails);
     Ok(())
-}
-
-// Fills the rows of heads from the first place to the last.
-fn fill_heads(times: &[u32], jobs: usize, machines: usize, sequence: &[u32], heads: &mut [u64])
-    requires within { IsWithin limits (shop_of times.now jobs machines) }
-    requires sequence { IsSequence jobs sequence.now }
-    requires long { length heads.old ≡ length sequence.now * machines }
-    ensures { AreRowHeads (shop_of times.now jobs machines) sequence.now heads.new }
-{
-    let mut row = [0; MOST_MACHINES];
-    for place in 0..sequence.len() {
-        add_head(times, jobs, machines, sequence, place, &mut row);
-        copy_row(&row, machines, place, heads);
-    }
-}
-
-// Fills the rows of tails from the last place to the first.
-fn fill_tails(times: &[u32], jobs: usize, machines: usize, sequence: &[u32], tails: &mut [u64])
-    requires within { IsWithin limits (shop_of times.now jobs machines) }
-    requires sequence { IsSequence jobs sequence.now }
-    requires long { length tails.old ≡ length sequence.now * machines }
-    ensures { AreRowTails (shop_of times.now jobs machines) sequence.now tails.new }
-{
-    let mut row = [0; MOST_MACHINES];
-    for place in (0..sequence.len()).rev() {
-        add_tail_row(times, jobs, machines, sequence, place, &mut row);
-        copy_row(&row, machines, place, tails);
-    }
-}
-
-// Copies a row to its place in a table.
-fn copy_row(row: &[u64], machines: usize, place: usize, table: &mut [u64])
-    requires wide { machines ≤ length row.now }
-    requires long { (place + 1) * machines ≤ length table.old }
-    ensures row { (machine : ℕ) → machine < machines
-        → slice_index table.new (place * machines + machine) ≡ slice_index row.now machine }
-    ensures others { (other machine : ℕ) → other ≢ place → machine < machines
-        → slice_index table.new (other * machines + machine) ≡ slice_index table.old (other * machines + machine) }
-{
-    let first = place * machines;
-    for machine in 0..machines {
-        table[first + machine] = row[machine];
-    }
 }

@@ -13,8 +13,7 @@ ghost use Rattle.pfs_c.specs.Inserting.{AreInsertions};
 use crate::given::copy_sequence;
 use crate::moving::make_visits;
 use crate::numbers::CallFault;
-use crate::places::insertions_by_rows;
-use crate::rows::span_of;
+use crate::rows::{insertions_by_rows, span_of};
 use pfs_base::{Bench, Instance};
 use pfs_insert::Placed;
 use pfs_order::Seq;
@@ -28,7 +27,7 @@ pub(crate) struct Kept {
     instance: Instance,
     search: Search,
     sequence: Seq,
-    // A row of tails for each place of a sequence.
+    // A row of tails for each job of a sequence.
     tails: Vec<u64>,
 }
 
@@ -46,7 +45,7 @@ impl Model for Kept {
       within : IsWithin limits a.instance.shop;
       search : IsSearchOf a.instance.shop a.search;
       size : a.sequence.size ≡ a.instance.shop.jobs;
-      room : length a.tails.items ≡ (a.instance.shop.jobs + 1) * a.instance.shop.machines;
+      room : length a.tails.items ≡ a.instance.shop.jobs * a.instance.shop.machines;
     } };
 }
 
@@ -62,7 +61,7 @@ impl Kept {
         let Ok(sequence) = Seq::new(alloc, instance.jobs()) else {
             return Err(CallFault::Memory);
         };
-        let size = (instance.jobs() + 1) * instance.machines();
+        let size = instance.jobs() * instance.machines();
         let Ok(tails) = vec![in alloc; 0; size] else {
             return Err(CallFault::Memory);
         };
@@ -133,11 +132,18 @@ impl Kept {
     pub(crate) fn insertions(&mut self, sequence: &[u32], job: usize, spans: &mut [u64])
         requires sequence { IsSequence self.old.jobs sequence.now }
         requires job { job < self.old.jobs }
+        requires absent { Contains sequence.now job → ⊥ }
         requires room { length spans.old ≡ length sequence.now + 1 }
         ensures done { AreInsertions self.old sequence.now job spans.new }
         ensures shop { self.new ≡ self.old }
     {
-        insertions_by_rows(&self.instance, &mut self.tails, sequence, job, spans);
+        self.sequence.set(sequence);
+        if !self
+            .search
+            .insertions(&self.instance, &self.sequence, job, spans)
+        {
+            insertions_by_rows(&self.instance, &mut self.tails, sequence, job, spans);
+        }
     }
 
     /// Makes passes over a list of jobs, from the sequence of the first `count` jobs of `order`, and overwrites `order`
@@ -172,7 +178,6 @@ impl Kept {
         requires { IsSequence self.now.jobs sequence.now }
         ensures { result ≡ makespan self.now sequence.now }
     {
-        let (times, machines) = (self.instance.times(), self.instance.machines());
-        span_of(times, self.instance.jobs(), machines, sequence)
+        span_of(&self.instance, sequence)
     }
 }

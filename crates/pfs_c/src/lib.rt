@@ -14,7 +14,6 @@ pub mod laws;
 mod moving;
 mod numbers;
 mod opened;
-mod places;
 mod preparing;
 mod random;
 mod rows;

@@ -1,25 +1,26 @@
-//! Rows of heads and tails, computed on the times that C passes.
-ghost use Rattle.std.specs.Prelude.{◌≡◌, ◌+◌, ◌*◌, ◌<◌, ◌≤◌, length, max};
-ghost use Rattle.pfs_base.specs.FlowShop.{IsWithin, time_of};
-ghost use Rattle.pfs_base.specs.Limits.{limits};
+//! Rows of heads and tails.
+ghost use Rattle.std.specs.Prelude.{◌≡◌, ◌≢◌, ℕ, ◌+◌, ◌*◌, ◌<◌, ◌≤◌, length, max, slice_index};
+ghost use Rattle.pfs_base.specs.FlowShop.{time_of};
 ghost use Rattle.pfs_base.specs.Paths.{makespan};
 ghost use Rattle.pfs_insert.specs.Insertion.{makespan_with};
 ghost use Rattle.pfs_order.specs.Sequence.{IsSequence};
-ghost use Rattle.pfs_c.specs.Validation.{shop_of};
-ghost use Rattle.pfs_c.specs.Private.Rows.{HeadsAt, TailsAt, TailsFrom};
+ghost use Rattle.pfs_c.specs.HeadsTails.{AreRowHeads, AreRowTails};
+ghost use Rattle.pfs_c.specs.Inserting.{AreInsertions};
+ghost use Rattle.pfs_c.specs.Private.Rows.{HeadsAt, TailsAt};
 
-use pfs_base::{LONGEST_TIME, MOST_MACHINES, SPAN_MAX};
+use pfs_base::{Instance, MOST_MACHINES, SPAN_MAX};
 
-/// The processing time of a job on a machine.
+// The processing times of a job, machine by machine.
 #[inline(always)]
-fn time_at(times: &[u32], jobs: usize, machines: usize, job: usize, machine: usize) -> u64
-    requires within { IsWithin limits (shop_of times.now jobs machines) }
-    requires job { job < jobs }
-    requires machine { machine < machines }
-    ensures value { result ≡ time_of (shop_of times.now jobs machines) job machine }
-    ensures short { result ≤ LONGEST_TIME }
+fn times_of(instance: &Instance, job: usize) -> &[u32]
+    requires { job < instance.now.shop.jobs }
+    ensures long { length result.now ≡ instance.now.shop.machines }
+    ensures each { (machine : ℕ) → machine < instance.now.shop.machines
+        → slice_index result.now machine ≡ time_of instance.now.shop job machine }
 {
-    u64::from(times[job * machines + machine])
+    let machines = instance.machines();
+    let first = job * machines;
+    &instance.times()[first..first + machines]
 }
 
 // The greater of two lengths. They are compared as signed numbers, since x86-64 selects by that order in one step
@@ -34,124 +35,184 @@ fn greater(a: u64, b: u64) -> u64
     if (a as i64) < (b as i64) { b } else { a }
 }
 
-/// Turns the row of heads before the job at a place of a sequence into the row after it.
+// Turns the row of heads before the job at a place of a sequence into the row after it.
 #[inline(always)]
-pub(crate) fn add_head(
-    times: &[u32],
-    jobs: usize,
-    machines: usize,
-    sequence: &[u32],
-    place: usize,
-    heads: &mut [u64],
-)
-    requires within { IsWithin limits (shop_of times.now jobs machines) }
-    requires sequence { IsSequence jobs sequence.now }
+fn add_head(instance: &Instance, sequence: &[u32], place: usize, heads: &mut [u64])
+    requires sequence { IsSequence instance.now.shop.jobs sequence.now }
     requires place { place < length sequence.now }
-    requires wide { machines ≤ length heads.old }
-    requires heads { HeadsAt (shop_of times.now jobs machines) sequence.now place heads.old }
-    ensures { HeadsAt (shop_of times.now jobs machines) sequence.now (place + 1) heads.new }
+    requires wide { instance.now.shop.machines ≤ length heads.old }
+    requires heads { HeadsAt instance.now.shop sequence.now place heads.old }
+    ensures { HeadsAt instance.now.shop sequence.now (place + 1) heads.new }
 {
-    let job = sequence[place] as usize;
+    let times = times_of(instance, sequence[place] as usize);
     let mut before = 0;
-    for machine in 0..machines {
-        before = greater(heads[machine], before) + time_at(times, jobs, machines, job, machine);
+    for machine in 0..instance.machines() {
+        before = greater(heads[machine], before) + u64::from(times[machine]);
         heads[machine] = before;
     }
 }
 
-/// Fills the row of tails of a place of a sequence, in a table that contains the rows of the places after it.
+// The same for two places. The cells of the second job wait for other cells than those of the first, so the processor
+// computes both at once.
 #[inline(always)]
-pub(crate) fn add_tail(
-    times: &[u32],
-    jobs: usize,
-    machines: usize,
-    sequence: &[u32],
-    place: usize,
-    tails: &mut [u64],
-)
-    requires within { IsWithin limits (shop_of times.now jobs machines) }
-    requires sequence { IsSequence jobs sequence.now }
-    requires place { place < length sequence.now }
-    requires long { length tails.old ≡ (length sequence.now + 1) * machines }
-    requires tails { TailsFrom (shop_of times.now jobs machines) sequence.now (place + 1) tails.old }
-    ensures { TailsFrom (shop_of times.now jobs machines) sequence.now place tails.new }
+fn add_two_heads(instance: &Instance, sequence: &[u32], place: usize, heads: &mut [u64])
+    requires sequence { IsSequence instance.now.shop.jobs sequence.now }
+    requires place { place + 1 < length sequence.now }
+    requires wide { instance.now.shop.machines ≤ length heads.old }
+    requires heads { HeadsAt instance.now.shop sequence.now place heads.old }
+    ensures { HeadsAt instance.now.shop sequence.now (place + 2) heads.new }
 {
-    let job = sequence[place] as usize;
-    let first = place * machines;
-    let mut after = 0;
-    for machine in (0..machines).rev() {
-        let below = tails[first + machines + machine];
-        after = greater(below, after) + time_at(times, jobs, machines, job, machine);
-        tails[first + machine] = after;
+    let times = times_of(instance, sequence[place] as usize);
+    let times_after = times_of(instance, sequence[place + 1] as usize);
+    let mut before = 0;
+    let mut before_after = 0;
+    for machine in 0..instance.machines() {
+        before = greater(heads[machine], before) + u64::from(times[machine]);
+        before_after = greater(before, before_after) + u64::from(times_after[machine]);
+        heads[machine] = before_after;
     }
 }
 
-/// Moves a row of tails back over the job at a place of a sequence.
-pub(crate) fn add_tail_row(
-    times: &[u32],
-    jobs: usize,
-    machines: usize,
-    sequence: &[u32],
-    place: usize,
-    row: &mut [u64],
-)
-    requires within { IsWithin limits (shop_of times.now jobs machines) }
-    requires sequence { IsSequence jobs sequence.now }
+// Moves a row of tails back over the job at a place of a sequence.
+#[inline(always)]
+fn add_tail(instance: &Instance, sequence: &[u32], place: usize, tails: &mut [u64])
+    requires sequence { IsSequence instance.now.shop.jobs sequence.now }
     requires place { place < length sequence.now }
-    requires wide { machines ≤ length row.old }
-    requires tails { TailsAt (shop_of times.now jobs machines) sequence.now (place + 1) row.old }
-    ensures { TailsAt (shop_of times.now jobs machines) sequence.now place row.new }
+    requires wide { instance.now.shop.machines ≤ length tails.old }
+    requires tails { TailsAt instance.now.shop sequence.now (place + 1) tails.old }
+    ensures { TailsAt instance.now.shop sequence.now place tails.new }
 {
-    let job = sequence[place] as usize;
+    let times = times_of(instance, sequence[place] as usize);
     let mut after = 0;
-    for machine in (0..machines).rev() {
-        after = row[machine].max(after) + time_at(times, jobs, machines, job, machine);
-        row[machine] = after;
+    for machine in (0..instance.machines()).rev() {
+        after = greater(tails[machine], after) + u64::from(times[machine]);
+        tails[machine] = after;
     }
 }
 
 /// The makespan of a sequence.
-pub(crate) fn span_of(times: &[u32], jobs: usize, machines: usize, sequence: &[u32]) -> u64
-    requires within { IsWithin limits (shop_of times.now jobs machines) }
-    requires sequence { IsSequence jobs sequence.now }
-    ensures { result ≡ makespan (shop_of times.now jobs machines) sequence.now }
+pub(crate) fn span_of(instance: &Instance, sequence: &[u32]) -> u64
+    requires { IsSequence instance.now.shop.jobs sequence.now }
+    ensures { result ≡ makespan instance.now.shop sequence.now }
 {
+    let machines = instance.machines();
     let mut heads = [0; MOST_MACHINES];
-    for place in 0..sequence.len() {
-        add_head(times, jobs, machines, sequence, place, &mut heads);
-    }
-    heads[machines - 1]
+    span_in(instance, sequence, &mut heads[..machines])
 }
 
-/// The makespan of a sequence with a job inserted at a place, from the heads of the jobs before it and the tails of
-/// those after it.
+// The makespan of a sequence, computed in a row of zeros.
 #[inline(always)]
-pub(crate) fn span_with(
-    times: &[u32],
-    jobs: usize,
-    machines: usize,
+fn span_in(instance: &Instance, sequence: &[u32], heads: &mut [u64]) -> u64
+    requires sequence { IsSequence instance.now.shop.jobs sequence.now }
+    requires wide { length heads.old ≡ instance.now.shop.machines }
+    requires heads { HeadsAt instance.now.shop sequence.now 0 heads.old }
+    ensures { result ≡ makespan instance.now.shop sequence.now }
+{
+    let len = sequence.len();
+    for pair in 0..len / 2 {
+        add_two_heads(instance, sequence, 2 * pair, heads);
+    }
+    if len % 2 == 1 {
+        add_head(instance, sequence, len - 1, heads);
+    }
+    heads[instance.machines() - 1]
+}
+
+// The makespan of a sequence with a job inserted at a place, from the heads of the jobs before it and the tails of
+// those after it.
+#[inline(always)]
+fn span_with(
+    instance: &Instance,
     sequence: &[u32],
     job: usize,
     place: usize,
     heads: &[u64],
     tails: &[u64],
 ) -> u64
-    requires within { IsWithin limits (shop_of times.now jobs machines) }
-    requires sequence { IsSequence jobs sequence.now }
-    requires job { job < jobs }
+    requires sequence { IsSequence instance.now.shop.jobs sequence.now }
+    requires job { job < instance.now.shop.jobs }
     requires place { place ≤ length sequence.now }
-    requires wide { machines ≤ length heads.now }
-    requires long { length tails.now ≡ (length sequence.now + 1) * machines }
-    requires heads { HeadsAt (shop_of times.now jobs machines) sequence.now place heads.now }
-    requires tails { TailsFrom (shop_of times.now jobs machines) sequence.now 0 tails.now }
-    ensures { result ≡ makespan_with (shop_of times.now jobs machines) sequence.now job place }
+    requires wide { instance.now.shop.machines ≤ length heads.now }
+    requires wide_tails { instance.now.shop.machines ≤ length tails.now }
+    requires heads { HeadsAt instance.now.shop sequence.now place heads.now }
+    requires tails { TailsAt instance.now.shop sequence.now place tails.now }
+    ensures { result ≡ makespan_with instance.now.shop sequence.now job place }
 {
-    let first = place * machines;
+    let times = times_of(instance, job);
     let mut before = 0;
     let mut most = 0;
-    for machine in 0..machines {
-        before = greater(heads[machine], before) + time_at(times, jobs, machines, job, machine);
-        most = greater(before + tails[first + machine], most);
+    for machine in 0..instance.machines() {
+        before = greater(heads[machine], before) + u64::from(times[machine]);
+        most = greater(before + tails[machine], most);
     }
     most
+}
+
+/// Fills the rows of heads from the first place to the last.
+pub(crate) fn fill_heads(instance: &Instance, sequence: &[u32], heads: &mut [u64])
+    requires sequence { IsSequence instance.now.shop.jobs sequence.now }
+    requires long { length sequence.now * instance.now.shop.machines ≤ length heads.old }
+    ensures { AreRowHeads instance.now.shop sequence.now heads.new }
+{
+    let machines = instance.machines();
+    let mut row = [0; MOST_MACHINES];
+    for place in 0..sequence.len() {
+        add_head(instance, sequence, place, &mut row);
+        copy_row(&row, machines, place, heads);
+    }
+}
+
+/// Fills the rows of tails from the last place to the first.
+pub(crate) fn fill_tails(instance: &Instance, sequence: &[u32], tails: &mut [u64])
+    requires sequence { IsSequence instance.now.shop.jobs sequence.now }
+    requires long { length sequence.now * instance.now.shop.machines ≤ length tails.old }
+    ensures { AreRowTails instance.now.shop sequence.now tails.new }
+{
+    let machines = instance.machines();
+    let mut row = [0; MOST_MACHINES];
+    for place in (0..sequence.len()).rev() {
+        add_tail(instance, sequence, place, &mut row);
+        copy_row(&row, machines, place, tails);
+    }
+}
+
+// Copies a row to its place in a table.
+fn copy_row(row: &[u64], machines: usize, place: usize, table: &mut [u64])
+    requires wide { machines ≤ length row.now }
+    requires long { (place + 1) * machines ≤ length table.old }
+    ensures row { (machine : ℕ) → machine < machines
+        → slice_index table.new (place * machines + machine) ≡ slice_index row.now machine }
+    ensures others { (other machine : ℕ) → other ≢ place → machine < machines
+        → slice_index table.new (other * machines + machine) ≡ slice_index table.old (other * machines + machine) }
+{
+    let first = place * machines;
+    for machine in 0..machines {
+        table[first + machine] = row[machine];
+    }
+}
+
+/// Writes the makespan with a job at each place of a sequence. The tails overwrite the front of `tails`.
+pub(crate) fn insertions_by_rows(
+    instance: &Instance,
+    tails: &mut [u64],
+    sequence: &[u32],
+    job: usize,
+    makespans: &mut [u64],
+)
+    requires sequence { IsSequence instance.now.shop.jobs sequence.now }
+    requires job { job < instance.now.shop.jobs }
+    requires room { length makespans.old ≡ length sequence.now + 1 }
+    requires long { length sequence.now * instance.now.shop.machines ≤ length tails.old }
+    ensures { AreInsertions instance.now.shop sequence.now job makespans.new }
+{
+    fill_tails(instance, sequence, tails);
+    let machines = instance.machines();
+    let mut heads = [0; MOST_MACHINES];
+    for place in 0..sequence.len() {
+        let after = &tails[place * machines..(place + 1) * machines];
+        makespans[place] = span_with(instance, sequence, job, place, &heads, after);
+        add_head(instance, sequence, place, &mut heads);
+    }
+    let (last, none) = (sequence.len(), [0; MOST_MACHINES]);
+    makespans[last] = span_with(instance, sequence, job, last, &heads, &none);
 }

@@ -2,13 +2,11 @@
 ghost use Rattle.std.specs.Prelude.{◌≡◌, ◌≢◌, ℕ, ◌+◌, ◌*◌, ◌<◌, ◌≤◌, length, IfOk, IfErr, IfSome};
 ghost use Rattle.std.specs.declared.option.Option.TheVariants.{None};
 ghost use Rattle.pfs_audit.specs.Bound.{bound_of};
-ghost use Rattle.pfs_base.specs.FlowShop.{IsWithin};
-ghost use Rattle.pfs_base.specs.Limits.{limits};
 ghost use Rattle.pfs_base.specs.Paths.{makespan};
 ghost use Rattle.pfs_order.specs.Sequence.{IsSequence};
 ghost use Rattle.pfs_c.specs.Many.{AreMakespans, makespans_fault, sequence_at, sequences_fault};
 ghost use Rattle.pfs_c.specs.Numbers.{number_returned};
-ghost use Rattle.pfs_c.specs.Validation.{jobs_fault, on_shop, shop_of};
+ghost use Rattle.pfs_c.specs.Validation.{jobs_fault, on_shop};
 ghost use Rattle.pfs_c.specs.Private.Outcomes.{Validates};
 
 use crate::given::{validate_jobs, validate_product};
@@ -47,9 +45,8 @@ fn makespan_in(instance: &Instance, sequence: &[u32], span: &mut u64) -> Result<
     ensures done { IfOk result (λ _. span.new ≡ makespan instance.now.shop sequence.now) }
     ensures kept { IfErr result (λ _. span.new ≡ span.old) }
 {
-    let (times, jobs, machines) = (instance.times(), instance.jobs(), instance.machines());
-    validate_jobs(jobs, sequence)?;
-    *span = span_of(times, jobs, machines, sequence);
+    validate_jobs(instance.jobs(), sequence)?;
+    *span = span_of(instance, sequence);
     Ok(())
 }
 
@@ -108,10 +105,9 @@ fn makespans_in(
     ensures done { IfOk result (λ _. AreMakespans instance.now.shop sequences.now long makespans.new) }
     ensures kept { IfErr result (λ _. makespans.new ≡ makespans.old) }
 {
-    let (times, jobs, machines) = (instance.times(), instance.jobs(), instance.machines());
     validate_product(sequences.len(), makespans.len(), long)?;
-    validate_sequences(jobs, sequences, long, makespans.len())?;
-    fill_makespans(times, jobs, machines, sequences, long, makespans);
+    validate_sequences(instance.jobs(), sequences, long, makespans.len())?;
+    fill_makespans(instance, sequences, long, makespans);
     Ok(())
 }
 
@@ -136,22 +132,14 @@ fn validate_sequences(
 }
 
 // Writes the makespan of each sequence.
-fn fill_makespans(
-    times: &[u32],
-    jobs: usize,
-    machines: usize,
-    sequences: &[u32],
-    long: usize,
-    makespans: &mut [u64],
-)
-    requires within { IsWithin limits (shop_of times.now jobs machines) }
+fn fill_makespans(instance: &Instance, sequences: &[u32], long: usize, makespans: &mut [u64])
     requires room { length sequences.now ≡ length makespans.old * long }
     requires each { (index : ℕ) → index < length makespans.old
-        → IsSequence jobs (sequence_at long sequences.now index) }
-    ensures { AreMakespans (shop_of times.now jobs machines) sequences.now long makespans.new }
+        → IsSequence instance.now.shop.jobs (sequence_at long sequences.now index) }
+    ensures { AreMakespans instance.now.shop sequences.now long makespans.new }
 {
     for index in 0..makespans.len() {
         let first = index * long;
-        makespans[index] = span_of(times, jobs, machines, &sequences[first..first + long]);
+        makespans[index] = span_of(instance, &sequences[first..first + long]);
     }
 }

@@ -1,7 +1,8 @@
 //! All memory of an instance's searches.
-ghost use Rattle.std.specs.Prelude.{◌≡◌, ◌<◌, length, Contains, IfOk, IfErr};
+ghost use Rattle.std.specs.Prelude.{◌≡◌, ℕ, ◌+◌, ◌<◌, ◌≤◌, length, slice_index, Contains, IfOk, IfErr, IsTrue};
 ghost use Rattle.pfs_base.specs.Paths.{makespan};
 ghost use Rattle.pfs_insert.specs.Inserter.{IsBestPlace};
+ghost use Rattle.pfs_insert.specs.Insertion.{makespan_with};
 ghost use Rattle.pfs_order.specs.Sequence.{IsSequence};
 ghost use Rattle.pfs_wave.specs.Served.{IsServed};
 ghost use Rattle.pfs_search.specs.Search.{IsSearchOf, MayContinue};
@@ -130,9 +131,36 @@ impl Search {
         ensures still { ⟦<Search as OfShop>⟧.is_of self.new instance.now.shop }
     {
         match &mut self.method {
-            Method::Lanes(Some(tables), _) => tables.best(instance, seq, job),
+            Method::Lanes(Some(tables), _) => tables.best(instance, seq, job, &mut []),
             Method::Lanes(None, _) => unreachable!(),
             Method::Rows(searcher) => best_by_rows(alloc, instance, searcher, seq, job),
+        }
+    }
+
+    /// Writes the makespan with a job at each place of a sequence, if best places are found along anti-diagonals, and
+    /// returns whether they are.
+    pub fn insertions(
+        &mut self,
+        instance: &Instance,
+        seq: &Seq,
+        job: usize,
+        spans: &mut [u64],
+    ) -> bool
+        requires own { ⟦<Search as OfShop>⟧.is_of self.old instance.now.shop }
+        requires size { seq.now.size ≡ instance.now.shop.jobs }
+        requires job { job < seq.now.size }
+        requires absent { Contains seq.now.jobs job → ⊥ }
+        requires room { length spans.old ≡ length seq.now.jobs + 1 }
+        ensures spans { IsTrue result → (place : ℕ) → place ≤ length seq.now.jobs
+            → slice_index spans.new place ≡ makespan_with instance.now.shop seq.now.jobs job place }
+        ensures still { ⟦<Search as OfShop>⟧.is_of self.new instance.now.shop }
+    {
+        match &mut self.method {
+            Method::Lanes(Some(tables), _) => {
+                let _best = tables.best(instance, seq, job, spans);
+                true
+            }
+            _ => false,
         }
     }
 }

@@ -89,6 +89,10 @@ pub trait Band: Copy + Drop {
     fn nothing() -> Self::Number
         ensures { number result ≡ 0 };
 
+    /// The same number with 64 bits.
+    fn wide(n: Self::Number) -> u64
+        ensures { result ≡ number n };
+
     /// The first place of the least sum.
     fn first_least(sums: &[Self::Number]) -> Found
         requires some { 1 ≤ length sums.now }

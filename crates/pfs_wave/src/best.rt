@@ -1,11 +1,13 @@
 //! The passes of an insertion, and the best place.
 ghost use Rattle.std.specs.Prelude.{◌≡◌, ℕ, ◌+◌, ◌-◌, ◌*◌, ◌<◌, ◌≤◌, ◌^◌, List, length, map};
+ghost use Rattle.std.specs.List.{slice_index_or};
 ghost use Rattle.pfs_base.specs.FlowShop.{FlowShop, time_of};
 ghost use Rattle.pfs_insert.specs.Inserter.{IsBestPlace};
 ghost use Rattle.pfs_insert.specs.Insertion.{makespan_with};
 ghost use Rattle.pfs_wave.specs.Private.Blocks.{AreTimes, IsRow, vectors_of};
 ghost use Rattle.pfs_wave.specs.Private.Padded.{on_machine, padded_time};
 ghost use Rattle.pfs_wave.specs.Private.Payment.{IsPaid};
+ghost use Rattle.pfs_wave.specs.Wavefront.{capped};
 
 use crate::band::Band;
 use crate::permits::Permits;
@@ -15,7 +17,7 @@ use pfs_base::Paid;
 use pfs_insert::Placed;
 
 /// The best place of a job in a sequence, and the makespan with the job there, from the skewed times of the sequence.
-/// There are as many steps more than jobs as `lanes` have machines.
+/// There are as many steps more than jobs as `lanes` have machines. `sums` gets the makespans from index 7 on.
 #[inline(always)]
 pub fn best_place<V: Band, const N: usize>(
     permits: Permits,
@@ -45,18 +47,35 @@ pub fn best_place<V: Band, const N: usize>(
         → IsRow N (on_machine shop (time_of shop inserted)) (vectors_of (map V.lanes job.now))
         → (other : ℕ) → other ≤ length jobs → makespan_with shop jobs inserted other < V.CAP
         → IsBestPlace shop jobs inserted result.place result.span }
+    ensures spans { (shop : FlowShop) (jobs : List ℕ) (inserted : ℕ) → 1 ≤ shop.machines → shop.machines ≤ lanes * N
+        → length jobs + lanes ≡ steps → IsPaid permits.tails permits.sums (length jobs) shop.machines
+        → AreTimes N steps (padded_time shop jobs) (map V.lanes times.now)
+        → IsRow N (on_machine shop (time_of shop inserted)) (vectors_of (map V.lanes job.now))
+        → (place : ℕ) → place ≤ length jobs → slice_index_or (map V.number sums.new) (7 + place) 0
+        ≡ capped V.CAP (makespan_with shop jobs inserted place) }
 {
     let Permits {
         tails: for_tails,
         sums: for_sums,
     } = permits;
     let tails = &mut tails[..steps * N + N];
-    let sums = &mut sums[..steps + 7];
     fill_tails::<V, N>(for_tails, steps, times, tails);
-    let paid = fill_sums::<V, N>(for_sums, steps, times, tails, job, sums);
+    let paid = fill_sums::<V, N>(for_sums, steps, times, tails, job, &mut sums[..steps + 7]);
     let found = V::first_least(&sums[7..steps + 8 - lanes]);
     Placed {
         place: found.place,
         span: paid.with(u64::from(found.sum)),
+    }
+}
+
+/// Copies the first sums.
+#[inline(always)]
+pub fn copy_sums<V: Band>(sums: &[V::Number], spans: &mut [u64])
+    requires { length spans.old ≤ length sums.now }
+    ensures { (place : ℕ) → place < length spans.old
+        → slice_index_or spans.new place 0 ≡ slice_index_or (map V.number sums.now) place 0 }
+{
+    for place in 0..spans.len() {
+        spans[place] = V::wide(sums[place]);
     }
 }

@@ -1,14 +1,15 @@
 //! Insertions into sequences of an instance, in lanes of one size.
 ghost use Rattle.std.specs.Prelude.{◌≡◌, ℕ, ◌+◌, ◌*◌, ◌<◌, ◌≤◌, ◌^◌, length, IfOk};
-ghost use Rattle.std.specs.List.{All};
+ghost use Rattle.std.specs.List.{All, slice_index_or};
 ghost use Rattle.pfs_base.specs.FlowShop.{FlowShop};
 ghost use Rattle.pfs_insert.specs.Inserter.{IsBestPlace};
 ghost use Rattle.pfs_insert.specs.Insertion.{makespan_with};
 ghost use Rattle.pfs_wave.specs.Private.Blocks.{HasShop, vectors_in};
 ghost use Rattle.pfs_wave.specs.Private.Payment.{IsPaid};
+ghost use Rattle.pfs_wave.specs.Wavefront.{capped};
 
 use crate::band::Band;
-use crate::best::best_place;
+use crate::best::{best_place, copy_sums};
 use crate::hold::hold;
 use crate::permits::Permits;
 use crate::rows::{shop_rows, zero_vectors};
@@ -111,27 +112,39 @@ impl<V: Band> Blocks<V> {
     }
 
     /// The best place for a job in a sequence, and the makespan with the job there. It is the best place where the
-    /// makespan with the job at some place is below the greatest value of a lane.
+    /// makespan with the job at some place is below the greatest value of a lane. `spans` gets the makespans with the
+    /// job at the first places, as many as it has room for, up to that value.
     #[inline(never)]
-    pub fn best(&mut self, permits: Permits, sequence: &[usize], job: usize) -> Placed<Paid>
+    pub fn best(
+        &mut self,
+        permits: Permits,
+        sequence: &[usize],
+        job: usize,
+        spans: &mut [u64],
+    ) -> Placed<Paid>
         requires jobs { All (λ other. other < self.old.jobs) sequence.now }
         requires few { length sequence.now ≤ self.old.jobs }
         requires job { job < self.old.jobs }
+        requires room { length spans.old ≤ length sequence.now + 1 }
         ensures within { result.place ≤ length sequence.now }
         ensures best { (shop : FlowShop) → HasShop shop self.old
             → IsPaid permits.tails permits.sums (length sequence.now) shop.machines
             → (other : ℕ) → other ≤ length sequence.now → makespan_with shop sequence.now job other < V.CAP
             → IsBestPlace shop sequence.now job result.place result.span }
+        ensures spans { (shop : FlowShop) → HasShop shop self.old
+            → IsPaid permits.tails permits.sums (length sequence.now) shop.machines
+            → (place : ℕ) → place < length spans.old → slice_index_or spans.new place 0
+            ≡ capped V.CAP (makespan_with shop sequence.now job place) }
         ensures same { self.new ≡ self.old }
     {
         match self.width {
-            Width::One => self.best_in::<1>(permits, sequence, job),
-            Width::Two => self.best_in::<2>(permits, sequence, job),
-            Width::Three => self.best_in::<3>(permits, sequence, job),
-            Width::Five => self.best_in::<5>(permits, sequence, job),
-            Width::Eight => self.best_in::<8>(permits, sequence, job),
-            Width::Thirteen => self.best_in::<13>(permits, sequence, job),
-            Width::TwentySix => self.best_in::<26>(permits, sequence, job),
+            Width::One => self.best_in::<1>(permits, sequence, job, spans),
+            Width::Two => self.best_in::<2>(permits, sequence, job, spans),
+            Width::Three => self.best_in::<3>(permits, sequence, job, spans),
+            Width::Five => self.best_in::<5>(permits, sequence, job, spans),
+            Width::Eight => self.best_in::<8>(permits, sequence, job, spans),
+            Width::Thirteen => self.best_in::<13>(permits, sequence, job, spans),
+            Width::TwentySix => self.best_in::<26>(permits, sequence, job, spans),
         }
     }
 
@@ -142,6 +155,7 @@ impl<V: Band> Blocks<V> {
         permits: Permits,
         sequence: &[usize],
         job: usize,
+        spans: &mut [u64],
     ) -> Placed<Paid>
         requires count { self.old.count ≡ N }
         requires some { 1 ≤ N }
@@ -149,11 +163,16 @@ impl<V: Band> Blocks<V> {
         requires jobs { All (λ other. other < self.old.jobs) sequence.now }
         requires few { length sequence.now ≤ self.old.jobs }
         requires job { job < self.old.jobs }
+        requires room { length spans.old ≤ length sequence.now + 1 }
         ensures within { result.place ≤ length sequence.now }
         ensures best { (shop : FlowShop) → HasShop shop self.old
             → IsPaid permits.tails permits.sums (length sequence.now) shop.machines
             → (other : ℕ) → other ≤ length sequence.now → makespan_with shop sequence.now job other < V.CAP
             → IsBestPlace shop sequence.now job result.place result.span }
+        ensures spans { (shop : FlowShop) → HasShop shop self.old
+            → IsPaid permits.tails permits.sums (length sequence.now) shop.machines
+            → (place : ℕ) → place < length spans.old → slice_index_or spans.new place 0
+            ≡ capped V.CAP (makespan_with shop sequence.now job place) }
         ensures same { self.new ≡ self.old }
     {
         hold::<V, N>(
@@ -166,7 +185,7 @@ impl<V: Band> Blocks<V> {
         );
         self.len = sequence.len();
         let steps = sequence.len() + self.lanes;
-        best_place::<V, N>(
+        let best = best_place::<V, N>(
             permits,
             self.lanes,
             steps,
@@ -174,6 +193,8 @@ impl<V: Band> Blocks<V> {
             &self.rows[job * N..job * N + N],
             &mut self.tails,
             &mut self.sums,
-        )
+        );
+        copy_sums::<V>(&self.sums[7..], spans);
+        best
     }
 }

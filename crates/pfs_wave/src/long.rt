@@ -119,6 +119,11 @@ impl Band for Long {
     }
 
     #[inline(always)]
+    fn wide(n: u32) -> u64 {
+        u64::from(n)
+    }
+
+    #[inline(always)]
     fn first_least(sums: &[u32]) -> Found {
         first_least_long(sums)
     }

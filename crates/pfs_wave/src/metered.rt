@@ -76,7 +76,7 @@ impl<'a> MeteredLanes<'a> {
         if let Some(narrow) = &mut self.narrow {
             return narrow.best_or_wide(permits, &mut self.wave, self.instance, seq, job);
         }
-        self.wave.best(permits, seq.as_slice(), job)
+        self.wave.best(permits, seq.as_slice(), job, &mut [])
     }
 
     /// The best place for a job that is not in the sequence, and the makespan with the job there. It counts the cells

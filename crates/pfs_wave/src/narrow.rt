@@ -138,9 +138,9 @@ impl Narrow {
     {
         let jobs = seq.as_slice();
         let best = if self.fits(instance, seq, job) {
-            self.blocks.best(permits, jobs, job)
+            self.blocks.best(permits, jobs, job, &mut [])
         } else {
-            wide.best(permits, jobs, job)
+            wide.best(permits, jobs, job, &mut [])
         };
         self.keep(
             seq,

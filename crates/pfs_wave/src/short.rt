@@ -136,6 +136,11 @@ impl Band for Short {
     }
 
     #[inline(always)]
+    fn wide(n: u16) -> u64 {
+        u64::from(n)
+    }
+
+    #[inline(always)]
     fn first_least(sums: &[u16]) -> Found {
         first_least(sums)
     }

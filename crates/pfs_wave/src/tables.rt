@@ -1,6 +1,8 @@
 //! The tables of an instance's insertions in lanes.
-ghost use Rattle.std.specs.Prelude.{◌≡◌, ◌<◌, length, Contains, IfOk};
+ghost use Rattle.std.specs.Prelude.{◌≡◌, ℕ, ◌+◌, ◌<◌, ◌≤◌, length, Contains, IfOk};
+ghost use Rattle.std.specs.List.{slice_index_or};
 ghost use Rattle.pfs_insert.specs.Inserter.{IsBestPlace};
+ghost use Rattle.pfs_insert.specs.Insertion.{makespan_with};
 ghost use Rattle.pfs_wave.specs.Served.{IsServed};
 ghost use Rattle.pfs_wave.specs.Tables.{HasLanes};
 
@@ -36,17 +38,27 @@ impl LaneTables {
         Ok(LaneTables { wave, narrow })
     }
 
-    /// The best place for a job that is not in the sequence, and the makespan with the job there. It allocates nothing.
-    pub fn best(&mut self, instance: &Instance, seq: &Seq, job: usize) -> Placed<u64>
+    /// The best place for a job that is not in the sequence, and the makespan with the job there. `spans` gets the
+    /// makespans with the job at the first places, as many as it has room for. It allocates nothing.
+    pub fn best(
+        &mut self,
+        instance: &Instance,
+        seq: &Seq,
+        job: usize,
+        spans: &mut [u64],
+    ) -> Placed<u64>
         requires own { ⟦<LaneTables as OfShop>⟧.is_of self.old instance.now.shop }
         requires size { seq.now.size ≡ instance.now.shop.jobs }
         requires job { job < seq.now.size }
         requires absent { Contains seq.now.jobs job → ⊥ }
+        requires room { length spans.old ≤ length seq.now.jobs + 1 }
         ensures best { IsBestPlace instance.now.shop seq.now.jobs job result.place result.span }
+        ensures spans { (place : ℕ) → place < length spans.old
+            → slice_index_or spans.new place 0 ≡ makespan_with instance.now.shop seq.now.jobs job place }
         ensures same { self.new ≡ self.old }
     {
         let permits = Permits::count(&mut instance.metered(), seq.len());
-        let best = self.wave.best(permits, seq.as_slice(), job);
+        let best = self.wave.best(permits, seq.as_slice(), job, spans);
         Placed {
             place: best.place,
             span: best.span.number(),

@@ -1,8 +1,9 @@
 //! Insertions into sequences of an instance, in lanes of 16 or 32 bits.
-ghost use Rattle.std.specs.Prelude.{◌≡◌, ◌<◌, ◌≤◌, length, IfOk};
-ghost use Rattle.std.specs.List.{All};
+ghost use Rattle.std.specs.Prelude.{◌≡◌, ℕ, ◌+◌, ◌<◌, ◌≤◌, length, IfOk};
+ghost use Rattle.std.specs.List.{All, slice_index_or};
 ghost use Rattle.pfs_base.specs.FlowShop.{FlowShop};
 ghost use Rattle.pfs_insert.specs.Inserter.{IsBestPlace};
+ghost use Rattle.pfs_insert.specs.Insertion.{makespan_with};
 ghost use Rattle.pfs_wave.specs.Private.Payment.{IsPaid};
 ghost use Rattle.pfs_wave.specs.Private.Waves.{Serves, blocks_of};
 ghost use Rattle.pfs_wave.specs.Served.{IsServed};
@@ -37,21 +38,32 @@ impl Wave {
     }
 
     /// The best place for a job in a sequence of fewer than all jobs, and the makespan with the job there. It allocates
-    /// nothing.
+    /// nothing. `spans` gets the makespans with the job at the first places, as many as it has room for.
     #[inline(always)]
-    pub fn best(&mut self, permits: Permits, sequence: &[usize], job: usize) -> Placed<Paid>
+    pub fn best(
+        &mut self,
+        permits: Permits,
+        sequence: &[usize],
+        job: usize,
+        spans: &mut [u64],
+    ) -> Placed<Paid>
         requires jobs { All (λ other. other < (blocks_of self.old).jobs) sequence.now }
         requires few { length sequence.now < (blocks_of self.old).jobs }
         requires job { job < (blocks_of self.old).jobs }
+        requires room { length spans.old ≤ length sequence.now + 1 }
         ensures within { result.place ≤ length sequence.now }
         ensures best { (shop : FlowShop) → Serves shop self.old
             → IsPaid permits.tails permits.sums (length sequence.now) shop.machines
             → IsBestPlace shop sequence.now job result.place result.span }
+        ensures spans { (shop : FlowShop) → Serves shop self.old
+            → IsPaid permits.tails permits.sums (length sequence.now) shop.machines
+            → (place : ℕ) → place < length spans.old
+            → slice_index_or spans.new place 0 ≡ makespan_with shop sequence.now job place }
         ensures same { self.new ≡ self.old }
     {
         match self {
-            Wave::Short(blocks) => blocks.best(permits, sequence, job),
-            Wave::Long(blocks) => blocks.best(permits, sequence, job),
+            Wave::Short(blocks) => blocks.best(permits, sequence, job, spans),
+            Wave::Long(blocks) => blocks.best(permits, sequence, job, spans),
         }
     }
 }

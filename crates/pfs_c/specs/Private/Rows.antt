@@ -18,11 +18,6 @@ abbrev pub TailsAt : FlowShop → List ℕ → ℕ → List ℕ → Type 0
 TailsAt shop jobs place row = (machine : ℕ) → machine < shop.machines
     → slice_index row machine ≡ heaviest_back shop jobs place machine
 
--- a table contains, row by row, the tails of the places of the sequence from `from` on, and zeros after the last place
-abbrev pub TailsFrom : FlowShop → List ℕ → ℕ → List ℕ → Type 0
-TailsFrom shop jobs from table = (place machine : ℕ) → from ≤ place → place ≤ length jobs → machine < shop.machines
-    → slice_index table (place * shop.machines + machine) ≡ heaviest_back shop jobs place machine
-
 -- the first `count` rows of a table have the heads of their places
 abbrev pub HeadsTable : FlowShop → List ℕ → ℕ → List ℕ → Type 0
 HeadsTable shop jobs count table = (place machine : ℕ) → place < count → machine < shop.machines

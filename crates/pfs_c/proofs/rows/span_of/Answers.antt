@@ -1,9 +1,11 @@
+use Rattle.std.proofs.Common.{replicate, ◌∙◌, arith}
+use Rattle.std.proofs.lemmas.List.{get_or-take}
 use Rattle.pfs_base.specs.declared.limits.TheConstants.{MOST_MACHINES}
-use Rattle.pfs_c.specs.Validation.{shop_of}
 use Rattle.pfs_c.proofs.RowSteps.{heads_none}
 use Rattle.pfs_c.proofs.rows.span_of.Goals as goal
 
-pub loop-place-init : goal.loop-place-init
-loop-place-init c =
-    heads_none (shop_of c.args.times.now c.args.jobs c.args.machines) c.args.sequence.now MOST_MACHINES
-    c.requires.within.sizes.few_machines
+pub span_in-requires-clause-heads : goal.span_in-requires-clause-heads
+span_in-requires-clause-heads c machine lt =
+    let machines = c.machines-machines.ensures in
+    get_or-take c.machines-machines.result (replicate MOST_MACHINES 0) machine 0 (omega arith)
+    ∙ heads_none c.args.instance.now.shop c.args.sequence.now MOST_MACHINES machines.within.sizes.few_machines machine lt

@@ -1,18 +1,30 @@
-use Rattle.std.proofs.Common.{suc, ◌≡◌, ◌+◌, ◌-◌, ◌*◌, ◌≤◌, length, map, take, drop, get_or, ap, ◌∙◌}
+use Rattle.std.proofs.Common.{ℕ, suc, ◌≡◌, ◌+◌, ◌-◌, ◌*◌, ◌≤◌, List, ◌++◌, length, map, take, drop, get_or, ap, ◌∙◌}
 use Rattle.std.proofs.Common.{arith, inl, inr}
 use Rattle.std.proofs.Math.Nat.{mul-le-mul_right}
 use Rattle.std.proofs.lemmas.Bool.{cases_lt}
-use Rattle.std.proofs.lemmas.List.{length-drop, length-take-le}
-use Rattle.pfs_base.specs.FlowShop.{time_of}
+use Rattle.std.proofs.Math.ListN.{get_or-append}
+use Rattle.std.proofs.lemmas.List.{length-append, length-drop, length-map, length-take-le, map-append}
+use Rattle.pfs_base.specs.FlowShop.{FlowShop, time_of}
+use Rattle.pfs_insert.specs.Insertion.{makespan_with}
+use Rattle.pfs_wave.specs.Wavefront.{capped}
+use Rattle.pfs_wave.specs.Private.Blocks.{AreTimes, IsRow, vectors_of}
 use Rattle.pfs_wave.specs.Private.Padded.{on_machine, padded_time}
-use Rattle.pfs_wave.specs.Private.Payment.{AreTimesOf, IsNoneFrom}
+use Rattle.pfs_wave.specs.Private.Payment.{AreTimesOf, IsNoneFrom, IsPaid}
 use Rattle.pfs_wave.proofs.BestFound.{found, number_of_part}
 use Rattle.pfs_wave.proofs.CappedCells.{capped_cells, capped_tables, capped_tails, no_tail, whole_sum, tail_cell}
 use Rattle.pfs_wave.proofs.PaddedTables.{on_padding, time_none, time_on_padding}
+use Rattle.pfs_wave.proofs.best.best_place.Given as given
 use Rattle.pfs_wave.proofs.best.best_place.Goals as goal
 
-pub returns-clause-best : goal.returns-clause-best
-returns-clause-best g c shop jobs inserted some few all paid times_are job_is other among short =
+-- the sum of each place
+sums_are : (g : given.Over) (c : goal.After-with g) (shop : FlowShop) (jobs : List ℕ) (inserted : ℕ)
+    → 1 ≤ shop.machines → shop.machines ≤ c.args.lanes * g.row.N → length jobs + c.args.lanes ≡ c.args.steps
+    → IsPaid c.args.permits.tails c.args.permits.sums (length jobs) shop.machines
+    → AreTimes g.row.N c.args.steps (padded_time shop jobs) (map g.V.Band.lanes c.args.times.now)
+    → IsRow g.row.N (on_machine shop (time_of shop inserted)) (vectors_of (map g.V.Band.lanes c.args.job.now))
+    → (place : ℕ) → place ≤ length jobs → get_or (map g.V.Band.number c.fill_sums-paid.new.sums) (7 + place) 0
+    ≡ capped g.V.Band.CAP (makespan_with shop jobs inserted place)
+sums_are g c shop jobs inserted some few all paid times_are job_is place le =
     let cap = g.V.Band.CAP in
     let number = g.V.Band.number in
     let count = g.row.N in
@@ -22,13 +34,6 @@ returns-clause-best g c shop jobs inserted some few all paid times_are job_is ot
     let eight = c.requires.eight in
     let enough : lanes * count ≤ 8 * count = mul-le-mul_right count eight in
     let few_machines : shop.machines ≤ 8 * count = omega arith in
-    let summed = c.fill_sums-paid.new.sums in
-    let part = drop 7 summed in
-    let n = steps + 8 - lanes - 7 in
-    let long : length summed ≡ steps + 7 =
-    c.fill_sums-paid.ensures.length ∙ length-take-le (steps + 7) c.args.sums.now c.requires.sums in
-    let count_is : length (take n part) ≡ length jobs + 1 =
-    length-take-le n part (omega (arith, length-drop 7 summed)) ∙ omega arith in
     let of : AreTimesOf (length jobs) shop.machines (padded_time shop jobs) = record {
       machines_are = λ row at past. time_on_padding shop jobs row at past;
       rows_are = λ machine at past. time_none shop jobs at machine past;
@@ -41,11 +46,8 @@ returns-clause-best g c shop jobs inserted some few all paid times_are job_is ot
     paid.tails_are of
     (capped_tails cap shop jobs count few_machines)
     (λ row lane k lt k_lt here. no_tail cap shop jobs count lanes steps row lane k few all here) times_are.cells_are in
-    rw (c.with.ensures, c.from.ensures) (found shop jobs inserted (map number (take n part)) cap
-    (λ place lt.
     let at : 7 + place ≡ place + 7 = omega arith in
-    number_of_part number summed 7 n place (omega arith) ∙ ap (λ i. get_or (map number summed) i 0) at
-    ∙ elim (cases_lt (place + 7) steps) [
+    ap (λ i. get_or (map number c.fill_sums-paid.new.sums) i 0) at ∙ elim (cases_lt (place + 7) steps) [
       | inl early ↦
           c.fill_sums-paid.ensures.sums (capped_cells cap shop jobs some inserted) (length jobs) shop.machines
           paid.sums_are of job_of tables times_are backs job_is
@@ -58,5 +60,48 @@ returns-clause-best g c shop jobs inserted some few all paid times_are job_is ot
           paid.sums_are of job_of tables times_are backs job_is
           place lane (omega arith) (omega arith) (omega arith)
           ∙ whole_sum cap shop jobs some inserted place (suc lane * count) (omega arith) (omega arith) (omega arith)
-    ])
+    ]
+
+-- the same in the whole list
+all_sums_are : (g : given.Over) (c : goal.After-with g) (shop : FlowShop) (jobs : List ℕ) (inserted : ℕ)
+    → 1 ≤ shop.machines → shop.machines ≤ c.args.lanes * g.row.N → length jobs + c.args.lanes ≡ c.args.steps
+    → IsPaid c.args.permits.tails c.args.permits.sums (length jobs) shop.machines
+    → AreTimes g.row.N c.args.steps (padded_time shop jobs) (map g.V.Band.lanes c.args.times.now)
+    → IsRow g.row.N (on_machine shop (time_of shop inserted)) (vectors_of (map g.V.Band.lanes c.args.job.now))
+    → (place : ℕ) → place ≤ length jobs
+    → get_or (map g.V.Band.number (c.fill_sums-paid.new.sums ++ drop (c.args.steps + 7) c.args.sums.now)) (7 + place) 0
+    ≡ capped g.V.Band.CAP (makespan_with shop jobs inserted place)
+all_sums_are g c shop jobs inserted some few all paid times_are job_is place le =
+    let number = g.V.Band.number in
+    let summed = c.fill_sums-paid.new.sums in
+    let rest = drop (c.args.steps + 7) c.args.sums.now in
+    let lanes = c.requires.some_lanes in
+    let long : length summed ≡ c.args.steps + 7 =
+    c.fill_sums-paid.ensures.length ∙ length-take-le (c.args.steps + 7) c.args.sums.now c.requires.sums in
+    ap (λ l. get_or l (7 + place) 0) (map-append number summed rest)
+    ∙ get_or-append (map number summed) (map number rest) 0 (7 + place)
+    (omega (arith, length-map summed number, long, all, le))
+    ∙ sums_are g c shop jobs inserted some few all paid times_are job_is place le
+
+pub returns-clause-spans : goal.returns-clause-spans
+returns-clause-spans g c shop jobs inserted some few all paid times_are job_is place le =
+    all_sums_are g c shop jobs inserted some few all paid times_are job_is place le
+
+pub returns-clause-best : goal.returns-clause-best
+returns-clause-best g c shop jobs inserted some few all paid times_are job_is other among short =
+    let number = g.V.Band.number in
+    let steps = c.args.steps in
+    let summed = c.fill_sums-paid.new.sums in
+    let rest = drop (steps + 7) c.args.sums.now in
+    let part = drop 7 (summed ++ rest) in
+    let n = steps + 8 - c.args.lanes - 7 in
+    let some_lanes = c.requires.some_lanes in
+    let long : length summed ≡ steps + 7 =
+    c.fill_sums-paid.ensures.length ∙ length-take-le (steps + 7) c.args.sums.now c.requires.sums in
+    let count_is : length (take n part) ≡ length jobs + 1 =
+    length-take-le n part (omega (arith, length-drop 7 (summed ++ rest), length-append summed rest, long)) ∙ omega arith in
+    rw (c.with.ensures, c.from.ensures) (found shop jobs inserted (map number (take n part)) g.V.Band.CAP
+    (λ place lt.
+    number_of_part number (summed ++ rest) 7 n place (omega arith)
+    ∙ all_sums_are g c shop jobs inserted some few all paid times_are job_is place (omega arith))
     c.first_least-found.ensures count_is other among short)

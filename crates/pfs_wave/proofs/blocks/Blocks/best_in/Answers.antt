@@ -3,6 +3,7 @@ use Rattle.std.proofs.lemmas.List.{take_at}
 use Rattle.pfs_base.specs.FlowShop.{time_of}
 use Rattle.pfs_wave.specs.Private.Blocks.{AreTimes, IsRow, vectors_in, vectors_of}
 use Rattle.pfs_wave.specs.Private.Padded.{on_machine, padded_time}
+use Rattle.pfs_wave.proofs.BestFound.{number_of_part}
 use Rattle.pfs_wave.proofs.HeldLemmas.{holding_times, times_taken}
 use Rattle.pfs_wave.proofs.StepTables.{part_read}
 use Rattle.pfs_wave.proofs.blocks.Blocks.best_in.Goals as goal
@@ -14,14 +15,14 @@ invariant_of-self g c =
     let count : vectors_in inside.width ≡ g.row.N = ap (λ b. b.count) c.self.view_is ∙ c.requires.count in
     let order = c.hold.new.order in
     let times = c.hold.new.times in
-    let tails = c.best_place.new.tails in
-    let sums = c.best_place.new.sums in
+    let tails = c.best_place-best.new.tails in
+    let sums = c.best_place-best.new.sums in
     let order_long : length order ≡ inside.order.len = omega (arith, c.hold.ensures.order, c.deref_mut.ensures.len) in
     let times_long : length times ≡ inside.times.len = omega (arith, c.hold.ensures.times, c.deref_mut-2.ensures.len) in
     let tails_long : length tails ≡ inside.tails.len =
-    omega (arith, c.best_place.ensures.tails, c.deref_mut-3.ensures.len) in
+    omega (arith, c.best_place-best.ensures.tails, c.deref_mut-3.ensures.len) in
     let sums_long : length sums ≡ inside.sums.len =
-    omega (arith, c.best_place.ensures.sums, c.deref_mut-4.ensures.len) in
+    omega (arith, c.best_place-best.ensures.sums, c.deref_mut-4.ensures.len) in
     let holds = rw (c.deref.ensures.value) at c.hold.ensures.holds in
     record {
       some = was.some;
@@ -35,9 +36,9 @@ invariant_of-self g c =
             count,
           ) holds;
       tails = rw (take_at tails (drop (length tails) inside.tails.items) inside.tails.len tails_long)
-          (c.best_place.ensures.tails ∙ ap length c.deref_mut-3.ensures.value ∙ was.tails);
+          (c.best_place-best.ensures.tails ∙ ap length c.deref_mut-3.ensures.value ∙ was.tails);
       sums = rw (take_at sums (drop (length sums) inside.sums.items) inside.sums.len sums_long)
-          (c.best_place.ensures.sums ∙ ap length c.deref_mut-4.ensures.value ∙ was.sums);
+          (c.best_place-best.ensures.sums ∙ ap length c.deref_mut-4.ensures.value ∙ was.sums);
     }
 
 pub returns-clause-best : goal.returns-clause-best
@@ -71,6 +72,54 @@ returns-clause-best g c shop has paid other among short =
       c.deref-2.ensures.value,
       c.deref-3.ensures.value,
       take_at times (drop (length times) inside.times.items) inside.times.len times_long,
-    ) at c.best_place.ensures.best in
+    ) at c.best_place-best.ensures.best in
     let few_machines = rw (← ap (λ b. b.lanes) view, c.requires.count) at has.few in
     found shop jobs c.args.job has.some few_machines refl paid times_are job_is other among short
+
+pub returns-clause-spans : goal.returns-clause-spans
+returns-clause-spans g c shop has paid place lt =
+    let lanes = g.V.Band.lanes in
+    let inside = c.self.inside in
+    let count = g.row.N in
+    let jobs = c.args.sequence.now in
+    let times = c.hold.new.times in
+    let times_long : length times ≡ inside.times.len = omega (arith, c.hold.ensures.times, c.deref_mut-2.ensures.len) in
+    let order_long = c.hold.ensures.order in
+    let view = c.self.view_is in
+    let count_is : vectors_in inside.width ≡ count = ap (λ b. b.count) view ∙ c.requires.count in
+    let rows_is = ap (λ b. b.rows) view in
+    let has_rows = rw (← rows_is, c.requires.count) at has.rows in
+    let holds = rw (c.deref.ensures.value) at c.hold.ensures.holds in
+    let steps = length jobs + inside.lanes in
+    let n = c.args.job * count + count - c.args.job * count in
+    let some = holds.steps in
+    let few = holds.some in
+    let eight = c.self.invariant.eight in
+    let whole : AreTimes count steps (padded_time shop jobs) (map lanes times) =
+    rw c.hold.ensures.jobs at (holding_times holds shop steps (ap (λ b. b.jobs) view ∙ has.jobs) has_rows (omega arith)) in
+    let times_are = times_taken lanes count steps (steps * count) (padded_time shop jobs) times (omega arith) whole in
+    let job_is : IsRow count (on_machine shop (time_of shop c.args.job))
+    (vectors_of (map lanes (take n (drop (c.args.job * count) inside.rows.items)))) =
+    λ lane k lt k_lt.
+    ap (λ v. get_or v lane 0) (part_read lanes count c.args.job (c.args.job * count) n inside.rows.items refl k (omega arith))
+    ∙ has_rows.jobs_are c.args.job (omega (arith, c.requires.job, has.jobs)) lane k lt k_lt in
+    let found = rw (
+      c.deref-2.ensures.value,
+      c.deref-3.ensures.value,
+      take_at times (drop (length times) inside.times.items) inside.times.len times_long,
+    ) at c.best_place-best.ensures.spans in
+    let few_machines = rw (← ap (λ b. b.lanes) view, c.requires.count) at has.few in
+    let number = g.V.Band.number in
+    let sums = c.best_place-best.new.sums in
+    let room = c.requires.room in
+    let sums_long : length sums ≡ inside.sums.len =
+    omega (arith, c.best_place-best.ensures.sums, c.deref_mut-4.ensures.len) in
+    let copied = rw (
+      c.deref-4.ensures.value,
+      take_at sums (drop (length sums) inside.sums.items) inside.sums.len sums_long,
+    ) at c.copy_sums.ensures in
+    let long = c.best_place-best.ensures.sums ∙ ap length c.deref_mut-4.ensures.value ∙ c.self.invariant.sums in
+    let jobs_are = ap (λ b. b.jobs) view in
+    copied place lt
+    ∙ number_of_part number sums 7 (length sums - 7) place (omega (arith, long, jobs_are, c.requires.few, lt, room))
+    ∙ found shop jobs c.args.job has.some few_machines refl paid times_are job_is place (omega arith)

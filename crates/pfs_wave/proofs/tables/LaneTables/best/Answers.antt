@@ -13,3 +13,9 @@ returns-clause-best c =
     let found = rw c.as_slice.ensures.value at c.best-best.ensures.best in
     let paid = rw (c.len.ensures.value, ap (λ shop. shop.machines) c.metered.ensures.shop) at c.count-permits.ensures.paid in
     rw c.number.ensures (found c.args.instance.now.shop c.requires.own.serves paid)
+
+pub returns-clause-spans : goal.returns-clause-spans
+returns-clause-spans c =
+    let found = rw c.as_slice.ensures.value at c.best-best.ensures.spans in
+    let paid = rw (c.len.ensures.value, ap (λ shop. shop.machines) c.metered.ensures.shop) at c.count-permits.ensures.paid in
+    found c.args.instance.now.shop c.requires.own.serves paid

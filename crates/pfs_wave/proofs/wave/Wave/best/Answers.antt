@@ -1,4 +1,4 @@
-use Rattle.std.proofs.Common.{arith}
+use Rattle.std.proofs.Common.{◌∙◌, arith}
 use Rattle.pfs_wave.proofs.ServedPaths.{served_path}
 use Rattle.pfs_wave.proofs.wave.Wave.best.Goals as goal
 
@@ -16,3 +16,19 @@ returns-in-Long-clause-best c shop serves paid =
     c.best-in-Long.ensures.best shop is.blocks paid 0 (omega arith)
     (served_path shop 2147483647 is.served c.args.sequence.now c.args.job 0 (omega (arith, few, is.blocks.jobs))
     (omega arith))
+
+pub returns-in-Short-clause-spans : goal.returns-in-Short-clause-spans
+returns-in-Short-clause-spans c shop serves paid place lt =
+    let is = rw c.in-Short.is at serves in
+    let few = rw c.in-Short.is at c.requires.few in
+    let short = served_path shop 65535 is.served c.args.sequence.now c.args.job place
+    (omega (arith, few, is.blocks.jobs)) (omega (arith, lt, c.requires.room)) in
+    c.best.ensures.spans shop is.blocks paid place lt ∙ omega (arith, short)
+
+pub returns-in-Long-clause-spans : goal.returns-in-Long-clause-spans
+returns-in-Long-clause-spans c shop serves paid place lt =
+    let is = rw c.in-Long.is at serves in
+    let few = rw c.in-Long.is at c.requires.few in
+    let short = served_path shop 2147483647 is.served c.args.sequence.now c.args.job place
+    (omega (arith, few, is.blocks.jobs)) (omega (arith, lt, c.requires.room)) in
+    c.best-in-Long.ensures.spans shop is.blocks paid place lt ∙ omega (arith, short)

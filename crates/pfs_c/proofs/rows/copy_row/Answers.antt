@@ -1,6 +1,6 @@
 use Rattle.std.proofs.Common.{arith}
 use Rattle.pfs_c.proofs.RowCopies.{copied_more}
-use Rattle.pfs_c.proofs.heads.copy_row.Goals as goal
+use Rattle.pfs_c.proofs.rows.copy_row.Goals as goal
 
 pub loop-machine-preserved : goal.loop-machine-preserved
 loop-machine-preserved c =
