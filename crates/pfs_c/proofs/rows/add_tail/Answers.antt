@@ -35,4 +35,5 @@ loop-machine-preserved c =
     let most = at.auto.machine in
     tails_more c.args.instance.now.shop c.args.sequence.now c.args.place at.machine at.tails at.after _ _ at.invariant
     some (omega arith) c.requires.place (omega (arith, at.auto.tails, c.requires.wide))
-    (c.times_of-times.ensures.each (at.machine - 1) (omega arith)) (omega (arith, c.greater.ensures.value, c.from.ensures))
+    (c.times_of-times.ensures.each (at.machine - 1) (omega arith))
+    (omega (arith, c.greater.ensures.value, c.from.ensures))

@@ -42,7 +42,8 @@ greater-requires-in-loop-machine-clause-a c =
       arith,
       head_written shop jobs place machine _ at.before _ (c.greater.result + c.from.result)
           (at.invariant.row.to_do machine (omega arith) (omega arith)) at.invariant.before
-          (c.times_of-times.ensures.each machine (omega arith)) (omega (arith, c.greater.ensures.value, c.from.ensures)),
+          (c.times_of-times.ensures.each machine (omega arith))
+          (omega (arith, c.greater.ensures.value, c.from.ensures)),
       head_short shop c.machines-machine-end.ensures.within jobs (place + 1) machine
           (omega (arith, length-le-size shop.jobs jobs c.requires.sequence)) (omega arith),
     )

@@ -22,6 +22,7 @@ loop-place-preserved c =
       done = λ place machine before in_row. elim (cases_eq place at.place) [
         | inl is ↦ rw is (copied machine in_row ∙ c.add_head.ensures machine in_row
             ∙ head_after c.args.instance.now.shop c.args.sequence.now at.place machine)
-        | inr other ↦ others place machine other in_row ∙ at.invariant.done place machine (omega (arith, other, before)) in_row
+        | inr other ↦ others place machine other in_row
+            ∙ at.invariant.done place machine (omega (arith, other, before)) in_row
       ];
     }

@@ -8,4 +8,5 @@ pub span_in-requires-clause-heads : goal.span_in-requires-clause-heads
 span_in-requires-clause-heads c machine lt =
     let machines = c.machines-machines.ensures in
     get_or-take c.machines-machines.result (replicate MOST_MACHINES 0) machine 0 (omega arith)
-    ∙ heads_none c.args.instance.now.shop c.args.sequence.now MOST_MACHINES machines.within.sizes.few_machines machine lt
+    ∙ heads_none c.args.instance.now.shop c.args.sequence.now MOST_MACHINES machines.within.sizes.few_machines
+    machine lt

@@ -26,7 +26,8 @@ greater-requires-clause-b c =
     omega (
       arith,
       c.loop-machine.invariant.before_it,
-      before_short shop c.machines-machine-end.ensures.within (insert jobs place c.args.job) place c.loop-machine.machine
+      before_short shop c.machines-machine-end.ensures.within (insert jobs place c.args.job) place
+          c.loop-machine.machine
           (omega (arith, length-le-size shop.jobs jobs c.requires.sequence)) (omega arith),
     )
 

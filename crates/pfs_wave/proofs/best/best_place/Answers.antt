@@ -99,7 +99,8 @@ returns-clause-best g c shop jobs inserted some few all paid times_are job_is ot
     let long : length summed ≡ steps + 7 =
     c.fill_sums-paid.ensures.length ∙ length-take-le (steps + 7) c.args.sums.now c.requires.sums in
     let count_is : length (take n part) ≡ length jobs + 1 =
-    length-take-le n part (omega (arith, length-drop 7 (summed ++ rest), length-append summed rest, long)) ∙ omega arith in
+    length-take-le n part (omega (arith, length-drop 7 (summed ++ rest), length-append summed rest, long))
+    ∙ omega arith in
     rw (c.with.ensures, c.from.ensures) (found shop jobs inserted (map number (take n part)) g.V.Band.CAP
     (λ place lt.
     number_of_part number (summed ++ rest) 7 n place (omega arith)
