@@ -1,5 +1,5 @@
 //! All memory of an instance's searches.
-ghost use Rattle.std.specs.Prelude.{◌≡◌, ℕ, ◌+◌, ◌<◌, ◌≤◌, length, slice_index, Contains, IfOk, IfErr, IsTrue};
+ghost use Rattle.std.specs.Prelude.{◌≡◌, ℕ, ◌+◌, ◌<◌, ◌≤◌, ◌↔◌, length, slice_index, Contains, IfOk, IfErr, IsTrue};
 ghost use Rattle.pfs_base.specs.Paths.{makespan};
 ghost use Rattle.pfs_insert.specs.Inserter.{IsBestPlace};
 ghost use Rattle.pfs_insert.specs.Insertion.{makespan_with};
@@ -138,7 +138,7 @@ impl Search {
     }
 
     /// Writes the makespan with a job at each place of a sequence, if best places are found along anti-diagonals, and
-    /// returns whether they are.
+    /// returns whether they are: whether a wavefront serves the instance.
     pub fn insertions(
         &mut self,
         instance: &Instance,
@@ -151,6 +151,7 @@ impl Search {
         requires job { job < seq.now.size }
         requires absent { Contains seq.now.jobs job → ⊥ }
         requires room { length spans.old ≡ length seq.now.jobs + 1 }
+        ensures served { IsTrue result ↔ IsServed instance.now.shop 2147483647 }
         ensures spans { IsTrue result → (place : ℕ) → place ≤ length seq.now.jobs
             → slice_index spans.new place ≡ makespan_with instance.now.shop seq.now.jobs job place }
         ensures still { ⟦<Search as OfShop>⟧.is_of self.new instance.now.shop }
@@ -185,7 +186,8 @@ fn in_lanes(alloc: Global, instance: &Instance, kept: Kept<Span>) -> Result<Sear
 
 // The memory of searches by rows.
 fn by_rows(alloc: Global, instance: &Instance, kept: Kept<Span>) -> Result<Search, SearchFault>
-    requires { length kept.order ≡ instance.now.shop.jobs }
+    requires not_served { IsServed instance.now.shop 2147483647 → ⊥ }
+    requires order { length kept.order ≡ instance.now.shop.jobs }
     ensures made { IfOk result (λ made. IsSearchOf instance.now.shop made) }
     ensures fault { IfErr result (λ fault. fault ≡ SearchFault.Memory 0) }
 {
