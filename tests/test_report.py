@@ -1,4 +1,5 @@
 """The report of experiments: its tables, its statistics by plain definitions, and what its plots show."""
+import contextlib
 import csv
 import io
 import itertools
@@ -10,16 +11,18 @@ import statistics
 import time
 from collections.abc import Callable
 from typing import Any
+from unittest import mock
 
 import pytest
 from support.colours import least_difference
 from support.library import Library
 from support.tools import Done, csv_rows, run_tool
-from support.warm import Warm
 
 for _name in ("matplotlib", "pandas", "scipy"):
     pytest.importorskip(_name)
+import matplotlib as mpl
 from matplotlib.colors import to_hex
+from pfs.experiments import __main__ as experiments
 from pfs.experiments import plots as typed
 from pfs.experiments import report as reports
 from pfs.experiments.statistics import holm
@@ -65,15 +68,23 @@ plots: Any = typed
 
 
 @pytest.fixture
-def report(scripts: pathlib.Path, warm: Warm, folder: pathlib.Path) -> Reported:
-    """Runs `pfs-experiments report` with these words, or else into the folder `report`, after it has written CSVs of
-    these texts, each by its name, the first one as `out`."""
+def report(folder: pathlib.Path) -> Reported:
+    """Runs `pfs-experiments report` in this process, with these words, or else into the folder `report`, after it has
+    written CSVs of these texts, each by its name, the first one as `out`."""
     def run(text: str = "", *options: str, words: str = "", **texts: str) -> Done:
         texts |= {"out": text} if text else {}
         for name, each in texts.items():
             (folder / f"{name}.csv").write_text(each)
         given = words.split() or [*options, *(f"{name}.csv" for name in texts), "report"]
-        return warm.run_tool([scripts / "pfs-experiments", "report", *given], folder)
+        out, got = io.StringIO(), io.StringIO()
+        with (mock.patch("sys.argv", ["pfs-experiments", "report", *given]), mock.patch("signal.signal"),
+              contextlib.chdir(folder), contextlib.redirect_stdout(out), contextlib.redirect_stderr(got),
+              mpl.rc_context()):
+            try:
+                status = experiments.main()
+            except SystemExit as end:
+                status = int(end.code or 0)
+        return Done(status, out.getvalue(), got.getvalue())
     return run
 
 
