@@ -205,7 +205,7 @@ def test_a_search_with_temperature(built: pathlib.Path, pfs: Program, shop: path
 
 def test_a_plan_runs_and_audits_the_search_with_temperature(built: pathlib.Path, pfs: Program, libpfs: Library,
                                                            shop: pathlib.Path, scripts: pathlib.Path) -> None:
-    """The program in C, and the one in Python."""
+    """The program in C, and the one in Python, each beside pfs."""
     tool("parallel")
     plan = (EXAMPLES.parent / "experiments" / "ig_temperature.toml").read_text().replace("ta*", "ta001")
     (shop / "out" / "taillard").mkdir(parents=True)
@@ -217,9 +217,11 @@ def test_a_plan_runs_and_audits_the_search_with_temperature(built: pathlib.Path,
         (shop / "plan.toml").write_text(plan.replace("out/ig_temperature {", f"out/{name} {{"))
         got = run_tool([scripts / "pfs-experiments", "run", "--pfs", pfs.path, "plan.toml", f"{name}.csv"], shop,
                        env=env)
-        assert got == Done(0, "", f"{name}.csv: 1 runs, 0 of them failed, 0 still to run\n")
-        row, = csv_rows(shop / f"{name}.csv")
-        assert (row["instance"], row["makespan"], row["status"]) == ("out/taillard/ta001", "1278", "ok")
+        assert got == Done(0, "", f"{name}.csv: 2 runs, 0 of them failed, 0 still to run\n")
+        rows = csv_rows(shop / f"{name}.csv")
+        assert [row["method"] for row in rows] == ["IG with temperature", "pfs"]
+        assert {(row["instance"], row["makespan"], row["status"]) for row in rows} == {
+            ("out/taillard/ta001", "1278", "ok")}
 
 
 def test_files_that_cannot_be_opened_or_written(built: pathlib.Path, shop: pathlib.Path) -> None:
