@@ -36,7 +36,7 @@ def test_many_orders_and_places_cost_little_more_than_the_library() -> None:
     words = orders.ctypes.data, orders.size, 20, spans.ctypes.data, spans.size
     calls: list[tuple[float, int, Callable[[], object], Callable[[], object]]] = [
         (1.25, 1, lambda: shop.makespans(orders), lambda: shop._call("pfs_makespans", *words)),
-        (1.8, 50, lambda: shop.places(others, 0), lambda: shop.best_place(others, 0))]
+        (1.5, 50, lambda: shop.places(others, 0), lambda: shop.best_place(others, 0))]
     for most, number, *both in calls:
         # The least of ten ratios, since other programs run too.
         turns = ([min(timeit.repeat(call, number=number, repeat=50)) for call in both] for _ in range(10))
