@@ -12,9 +12,6 @@ use crate::permit::{Paid, Permit};
 use std::marker::Model;
 use std::simd::prelude::*;
 
-#[cfg(test)]
-mod tests;
-
 /// A duration of `Metered`.
 #[derive(Clone, Copy, Debug, PartialEq, Eq, PartialOrd, Ord)]
 pub struct Span {
