@@ -4,7 +4,7 @@ use Rattle.std.proofs.lemmas.Bool.{cases_lt}
 use Rattle.pfs_wave.specs.Private.Least.{IsLeastSoFar}
 
 module _ (value : ℕ → ℕ) (count place best : ℕ) (so_far : IsLeastSoFar value count place best) where
-  lower : value count < best → IsLeastSoFar value (count + 1) count (value count)
+  pub lower : value count < best → IsLeastSoFar value (count + 1) count (value count)
   lower less =
       let known = so_far.value_is in
       record {
@@ -20,7 +20,7 @@ module _ (value : ℕ → ℕ) (count place best : ℕ) (so_far : IsLeastSoFar v
         value_is = refl;
       }
 
-  kept : best ≤ value count → IsLeastSoFar value (count + 1) place best
+  pub kept : best ≤ value count → IsLeastSoFar value (count + 1) place best
   kept le =
       let known = so_far.value_is in
       let within = so_far.first.within in

@@ -1,16 +1,16 @@
--- Every path of a shop that a wavefront serves is below its cap, the greatest value of a lane.
-use Rattle.std.proofs.Common.{◌≡◌, ℕ, zero, suc, ◌+◌, ◌-◌, ◌*◌, ◌<◌, ◌≤◌, List, [], ◌∷◌, length, arith, refl}
+-- Paths of a shop, none of which is as long as the greatest value of a lane.
+use Rattle.std.proofs.Common.{◌≡◌, ℕ, zero, suc, ◌+◌, ◌-◌, ◌*◌, ◌<◌, ◌≤◌, List, [], ◌∷◌, length, insert, arith, refl}
 use Rattle.std.proofs.Math.Nat.{mul-le-mul_right, add-mul}
+use Rattle.std.proofs.lemmas.List.Edits.{length-insert}
 use Rattle.std.specs.List.{All}
-use Rattle.pfs_base.specs.FlowShop.{FlowShop}
+use Rattle.pfs_base.specs.FlowShop.{FlowShop, IsWithin}
+use Rattle.pfs_base.specs.Limits.{limits}
 use Rattle.pfs_base.specs.Paths.{greatest}
+use Rattle.pfs_base.proofs.Published.Heads.{none_longer}
 use Rattle.pfs_base.proofs.Published.Heaviest.{greatest-cons}
 use Rattle.pfs_insert.specs.Inserter.{IsBestPlace}
 use Rattle.pfs_insert.specs.Insertion.{makespan_with}
-use Rattle.pfs_wave.specs.Served.{IsServed}
-use Rattle.pfs_wave.specs.Private.Waves.{Serves}
-use Rattle.pfs_wave.specs.declared.wave.Wave.{Wave}
-use Rattle.pfs_wave.specs.declared.wave.Wave.TheVariants as wave
+use Rattle.pfs_wave.specs.Private.Waves.{longest_path}
 use Rattle.pfs_wave.proofs.Longest.{longest_with_law}
 
 -- each number of a list is at most the greatest
@@ -19,34 +19,33 @@ greatest_all [] k d lt = absurd (omega arith)
 greatest_all (x ∷ xs) zero d lt = omega (arith, greatest-cons x xs)
 greatest_all (x ∷ xs) (suc k) d lt = omega (arith, greatest-cons x xs, greatest_all xs k d (omega arith))
 
-module _ (shop : FlowShop) (cap : ℕ) (served : IsServed shop cap) where
+module _ (shop : FlowShop) (cap : ℕ) (some : 1 ≤ shop.machines) (short : longest_path shop < cap) where
   pub served_path : (jobs : List ℕ) (job place : ℕ) → length jobs < shop.jobs → place ≤ length jobs
       → makespan_with shop jobs job place < cap
   served_path jobs job place few within =
-      let some = served.some in
       let least : length jobs + shop.machines ≤ shop.jobs + shop.machines - 1 = omega arith in
       omega (
         arith,
         longest_with_law shop jobs job place (greatest shop.times) some within (greatest_all shop.times),
         mul-le-mul_right (greatest shop.times) least,
-        served.short,
+        short,
       )
 
-  -- every time of a shop that a wavefront serves is at most the cap
-  pub served_times : All (λ time. time ≤ cap) shop.times
-  served_times k d lt =
-      let some = served.some in
-      let many = served.jobs in
+  -- every time is at most the cap
+  pub served_times : 1 ≤ shop.jobs → All (λ time. time ≤ cap) shop.times
+  served_times any k d lt =
       let one : 1 ≤ shop.jobs + shop.machines - 1 = omega arith in
-      omega (arith, greatest_all shop.times k d lt, mul-le-mul_right (greatest shop.times) one, served.short)
+      omega (arith, greatest_all shop.times k d lt, mul-le-mul_right (greatest shop.times) one, short)
 
 -- the makespan with a job at its best place fits in a duration
-pub served_span : (shop : FlowShop) (served : Wave) → Serves shop served → (jobs : List ℕ) (job place span : ℕ)
+pub best_span : (shop : FlowShop) (jobs : List ℕ) (job place span : ℕ) → IsWithin limits shop
     → length jobs < shop.jobs → IsBestPlace shop jobs job place span → span ≤ 1000000000000000
-served_span shop (wave.Short blocks) serves jobs job place span few best =
-    omega (arith, served_path shop 65535 serves.served jobs job place few best.within, best.span_is)
-served_span shop (wave.Long blocks) serves jobs job place span few best =
-    omega (arith, served_path shop 2147483647 serves.served jobs job place few best.within, best.span_is)
+best_span shop jobs job place span within few best =
+    omega (
+      arith,
+      none_longer shop (insert jobs place job) within (omega (arith, length-insert jobs place job best.within)),
+      best.span_is,
+    )
 
 -- the cells of one insertion are those of the tails and those of all else
 pub cells_split : (len machines : ℕ) → len * machines + (3 * len + 2) * machines ≡ (4 * (len + 1) - 2) * machines

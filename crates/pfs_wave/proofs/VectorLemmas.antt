@@ -1,14 +1,13 @@
--- Lanes of 16 and of 32 bits, as a processor computes them.
+-- Lanes of 16, 32 and 64 bits, as a processor computes them.
 use Rattle.std.proofs.Common.{◌≡◌, ℕ, zero, suc, ◌+◌, ◌-◌, ◌<◌, ◌≤◌, ◌^◌, max, min, cond, List, [], ◌∷◌}
-use Rattle.std.proofs.Common.{length, map, arith, rules, refl, ap, ◌∙◌}
+use Rattle.std.proofs.Common.{length, map, arith, refl, ap, ◌∙◌}
 use Rattle.std.proofs.lemmas.Int.{ints}
-use Rattle.std.proofs.lemmas.Simd.{Each1-weaker}
 use Rattle.std.proofs.lemmas.Bool.Decides.{nat_tests}
 use Rattle.pfs_wave.specs.Private.Lanes.{capped_add}
 use Rattle.pfs_wave.proofs.SmallLanes.{AreSmall, first_small, rest_small}
 use lib.Lanes.{top, zip2, sel_l, Each1}
-use borrow.Rule.Simd.Lanes.{Asks1, act1, act2}
-use mir.Syntax.{Width, mask, lt, cast, unsigned, wrap_add, bit_not, w16, w32}
+use borrow.Rule.Simd.Lanes.{act1, act2}
+use mir.Syntax.{Width, mask, lt, unsigned, wrap_add, bit_not, w16, w32, w64}
 use borrow.Table.Row.{s_int}
 
 abbrev pub less : Width → ℕ → ℕ → ℕ
@@ -17,88 +16,78 @@ less w = act2 (mask (lt unsigned)) (s_int w) (s_int w) (s_int w)
 abbrev pub wrapped_sum : Width → ℕ → ℕ → ℕ
 wrapped_sum w = act2 wrap_add (s_int w) (s_int w) (s_int w)
 
-abbrev pub turned : ℕ → ℕ
-turned = act1 bit_not (s_int w16) (s_int w16)
+abbrev pub turned : Width → ℕ → ℕ
+turned w = act1 bit_not (s_int w) (s_int w)
 
-pub cons_same : {x y : ℕ} {xs ys : List ℕ} → x ≡ y → xs ≡ ys → x ∷ xs ≡ y ∷ ys
+-- the sum of two lanes, of which the last bit has the number `last`, as a processor saturates it
+abbrev saturated : Width → ℕ → ℕ → ℕ → ℕ
+saturated w last x y = wrapped_sum w x (cond (top last (less w y (turned w x))) y (turned w x))
+
+cons_same : {x y : ℕ} {xs ys : List ℕ} → x ≡ y → xs ≡ ys → x ∷ xs ≡ y ∷ ys
 cons_same p q = cc
+
+module _ (w : Width) (last : ℕ) where
+  greater_lanes : ((x y : ℕ) → cond (top last (less w x y)) y x ≡ max x y) → (xs ys : List ℕ)
+      → sel_l (map (top last) (zip2 (less w) xs ys)) ys xs ≡ zip2 max xs ys
+  greater_lanes one [] ys = refl
+  greater_lanes one (x ∷ xs) [] = refl
+  greater_lanes one (x ∷ xs) (y ∷ ys) = cons_same (one x y) (greater_lanes one xs ys)
+
+  saturated_lanes : (cap : ℕ) → ((x y : ℕ) → x < suc cap → saturated w last x y ≡ capped_add cap x y)
+      → (xs ys : List ℕ) → Each1 (λ x. x < suc cap) xs
+      → zip2 (wrapped_sum w) xs (sel_l (map (top last) (zip2 (less w) ys (map (turned w) xs))) ys (map (turned w) xs))
+      ≡ zip2 (capped_add cap) xs ys
+  saturated_lanes cap one [] ys each = refl
+  saturated_lanes cap one (x ∷ xs) [] each = refl
+  saturated_lanes cap one (x ∷ xs) (y ∷ ys) each = cons_same (one x y each.0) (saturated_lanes cap one xs ys each.1)
 
 -- ---- the greater lanes
 
-chosen : (x y : ℕ) → cond (top 15 (less w16 x y)) y x ≡ max x y
-chosen x y = grind (arith, nat_tests, ints)
+short_greater : (x y : ℕ) → cond (top 15 (less w16 x y)) y x ≡ max x y
+short_greater x y = grind (arith, nat_tests, ints)
 
-pub greater_is : (xs ys : List ℕ) → sel_l (map (top 15) (zip2 (less w16) xs ys)) ys xs ≡ zip2 max xs ys
-greater_is [] ys = refl
-greater_is (x ∷ xs) [] = refl
-greater_is (x ∷ xs) (y ∷ ys) = cons_same (chosen x y) (greater_is xs ys)
+long_greater : (x y : ℕ) → cond (top 31 (less w32 x y)) y x ≡ max x y
+long_greater x y = grind (arith, nat_tests, ints)
 
-long_chosen : (x y : ℕ) → cond (top 31 (less w32 x y)) y x ≡ max x y
-long_chosen x y = grind (arith, nat_tests, ints)
+wide_greater : (x y : ℕ) → cond (top 63 (less w64 x y)) y x ≡ max x y
+wide_greater x y = grind (arith, nat_tests, ints)
+
+pub short_greater_is : (xs ys : List ℕ) → sel_l (map (top 15) (zip2 (less w16) xs ys)) ys xs ≡ zip2 max xs ys
+short_greater_is = greater_lanes w16 15 short_greater
 
 pub long_greater_is : (xs ys : List ℕ) → sel_l (map (top 31) (zip2 (less w32) xs ys)) ys xs ≡ zip2 max xs ys
-long_greater_is [] ys = refl
-long_greater_is (x ∷ xs) [] = refl
-long_greater_is (x ∷ xs) (y ∷ ys) = cons_same (long_chosen x y) (long_greater_is xs ys)
+long_greater_is = greater_lanes w32 31 long_greater
 
--- ---- the lesser lanes
+pub wide_greater_is : (xs ys : List ℕ) → sel_l (map (top 63) (zip2 (less w64) xs ys)) ys xs ≡ zip2 max xs ys
+wide_greater_is = greater_lanes w64 63 wide_greater
 
-chosen_less : (x y : ℕ) → cond (top 15 (less w16 x y)) x y ≡ min x y
-chosen_less x y = grind (arith, nat_tests, ints)
+-- ---- sums of 16 and of 64 bits
 
-pub lesser_is : (xs ys : List ℕ) → sel_l (map (top 15) (zip2 (less w16) xs ys)) xs ys ≡ zip2 min xs ys
-lesser_is [] ys = refl
-lesser_is (x ∷ xs) [] = refl
-lesser_is (x ∷ xs) (y ∷ ys) = cons_same (chosen_less x y) (lesser_is xs ys)
+short_turned : (x : ℕ) → x < 2 ^ 16 → turned w16 x ≡ 65535 - x
+short_turned x small = grind (arith, nat_tests, ints)
 
-long_chosen_less : (x y : ℕ) → cond (top 31 (less w32 x y)) x y ≡ min x y
-long_chosen_less x y = grind (arith, nat_tests, ints)
-
-pub long_lesser_is : (xs ys : List ℕ) → sel_l (map (top 31) (zip2 (less w32) xs ys)) xs ys ≡ zip2 min xs ys
-long_lesser_is [] ys = refl
-long_lesser_is (x ∷ xs) [] = refl
-long_lesser_is (x ∷ xs) (y ∷ ys) = cons_same (long_chosen_less x y) (long_lesser_is xs ys)
-
--- ---- lanes of 32 bits in 16
-
-abbrev pub cut : ℕ → ℕ
-cut = act1 (cast unsigned unsigned w16) (s_int w32) (s_int w16)
-
-abbrev pub CanCut : ℕ → Type 0
-CanCut = Asks1 (cast unsigned unsigned w16) (s_int w32)
-
-cut_one : (x : ℕ) → x ≤ 65535 → cut x ≡ x
-cut_one x small = grind (arith, nat_tests, ints)
-
-pub cut_is : (xs : List ℕ) → Each1 (λ x. x ≤ 65535) xs → map cut xs ≡ xs
-cut_is [] each = refl
-cut_is (x ∷ xs) each = cons_same (cut_one x each.0) (cut_is xs each.1)
-
-can_cut : (x : ℕ) → x ≤ 65535 → CanCut x
-can_cut x small = search rules
-
-pub can_cut_all : (xs : List ℕ) → Each1 (λ x. x ≤ 65535) xs → Each1 CanCut xs
-can_cut_all xs each = Each1-weaker (λ x. x ≤ 65535) CanCut can_cut xs each
-
--- ---- sums of 16 bits: the processor's saturating sum
-
-turned_is : (x : ℕ) → x < 2 ^ 16 → turned x ≡ 65535 - x
-turned_is x small = grind (arith, nat_tests, ints)
-
-wrapped_sum_capped : (x y z : ℕ) → x < 2 ^ 16 → z ≡ 65535 - x
+short_sum : (x y z : ℕ) → x < 2 ^ 16 → z ≡ 65535 - x
     → wrapped_sum w16 x (cond (top 15 (less w16 y z)) y z) ≡ capped_add 65535 x y
-wrapped_sum_capped x y z small e = grind (arith, nat_tests, ints)
+short_sum x y z small e = grind (arith, nat_tests, ints)
 
-later_one : (x y : ℕ) → x < 2 ^ 16
-    → wrapped_sum w16 x (cond (top 15 (less w16 y (turned x))) y (turned x)) ≡ capped_add 65535 x y
-later_one x y small = wrapped_sum_capped x y (turned x) small (turned_is x small)
-
-pub later_is : (xs ys : List ℕ) → Each1 (λ x. x < 2 ^ 16) xs
-    → zip2 (wrapped_sum w16) xs (sel_l (map (top 15) (zip2 (less w16) ys (map turned xs))) ys (map turned xs))
+pub short_sum_is : (xs ys : List ℕ) → Each1 (λ x. x < 2 ^ 16) xs
+    → zip2 (wrapped_sum w16) xs (sel_l (map (top 15) (zip2 (less w16) ys (map (turned w16) xs))) ys (map (turned w16) xs))
     ≡ zip2 (capped_add 65535) xs ys
-later_is [] ys each = refl
-later_is (x ∷ xs) [] each = refl
-later_is (x ∷ xs) (y ∷ ys) each = cons_same (later_one x y each.0) (later_is xs ys each.1)
+short_sum_is = saturated_lanes w16 15 65535 (λ x y small. short_sum x y (turned w16 x) small (short_turned x small))
+
+wide_turned : (x : ℕ) → x < 2 ^ 64 → turned w64 x ≡ 18446744073709551615 - x
+wide_turned x small = grind (arith, nat_tests, ints)
+
+wide_sum : (x y z : ℕ) → x < 2 ^ 64 → z ≡ 18446744073709551615 - x
+    → wrapped_sum w64 x (cond (top 63 (less w64 y z)) y z) ≡ capped_add 18446744073709551615 x y
+wide_sum x y z small e = grind (arith, nat_tests, ints)
+
+pub wide_sum_is : (xs ys : List ℕ) → Each1 (λ x. x < 2 ^ 64) xs
+    → zip2 (wrapped_sum w64) xs (sel_l (map (top 63) (zip2 (less w64) ys (map (turned w64) xs))) ys (map (turned w64) xs))
+    ≡ zip2 (capped_add 18446744073709551615) xs ys
+wide_sum_is =
+    saturated_lanes w64 63 18446744073709551615
+    (λ x y small. wide_sum x y (turned w64 x) small (wide_turned x small))
 
 -- ---- sums of 32 bits: no sum of two numbers up to 2^31 - 1 wraps
 

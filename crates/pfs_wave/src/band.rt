@@ -19,10 +19,8 @@ pub trait Band: Copy + Drop {
     /// The value of a number.
     ghost number: { Self.Number → ℕ };
 
-    ghost CAP: { ℕ };
-
     /// The greatest value of a lane.
-    const CAP: u32;
+    ghost CAP: { ℕ };
 
     /// The number of vectors up to which a pass keeps those of a step in registers.
     const IN_REGISTERS: usize;

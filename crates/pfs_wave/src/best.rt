@@ -64,7 +64,7 @@ pub fn best_place<V: Band, const N: usize>(
     let found = V::first_least(&sums[7..steps + 8 - lanes]);
     Placed {
         place: found.place,
-        span: paid.with(u64::from(found.sum)),
+        span: paid.with(found.sum),
     }
 }
 

@@ -7,7 +7,27 @@ ghost use Rattle.pfs_wave.specs.Private.Least.{IsLeastSoFar};
 #[derive(Clone, Copy, Debug, PartialEq, Eq)]
 pub struct Found {
     pub place: usize,
-    pub sum: u32,
+    pub sum: u64,
+}
+
+/// The first place of the least sum.
+pub fn first_least(sums: &[u64]) -> Found
+    requires { 1 ≤ length sums.now }
+    ensures { IsLeastSoFar (λ place. slice_index_or sums.now place 0) (length sums.now) result.place result.sum }
+{
+    let mut found = Found {
+        place: 0,
+        sum: sums[0],
+    };
+    for place in 1..sums.len() {
+        if sums[place] < found.sum {
+            found = Found {
+                place,
+                sum: sums[place],
+            };
+        }
+    }
+    found
 }
 
 // A key that orders places by their sums, and places of equal sums by their numbers.
@@ -19,8 +39,8 @@ fn key(place: usize, sum: u16) -> u32
     u32::from(sum) * 65536 + place as u32
 }
 
-/// The first place of the least sum, which is the place of the least key. The compiler vectorizes the loop.
-pub fn first_least(sums: &[u16]) -> Found
+/// The same for sums of 16 bits: it is the place of the least key. The compiler vectorizes the loop.
+pub fn first_least_key(sums: &[u16]) -> Found
     requires some { 1 ≤ length sums.now }
     requires few { length sums.now ≤ 2 ^ 16 }
     ensures { IsLeastSoFar (λ place. slice_index_or sums.now place 0) (length sums.now) result.place result.sum }
@@ -31,31 +51,6 @@ pub fn first_least(sums: &[u16]) -> Found
     }
     Found {
         place: (least % 65536) as usize,
-        sum: least / 65536,
-    }
-}
-
-// Such a key for sums of 32 bits.
-#[inline(always)]
-fn long_key(place: usize, sum: u32) -> u64
-    requires { place < 2 ^ 16 }
-    ensures { result ≡ sum * 65536 + place }
-{
-    u64::from(sum) * 65536 + place as u64
-}
-
-/// The first place of the least sum of 32 bits.
-pub fn first_least_long(sums: &[u32]) -> Found
-    requires some { 1 ≤ length sums.now }
-    requires few { length sums.now ≤ 2 ^ 16 }
-    ensures { IsLeastSoFar (λ place. slice_index_or sums.now place 0) (length sums.now) result.place result.sum }
-{
-    let mut least = long_key(0, sums[0]);
-    for place in 1..sums.len() {
-        least = least.min(long_key(place, sums[place]));
-    }
-    Found {
-        place: (least % 65536) as usize,
-        sum: (least / 65536) as u32,
+        sum: u64::from(least / 65536),
     }
 }

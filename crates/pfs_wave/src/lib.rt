@@ -1,5 +1,5 @@
 //! The best place for a job in a sequence, by a wavefront: the anti-diagonals of the tables of heads and tails, in
-//! lanes of 16 or 32 bits.
+//! lanes of 16, 32 or 64 bits.
 #![tactic(auto)]
 
 mod band;
@@ -18,7 +18,6 @@ mod of_shop;
 mod parts;
 mod permits;
 mod rows;
-mod served;
 mod short;
 mod sums;
 mod tables;
@@ -27,10 +26,10 @@ mod times;
 mod vectors;
 mod wave;
 mod wavefront;
+mod wide;
 mod width;
 
 pub use metered::MeteredLanes;
 pub use of_shop::OfShop;
-pub use served::is_served;
 pub use tables::LaneTables;
 pub use wavefront::Wavefront;

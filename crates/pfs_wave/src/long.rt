@@ -4,7 +4,7 @@ ghost use Rattle.std.specs.Prelude.{◌≡◌, ℕ, ◌≤◌, length};
 ghost use Rattle.std.specs.List.{All};
 
 use crate::band::Band;
-use crate::least::{Found, first_least_long};
+use crate::least::{Found, first_least};
 use std::simd::prelude::*;
 
 /// Eight lanes of 32 bits, each a number up to 2^31 - 1. So no sum of two lanes wraps, and it stops at 2^31 - 1.
@@ -16,15 +16,13 @@ pub struct Long {
 }
 
 impl Band for Long {
-    type Number = u32;
+    type Number = u64;
 
     ghost lanes = { λ band. band.values };
 
     ghost number = { λ n. n };
 
     ghost CAP = { 2147483647 };
-
-    const CAP: u32 = 2147483647;
 
     const IN_REGISTERS: usize = 4;
 
@@ -102,29 +100,37 @@ impl Band for Long {
     }
 
     #[inline(always)]
-    fn last(self) -> u32 {
-        self.values.to_array()[7]
+    fn last(self) -> u64 {
+        u64::from(self.values.to_array()[7])
     }
 
     #[inline(always)]
-    fn reversed(self) -> [u32; 8] {
-        self.values
-            .shuffle(self.values, [7, 6, 5, 4, 3, 2, 1, 0])
-            .to_array()
+    fn reversed(self) -> [u64; 8] {
+        let values = self.values.to_array();
+        [
+            u64::from(values[7]),
+            u64::from(values[6]),
+            u64::from(values[5]),
+            u64::from(values[4]),
+            u64::from(values[3]),
+            u64::from(values[2]),
+            u64::from(values[1]),
+            u64::from(values[0]),
+        ]
     }
 
     #[inline(always)]
-    fn nothing() -> u32 {
+    fn nothing() -> u64 {
         0
     }
 
     #[inline(always)]
-    fn wide(n: u32) -> u64 {
-        u64::from(n)
+    fn wide(n: u64) -> u64 {
+        n
     }
 
     #[inline(always)]
-    fn first_least(sums: &[u32]) -> Found {
-        first_least_long(sums)
+    fn first_least(sums: &[u64]) -> Found {
+        first_least(sums)
     }
 }

@@ -18,7 +18,7 @@ use pfs_insert::Placed;
 use pfs_order::Seq;
 use std::marker::Model;
 
-/// A metered bench over an instance that a wavefront serves, with its times in lanes. It computes in the narrow lanes,
+/// A metered bench over an instance, with its times in lanes. It computes in the narrow lanes,
 /// if there are any, the insertions whose makespans are known to fit in them.
 #[derive(Drop)]
 pub struct MeteredLanes<'a> {

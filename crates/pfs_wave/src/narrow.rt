@@ -7,15 +7,13 @@ ghost use Rattle.pfs_insert.specs.Inserter.{IsBestPlace};
 ghost use Rattle.pfs_insert.specs.Insertion.{makespan_with};
 ghost use Rattle.pfs_wave.specs.Private.Narrow.{AreNarrow, HasNarrow, after_best};
 ghost use Rattle.pfs_wave.specs.Private.Payment.{IsPaid};
-ghost use Rattle.pfs_wave.specs.Private.Waves.{Serves, blocks_of};
-ghost use Rattle.pfs_wave.specs.Served.{longest_path};
+ghost use Rattle.pfs_wave.specs.Private.Waves.{Serves, blocks_of, longest_path};
 
 use crate::blocks::Blocks;
 use crate::known::Known;
 use crate::permits::Permits;
-use crate::served::{fits_short, longest_time};
 use crate::short::Short;
-use crate::wave::Wave;
+use crate::wave::{Wave, longest_time, path_bound};
 use pfs_base::{Instance, Paid, Shop};
 use pfs_insert::Placed;
 use pfs_order::Seq;
@@ -180,7 +178,7 @@ pub fn narrow_lanes(alloc: Global, instance: &Instance) -> Result<Option<Narrow>
         ↔ ((65535 ≤ longest_path instance.now.shop) × (greatest instance.now.shop.times ≤ 65535))) }
     ensures tables { IfOk result (λ made. HasNarrow instance.now.shop made) }
 {
-    if !fits_short(instance) && longest_time(instance) <= 65_535 {
+    if path_bound(instance) >= 65_535 && longest_time(instance) <= 65_535 {
         Ok(Some(Narrow::new(alloc, instance)?))
     } else {
         Ok(None)

@@ -5,7 +5,7 @@ ghost use Rattle.std.specs.Simd.Lanes.{Each1, zip2};
 ghost use Rattle.pfs_wave.specs.Private.Lanes.{capped_add};
 
 use crate::band::Band;
-use crate::least::{Found, first_least};
+use crate::least::{Found, first_least_key};
 use std::simd::prelude::*;
 
 /// Eight lanes of 16 bits. Sums stop at 65,535, as the processor's do.
@@ -31,8 +31,6 @@ impl Band for Short {
     ghost number = { λ n. n };
 
     ghost CAP = { 65535 };
-
-    const CAP: u32 = 65535;
 
     const IN_REGISTERS: usize = 8;
 
@@ -142,6 +140,6 @@ impl Band for Short {
 
     #[inline(always)]
     fn first_least(sums: &[u16]) -> Found {
-        first_least(sums)
+        first_least_key(sums)
     }
 }

@@ -3,7 +3,6 @@ ghost use Rattle.std.specs.Prelude.{◌≡◌, ℕ, ◌+◌, ◌<◌, ◌≤◌,
 ghost use Rattle.std.specs.List.{slice_index_or};
 ghost use Rattle.pfs_insert.specs.Inserter.{IsBestPlace};
 ghost use Rattle.pfs_insert.specs.Insertion.{makespan_with};
-ghost use Rattle.pfs_wave.specs.Served.{IsServed};
 ghost use Rattle.pfs_wave.specs.Tables.{HasLanes};
 
 use crate::narrow::{Narrow, narrow_lanes};
@@ -15,7 +14,7 @@ use pfs_insert::Placed;
 use pfs_order::Seq;
 use std::alloc::{AllocError, Global};
 
-/// The times of an instance that a wavefront serves, in lanes, with all memory of an insertion. It has narrow lanes, of
+/// The times of an instance in lanes, with all memory of an insertion. It has narrow lanes, of
 /// 16 bits, where its own have more and all times fit in 16.
 #[derive(Drop)]
 pub struct LaneTables {
@@ -30,7 +29,6 @@ impl OfShop for LaneTables {
 impl LaneTables {
     /// The tables of an instance. It returns `AllocError` where allocation fails.
     pub fn new(alloc: Global, instance: &Instance) -> Result<LaneTables, AllocError>
-        requires { IsServed instance.now.shop 2147483647 }
         ensures { IfOk result (λ made. ⟦<LaneTables as OfShop>⟧.is_of made instance.now.shop) }
     {
         let wave = Wave::new(alloc, instance)?;

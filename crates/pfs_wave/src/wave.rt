@@ -1,39 +1,64 @@
-//! Insertions into sequences of an instance, in lanes of 16 or 32 bits.
-ghost use Rattle.std.specs.Prelude.{◌≡◌, ℕ, ◌+◌, ◌<◌, ◌≤◌, length, IfOk};
+//! Insertions into sequences of an instance, in lanes of 16, 32 or 64 bits.
+ghost use Rattle.std.specs.Prelude.{◌≡◌, ℕ, ◌+◌, ◌-◌, ◌<◌, ◌≤◌, ◌^◌, length, IfOk};
 ghost use Rattle.std.specs.List.{All, slice_index_or};
-ghost use Rattle.pfs_base.specs.FlowShop.{FlowShop};
+ghost use Rattle.pfs_base.specs.FlowShop.{FlowShop, IsWithin};
+ghost use Rattle.pfs_base.specs.Limits.{limits};
+ghost use Rattle.pfs_base.specs.Paths.{greatest};
 ghost use Rattle.pfs_insert.specs.Inserter.{IsBestPlace};
 ghost use Rattle.pfs_insert.specs.Insertion.{makespan_with};
 ghost use Rattle.pfs_wave.specs.Private.Payment.{IsPaid};
-ghost use Rattle.pfs_wave.specs.Private.Waves.{Serves, blocks_of};
-ghost use Rattle.pfs_wave.specs.Served.{IsServed};
+ghost use Rattle.pfs_wave.specs.Private.Waves.{Serves, blocks_of, longest_path};
 
 use crate::blocks::Blocks;
 use crate::long::Long;
 use crate::permits::Permits;
-use crate::served::fits_short;
 use crate::short::Short;
+use crate::wide::Wide;
 use pfs_base::{Instance, Paid};
 use pfs_insert::Placed;
 use std::alloc::{AllocError, Global};
+
+/// An upper bound on each path of n jobs on m machines: (n + m - 1) times the longest time.
+pub(crate) fn path_bound(instance: &Instance) -> u64
+    ensures value { result ≡ longest_path instance.now.shop }
+    ensures within { IsWithin limits instance.now.shop }
+    ensures small { result < 2 ^ 63 - 1 }
+{
+    let operations = (instance.jobs() + instance.machines() - 1) as u64;
+    operations * u64::from(longest_time(instance))
+}
+
+/// The longest time of an instance.
+pub(crate) fn longest_time(instance: &Instance) -> u32
+    ensures { result ≡ greatest instance.now.shop.times }
+{
+    let mut longest = 0;
+    for time in instance.times() {
+        longest = longest.max(*time);
+    }
+    longest
+}
 
 /// The insertions of an instance, in the smallest lanes that every path of the instance fits in.
 #[derive(Drop)]
 pub(crate) enum Wave {
     Short(Blocks<Short>),
     Long(Blocks<Long>),
+    Wide(Blocks<Wide>),
 }
 
 impl Wave {
     /// Prepares an instance. It reserves all memory of an insertion, and returns `AllocError` where that fails.
     pub fn new(alloc: Global, instance: &Instance) -> Result<Wave, AllocError>
-        requires { IsServed instance.now.shop 2147483647 }
         ensures { IfOk result (λ made. Serves instance.now.shop made) }
     {
-        if fits_short(instance) {
+        let path = path_bound(instance);
+        if path < 65_535 {
             Ok(Wave::Short(Blocks::new(alloc, instance)?))
-        } else {
+        } else if path < 2_147_483_647 {
             Ok(Wave::Long(Blocks::new(alloc, instance)?))
+        } else {
+            Ok(Wave::Wide(Blocks::new(alloc, instance)?))
         }
     }
 
@@ -64,6 +89,7 @@ impl Wave {
         match self {
             Wave::Short(blocks) => blocks.best(permits, sequence, job, spans),
             Wave::Long(blocks) => blocks.best(permits, sequence, job, spans),
+            Wave::Wide(blocks) => blocks.best(permits, sequence, job, spans),
         }
     }
 }

@@ -101,7 +101,7 @@ returns-clause-best g c shop jobs inserted some few all paid times_are job_is ot
     let count_is : length (take n part) ≡ length jobs + 1 =
     length-take-le n part (omega (arith, length-drop 7 (summed ++ rest), length-append summed rest, long))
     ∙ omega arith in
-    rw (c.with.ensures, c.from.ensures) (found shop jobs inserted (map number (take n part)) g.V.Band.CAP
+    rw c.with.ensures (found shop jobs inserted (map number (take n part)) g.V.Band.CAP
     (λ place lt.
     number_of_part number (summed ++ rest) 7 n place (omega arith)
     ∙ all_sums_are g c shop jobs inserted some few all paid times_are job_is place (omega arith))

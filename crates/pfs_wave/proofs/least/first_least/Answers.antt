@@ -1,21 +1,14 @@
-use Rattle.std.proofs.Common.{arith}
+use Rattle.std.proofs.Common.{ℕ}
 use Rattle.std.specs.List.{slice_index_or}
-use Rattle.pfs_wave.proofs.LeastKey.{first_key, next_key, all_keys}
+use Rattle.pfs_wave.proofs.LeastKey.{lower, kept}
 use Rattle.pfs_wave.proofs.least.first_least.Goals as goal
-
-pub loop-place-init : goal.loop-place-init
-loop-place-init c = first_key (λ place. slice_index_or c.args.sums.now place 0) c.key-least.result c.key-least.ensures
+use Rattle.pfs_wave.proofs.least.first_least.Goals.{then-sums-place, else-sums-place}
 
 pub loop-place-preserved : goal.loop-place-preserved
 loop-place-preserved c =
-    let inside = c.loop-place-test.true in
-    let few = c.requires.few in
-    next_key (λ place. slice_index_or c.args.sums.now place 0) c.loop-place.place c.loop-place.least c.key.result _
-    c.loop-place.invariant (omega arith) c.key.ensures c.min-least.ensures
-
-pub returns : goal.returns
-returns c =
-    let some = c.requires.some in
-    let end = c.loop-place.auto.place-end some in
-    let outside = c.loop-place-test.false in
-    all_keys (λ place. slice_index_or c.args.sums.now place 0) c.loop-place.invariant (omega arith)
+    let value = λ (place : ℕ). slice_index_or c.args.sums.now place 0 in
+    let at = c.loop-place in
+    elim c.if-sums-place.branch [
+      | then-sums-place w ↦ rw w.found-is (lower value at.place at.found.place at.found.sum at.invariant w.if-sums-place.true)
+      | else-sums-place w ↦ rw w.found-is (kept value at.place at.found.place at.found.sum at.invariant w.if-sums-place.false)
+    ]

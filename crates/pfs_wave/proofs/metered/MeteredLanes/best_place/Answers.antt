@@ -1,7 +1,7 @@
 use Rattle.std.proofs.Common.{arith}
 use Rattle.pfs_base.specs.FlowShop.{FlowShop}
 use Rattle.pfs_order.proofs.Published.Sequences.{length-lt-size}
-use Rattle.pfs_wave.proofs.ServedPaths.{served_span}
+use Rattle.pfs_wave.proofs.ServedPaths.{best_span}
 use Rattle.pfs_wave.proofs.metered.MeteredLanes.best_place.Goals as goal
 
 pub length-requires : goal.length-requires
@@ -11,7 +11,7 @@ length-requires c =
     let seq = c.args.seq.now in
     let few = length-lt-size seq.size c.args.job seq.jobs (omega (arith, c.requires.job, c.requires.size))
     c.requires.absent c.len.ensures.sequence in
-    served_span shop self.wave self.serves seq.jobs c.args.job c.find-best.result.place c.find-best.result.span
+    best_span shop seq.jobs c.args.job c.find-best.result.place c.find-best.result.span self.within
     (omega (arith, few, c.requires.size)) (rw c.count-permits.ensures.shop at c.find-best.ensures.best)
 
 pub returns-clause-best : goal.returns-clause-best

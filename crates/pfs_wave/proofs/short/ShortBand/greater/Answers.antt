@@ -1,6 +1,6 @@
 use Rattle.std.proofs.Common.{max, length, ap, ◌∙◌, arith}
 use Rattle.pfs_wave.proofs.Steps.{length-zip}
-use Rattle.pfs_wave.proofs.VectorLemmas.{greater_is}
+use Rattle.pfs_wave.proofs.VectorLemmas.{short_greater_is}
 use Rattle.pfs_wave.proofs.short.ShortBand.greater.Goals as goal
 
 pub invariant_of-result : goal.invariant_of-result
@@ -9,7 +9,7 @@ invariant_of-result c =
     let b = c.args.other.values in
     let long = c.args.self.eight in
     let too = c.args.other.eight in
-    record { eight = ap length (greater_is a b) ∙ length-zip 8 max a b (omega arith) too }
+    record { eight = ap length (short_greater_is a b) ∙ length-zip 8 max a b (omega arith) too }
 
 pub returns : goal.returns
-returns c = greater_is c.args.self.values c.args.other.values
+returns c = short_greater_is c.args.self.values c.args.other.values

@@ -1,11 +1,21 @@
-use Rattle.std.proofs.Common.{refl}
+use Rattle.std.proofs.Common.{arith}
 use Rattle.pfs_wave.proofs.ServedPaths.{served_times}
 use Rattle.pfs_wave.proofs.wave.Wave.new.Goals as goal
 
 pub new-requires : goal.new-requires
 new-requires c =
-    served_times c.args.instance.now.shop 65535
-    (record { jobs = c.requires.jobs; some = c.requires.some; short = c.if-fits_short.ensures.0 refl })
+    let path = c.path_bound-path.ensures in
+    let sizes = path.within.sizes in
+    served_times c.args.instance.now.shop 65535 sizes.some_machine (omega (arith, path.value, c.if-path-lt65535.true)) sizes.some_job
 
-pub new-requires-else-fits_short : goal.new-requires-else-fits_short
-new-requires-else-fits_short c = served_times c.args.instance.now.shop 2147483647 c.requires
+pub new-requires-then-path-lt2147483647 : goal.new-requires-then-path-lt2147483647
+new-requires-then-path-lt2147483647 c =
+    let path = c.path_bound-path.ensures in
+    let sizes = path.within.sizes in
+    served_times c.args.instance.now.shop 2147483647 sizes.some_machine (omega (arith, path.value, c.if-path-lt2147483647.true)) sizes.some_job
+
+pub new-requires-else-path-lt2147483647 : goal.new-requires-else-path-lt2147483647
+new-requires-else-path-lt2147483647 c =
+    let path = c.path_bound-path.ensures in
+    let sizes = path.within.sizes in
+    served_times c.args.instance.now.shop 18446744073709551615 sizes.some_machine (omega (arith, path.value, path.small)) sizes.some_job

@@ -1,0 +1,15 @@
+use Rattle.std.proofs.Common.{length, ap, ◌∙◌, arith}
+use Rattle.pfs_wave.specs.Private.Lanes.{capped_add}
+use Rattle.pfs_wave.proofs.Steps.{length-zip}
+use Rattle.pfs_wave.proofs.wide.WideBand.sum.Goals as goal
+
+pub invariant_of-result : goal.invariant_of-result
+invariant_of-result c =
+    let a = c.args.self.values in
+    let b = c.args.other.values in
+    let long = c.args.self.eight in
+    record {
+      eight =
+          ap length c.saturating_sum.ensures
+          ∙ length-zip 8 (capped_add 18446744073709551615) a b (omega arith) c.args.other.eight;
+    }
