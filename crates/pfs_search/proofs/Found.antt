@@ -13,7 +13,7 @@ use Rattle.pfs_base.specs.Paths.{makespan}
 use Rattle.pfs_base.proofs.Published.Heads.{none_longer}
 use Rattle.pfs_order.specs.Sequence.{IsSequence}
 use Rattle.pfs_insert.specs.Insertion.{heads_tails_cost}
-use Rattle.pfs_search.specs.Costs.{neh_cost, neh_cost_on, round_cost, round_cost_on, HasClosedCosts}
+use Rattle.pfs_search.specs.Costs.{neh_cost, round_cost, HasClosedCosts}
 use Rattle.pfs_search.specs.Greedy.{after_rounds, words_of}
 use Rattle.pfs_search.specs.MostCells.{most_neh_cells, most_rounds_cells, FewNehCells, FewRoundsCells}
 use Rattle.pfs_search.specs.Neh.{neh_order}
@@ -24,7 +24,7 @@ use Rattle.pfs_search.proofs.Published.CostSums.{costs_law}
 
 -- ---- cells
 
-closed : HasClosedCosts heads_tails_cost
+pub closed : HasClosedCosts heads_tails_cost
 closed = costs_law heads_tails_cost (λ count machines some. refl)
 
 -- the cells of `rounds` rounds
@@ -92,9 +92,6 @@ few_rounds_cells shop rounds take passes within few short scarce =
     through _ _ most_rounds_cells (rounds_cells_few shop rounds take passes few)
     (mul-le-mul (mul-le-mul (mul-le-mul short moved) sizes.few_machines) width)
 
-pub neh_is : (shop : FlowShop) → neh_cost_on heads_tails_cost shop ≡ neh_cells shop
-neh_is shop = closed.neh shop.jobs shop.machines
-
 -- a count of 64 bits has room for these cells
 pub neh_room : (shop : FlowShop) → IsWithin limits shop → neh_cost heads_tails_cost shop.jobs shop.machines < 2 ^ 62
 neh_room shop within = rw (closed.neh shop.jobs shop.machines)
@@ -106,12 +103,6 @@ pub rounds_room : (shop : FlowShop) (rounds take passes : ℕ) → IsWithin limi
 rounds_room shop rounds take passes within few short scarce = rw (rounds_cells_are shop rounds take passes few)
     (below_room _ most_rounds_cells (few_rounds_cells shop rounds take passes within few short scarce) (lit< tt))
 
-pub insertion_room : (count machines : ℕ) → count ≤ MOST_JOBS → machines ≤ MOST_MACHINES
-    → heads_tails_cost (count + 1) machines < 2 ^ 62
-insertion_room count machines few few_machines =
-    let width : 4 * (count + 1) - 2 ≤ 4 * (MOST_JOBS + 1) - 2 = omega arith in
-    below_room _ ((4 * (MOST_JOBS + 1) - 2) * MOST_MACHINES) (mul-le-mul width few_machines) (lit< tt)
-
 pub both_fit : (shop : FlowShop) (rounds take passes one other : ℕ) → IsWithin limits shop → take ≤ shop.jobs
     → rounds ≤ MOST_ROUNDS → passes ≤ MOST_PASSES → one ≡ neh_cells shop → other ≡ rounds_cells shop rounds take passes
     → one + other < 2 ^ 64
@@ -120,15 +111,6 @@ both_fit shop rounds take passes one other within few short scarce is_one is_oth
     let other_fits : other < 2 ^ 62 =
     rw is_other (below_room _ most_rounds_cells (few_rounds_cells shop rounds take passes within few short scarce) (lit< tt)) in
     omega (arith, one_fits, other_fits)
-
--- the costs where insertions cost as much as by heads and tails
-pub same_neh : {cost : ℕ → ℕ → ℕ} (shop : FlowShop) → cost ≡ heads_tails_cost
-    → neh_cost_on cost shop ≡ neh_cost_on heads_tails_cost shop
-same_neh shop same = ap (λ c. neh_cost_on c shop) same
-
-pub same_rounds : {cost : ℕ → ℕ → ℕ} (shop : FlowShop) (rounds take passes : ℕ) → cost ≡ heads_tails_cost
-    → rounds * round_cost_on cost shop take passes ≡ rounds * round_cost_on heads_tails_cost shop take passes
-same_rounds shop rounds take passes same = ap (λ c. rounds * round_cost_on c shop take passes) same
 
 -- ---- makespans
 

@@ -1,7 +1,6 @@
 //! The searcher: NEH and rounds of iterated greedy.
-ghost use Rattle.std.specs.Prelude.{◌≡◌, ◌+◌, ◌*◌, ◌<◌, ◌≤◌, ◌^◌, length, Contains, IfOk, OnOk, OnErr, IfErr};
+ghost use Rattle.std.specs.Prelude.{◌≡◌, ◌+◌, ◌*◌, ◌<◌, ◌≤◌, ◌^◌, length, IfOk, OnOk, OnErr, IfErr};
 ghost use Rattle.pfs_base.specs.Paths.{makespan};
-ghost use Rattle.pfs_insert.specs.Inserter.{Fits, IsBestPlace};
 ghost use Rattle.pfs_search.specs.Neh.{neh_order};
 ghost use Rattle.pfs_search.specs.Costs.{neh_cost_on, round_cost_on};
 ghost use Rattle.pfs_search.specs.Greedy.{after_round, after_rounds, stream_after, words_of};
@@ -14,8 +13,8 @@ use crate::insertions::{clear, insert_all};
 use crate::kept::Kept;
 use crate::rankings::rank_jobs;
 use crate::workspace::Workspace;
-use pfs_base::{Bench, Instance, Length, MOST_JOBS, MOST_PASSES, Shop, Span};
-use pfs_insert::{Inserter, Placed, RowTable};
+use pfs_base::{Bench, Length, MOST_JOBS, MOST_PASSES, Shop};
+use pfs_insert::Inserter;
 use pfs_order::Seq;
 use rand_core::Rng;
 use std::alloc::Global;
@@ -189,32 +188,5 @@ impl<I> Searcher<I> {
             }
         }
         Ok(())
-    }
-}
-
-/// The best place for a job that is not in a sequence, and the makespan with the job there.
-pub(crate) fn best_by_rows(
-    alloc: Global,
-    instance: &Instance,
-    searcher: &mut Searcher<RowTable<Span>>,
-    seq: &Seq,
-    job: usize,
-) -> Placed<u64>
-    requires fits { Fits instance.now.shop searcher.old.inserter seq.now.size }
-    requires job { job < seq.now.size }
-    requires absent { Contains seq.now.jobs job → ⊥ }
-    ensures best { IsBestPlace instance.now.shop seq.now.jobs job result.place result.span }
-    ensures size { searcher.new.size ≡ searcher.old.size }
-    ensures still { Fits instance.now.shop searcher.new.inserter seq.now.size }
-{
-    // Called for its contract, which says that a sequence is no longer than its size.
-    let _size = seq.size();
-    let mut bench = instance.metered();
-    match searcher.work.inserter.best(alloc, &mut bench, seq, job) {
-        Ok(best) => Placed {
-            place: best.place,
-            span: bench.reveal(best.span),
-        },
-        Err(_) => unreachable!(),
     }
 }

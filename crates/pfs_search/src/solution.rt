@@ -26,9 +26,9 @@ pub struct Solution {
 
 /// NEH's order (Nawaz, Enscore, Ham 1983), followed by rounds of iterated greedy (Ruiz, Stützle 2007). Each round
 /// removes `rounds.take` jobs, chosen by the next random words of Pcg32 for the seed, inserts each at its best place,
-/// and makes `rounds.passes` passes. Best places are found by heads and tails (Taillard 1990): along anti-diagonals
-/// where a wavefront serves the instance (`is_served`), and else by rows. The function reserves all memory before NEH
-/// begins. It returns `Memory` with `done` 0 where that fails, and no other error.
+/// and makes `rounds.passes` passes. Best places are found by heads and tails (Taillard 1990), along anti-diagonals. The
+/// function reserves all memory before NEH begins. It returns `Memory` with `done` 0 where that fails, and no other
+/// error.
 pub fn solve(alloc: Global, instance: &Instance, rounds: Rounds) -> Result<Solution, SearchFault>
     requires limits { InLimits instance.now.shop 0 rounds }
     ensures found { IfOk result (λ found. IsFound instance.now.shop rounds.count rounds.take rounds.passes rounds.seed
@@ -47,9 +47,8 @@ pub fn solve(alloc: Global, instance: &Instance, rounds: Rounds) -> Result<Solut
 }
 
 /// Rounds `first` to `first + rounds.count - 1` of the search of a seed, counted from 0, from a given order of all
-/// jobs. The cells are those of these rounds alone: the makespan of the given order isn't counted. The rounds are
-/// computed by the same method as in `solve`. The function reserves all memory before the first round. It returns
-/// `Memory` with `done` 0 where that fails, and no other error.
+/// jobs. The cells are those of these rounds alone: the makespan of the given order isn't counted. The function reserves
+/// all memory before the first round. It returns `Memory` with `done` 0 where that fails, and no other error.
 pub fn improve(
     alloc: Global,
     instance: &Instance,

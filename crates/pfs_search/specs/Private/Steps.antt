@@ -7,7 +7,6 @@ use Rattle.std.specs.declared.cmp.Reverse.{Reverse}
 use Rattle.rand_core.specs.Stream.{Stream}
 use Rattle.pfs_base.specs.FlowShop.{FlowShop, total_of}
 use Rattle.pfs_base.specs.Paths.{makespan}
-use Rattle.pfs_insert.specs.Insertion.{heads_tails_cost}
 use Rattle.pfs_order.specs.Sequence.{IsSequence, Sequence, all_jobs}
 use Rattle.pfs_insert.specs.Inserter.{Counts, Fits, Sizes}
 use Rattle.pfs_search.specs.Greedy.{jobs_left, jobs_taken, stream_after, words_of}
@@ -103,12 +102,6 @@ pub record AreTotals (shop : FlowShop) (listed : List (Reverse ℕ × ℕ)) : Ty
   pub totals_are : All (λ entry. entry.0.0 ≡ total_of shop entry.1) listed
 
 -- ---- whole searches
-
--- an inserter that has the cost of heads and tails and can't fail, and a bench that has counted no cell
-pub record MayStart (counted : ℕ) (cells : ℕ → ℕ → ℕ) (can_fail : Bool) : Type 0 where
-  pub cost : cells ≡ heads_tails_cost
-  pub sure : can_fail ≡ false
-  pub fresh : counted ≡ 0
 
 -- `Holds` of what a search returns; where it fails, memory allocation failed before its first round
 abbrev pub UnlessMemory : {A : Type 0} → Result A SearchFault → (A → Type 0) → Type 0

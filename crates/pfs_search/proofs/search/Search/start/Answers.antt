@@ -1,8 +1,7 @@
-use Rattle.std.proofs.Common.{length, ap, subst, ◌∙◌, arith}
+use Rattle.std.proofs.Common.{subst, arith}
 use Rattle.pfs_base.specs.FlowShop.{IsWithin}
 use Rattle.pfs_base.specs.Limits.{limits}
 use Rattle.pfs_base.proofs.Published.Heads.{none_longer}
-use Rattle.pfs_search.proofs.Methods.{with_order}
 use Rattle.pfs_search.proofs.search.Search.start.Goals as goal
 
 pub length-self-requires : goal.length-self-requires
@@ -11,10 +10,3 @@ length-self-requires c =
     let within = subst (IsWithin limits) c.metered-bench.ensures.shop c.metered-bench.result.within in
     let short = none_longer shop c.args.jobs.now within (omega (arith, c.requires.full)) in
     omega (arith, short, c.requires.span, c.with-paid.ensures)
-
-pub returns-clause-still : goal.returns-clause-still
-returns-clause-still c = record {
-  method =
-      with_order c.args.instance.now.shop c.args.self.now.method c.args.self.now.kept.order c.set.new.self
-      c.requires.own.method (ap length c.set.ensures ∙ c.requires.full);
-}
