@@ -9,10 +9,9 @@ from support.needs import tool
 from support.program import Program
 
 
-# Functions that compute no cell: the choice of the jobs to remove, the ranking, and the whole search, also by rows,
-# which has its bench as a value.
-WITHOUT_CELLS = {"greedy::take_jobs", "rankings::rank_jobs", "rankings::sort_jobs", "solution::solve",
-                 "solution::solve_by_rows", "solution::solve_in_lanes"}
+# Functions that compute no cell: the choice of the jobs to remove, the ranking, and the whole search, which has its
+# bench as a value.
+WITHOUT_CELLS = {"greedy::take_jobs", "rankings::rank_jobs", "rankings::sort_jobs", "solution::solve"}
 
 
 @pytest.mark.parametrize("module", ["pfs_audit::recurrence", "pfs_base::metered", "pfs_insert", "pfs_search"])

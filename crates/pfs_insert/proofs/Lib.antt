@@ -1,9 +1,6 @@
 pub mod Published
 pub mod Exchange
 pub mod FirstLeast
-pub mod FlatRows
-pub mod HeadTables
 pub mod Joined
 pub mod RowSteps
 pub mod TailRows
-pub mod TailTables

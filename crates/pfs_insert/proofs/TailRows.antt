@@ -1,6 +1,6 @@
 -- The recurrences of heads and tails, and how short they are.
 use Rattle.std.proofs.Common.{◌≡◌, ℕ, zero, suc, ◌+◌, ◌-◌, ◌*◌, ◌<◌, ◌≤◌, max, List, length, get_or, insert, refl, ap}
-use Rattle.std.proofs.Common.{sym, ◌∙◌, inl, inr, add-one, arith}
+use Rattle.std.proofs.Common.{sym, ◌∙◌, inl, inr, add-one, arith, Bool, true, false}
 use Rattle.std.proofs.lemmas.Bool.{cases_lt, lt-ltb}
 use Rattle.pfs_base.specs.declared.limits.TheConstants.{MOST_JOBS, MOST_MACHINES, LONGEST_TIME}
 use Rattle.pfs_base.specs.FlowShop.{FlowShop, time_of, IsWithin}
@@ -9,7 +9,7 @@ use Rattle.pfs_base.specs.Paths.{operation}
 use Rattle.pfs_base.proofs.Published.Heaviest.{most, most_here, most_on, most_down, most_first, most_moved}
 use Rattle.pfs_base.proofs.Published.Heads.{head, head_le, head_step, heaviest_is, time_of-le}
 use Rattle.pfs_insert.specs.Exchange.{heaviest_front, heaviest_back}
-use Rattle.pfs_insert.specs.Private.Rows.{next_row, head_row, tail_row, head_of}
+use Rattle.pfs_insert.specs.Private.Rows.{head_of, in_turn, next_row, row_value, times_in_turn}
 use Rattle.pfs_insert.proofs.Exchange.{back_none, operation_before, operation_at}
 use Rattle.pfs_insert.proofs.RowSteps.{next_row_same}
 
@@ -28,15 +28,6 @@ most_le weigh small (suc downs) (suc ons) row machine =
     let under = most_le weigh small downs (suc ons) (suc row) machine in
     let beside = most_le weigh small (suc downs) ons row (suc machine) in
     omega (arith, most_first weigh downs ons row machine, small row machine)
-
--- the values are the tails of a row in reverse, from the last machine to the first
-pub record IsTail (shop : FlowShop) (jobs : List ℕ) (values : ℕ → ℕ) (row : ℕ) : Type 0 where
-  pub same : (back : ℕ) → back ≤ shop.machines - 1 →
-      values back ≡ heaviest_back shop jobs row (shop.machines - 1 - back)
-
-pub tail_first : (shop : FlowShop) (jobs : List ℕ) (row : ℕ)
-    → IsTail shop jobs (λ back. heaviest_back shop jobs row (shop.machines - 1 - back)) row
-tail_first shop jobs row = record { same = λ back le. refl }
 
 module _ (shop : FlowShop) (jobs : List ℕ) where
   abbrev weigh : ℕ → ℕ → ℕ
@@ -104,37 +95,25 @@ module _ (shop : FlowShop) (jobs : List ℕ) where
   next_row_heads row zero = omega (arith, head_step weigh row 0)
   next_row_heads row (suc machine) = omega (arith, head_step weigh row (suc machine), next_row_heads row machine)
 
-module _ {shop : FlowShop} {jobs : List ℕ} {values : ℕ → ℕ} {row next job : ℕ} where
-  -- the row of tails of a job, from the row of tails below it
-  pub tail_next : IsTail shop jobs values next → next ≡ row + 1 → row < length jobs → job ≡ get_or jobs row 0
-      → IsTail shop jobs (tail_row shop job values) row
-  tail_next below later inside job_is = record { same = by_machine }
-    where
-      under : (machine : ℕ) → heaviest_back shop jobs (suc row) machine ≡ heaviest_back shop jobs next machine
-      under machine = rw (later, add-one) refl
-
-      by_machine : (back : ℕ) → back ≤ shop.machines - 1 →
-          tail_row shop job values back ≡ heaviest_back shop jobs row (shop.machines - 1 - back)
-      by_machine zero le =
-          let machine = shop.machines - 1 - 0 in
-          omega (
-            arith,
-            back_last shop jobs row machine inside (omega arith),
-            under machine,
-            below.same 0 le,
-            ap (λ j. time_of shop j machine) job_is,
-          )
-      by_machine (suc back) le =
-          let machine = shop.machines - 1 - suc back in
-          let on : shop.machines - 1 - back ≡ suc machine = omega arith in
-          omega (
-            arith,
-            back_more shop jobs row machine inside (omega arith),
-            under machine,
-            below.same (suc back) le,
-            ap (λ j. time_of shop j machine) job_is,
-            rw on at (by_machine back (omega arith)),
-          )
+  -- a row of tails, from the last machine on, is `next_row` of the row of tails below it
+  next_row_tails : (row job turn : ℕ) → row < length jobs → job ≡ get_or jobs row 0 → turn < shop.machines
+      → next_row (times_in_turn shop job true) (λ k. heaviest_back shop jobs (suc row) (last - k)) turn
+      ≡ heaviest_back shop jobs row (last - turn)
+  next_row_tails row job zero inside job_is lt =
+      omega (
+        arith,
+        back_last row (last - 0) inside (omega arith),
+        ap (λ j. time_of shop j (last - 0)) job_is,
+      )
+  next_row_tails row job (suc turn) inside job_is lt =
+      let machine = last - suc turn in
+      let on : last - turn ≡ suc machine = omega arith in
+      omega (
+        arith,
+        back_more row machine inside (omega arith),
+        ap (λ j. time_of shop j machine) job_is,
+        rw on at (next_row_tails row job turn inside job_is (omega arith)),
+      )
 
 module _ (shop : FlowShop) (jobs : List ℕ) (job place : ℕ) (within : place ≤ length jobs) where
   -- the heads of the rows before the inserted one are those of the sequence without the job
@@ -153,38 +132,39 @@ module _ (shop : FlowShop) (jobs : List ℕ) (job place : ℕ) (within : place �
       (λ k le. sym (operation_at shop jobs job place within k)) (λ k le. same_heads place k (omega arith))
       ∙ next_row_heads shop (insert jobs place job) place machine ∙ sym (heaviest_is weigh place machine)
 
--- the values are the heads of the jobs before a place
-pub record AreHeads (shop : FlowShop) (jobs : List ℕ) (values : ℕ → ℕ) (place : ℕ) : Type 0 where
-  pub same : (machine : ℕ) → values machine ≡ head_of shop jobs place machine
+head_of_is : (shop : FlowShop) (jobs : List ℕ) (place machine : ℕ)
+    → head_of shop jobs place machine ≡ head (operation shop jobs) place machine
+head_of_is shop jobs zero machine = refl
+head_of_is shop jobs (suc place) machine = heaviest_is (operation shop jobs) place machine
 
-module _ (shop : FlowShop) (jobs : List ℕ) where
-  head_of_is : (place machine : ℕ) → head_of shop jobs place machine ≡ head (operation shop jobs) place machine
-  head_of_is zero machine = refl
-  head_of_is (suc place) machine = heaviest_is (operation shop jobs) place machine
+-- the row of the next job, of heads or of tails
+pub row_next : (shop : FlowShop) (jobs : List ℕ) (back : Bool) (count job turn : ℕ) → count < length jobs
+    → job ≡ get_or jobs (in_turn back (length jobs) count) 0 → turn < shop.machines
+    → next_row (times_in_turn shop job back) (row_value shop jobs back count) turn
+    ≡ row_value shop jobs back (count + 1) turn
+row_next shop jobs false count job turn inside job_is lt =
+    next_row_same (time_of shop job) (operation shop jobs count) (head_of shop jobs count)
+    (head (operation shop jobs) count) turn (λ m le. ap (λ j. time_of shop j m) job_is)
+    (λ m le. head_of_is shop jobs count m)
+    ∙ next_row_heads shop jobs count turn ∙ rw add-one (sym (head_of_is shop jobs (suc count) turn))
+row_next shop jobs true count job turn inside job_is lt =
+    let row = length jobs - 1 - count in
+    let under : length jobs - count ≡ suc row = omega arith in
+    let here : length jobs - (count + 1) ≡ row = omega arith in
+    next_row_same (times_in_turn shop job true) (times_in_turn shop job true) (row_value shop jobs true count)
+    (λ k. heaviest_back shop jobs (suc row) (shop.machines - 1 - k)) turn (λ k le. refl)
+    (λ k le. ap (λ r. heaviest_back shop jobs r (shop.machines - 1 - k)) under)
+    ∙ next_row_tails shop jobs row job turn (omega arith) job_is lt
+    ∙ ap (λ r. heaviest_back shop jobs r (shop.machines - 1 - turn)) (sym here)
 
-  pub head_first : (place : ℕ) → AreHeads shop jobs (head_of shop jobs place) place
-  head_first place = record { same = λ machine. refl }
-
-module _ {shop : FlowShop} {jobs : List ℕ} {values : ℕ → ℕ} {place : ℕ} (is : AreHeads shop jobs values place) where
-  same_values : (m : ℕ) → values m ≡ head (operation shop jobs) place m
-  same_values m = is.same m ∙ head_of_is shop jobs place m
-
-  -- the row of heads of the place after a place
-  pub head_next : {job next : ℕ} → next ≡ place + 1 → job ≡ get_or jobs place 0 →
-      AreHeads shop jobs (head_row shop job values) next
-  head_next {job} later job_is = record {
-    same = λ machine.
-        next_row_same (time_of shop job) (operation shop jobs place) values (head (operation shop jobs) place) machine
-        (λ m le. ap (λ j. time_of shop j m) job_is) (λ m le. same_values m)
-        ∙ next_row_heads shop jobs place machine ∙ rw (later, add-one) (sym (head_of_is shop jobs (suc place) machine));
-  }
-
-  -- the row of a job inserted at a place
-  pub put_row : (job : ℕ) → place ≤ length jobs → (machine : ℕ) →
-      head_row shop job values machine ≡ heaviest_front shop (insert jobs place job) place machine
-  put_row job within machine =
-      next_row_same (time_of shop job) (time_of shop job) values (head (operation shop jobs) place) machine
-      (λ m le. refl) (λ m le. same_values m) ∙ front_is shop jobs job place within machine
+-- the row of a job inserted at a place
+pub put_row : (shop : FlowShop) (jobs : List ℕ) (job place : ℕ) → place ≤ length jobs → (machine : ℕ)
+    → next_row (times_in_turn shop job false) (head_of shop jobs place) machine
+    ≡ heaviest_front shop (insert jobs place job) place machine
+put_row shop jobs job place within machine =
+    next_row_same (time_of shop job) (time_of shop job) (head_of shop jobs place) (head (operation shop jobs) place)
+    machine (λ m le. refl) (λ m le. head_of_is shop jobs place m)
+    ∙ front_is shop jobs job place within machine
 
 -- heads and tails are within the bound on the weight of a path
 module _ (shop : FlowShop) (within : IsWithin limits shop) (jobs : List ℕ) (few : length jobs ≤ shop.jobs) where
@@ -210,6 +190,11 @@ module _ (shop : FlowShop) (within : IsWithin limits shop) (jobs : List ℕ) (fe
       let sizes = within.sizes in
       let small = λ (r m : ℕ). time_of-le shop within (get_or jobs r 0) m in
       omega (arith, head_of_is shop jobs place machine, head_le (operation shop jobs) LONGEST_TIME small place machine)
+
+  pub rows_short : (back : Bool) (count turn : ℕ) → count ≤ length jobs → turn < shop.machines
+      → row_value shop jobs back count turn ≤ (MOST_JOBS + MOST_MACHINES) * LONGEST_TIME
+  rows_short true count turn le lt = tails_short (length jobs - count) (shop.machines - 1 - turn) (omega arith)
+  rows_short false count turn le lt = heads_short count turn le lt
 
   -- the row of an inserted job is within the bound for a path of one cell more
   pub put_short : (job place machine : ℕ) → place ≤ length jobs → machine < shop.machines →

@@ -7,11 +7,9 @@ mod fault;
 mod heads_tails;
 mod inserter;
 pub mod laws;
-mod places;
 mod rows;
-mod tails;
 
 pub use afresh::Afresh;
 pub use fault::InsertFault;
-pub use heads_tails::{HeadsTails, RowTable};
+pub use heads_tails::HeadsTails;
 pub use inserter::{Inserter, Placed};

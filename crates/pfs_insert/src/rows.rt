@@ -1,107 +1,78 @@
-//! Rows of lengths, each computed from the row above or below it.
-ghost use Rattle.std.specs.Prelude.{◌+◌, ◌*◌, ◌<◌, ◌^◌, [], ◌∷◌};
+//! Rows of heads and tails, each computed from another row of the same table.
+ghost use Rattle.std.specs.Prelude.{◌≡◌, ℕ, ◌+◌, ◌*◌, ◌<◌, ◌≤◌, ◌^◌, length};
 ghost use Rattle.pfs_insert.specs.Private.Counting.{Counted};
-ghost use Rattle.pfs_insert.specs.Private.Rows.{AreHeadsAfter, AreTailsBefore, AreThreeTails, AreTwoPlaces};
-ghost use Rattle.pfs_insert.specs.Private.Rows.{CanFill, CanFillThree};
+ghost use Rattle.pfs_insert.specs.Private.Rows.{AreRows, AreSameOutside, AreShort, AreValues};
+ghost use Rattle.pfs_insert.specs.Private.Rows.{in_turn, next_row, times_in_turn};
 
 use pfs_base::{Bench, Length};
+use pfs_order::Seq;
 
-/// Fills a job's row from the row of heads above it: its row of heads, or the row of a job that is inserted.
+// Index `turn` of `count` ones, from the first on, or with `back` from the last on.
 #[inline(always)]
-pub(crate) fn fill_head<B: Bench>(bench: &mut B, job: usize, above: &[B::Span], row: &mut [B::Span])
-    requires rows { CanFill B.Span.number (B.shop bench.old) job above.now row.old }
+fn index_in_turn(count: usize, turn: usize, back: bool) -> usize
+    requires { turn < count }
+    ensures { result ≡ in_turn back count turn }
+{
+    if back { count - 1 - turn } else { turn }
+}
+
+/// Fills the row that begins at index `to` of a table, from the row that begins at `from`: a job's heads from the heads
+/// before it or, with `back`, its tails from the tails after it.
+#[inline(always)]
+pub(crate) fn fill_row<B: Bench>(
+    bench: &mut B,
+    job: usize,
+    table: &mut [B::Span],
+    from: usize,
+    to: usize,
+    back: bool,
+)
+    requires job { job < (B.shop bench.old).jobs }
+    requires before { from + (B.shop bench.old).machines ≤ to }
+    requires inside { to + (B.shop bench.old).machines ≤ length table.old }
+    requires short { AreShort B.Span.number table.old from (B.shop bench.old).machines back }
     requires room { B.counted bench.old + (B.shop bench.old).machines < 2 ^ 64 }
-    ensures row { AreHeadsAfter B.Span.number (B.shop bench.old) above.now (job ∷ []) row.new }
+    ensures row { (values : ℕ → ℕ) → AreValues B.Span.number table.old from (B.shop bench.old).machines back values
+        → AreValues B.Span.number table.new to (B.shop bench.old).machines back
+        (next_row (times_in_turn (B.shop bench.old) job back) values) }
+    ensures kept { AreSameOutside table.old table.new to (to + (B.shop bench.old).machines) }
     ensures bench { Counted (B.shop bench.old) (B.shop bench.new) (B.counted bench.old) (B.counted bench.new)
         (B.shop bench.old).machines }
 {
+    let machines = bench.machines();
     let mut before = bench.zero();
-    for machine in 0..above.len() {
-        before = bench.step(job, machine, above[machine], before);
-        row[machine] = before;
+    for turn in 0..machines {
+        let machine = index_in_turn(machines, turn, back);
+        before = bench.step(job, machine, table[from + machine], before);
+        table[to + machine] = before;
     }
 }
 
-/// Fills a job's row of tails from the row below it, from the last machine on.
+/// Fills the rows of heads of a sequence, or with `back` its rows of tails, after a row of zeros at index `start`.
 #[inline(always)]
-pub(crate) fn fill_tail<B: Bench>(bench: &mut B, job: usize, below: &[B::Span], row: &mut [B::Span])
-    requires rows { CanFill B.Span.number (B.shop bench.old) job below.now row.old }
-    requires room { B.counted bench.old + (B.shop bench.old).machines < 2 ^ 64 }
-    ensures row { AreTailsBefore B.Span.number (B.shop bench.old) below.now (job ∷ []) row.new }
-    ensures bench { Counted (B.shop bench.old) (B.shop bench.new) (B.counted bench.old) (B.counted bench.new)
-        (B.shop bench.old).machines }
-{
-    let mut after = bench.zero();
-    for machine in (0..below.len()).rev() {
-        after = bench.step(job, machine, below[machine], after);
-        row[machine] = after;
-    }
-}
-
-/// Fills the rows of tails of three jobs, each from the row below it, from the last machine on.
-#[inline(always)]
-pub(crate) fn fill_three_tails<B: Bench>(
+pub(crate) fn fill_rows<B: Bench>(
     bench: &mut B,
-    jobs: (usize, usize, usize),
-    below: &[B::Span],
-    row: &mut [B::Span],
-    next: &mut [B::Span],
-    last: &mut [B::Span],
+    seq: &Seq,
+    table: &mut [B::Span],
+    start: usize,
+    back: bool,
 )
-    requires rows { CanFillThree B.Span.number (B.shop bench.old) jobs.0 jobs.1 jobs.2 below.now
-        row.old next.old last.old }
-    requires room { B.counted bench.old + 3 * (B.shop bench.old).machines < 2 ^ 64 }
-    ensures rows { AreThreeTails B.Span.number (B.shop bench.old) below.now jobs.0 jobs.1 jobs.2
-        row.new next.new last.new }
+    requires few { length seq.now.jobs < (B.shop bench.old).jobs }
+    requires size { seq.now.size ≡ (B.shop bench.old).jobs }
+    requires inside { start + (B.shop bench.old).jobs * (B.shop bench.old).machines ≤ length table.old }
+    requires zeros { AreValues B.Span.number table.old start (B.shop bench.old).machines back (λ turn. 0) }
+    requires room { B.counted bench.old + length seq.now.jobs * (B.shop bench.old).machines < 2 ^ 64 }
+    ensures rows { AreRows B.Span.number (B.shop bench.old) seq.now.jobs table.new start back (length seq.now.jobs) }
+    ensures kept { AreSameOutside table.old table.new (start + (B.shop bench.old).machines)
+        (start + (B.shop bench.old).jobs * (B.shop bench.old).machines) }
     ensures bench { Counted (B.shop bench.old) (B.shop bench.new) (B.counted bench.old) (B.counted bench.new)
-        (3 * (B.shop bench.old).machines) }
+        (length seq.now.jobs * (B.shop bench.old).machines) }
 {
-    let (first, second, third) = jobs;
-    let mut one = bench.zero();
-    let mut two = bench.zero();
-    let mut three = bench.zero();
-    for machine in (0..below.len()).rev() {
-        one = bench.step(first, machine, below[machine], one);
-        two = bench.step(second, machine, one, two);
-        three = bench.step(third, machine, two, three);
-        row[machine] = one;
-        next[machine] = two;
-        last[machine] = three;
-    }
-}
-
-/// Fills three rows: that of a job inserted before the first of two jobs, that of the job inserted before
-/// the second, and the row of heads of the second. `jobs` are the two jobs and the inserted one. The row of heads of the first is used machine by machine,
-/// and isn't stored.
-#[inline(always)]
-pub(crate) fn fill_two_places<B: Bench>(
-    bench: &mut B,
-    jobs: (usize, usize, usize),
-    above: &[B::Span],
-    row: &mut [B::Span],
-    next: &mut [B::Span],
-    head: &mut [B::Span],
-)
-    requires rows { CanFillThree B.Span.number (B.shop bench.old) jobs.0 jobs.1 jobs.2 above.now
-        row.old next.old head.old }
-    requires room { B.counted bench.old + 4 * (B.shop bench.old).machines < 2 ^ 64 }
-    ensures rows { AreTwoPlaces B.Span.number (B.shop bench.old) above.now jobs.0 jobs.1 jobs.2
-        row.new next.new head.new }
-    ensures bench { Counted (B.shop bench.old) (B.shop bench.new) (B.counted bench.old) (B.counted bench.new)
-        (4 * (B.shop bench.old).machines) }
-{
-    let (first, second, job) = jobs;
-    let mut one = bench.zero();
-    let mut two = bench.zero();
-    let mut put = bench.zero();
-    let mut put_next = bench.zero();
-    for machine in 0..above.len() {
-        put = bench.step(job, machine, above[machine], put);
-        one = bench.step(first, machine, above[machine], one);
-        put_next = bench.step(job, machine, one, put_next);
-        two = bench.step(second, machine, one, two);
-        row[machine] = put;
-        next[machine] = put_next;
-        head[machine] = two;
+    let machines = bench.machines();
+    let len = seq.len();
+    for count in 0..len {
+        let job = seq.at(index_in_turn(len, count, back));
+        let from = start + count * machines;
+        fill_row(bench, job, table, from, from + machines, back);
     }
 }

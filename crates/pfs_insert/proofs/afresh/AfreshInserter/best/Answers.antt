@@ -1,18 +1,18 @@
-use Rattle.std.proofs.Common.{◌≡◌, ◌+◌, ◌*◌, length, ap, sym, ◌∙◌, arith}
-use Rattle.std.proofs.Math.Nat.{mul_assoc}
+use Rattle.std.proofs.Common.{◌≡◌, ◌+◌, ◌*◌, ◌≤◌, length, ap, sym, ◌∙◌, arith}
 use Rattle.std.specs.List.{insert}
 use Rattle.std.proofs.lemmas.List.Edits.{length-insert}
 use Rattle.pfs_order.specs.Sequence.{Sequence}
 use Rattle.pfs_insert.specs.Insertion.{makespan_with}
 use Rattle.pfs_insert.proofs.FirstLeast.{best_is}
-use Rattle.pfs_insert.proofs.FlatRows.{row_le}
+use Rattle.std.proofs.Math.Nat.{mul-le-mul_right, mul_assoc}
 use Rattle.pfs_insert.proofs.afresh.AfreshInserter.best.Goals as goal
 
 pub returns-in-Err-clause-cells : goal.returns-in-Err-clause-cells
 returns-in-Err-clause-cells g c =
     let machines = (g.B.Bench.shop c.args.bench.now).machines in
     let count = length c.args.seq.now.jobs + 1 in
-    let fits = row_le (c.loop-place.place + 1) count (count * machines) (omega arith) in
+    let less : c.loop-place.place + 1 ≤ count = omega arith in
+    let fits = mul-le-mul_right (count * machines) less in
     let all = mul_assoc count count machines in
     let so_far = c.loop-place.invariant.counted in
     let after = c.in-Err.ensures.uncounted in
