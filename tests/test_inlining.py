@@ -33,7 +33,7 @@ def loops(pfs: Program, loop: str) -> list[str] | None:
     return re.findall(rf"^[0-9a-f]+ <pfs_wave::{loop}\b.*>:\n((?:.+\n)+)", done.stdout, re.MULTILINE)
 
 
-# The loops. The program has an instance of each for seven numbers of vectors, with lanes of 16 and of 32 bits.
+# The loops. The program has an instance of each for seven numbers of vectors, with lanes of 16, of 32 and of 64 bits.
 LOOPS = ["times::fill_times", "tails::fill_tails", "sums::fill_sums"]
 
 
@@ -51,7 +51,7 @@ def test_a_loop_of_a_wavefront_calls_nothing(pfs: Program, loop: str) -> None:
     functions = loops(pfs, loop)
     if functions is None:
         return
-    assert len(functions) == 14
+    assert len(functions) == 21
     for body in functions:
         for call, again in calls(body):
             assert not again and call.endswith("<memset@plt>"), call

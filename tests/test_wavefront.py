@@ -1,7 +1,7 @@
-"""Instances at the limits of a wavefront. It needs at least 8 jobs. A step has 1, 2, 3, 5, 8, 13 or 26 vectors of 8
+"""Instances at the limits of a wavefront's lanes. A step has 1, 2, 3, 5, 8, 13 or 26 vectors of 8
 lanes, the fewest with a lane for each machine. The product of the longest time and the number of operations on a path
-is less than 65,535 with lanes of 16 bits, and less than 2^31 - 1 with lanes of 32 bits. Searches are compared with
-those of the second program."""
+is less than 65,535 with lanes of 16 bits, less than 2^31 - 1 with lanes of 32 bits, and greater with lanes of 64 bits.
+Searches are compared with those of the second program."""
 import pathlib
 from random import Random
 
@@ -48,7 +48,7 @@ def with_one_long_time(jobs: int, machines: int, time: int) -> Instance:
 
 SHOPS: dict[str, Instance] = {
     **{f"{jobs} jobs on {machines} machines, times to {most}": drawn(jobs, machines, most)
-       for jobs in (7, 8, 9) for machines in (1, 7, 8, 9, 15, 16, 17, 23, 24, 25) for most in (2, 99)},
+       for jobs in (1, 2, 3, 7, 8, 9) for machines in (1, 7, 8, 9, 15, 16, 17, 23, 24, 25) for most in (2, 99)},
     **{f"{jobs} jobs on {machines} machines, times to {most}": drawn(jobs, machines, most) for most in (99, 100_000)
        for jobs, machines in ((46, 25), (19, 40), (20, 41), (12, 64), (13, 65), (40, 104), (9, 105), (8, 200))},
     "times of 0": equal(9, 5, 0),
@@ -69,6 +69,13 @@ SHOPS: dict[str, Instance] = {
     # 2^31 - 1 is prime, so no instance has a longest path of it.
     "a longest path of 2^31 - 2": equal(16, 3, 119_304_647),
     "a longest path of 2^31": equal(16, 1, 134_217_728),
+    # Few jobs, and lanes of 64 bits with each number of vectors, with the longest times.
+    **{f"{jobs} jobs on {machines} machines, times to {most}": drawn(jobs, machines, most)
+       for jobs in (1, 2, 4, 6) for machines in (1, 3, 8, 26, 200) for most in (100_000, 1_000_000_000)},
+    **{f"{jobs} jobs on {machines} machines, times to 10^9": drawn(jobs, machines, 1_000_000_000)
+       for jobs, machines in ((30, 1), (40, 8), (25, 9), (20, 24), (46, 25), (20, 41), (13, 65), (9, 105), (8, 200))},
+    **{f"{jobs} jobs on {machines} machines, all times 10^9": equal(jobs, machines, 1_000_000_000)
+       for jobs, machines in ((1, 1), (1, 200), (3, 1), (9, 5), (20, 30))},
     "lanes of 32 bits on 5 machines": drawn(15, 5, 1_000_000),
     "lanes of 32 bits on 12 machines": drawn(32, 12, 1_000_000),
     "one time of 10^9": with_one_long_time(9, 5, 1_000_000_000),
@@ -101,8 +108,9 @@ def test_solve_prints_what_the_second_program_does(pfs: Program, folder: pathlib
     shop = SHOPS[name]
     rounds = 3 if cubes_of(shop) <= MOST_CUBES else 1
     (folder / "shop").write_bytes(second_program.canonical(shop, b"taillard"))
-    options = {b"--take": 3, b"--rounds": rounds, b"--seed": 1, b"--passes": 1, b"--cells": True}
-    line = f"solve --layout taillard --take 3 --rounds {rounds} --seed 1 --passes 1 --cells shop"
+    take = min(3, shop.jobs)
+    options = {b"--take": take, b"--rounds": rounds, b"--seed": 1, b"--passes": 1, b"--cells": True}
+    line = f"solve --layout taillard --take {take} --rounds {rounds} --seed 1 --passes 1 --cells shop"
     assert pfs.run(line, folder) == Ran(second_program.solved(shop, options), b"", 0)
 
 

@@ -6,7 +6,21 @@ ghost use Rattle.std.specs.Simd.Lanes.{zip2};
 ghost use Rattle.pfs_wave.specs.Private.Lanes.{capped_add, zeros};
 ghost use Rattle.pfs_wave.specs.Private.Least.{IsLeastSoFar};
 
-use crate::least::Found;
+use crate::best::Found;
+
+// The lanes that a shuffle of two bands takes, of 0 to 7 in the first and 8 to 15 in the second: those that move up and
+// down, the three blends, and those from the last to the first.
+pub const UP: [usize; 8] = [7, 8, 9, 10, 11, 12, 13, 14];
+
+pub const DOWN: [usize; 8] = [1, 2, 3, 4, 5, 6, 7, 8];
+
+pub const ODD: [usize; 8] = [0, 9, 2, 11, 4, 13, 6, 15];
+
+pub const PAIRS: [usize; 8] = [0, 1, 10, 11, 4, 5, 14, 15];
+
+pub const HALF: [usize; 8] = [0, 1, 2, 3, 12, 13, 14, 15];
+
+pub const BACK: [usize; 8] = [7, 6, 5, 4, 3, 2, 1, 0];
 
 /// Eight lanes, each a number up to `CAP`. Sums stop there.
 pub trait Band: Copy + Drop {
@@ -82,10 +96,6 @@ pub trait Band: Copy + Drop {
     fn reversed(self) -> [Self::Number; 8]
         ensures { (lane : ℕ) → lane < 8 → slice_index_or (map number result) (7 - lane) 0
             ≡ slice_index_or (lanes self) lane 0 };
-
-    /// The number 0.
-    fn nothing() -> Self::Number
-        ensures { number result ≡ 0 };
 
     /// The same number with 64 bits.
     fn wide(n: Self::Number) -> u64

@@ -1,13 +1,12 @@
 //! The passes of an insertion, and the best place.
 ghost use Rattle.std.specs.Prelude.{◌≡◌, ℕ, ◌+◌, ◌-◌, ◌*◌, ◌<◌, ◌≤◌, ◌^◌, List, length, map};
 ghost use Rattle.std.specs.List.{slice_index_or};
-ghost use Rattle.pfs_base.specs.FlowShop.{FlowShop, time_of};
+ghost use Rattle.pfs_base.specs.FlowShop.{FlowShop};
 ghost use Rattle.pfs_insert.specs.Inserter.{IsBestPlace};
 ghost use Rattle.pfs_insert.specs.Insertion.{makespan_with};
-ghost use Rattle.pfs_wave.specs.Private.Blocks.{AreTimes, IsRow, vectors_of};
-ghost use Rattle.pfs_wave.specs.Private.Padded.{on_machine, padded_time};
-ghost use Rattle.pfs_wave.specs.Private.Payment.{IsPaid};
+ghost use Rattle.pfs_wave.specs.Private.Payment.{IsInsertion};
 ghost use Rattle.pfs_wave.specs.Wavefront.{capped};
+ghost use Rattle.pfs_wave.specs.Private.Least.{IsLeastSoFar};
 
 use crate::band::Band;
 use crate::permits::Permits;
@@ -15,6 +14,58 @@ use crate::sums::fill_sums;
 use crate::tails::fill_tails;
 use pfs_base::Paid;
 use pfs_insert::Placed;
+
+/// A place, and its sum.
+#[derive(Clone, Copy, Debug, PartialEq, Eq)]
+pub struct Found {
+    pub place: usize,
+    pub sum: u64,
+}
+
+/// The first place of the least sum.
+pub fn first_least(sums: &[u64]) -> Found
+    requires { 1 ≤ length sums.now }
+    ensures { IsLeastSoFar (λ place. slice_index_or sums.now place 0) (length sums.now) result.place result.sum }
+{
+    let mut found = Found {
+        place: 0,
+        sum: sums[0],
+    };
+    for place in 1..sums.len() {
+        if sums[place] < found.sum {
+            found = Found {
+                place,
+                sum: sums[place],
+            };
+        }
+    }
+    found
+}
+
+// A key that orders places by their sums, and places of equal sums by their numbers.
+#[inline(always)]
+fn key(place: usize, sum: u16) -> u32
+    requires { place < 2 ^ 16 }
+    ensures { result ≡ sum * 65536 + place }
+{
+    u32::from(sum) * 65536 + place as u32
+}
+
+/// The same for sums of 16 bits: it is the place of the least key. The compiler vectorizes the loop.
+pub fn first_least_key(sums: &[u16]) -> Found
+    requires some { 1 ≤ length sums.now }
+    requires few { length sums.now ≤ 2 ^ 16 }
+    ensures { IsLeastSoFar (λ place. slice_index_or sums.now place 0) (length sums.now) result.place result.sum }
+{
+    let mut least = key(0, sums[0]);
+    for place in 1..sums.len() {
+        least = least.min(key(place, sums[place]));
+    }
+    Found {
+        place: (least % 65536) as usize,
+        sum: u64::from(least / 65536),
+    }
+}
 
 /// The best place of a job in a sequence, and the makespan with the job there, from the skewed times of the sequence.
 /// There are as many steps more than jobs as `lanes` have machines. `sums` gets the makespans from index 7 on.
@@ -41,16 +92,14 @@ pub fn best_place<V: Band, const N: usize>(
     ensures tails { length tails.new ≡ length tails.old }
     ensures sums { length sums.new ≡ length sums.old }
     ensures within { result.place + lanes ≤ steps }
-    ensures best { (shop : FlowShop) (jobs : List ℕ) (inserted : ℕ) → 1 ≤ shop.machines → shop.machines ≤ lanes * N
-        → length jobs + lanes ≡ steps → IsPaid permits.tails permits.sums (length jobs) shop.machines
-        → AreTimes N steps (padded_time shop jobs) (map V.lanes times.now)
-        → IsRow N (on_machine shop (time_of shop inserted)) (vectors_of (map V.lanes job.now))
+    ensures best { (shop : FlowShop) (jobs : List ℕ) (inserted : ℕ)
+        → IsInsertion shop jobs inserted N lanes steps permits.tails permits.sums
+        (map V.lanes times.now) (map V.lanes job.now)
         → (other : ℕ) → other ≤ length jobs → makespan_with shop jobs inserted other < V.CAP
         → IsBestPlace shop jobs inserted result.place result.span }
-    ensures spans { (shop : FlowShop) (jobs : List ℕ) (inserted : ℕ) → 1 ≤ shop.machines → shop.machines ≤ lanes * N
-        → length jobs + lanes ≡ steps → IsPaid permits.tails permits.sums (length jobs) shop.machines
-        → AreTimes N steps (padded_time shop jobs) (map V.lanes times.now)
-        → IsRow N (on_machine shop (time_of shop inserted)) (vectors_of (map V.lanes job.now))
+    ensures spans { (shop : FlowShop) (jobs : List ℕ) (inserted : ℕ)
+        → IsInsertion shop jobs inserted N lanes steps permits.tails permits.sums
+        (map V.lanes times.now) (map V.lanes job.now)
         → (place : ℕ) → place ≤ length jobs → slice_index_or (map V.number sums.new) (7 + place) 0
         ≡ capped V.CAP (makespan_with shop jobs inserted place) }
 {

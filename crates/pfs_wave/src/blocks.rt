@@ -13,11 +13,56 @@ use crate::best::{best_place, copy_sums};
 use crate::hold::hold;
 use crate::permits::Permits;
 use crate::rows::{shop_rows, zero_vectors};
-use crate::width::Width;
 use pfs_base::{Instance, MOST_JOBS, Paid};
 use pfs_insert::Placed;
 use std::alloc::{AllocError, Global};
 use std::marker::Model;
+
+/// The number of vectors of a step. The loops over the steps are compiled for each of these numbers.
+#[derive(Clone, Copy, Debug, PartialEq, Eq)]
+pub enum Width {
+    One,
+    Two,
+    Three,
+    Five,
+    Eight,
+    Thirteen,
+    TwentySix,
+}
+
+impl Width {
+    /// The number as an integer.
+    #[inline(always)]
+    pub fn vectors(self) -> usize
+        ensures { result ≡ vectors_in self }
+    {
+        match self {
+            Width::One => 1,
+            Width::Two => 2,
+            Width::Three => 3,
+            Width::Five => 5,
+            Width::Eight => 8,
+            Width::Thirteen => 13,
+            Width::TwentySix => 26,
+        }
+    }
+
+    /// The least number whose lanes have room for this number of machines.
+    pub fn for_machines(machines: usize) -> Width
+        requires { machines ≤ 208 }
+        ensures { machines ≤ 8 * vectors_in result }
+    {
+        match machines {
+            0..=8 => Width::One,
+            9..=16 => Width::Two,
+            17..=24 => Width::Three,
+            25..=40 => Width::Five,
+            41..=64 => Width::Eight,
+            65..=104 => Width::Thirteen,
+            _ => Width::TwentySix,
+        }
+    }
+}
 
 /// The times of an instance, the skewed times of the last sequence, and the tables of an insertion. A step has the same
 /// number of vectors of lanes in each of them, of which each lane has a block of machines.
@@ -97,7 +142,7 @@ impl<V: Band> Blocks<V> {
         let tails = zero_vectors(alloc, (jobs + 9) * count)?;
         let mut sums = Vec::new(alloc);
         sums.reserve_exact(jobs + 15)?;
-        sums.resize(jobs + 15, V::nothing())?;
+        sums.resize(jobs + 15, V::zeros().last())?;
         Ok(Blocks {
             width,
             lanes: lanes_for(machines, count),

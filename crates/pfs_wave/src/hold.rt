@@ -1,11 +1,110 @@
 //! The skewed times of one sequence, made from those of the sequence before it.
-ghost use Rattle.std.specs.Prelude.{◌≡◌, ◌+◌, ◌*◌, ◌<◌, ◌≤◌, ◌^◌, length, map, take};
-ghost use Rattle.std.specs.List.{All};
-ghost use Rattle.pfs_wave.specs.Private.HeldRows.{IsHolding};
+ghost use Rattle.std.specs.Prelude.{◌≡◌, ◌+◌, ◌*◌, ◌<◌, ◌≤◌, ◌^◌, length, map, take, ℕ, ◌-◌, true};
+ghost use Rattle.std.specs.List.{All, slice_index_or};
+ghost use Rattle.pfs_wave.specs.Private.HeldRows.{IsHolding, IsKept, IsPadded};
 
 use crate::band::Band;
-use crate::changes::{kept_rows, write_rows};
 use crate::times::{fill_times, move_back};
+
+/// The numbers of rows of a sequence that are rows of the sequence before: at its front, and at its end.
+#[derive(Clone, Copy, Debug, PartialEq, Eq)]
+pub struct Kept {
+    pub front: usize,
+    pub back: usize,
+}
+
+// For a sequence of fewer jobs it is faster to skew all rows than to compare them.
+const SHORT: usize = 32;
+
+// Whether eight rows are the same. The eight comparisons take one jump.
+#[inline(always)]
+fn are_same(held: &[usize], seq: &[usize], a: usize, b: usize) -> bool
+    requires held { a + 8 ≤ length held.now }
+    requires seq { b + 8 ≤ length seq.now }
+    ensures same { result ≡ true → (row : ℕ) → row < 8
+        → slice_index_or held.now (a + row) 0 ≡ slice_index_or seq.now (b + row) 0 }
+{
+    (held[a] == seq[b])
+        & (held[a + 1] == seq[b + 1])
+        & (held[a + 2] == seq[b + 2])
+        & (held[a + 3] == seq[b + 3])
+        & (held[a + 4] == seq[b + 4])
+        & (held[a + 5] == seq[b + 5])
+        & (held[a + 6] == seq[b + 6])
+        & (held[a + 7] == seq[b + 7])
+}
+
+// The number of rows that are the same at the front, or up to seven fewer.
+#[inline(always)]
+fn common_front(held: &[usize], seq: &[usize]) -> usize
+    ensures in_held { result ≤ length held.now }
+    ensures in_seq { result ≤ length seq.now }
+    ensures same { (row : ℕ) → row < result → slice_index_or held.now row 0 ≡ slice_index_or seq.now row 0 }
+{
+    let eights = held.len().min(seq.len()) / 8;
+    for eight in 0..eights {
+        let row = 8 * eight;
+        if !are_same(held, seq, row, row) {
+            return row;
+        }
+    }
+    8 * eights
+}
+
+// The number of rows after the front that are the same at the end, or up to seven fewer.
+#[inline(always)]
+fn common_back(held: &[usize], seq: &[usize], front: usize) -> usize
+    requires front { front ≤ length held.now }
+    requires longer { length held.now ≤ length seq.now }
+    ensures in_held { front + result ≤ length held.now }
+    ensures same { (row : ℕ) → row < length seq.now → length seq.now ≤ row + result
+        → slice_index_or held.now (row - (length seq.now - length held.now)) 0 ≡ slice_index_or seq.now row 0 }
+{
+    let eights = (held.len() - front) / 8;
+    for eight in 0..eights {
+        let left = 8 * eight + 8;
+        if !are_same(held, seq, held.len() - left, seq.len() - left) {
+            return 8 * eight;
+        }
+    }
+    8 * eights
+}
+
+/// The rows of a sequence that are rows of the sequence before. A sequence that is shorter than the one before keeps
+/// none at its end, and a sequence of fewer than `SHORT` jobs keeps none.
+#[inline(always)]
+pub fn kept_rows(held: &[usize], seq: &[usize]) -> Kept
+    ensures { IsKept held.now seq.now result.front result.back }
+{
+    if seq.len() < SHORT {
+        return Kept { front: 0, back: 0 };
+    }
+    let front = common_front(held, seq);
+    let back = if held.len() <= seq.len() {
+        common_back(held, seq, front)
+    } else {
+        0
+    };
+    Kept { front, back }
+}
+
+/// Writes the jobs of a sequence from the row `from` on, and `none` to the rows after its last job up to before `to`.
+#[inline(always)]
+pub fn write_rows(order: &mut [usize], seq: &[usize], none: usize, from: usize, to: usize)
+    requires from { from ≤ length seq.now }
+    requires longer { length seq.now ≤ to }
+    requires to { to ≤ length order.old }
+    requires front { (row : ℕ) → row < from → slice_index_or order.old row 0 ≡ slice_index_or seq.now row none }
+    requires rest { (row : ℕ) → to ≤ row → row < length order.old
+        → slice_index_or order.old row 0 ≡ slice_index_or seq.now row none }
+    ensures length { length order.new ≡ length order.old }
+    ensures rows { IsPadded order.new seq.now none }
+{
+    order[from..seq.len()].copy_from_slice(&seq[from..]);
+    for row in seq.len()..to {
+        order[row] = none;
+    }
+}
 
 /// Skews the times of a sequence over those of a sequence of `len` jobs. Only the rows between those that are the same
 /// at the front and at the end are skewed again. `order` has the jobs of the sequence, and after them the number of the

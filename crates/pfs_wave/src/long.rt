@@ -3,8 +3,8 @@ ghost use Rattle.std.proofs.Common.{refl};
 ghost use Rattle.std.specs.Prelude.{◌≡◌, ℕ, ◌≤◌, length};
 ghost use Rattle.std.specs.List.{All};
 
-use crate::band::Band;
-use crate::least::{Found, first_least};
+use crate::band::{Band, DOWN, HALF, ODD, PAIRS, UP};
+use crate::best::{Found, first_least};
 use std::simd::prelude::*;
 
 /// Eight lanes of 32 bits, each a number up to 2^31 - 1. So no sum of two lanes wraps, and it stops at 2^31 - 1.
@@ -30,73 +30,56 @@ impl Band for Long {
 
     #[inline(always)]
     fn zeros() -> Long {
-        Long {
-            values: u32x8::splat(0),
-        }
+        let values = u32x8::splat(0);
+        Long { values }
     }
 
     #[inline(always)]
     fn from_times(times: [u32; 8]) -> Long {
-        Long {
-            values: u32x8::from_array(times),
-        }
+        let values = u32x8::from_array(times);
+        Long { values }
     }
 
     #[inline(always)]
     fn up(self, carry: Long) -> Long {
-        Long {
-            values: carry
-                .values
-                .shuffle(self.values, [7, 8, 9, 10, 11, 12, 13, 14]),
-        }
+        let values = carry.values.shuffle(self.values, UP);
+        Long { values }
     }
 
     #[inline(always)]
     fn down(self, carry: Long) -> Long {
-        Long {
-            values: self.values.shuffle(carry.values, [1, 2, 3, 4, 5, 6, 7, 8]),
-        }
+        let values = self.values.shuffle(carry.values, DOWN);
+        Long { values }
     }
 
     #[inline(always)]
     fn greater(self, other: Long) -> Long {
-        Long {
-            values: self.values.simd_max(other.values),
-        }
+        let values = self.values.simd_max(other.values);
+        Long { values }
     }
 
     #[inline(always)]
     fn sum(self, other: Long) -> Long {
-        Long {
-            values: (self.values + other.values).simd_min(u32x8::splat(2147483647)),
-        }
+        let values = (self.values + other.values).simd_min(u32x8::splat(2147483647));
+        Long { values }
     }
 
     #[inline(always)]
     fn odd_from(self, other: Long) -> Long {
-        Long {
-            values: self
-                .values
-                .shuffle(other.values, [0, 9, 2, 11, 4, 13, 6, 15]),
-        }
+        let values = self.values.shuffle(other.values, ODD);
+        Long { values }
     }
 
     #[inline(always)]
     fn pairs_from(self, other: Long) -> Long {
-        Long {
-            values: self
-                .values
-                .shuffle(other.values, [0, 1, 10, 11, 4, 5, 14, 15]),
-        }
+        let values = self.values.shuffle(other.values, PAIRS);
+        Long { values }
     }
 
     #[inline(always)]
     fn half_from(self, other: Long) -> Long {
-        Long {
-            values: self
-                .values
-                .shuffle(other.values, [0, 1, 2, 3, 12, 13, 14, 15]),
-        }
+        let values = self.values.shuffle(other.values, HALF);
+        Long { values }
     }
 
     #[inline(always)]
@@ -117,11 +100,6 @@ impl Band for Long {
             u64::from(values[1]),
             u64::from(values[0]),
         ]
-    }
-
-    #[inline(always)]
-    fn nothing() -> u64 {
-        0
     }
 
     #[inline(always)]

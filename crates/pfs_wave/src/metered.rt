@@ -9,9 +9,8 @@ ghost use Rattle.pfs_wave.specs.Private.Payment.{IsPaid};
 ghost use Rattle.pfs_wave.specs.Private.Waves.{Serves};
 
 use crate::narrow::Narrow;
-use crate::of_shop::OfShop;
 use crate::permits::Permits;
-use crate::tables::LaneTables;
+use crate::tables::{LaneTables, OfShop};
 use crate::wave::Wave;
 use pfs_base::{Bench, Instance, Length, Metered, Paid, Shop, Span};
 use pfs_insert::Placed;

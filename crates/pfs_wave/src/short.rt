@@ -4,8 +4,8 @@ ghost use Rattle.std.specs.Prelude.{◌≡◌, ℕ, ◌≤◌, length, min};
 ghost use Rattle.std.specs.Simd.Lanes.{Each1, zip2};
 ghost use Rattle.pfs_wave.specs.Private.Lanes.{capped_add};
 
-use crate::band::Band;
-use crate::least::{Found, first_least_key};
+use crate::band::{BACK, Band, DOWN, HALF, ODD, PAIRS, UP};
+use crate::best::{Found, first_least_key};
 use std::simd::prelude::*;
 
 /// Eight lanes of 16 bits. Sums stop at 65,535, as the processor's do.
@@ -38,9 +38,8 @@ impl Band for Short {
 
     #[inline(always)]
     fn zeros() -> Short {
-        Short {
-            values: u16x8::splat(0),
-        }
+        let values = u16x8::splat(0);
+        Short { values }
     }
 
     #[inline(always)]
@@ -61,59 +60,44 @@ impl Band for Short {
 
     #[inline(always)]
     fn up(self, carry: Short) -> Short {
-        Short {
-            values: carry
-                .values
-                .shuffle(self.values, [7, 8, 9, 10, 11, 12, 13, 14]),
-        }
+        let values = carry.values.shuffle(self.values, UP);
+        Short { values }
     }
 
     #[inline(always)]
     fn down(self, carry: Short) -> Short {
-        Short {
-            values: self.values.shuffle(carry.values, [1, 2, 3, 4, 5, 6, 7, 8]),
-        }
+        let values = self.values.shuffle(carry.values, DOWN);
+        Short { values }
     }
 
     #[inline(always)]
     fn greater(self, other: Short) -> Short {
-        Short {
-            values: self.values.simd_max(other.values),
-        }
+        let values = self.values.simd_max(other.values);
+        Short { values }
     }
 
     #[inline(always)]
     fn sum(self, other: Short) -> Short {
-        Short {
-            values: saturating_sum(self.values, other.values),
-        }
+        let values = saturating_sum(self.values, other.values);
+        Short { values }
     }
 
     #[inline(always)]
     fn odd_from(self, other: Short) -> Short {
-        Short {
-            values: self
-                .values
-                .shuffle(other.values, [0, 9, 2, 11, 4, 13, 6, 15]),
-        }
+        let values = self.values.shuffle(other.values, ODD);
+        Short { values }
     }
 
     #[inline(always)]
     fn pairs_from(self, other: Short) -> Short {
-        Short {
-            values: self
-                .values
-                .shuffle(other.values, [0, 1, 10, 11, 4, 5, 14, 15]),
-        }
+        let values = self.values.shuffle(other.values, PAIRS);
+        Short { values }
     }
 
     #[inline(always)]
     fn half_from(self, other: Short) -> Short {
-        Short {
-            values: self
-                .values
-                .shuffle(other.values, [0, 1, 2, 3, 12, 13, 14, 15]),
-        }
+        let values = self.values.shuffle(other.values, HALF);
+        Short { values }
     }
 
     #[inline(always)]
@@ -123,14 +107,7 @@ impl Band for Short {
 
     #[inline(always)]
     fn reversed(self) -> [u16; 8] {
-        self.values
-            .shuffle(self.values, [7, 6, 5, 4, 3, 2, 1, 0])
-            .to_array()
-    }
-
-    #[inline(always)]
-    fn nothing() -> u16 {
-        0
+        self.values.shuffle(self.values, BACK).to_array()
     }
 
     #[inline(always)]

@@ -4,15 +4,21 @@ ghost use Rattle.std.specs.List.{slice_index_or};
 ghost use Rattle.pfs_insert.specs.Inserter.{IsBestPlace};
 ghost use Rattle.pfs_insert.specs.Insertion.{makespan_with};
 ghost use Rattle.pfs_wave.specs.Tables.{HasLanes};
+ghost use Rattle.pfs_base.specs.FlowShop.{FlowShop};
 
 use crate::narrow::{Narrow, narrow_lanes};
-use crate::of_shop::OfShop;
 use crate::permits::Permits;
 use crate::wave::Wave;
 use pfs_base::Instance;
 use pfs_insert::Placed;
 use pfs_order::Seq;
 use std::alloc::{AllocError, Global};
+
+/// Tables, or other memory, that are filled for one shop and kept between calls.
+pub trait OfShop {
+    /// That it is made for a shop.
+    ghost is_of: { Self → FlowShop → Type 0 };
+}
 
 /// The times of an instance in lanes, with all memory of an insertion. It has narrow lanes, of
 /// 16 bits, where its own have more and all times fit in 16.

@@ -8,7 +8,7 @@ ghost use Rattle.pfs_wave.specs.Private.SkewedBand.{IsFilled};
 
 use crate::band::Band;
 use crate::blends::Blends;
-use crate::changes::Kept;
+use crate::hold::Kept;
 use crate::vectors::put;
 
 /// The rows from `from` to before `to`, at the steps before `end`.

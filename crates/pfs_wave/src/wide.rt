@@ -4,8 +4,8 @@ ghost use Rattle.std.specs.Prelude.{◌≡◌, ℕ, ◌≤◌, length, min};
 ghost use Rattle.std.specs.Simd.Lanes.{Each1, zip2};
 ghost use Rattle.pfs_wave.specs.Private.Lanes.{capped_add};
 
-use crate::band::Band;
-use crate::least::{Found, first_least};
+use crate::band::{BACK, Band, DOWN, HALF, ODD, PAIRS, UP};
+use crate::best::{Found, first_least};
 use std::simd::prelude::*;
 
 /// Eight lanes of 64 bits. Sums stop at 2^64 - 1.
@@ -38,9 +38,8 @@ impl Band for Wide {
 
     #[inline(always)]
     fn zeros() -> Wide {
-        Wide {
-            values: u64x8::splat(0),
-        }
+        let values = u64x8::splat(0);
+        Wide { values }
     }
 
     #[inline(always)]
@@ -61,59 +60,44 @@ impl Band for Wide {
 
     #[inline(always)]
     fn up(self, carry: Wide) -> Wide {
-        Wide {
-            values: carry
-                .values
-                .shuffle(self.values, [7, 8, 9, 10, 11, 12, 13, 14]),
-        }
+        let values = carry.values.shuffle(self.values, UP);
+        Wide { values }
     }
 
     #[inline(always)]
     fn down(self, carry: Wide) -> Wide {
-        Wide {
-            values: self.values.shuffle(carry.values, [1, 2, 3, 4, 5, 6, 7, 8]),
-        }
+        let values = self.values.shuffle(carry.values, DOWN);
+        Wide { values }
     }
 
     #[inline(always)]
     fn greater(self, other: Wide) -> Wide {
-        Wide {
-            values: self.values.simd_max(other.values),
-        }
+        let values = self.values.simd_max(other.values);
+        Wide { values }
     }
 
     #[inline(always)]
     fn sum(self, other: Wide) -> Wide {
-        Wide {
-            values: saturating_sum(self.values, other.values),
-        }
+        let values = saturating_sum(self.values, other.values);
+        Wide { values }
     }
 
     #[inline(always)]
     fn odd_from(self, other: Wide) -> Wide {
-        Wide {
-            values: self
-                .values
-                .shuffle(other.values, [0, 9, 2, 11, 4, 13, 6, 15]),
-        }
+        let values = self.values.shuffle(other.values, ODD);
+        Wide { values }
     }
 
     #[inline(always)]
     fn pairs_from(self, other: Wide) -> Wide {
-        Wide {
-            values: self
-                .values
-                .shuffle(other.values, [0, 1, 10, 11, 4, 5, 14, 15]),
-        }
+        let values = self.values.shuffle(other.values, PAIRS);
+        Wide { values }
     }
 
     #[inline(always)]
     fn half_from(self, other: Wide) -> Wide {
-        Wide {
-            values: self
-                .values
-                .shuffle(other.values, [0, 1, 2, 3, 12, 13, 14, 15]),
-        }
+        let values = self.values.shuffle(other.values, HALF);
+        Wide { values }
     }
 
     #[inline(always)]
@@ -123,14 +107,7 @@ impl Band for Wide {
 
     #[inline(always)]
     fn reversed(self) -> [u64; 8] {
-        self.values
-            .shuffle(self.values, [7, 6, 5, 4, 3, 2, 1, 0])
-            .to_array()
-    }
-
-    #[inline(always)]
-    fn nothing() -> u64 {
-        0
+        self.values.shuffle(self.values, BACK).to_array()
     }
 
     #[inline(always)]

@@ -5,8 +5,8 @@ use Rattle.std.specs.List.{slice_index_or}
 use Rattle.pfs_base.specs.FlowShop.{FlowShop, time_of}
 use Rattle.pfs_wave.specs.Private.Lanes.{capped_add}
 use Rattle.pfs_wave.specs.Private.Padded.{on_machine}
-use Rattle.pfs_wave.specs.declared.width.Width.{Width}
-use Rattle.pfs_wave.specs.declared.width.Width.TheVariants as width
+use Rattle.pfs_wave.specs.declared.blocks.Width.{Width}
+use Rattle.pfs_wave.specs.declared.blocks.Width.TheVariants as width
 
 -- a value for each row and machine
 abbrev pub Cells : Type 0

@@ -1,6 +1,8 @@
--- What the passes of an insertion are paid for.
-use Rattle.std.specs.Prelude.{ℕ, ◌≡◌, ◌+◌, ◌*◌, ◌≤◌}
-use Rattle.pfs_wave.specs.Private.Blocks.{Cells}
+-- What the passes of an insertion are given, and what they are paid for.
+use Rattle.std.specs.Prelude.{ℕ, ◌≡◌, ◌+◌, ◌*◌, ◌≤◌, List, length}
+use Rattle.pfs_base.specs.FlowShop.{FlowShop, time_of}
+use Rattle.pfs_wave.specs.Private.Blocks.{AreTimes, Cells, IsRow, vectors_of}
+use Rattle.pfs_wave.specs.Private.Padded.{on_machine, padded_time}
 
 -- the values from this number on are 0
 abbrev pub IsNoneFrom : ℕ → (ℕ → ℕ) → Type 0
@@ -16,3 +18,14 @@ pub record AreTimesOf (rows machines : ℕ) (time : Cells) : Type 0 where
 pub record IsPaid (tails sums rows machines : ℕ) : Type 0 where
   pub tails_are : tails ≡ rows * machines
   pub sums_are : sums ≡ (3 * rows + 2) * machines
+
+-- the passes insert a job into a sequence of a shop: they have as many steps more than rows as lanes have machines, the
+-- permits, the times of the sequence, and those of the job
+pub record IsInsertion (shop : FlowShop) (jobs : List ℕ) (job count lanes steps tails sums : ℕ)
+    (times row : List (List ℕ)) : Type 0 where
+  pub some : 1 ≤ shop.machines
+  pub few : shop.machines ≤ lanes * count
+  pub all : length jobs + lanes ≡ steps
+  pub paid : IsPaid tails sums (length jobs) shop.machines
+  pub times_are : AreTimes count steps (padded_time shop jobs) times
+  pub job_is : IsRow count (on_machine shop (time_of shop job)) (vectors_of row)

@@ -7,9 +7,8 @@ use Rattle.std.proofs.lemmas.List.{length-append, length-drop, length-map, lengt
 use Rattle.pfs_base.specs.FlowShop.{FlowShop, time_of}
 use Rattle.pfs_insert.specs.Insertion.{makespan_with}
 use Rattle.pfs_wave.specs.Wavefront.{capped}
-use Rattle.pfs_wave.specs.Private.Blocks.{AreTimes, IsRow, vectors_of}
 use Rattle.pfs_wave.specs.Private.Padded.{on_machine, padded_time}
-use Rattle.pfs_wave.specs.Private.Payment.{AreTimesOf, IsNoneFrom, IsPaid}
+use Rattle.pfs_wave.specs.Private.Payment.{AreTimesOf, IsInsertion, IsNoneFrom}
 use Rattle.pfs_wave.proofs.BestFound.{found, number_of_part}
 use Rattle.pfs_wave.proofs.CappedCells.{capped_cells, capped_tables, capped_tails, no_tail, whole_sum, tail_cell}
 use Rattle.pfs_wave.proofs.PaddedTables.{on_padding, time_none, time_on_padding}
@@ -18,13 +17,14 @@ use Rattle.pfs_wave.proofs.best.best_place.Goals as goal
 
 -- the sum of each place
 sums_are : (g : given.Over) (c : goal.After-with g) (shop : FlowShop) (jobs : List ℕ) (inserted : ℕ)
-    → 1 ≤ shop.machines → shop.machines ≤ c.args.lanes * g.row.N → length jobs + c.args.lanes ≡ c.args.steps
-    → IsPaid c.args.permits.tails c.args.permits.sums (length jobs) shop.machines
-    → AreTimes g.row.N c.args.steps (padded_time shop jobs) (map g.V.Band.lanes c.args.times.now)
-    → IsRow g.row.N (on_machine shop (time_of shop inserted)) (vectors_of (map g.V.Band.lanes c.args.job.now))
+    → IsInsertion shop jobs inserted g.row.N c.args.lanes c.args.steps c.args.permits.tails c.args.permits.sums
+    (map g.V.Band.lanes c.args.times.now) (map g.V.Band.lanes c.args.job.now)
     → (place : ℕ) → place ≤ length jobs → get_or (map g.V.Band.number c.fill_sums-paid.new.sums) (7 + place) 0
     ≡ capped g.V.Band.CAP (makespan_with shop jobs inserted place)
-sums_are g c shop jobs inserted some few all paid times_are job_is place le =
+sums_are g c shop jobs inserted is place le =
+    let some = is.some in
+    let few = is.few in
+    let all = is.all in
     let cap = g.V.Band.CAP in
     let number = g.V.Band.number in
     let count = g.row.N in
@@ -43,35 +43,34 @@ sums_are g c shop jobs inserted some few all paid times_are job_is place le =
     let tables = capped_tables cap shop jobs some inserted in
     let backs =
     c.fill_tails.ensures.tails (length jobs) shop.machines (padded_time shop jobs) (tail_cell cap shop jobs)
-    paid.tails_are of
+    is.paid.tails_are of
     (capped_tails cap shop jobs count few_machines)
-    (λ row lane k lt k_lt here. no_tail cap shop jobs count lanes steps row lane k few all here) times_are.cells_are in
+    (λ row lane k lt k_lt here. no_tail cap shop jobs count lanes steps row lane k few all here) is.times_are.cells_are in
     let at : 7 + place ≡ place + 7 = omega arith in
     ap (λ i. get_or (map number c.fill_sums-paid.new.sums) i 0) at ∙ elim (cases_lt (place + 7) steps) [
       | inl early ↦
           c.fill_sums-paid.ensures.sums (capped_cells cap shop jobs some inserted) (length jobs) shop.machines
-          paid.sums_are of job_of tables times_are backs job_is
+          is.paid.sums_are of job_of tables is.times_are backs is.job_is
           place (omega arith) early
           ∙ whole_sum cap shop jobs some inserted place (8 * count) (omega arith) (omega arith) few_machines
       | inr late ↦
           let lane = steps - 1 - place in
           let more : lanes * count ≤ suc lane * count = mul-le-mul_right count (omega arith) in
           c.fill_sums-paid.ensures.last (capped_cells cap shop jobs some inserted) (length jobs) shop.machines
-          paid.sums_are of job_of tables times_are backs job_is
+          is.paid.sums_are of job_of tables is.times_are backs is.job_is
           place lane (omega arith) (omega arith) (omega arith)
           ∙ whole_sum cap shop jobs some inserted place (suc lane * count) (omega arith) (omega arith) (omega arith)
     ]
 
 -- the same in the whole list
 all_sums_are : (g : given.Over) (c : goal.After-with g) (shop : FlowShop) (jobs : List ℕ) (inserted : ℕ)
-    → 1 ≤ shop.machines → shop.machines ≤ c.args.lanes * g.row.N → length jobs + c.args.lanes ≡ c.args.steps
-    → IsPaid c.args.permits.tails c.args.permits.sums (length jobs) shop.machines
-    → AreTimes g.row.N c.args.steps (padded_time shop jobs) (map g.V.Band.lanes c.args.times.now)
-    → IsRow g.row.N (on_machine shop (time_of shop inserted)) (vectors_of (map g.V.Band.lanes c.args.job.now))
+    → IsInsertion shop jobs inserted g.row.N c.args.lanes c.args.steps c.args.permits.tails c.args.permits.sums
+    (map g.V.Band.lanes c.args.times.now) (map g.V.Band.lanes c.args.job.now)
     → (place : ℕ) → place ≤ length jobs
     → get_or (map g.V.Band.number (c.fill_sums-paid.new.sums ++ drop (c.args.steps + 7) c.args.sums.now)) (7 + place) 0
     ≡ capped g.V.Band.CAP (makespan_with shop jobs inserted place)
-all_sums_are g c shop jobs inserted some few all paid times_are job_is place le =
+all_sums_are g c shop jobs inserted is place le =
+    let all = is.all in
     let number = g.V.Band.number in
     let summed = c.fill_sums-paid.new.sums in
     let rest = drop (c.args.steps + 7) c.args.sums.now in
@@ -81,14 +80,14 @@ all_sums_are g c shop jobs inserted some few all paid times_are job_is place le 
     ap (λ l. get_or l (7 + place) 0) (map-append number summed rest)
     ∙ get_or-append (map number summed) (map number rest) 0 (7 + place)
     (omega (arith, length-map summed number, long, all, le))
-    ∙ sums_are g c shop jobs inserted some few all paid times_are job_is place le
+    ∙ sums_are g c shop jobs inserted is place le
 
 pub returns-clause-spans : goal.returns-clause-spans
-returns-clause-spans g c shop jobs inserted some few all paid times_are job_is place le =
-    all_sums_are g c shop jobs inserted some few all paid times_are job_is place le
+returns-clause-spans g c = all_sums_are g c
 
 pub returns-clause-best : goal.returns-clause-best
-returns-clause-best g c shop jobs inserted some few all paid times_are job_is other among short =
+returns-clause-best g c shop jobs inserted is other among short =
+    let all = is.all in
     let number = g.V.Band.number in
     let steps = c.args.steps in
     let summed = c.fill_sums-paid.new.sums in
@@ -104,5 +103,5 @@ returns-clause-best g c shop jobs inserted some few all paid times_are job_is ot
     rw c.with.ensures (found shop jobs inserted (map number (take n part)) g.V.Band.CAP
     (λ place lt.
     number_of_part number (summed ++ rest) 7 n place (omega arith)
-    ∙ all_sums_are g c shop jobs inserted some few all paid times_are job_is place (omega arith))
+    ∙ all_sums_are g c shop jobs inserted is place (omega arith))
     c.first_least-found.ensures count_is other among short)

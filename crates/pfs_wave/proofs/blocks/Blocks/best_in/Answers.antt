@@ -1,11 +1,13 @@
-use Rattle.std.proofs.Common.{◌≡◌, ◌+◌, ◌-◌, ◌*◌, length, map, take, drop, get_or, ap, ◌∙◌, refl, arith}
+use Rattle.std.proofs.Common.{ℕ, ◌≡◌, ◌+◌, ◌-◌, ◌*◌, length, map, take, drop, get_or, ap, ◌∙◌, refl, arith}
 use Rattle.std.proofs.lemmas.List.{take_at}
-use Rattle.pfs_base.specs.FlowShop.{time_of}
-use Rattle.pfs_wave.specs.Private.Blocks.{AreTimes, IsRow, vectors_in, vectors_of}
+use Rattle.pfs_base.specs.FlowShop.{FlowShop, time_of}
+use Rattle.pfs_wave.specs.Private.Blocks.{AreTimes, HasShop, IsRow, vectors_in, vectors_of}
 use Rattle.pfs_wave.specs.Private.Padded.{on_machine, padded_time}
+use Rattle.pfs_wave.specs.Private.Payment.{IsInsertion, IsPaid}
 use Rattle.pfs_wave.proofs.BestFound.{number_of_part}
 use Rattle.pfs_wave.proofs.HeldLemmas.{holding_times, times_taken}
 use Rattle.pfs_wave.proofs.StepTables.{part_read}
+use Rattle.pfs_wave.proofs.blocks.Blocks.best_in.Given as given
 use Rattle.pfs_wave.proofs.blocks.Blocks.best_in.Goals as goal
 
 pub invariant_of-self : goal.invariant_of-self
@@ -41,14 +43,19 @@ invariant_of-self g c =
           (c.best_place-best.ensures.sums ∙ ap length c.deref_mut-4.ensures.value ∙ was.sums);
     }
 
-pub returns-clause-best : goal.returns-clause-best
-returns-clause-best g c shop has paid other among short =
+-- what the passes are given, of a shop that the blocks have
+passed : (g : given.Over) (c : goal.After-slice_known-2-1 g) (shop : FlowShop) → HasShop shop c.args.self.now
+    → IsPaid c.args.permits.tails c.args.permits.sums (length c.args.sequence.now) shop.machines
+    → IsInsertion shop c.args.sequence.now c.args.job g.row.N c.self.inside.lanes
+    (length c.args.sequence.now + c.self.inside.lanes) c.args.permits.tails c.args.permits.sums
+    (map g.V.Band.lanes (take ((length c.args.sequence.now + c.self.inside.lanes) * g.row.N) c.hold.new.times))
+    (map g.V.Band.lanes (take (c.args.job * g.row.N + g.row.N - c.args.job * g.row.N) (drop (c.args.job * g.row.N) c.self.inside.rows.items)))
+passed g c shop has paid =
     let lanes = g.V.Band.lanes in
     let inside = c.self.inside in
     let count = g.row.N in
     let jobs = c.args.sequence.now in
     let times = c.hold.new.times in
-    let times_long : length times ≡ inside.times.len = omega (arith, c.hold.ensures.times, c.deref_mut-2.ensures.len) in
     let order_long = c.hold.ensures.order in
     let view = c.self.view_is in
     let count_is : vectors_in inside.width ≡ count = ap (λ b. b.count) view ∙ c.requires.count in
@@ -62,53 +69,40 @@ returns-clause-best g c shop has paid other among short =
     let eight = c.self.invariant.eight in
     let whole : AreTimes count steps (padded_time shop jobs) (map lanes times) =
     rw c.hold.ensures.jobs at (holding_times holds shop steps (ap (λ b. b.jobs) view ∙ has.jobs) has_rows (omega arith)) in
-    let times_are = times_taken lanes count steps (steps * count) (padded_time shop jobs) times (omega arith) whole in
-    let job_is : IsRow count (on_machine shop (time_of shop c.args.job))
-    (vectors_of (map lanes (take n (drop (c.args.job * count) inside.rows.items)))) =
-    λ lane k lt k_lt.
-    ap (λ v. get_or v lane 0) (part_read lanes count c.args.job (c.args.job * count) n inside.rows.items refl k (omega arith))
-    ∙ has_rows.jobs_are c.args.job (omega (arith, c.requires.job, has.jobs)) lane k lt k_lt in
+    record {
+      some = has.some;
+      few = rw (← ap (λ b. b.lanes) view, c.requires.count) at has.few;
+      all = refl;
+      paid = paid;
+      times_are = times_taken lanes count steps (steps * count) (padded_time shop jobs) times (omega arith) whole;
+      job_is = λ lane k lt k_lt.
+          ap (λ v. get_or v lane 0)
+          (part_read lanes count c.args.job (c.args.job * count) n inside.rows.items refl k (omega arith))
+          ∙ has_rows.jobs_are c.args.job (omega (arith, c.requires.job, has.jobs)) lane k lt k_lt;
+    }
+
+pub returns-clause-best : goal.returns-clause-best
+returns-clause-best g c shop has paid other among short =
+    let inside = c.self.inside in
+    let times = c.hold.new.times in
+    let times_long : length times ≡ inside.times.len = omega (arith, c.hold.ensures.times, c.deref_mut-2.ensures.len) in
     let found = rw (
       c.deref-2.ensures.value,
       c.deref-3.ensures.value,
       take_at times (drop (length times) inside.times.items) inside.times.len times_long,
     ) at c.best_place-best.ensures.best in
-    let few_machines = rw (← ap (λ b. b.lanes) view, c.requires.count) at has.few in
-    found shop jobs c.args.job has.some few_machines refl paid times_are job_is other among short
+    found shop c.args.sequence.now c.args.job (passed g c shop has paid) other among short
 
 pub returns-clause-spans : goal.returns-clause-spans
 returns-clause-spans g c shop has paid place lt =
-    let lanes = g.V.Band.lanes in
     let inside = c.self.inside in
-    let count = g.row.N in
-    let jobs = c.args.sequence.now in
     let times = c.hold.new.times in
     let times_long : length times ≡ inside.times.len = omega (arith, c.hold.ensures.times, c.deref_mut-2.ensures.len) in
-    let order_long = c.hold.ensures.order in
-    let view = c.self.view_is in
-    let count_is : vectors_in inside.width ≡ count = ap (λ b. b.count) view ∙ c.requires.count in
-    let rows_is = ap (λ b. b.rows) view in
-    let has_rows = rw (← rows_is, c.requires.count) at has.rows in
-    let holds = rw (c.deref.ensures.value) at c.hold.ensures.holds in
-    let steps = length jobs + inside.lanes in
-    let n = c.args.job * count + count - c.args.job * count in
-    let some = holds.steps in
-    let few = holds.some in
-    let eight = c.self.invariant.eight in
-    let whole : AreTimes count steps (padded_time shop jobs) (map lanes times) =
-    rw c.hold.ensures.jobs at (holding_times holds shop steps (ap (λ b. b.jobs) view ∙ has.jobs) has_rows (omega arith)) in
-    let times_are = times_taken lanes count steps (steps * count) (padded_time shop jobs) times (omega arith) whole in
-    let job_is : IsRow count (on_machine shop (time_of shop c.args.job))
-    (vectors_of (map lanes (take n (drop (c.args.job * count) inside.rows.items)))) =
-    λ lane k lt k_lt.
-    ap (λ v. get_or v lane 0) (part_read lanes count c.args.job (c.args.job * count) n inside.rows.items refl k (omega arith))
-    ∙ has_rows.jobs_are c.args.job (omega (arith, c.requires.job, has.jobs)) lane k lt k_lt in
     let found = rw (
       c.deref-2.ensures.value,
       c.deref-3.ensures.value,
       take_at times (drop (length times) inside.times.items) inside.times.len times_long,
     ) at c.best_place-best.ensures.spans in
-    let few_machines = rw (← ap (λ b. b.lanes) view, c.requires.count) at has.few in
     let number = g.V.Band.number in
     let sums = c.best_place-best.new.sums in
     let room = c.requires.room in
@@ -119,7 +113,7 @@ returns-clause-spans g c shop has paid place lt =
       take_at sums (drop (length sums) inside.sums.items) inside.sums.len sums_long,
     ) at c.copy_sums.ensures in
     let long = c.best_place-best.ensures.sums ∙ ap length c.deref_mut-4.ensures.value ∙ c.self.invariant.sums in
-    let jobs_are = ap (λ b. b.jobs) view in
+    let jobs_are = ap (λ b. b.jobs) c.self.view_is in
     copied place lt
     ∙ number_of_part number sums 7 (length sums - 7) place (omega (arith, long, jobs_are, c.requires.few, lt, room))
-    ∙ found shop jobs c.args.job has.some few_machines refl paid times_are job_is place (omega arith)
+    ∙ found shop c.args.sequence.now c.args.job (passed g c shop has paid) place (omega arith)

@@ -10,6 +10,6 @@ invariant_of-result c =
     let long = c.args.self.eight in
     record {
       eight =
-          ap length c.saturating_sum.ensures
+          ap length c.saturating_sum-values.ensures
           ∙ length-zip 8 (capped_add 65535) a b (omega arith) c.args.other.eight;
     }

@@ -1,8 +1,8 @@
 use Rattle.std.proofs.Common.{ℕ}
 use Rattle.std.specs.List.{slice_index_or}
 use Rattle.pfs_wave.proofs.LeastKey.{lower, kept}
-use Rattle.pfs_wave.proofs.least.first_least.Goals as goal
-use Rattle.pfs_wave.proofs.least.first_least.Goals.{then-sums-place, else-sums-place}
+use Rattle.pfs_wave.proofs.best.first_least.Goals as goal
+use Rattle.pfs_wave.proofs.best.first_least.Goals.{then-sums-place, else-sums-place}
 
 pub loop-place-preserved : goal.loop-place-preserved
 loop-place-preserved c =

@@ -1,6 +1,6 @@
 use Rattle.std.proofs.Common.{◌↔◌, ◌≤◌, length}
 use Rattle.pfs_wave.specs.Parts.{IsPart}
-use Rattle.pfs_wave.proofs.parts.is_part.Given as goal
+use Rattle.pfs_wave.proofs.known.is_part.Given as goal
 
 abbrev pub invariant-loop-part : goal.invariant-loop-part
 invariant-loop-part l = record {

@@ -1,6 +1,6 @@
 use Rattle.std.proofs.Common.{ℕ, ◌≡◌, ◌+◌, ◌-◌, ◌*◌, ◌<◌, ◌≤◌, length}
 use Rattle.std.specs.List.{slice_index_or}
-use Rattle.pfs_wave.proofs.changes.common_back.Given as goal
+use Rattle.pfs_wave.proofs.hold.common_back.Given as goal
 
 abbrev pub invariant-loop-eight : goal.invariant-loop-eight
 invariant-loop-eight l =

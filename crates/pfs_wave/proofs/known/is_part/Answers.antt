@@ -1,6 +1,6 @@
 use Rattle.std.proofs.Common.{◌<◌, ◌+◌, length, arith, refl, sym, true≢false}
 use Rattle.pfs_wave.proofs.PartOf.{front_part, part_len, after_front_slices, slice_len}
-use Rattle.pfs_wave.proofs.parts.is_part.Goals as goal
+use Rattle.pfs_wave.proofs.known.is_part.Goals as goal
 
 pub returns-then-same-part : goal.returns-then-same-part
 returns-then-same-part c =

@@ -1,7 +1,7 @@
 use Rattle.std.proofs.Common.{arith}
 use Rattle.std.specs.List.{slice_index_or}
 use Rattle.pfs_wave.proofs.LeastKey.{first_key, next_key, all_keys}
-use Rattle.pfs_wave.proofs.least.first_least_key.Goals as goal
+use Rattle.pfs_wave.proofs.best.first_least_key.Goals as goal
 
 pub loop-place-init : goal.loop-place-init
 loop-place-init c = first_key (λ place. slice_index_or c.args.sums.now place 0) c.key-least.result c.key-least.ensures

@@ -1,6 +1,6 @@
 use Rattle.std.proofs.Common.{ℕ, ◌≡◌, ◌<◌, ◌≤◌, length}
 use Rattle.std.specs.List.{slice_index_or}
-use Rattle.pfs_wave.proofs.changes.write_rows.Given as goal
+use Rattle.pfs_wave.proofs.hold.write_rows.Given as goal
 
 abbrev pub invariant-loop-row : goal.invariant-loop-row
 invariant-loop-row l = record {
