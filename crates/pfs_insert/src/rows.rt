@@ -7,7 +7,7 @@ ghost use Rattle.pfs_insert.specs.Private.Rows.{in_turn, next_row, times_in_turn
 use pfs_base::{Bench, Length};
 use pfs_order::Seq;
 
-// Index `turn` of `count` ones, from the first on, or with `back` from the last on.
+// The index, below `count`, that comes at a turn: they go from 0 on, or with `back` from the last one down.
 #[inline(always)]
 fn index_in_turn(count: usize, turn: usize, back: bool) -> usize
     requires { turn < count }
