@@ -79,7 +79,11 @@ fn inserters_agree_on_any_number_of_machines(rt: HostRuntime) -> Result<(), Fail
         let one = plain.best(rt.alloc(), &mut bench, &seq, 2)?;
         let other = fast.best(rt.alloc(), &mut bench, &seq, 2)?;
         assert_eq!(rt; other.place, one.place, "{machines} machines");
-        assert_eq!(rt; bench.reveal(other.span), bench.reveal(one.span), "{machines} machines");
+        assert_eq!(rt;
+            bench.reveal(other.span),
+            bench.reveal(one.span),
+            "{machines} machines"
+        );
     }
     Ok(())
 }
