@@ -29,9 +29,8 @@ OTHERS = ["random", "generate", "read", "read_order", "write_order"]
 FUNCTIONS = [*QUIET, *LOUD, *OTHERS, "prepare", "release"]
 TEXTS = {"pfs_message", "pfs_version"}
 NAMES = {f"pfs_{name}" for name in FUNCTIONS} | TEXTS
-# The words of library_calls: the functions, and calls on larger instances, which use other tables.
-NAMED = [*QUIET, *LOUD, *OTHERS, "prepare", "prepare_again", "prepare_lanes", "prepare_rows",
-         "insert_lanes", "insert_rows", "search_lanes", "search_rows"]
+# The words of library_calls: the functions, and calls on a larger instance.
+NAMED = [*QUIET, *LOUD, *OTHERS, "prepare", "prepare_again", "prepare_large", "insert_large", "search_large"]
 ALL_CALLS = Ran(b"173 calls, 0 failures\n", b"", 0)
 # No call makes as many allocations.
 MOST_GROWTHS = 200
@@ -62,6 +61,9 @@ def test_the_numbers_are_those_of_the_crate(top: pathlib.Path) -> None:
     """The limits are in test_limits.py."""
     source = (top / "crates" / "pfs_c" / "src" / "numbers.rt").read_text()
     numbers = {name: int(value) for name, value in re.findall(r"^pub const (\w+): i32 = (\d+);", source, re.MULTILINE)}
+    for name, value in re.findall(r"^    (\w+) = (\d+),$", source, re.MULTILINE):
+        macro = "PFS" + re.sub("([A-Z])", r"_\1", name).upper()
+        assert numbers.setdefault(macro, int(value)) == int(value), macro
     answered = {name: value for name, value in defined().items()
                 if not re.match("PFS_(MOST|LONGEST)_|PFS_(TAILLARD|ORLIB|VERSION_NUMBER)$", name)}
     assert answered == numbers
@@ -253,10 +255,9 @@ def test_a_failed_allocation_leaves_every_output_unchanged(calls: Program, shim:
 
 
 @OF_CALLS
-@pytest.mark.parametrize("method", ["lanes", "rows"])
-def test_insertions_and_searches_allocate_nothing_on_large_instances(calls: Program, shim: Shim, folder: pathlib.Path,
-                                                                     method: str) -> None:
-    prepared, *made = (allocations(calls, shim, folder, f"{call}_{method}") for call in ("prepare", "insert", "search"))
+def test_insertions_and_searches_allocate_nothing_on_large_instances(calls: Program, shim: Shim,
+                                                                     folder: pathlib.Path) -> None:
+    prepared, *made = (allocations(calls, shim, folder, f"{call}_large") for call in ("prepare", "insert", "search"))
     assert made == [prepared, prepared] and prepared > 1
 
 

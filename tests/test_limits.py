@@ -28,7 +28,7 @@ NAMED = {
     "python/src/pfs/_library.py": r"^(\w+): Final = (\d+)$",
     "tests/support/second_library.py": r"^(MOST_\w+) = (\d+)$",
     "tests/support/second_program.py": r"^(\w+) = (\d+)$",
-    "crates/pfs_c/src/texts/writing_order.rt": r"^const (\w+): u64 = (\d+);$",
+    "crates/pfs_c/src/texts/writing.rt": r"^const (\w+): u64 = (\d+);$",
     "bench/block_reader.hpp": r"(LONGEST_INPUT) = (\d+);",
 }
 # Texts that tell a limit, with any white space and digits in any groups.

@@ -105,13 +105,12 @@ static int prepare(void) {
     return pfs_prepare(TIMES, 6, 3, 2, shop);
 }
 
-/* Times of 1 of 40 jobs on 5 machines, which a wavefront serves, or of 7 on 28, which none serves. All orders are
- * equally long, so each job is inserted at the front. */
-static int prepare_large(int is_served) {
+/* 40 jobs on 5 machines, all times 1, so that all orders are equally long. */
+static int prepare_large(void) {
     static uint32_t ones[200];
     for (size_t at = 0; at < COUNT(ones); ++at)
         ones[at] = 1;
-    return is_served ? pfs_prepare(ones, 200, 40, 5, shop) : pfs_prepare(ones, 196, 7, 28, shop);
+    return pfs_prepare(ones, 200, 40, 5, shop);
 }
 
 /* Makes a valid call of the function of this name, and says what is due. */
@@ -160,16 +159,14 @@ static int call_named(const char *name) {
     if (IS("write_order"))
         return due_text("order 3\n2 1 3\nmakespan 10\n"),
                pfs_write_order(BEST, 3, 0, 10, out.text, sizeof out.text, &out.length);
-    if (IS("insert_lanes") || IS("insert_rows"))
-        return due.place = 0, due.makespan = IS("insert_lanes") ? 7 : 30,
-               pfs_insert(shop, NUMBERED, 2, 2, &out.place, &out.makespan);
-    if (IS("search_lanes") || IS("search_rows")) {
-        size_t jobs = IS("search_lanes") ? 40 : 7;
+    if (IS("insert_large"))
+        return due.place = 0, due.makespan = 7, pfs_insert(shop, NUMBERED, 2, 2, &out.place, &out.makespan);
+    if (IS("search_large")) {
         struct pfs_rounds_options options = {.seed = 7, .take = 4, .count = 1, .passes = 1};
         uint32_t order[40];
-        int number = pfs_neh(shop, order, jobs, &out.makespan, &out.cells);
-        due.makespan = jobs == 40 ? 44 : 34, due.cells = jobs == 40 ? 34640 : 7336;
-        return number == PFS_OK ? pfs_rounds(shop, &options, order, jobs, &out.makespan, &out.cells) : number;
+        int number = pfs_neh(shop, order, 40, &out.makespan, &out.cells);
+        due.makespan = 44, due.cells = 34640;
+        return number == PFS_OK ? pfs_rounds(shop, &options, order, 40, &out.makespan, &out.cells) : number;
     }
     if (strncmp(name, "prepare", 7) != 0)
         exit(3);
@@ -285,7 +282,7 @@ static void all(void) {
         CALL(PFS_NOT_PREPARED, number);
     }
     pfs_release(shop);
-    CALL(PFS_OK, prepare_large(1));
+    CALL(PFS_OK, prepare_large());
     memcpy(passing, TIMES, sizeof TIMES);
     CALL(PFS_OK, pfs_prepare(passing, 6, 3, 2, shop));
     memset(passing, 0, sizeof passing);
@@ -305,10 +302,9 @@ static void all(void) {
 /* The call succeeded with the right outputs, or an allocation failed and every output is unchanged. If that was one of
  * a second preparation, the first instance is still there. */
 static void tell(const char *name) {
-    int is_served = strstr(name, "_lanes") != NULL, is_large = is_served || strstr(name, "_rows") != NULL;
-    int number = is_large ? prepare_large(is_served) : prepare();
+    int number = strstr(name, "_large") != NULL ? prepare_large() : prepare();
     fresh();
-    if (number == PFS_OK && IS("prepare_again") && (number = prepare_large(1)) != PFS_OK)
+    if (number == PFS_OK && IS("prepare_again") && (number = prepare_large()) != PFS_OK)
         number = call_named("insert") == PFS_OK && memcmp(&out, &due, sizeof out) == 0 ? number : -1, fresh();
     if (number == PFS_OK && !IS("prepare_again"))
         number = call_named(name);

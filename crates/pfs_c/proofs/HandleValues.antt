@@ -17,8 +17,8 @@ use Rattle.std_heap.specs.contracts.GlobalAllocator.TheImpl.{ghosts}
 use Rattle.std_heap.proofs.Global.TheLaws as of-global
 use Rattle.pfs_c.specs.contracts.kept.Kept.{the_row as kept}
 use Rattle.pfs_c.proofs.kept.Kept.TheLaws as of-kept
-use Rattle.pfs_c.specs.contracts.opened.OpenBox as open-box
-use Rattle.pfs_c.proofs.opened.OpenBox.TheLaws as of-open
+use Rattle.pfs_c.specs.contracts.handle.OpenBox as open-box
+use Rattle.pfs_c.proofs.handle.OpenBox.TheLaws as of-open
 use Rattle.pfs_c.specs.contracts.handle.Prepared.{the_type, the_row as handle}
 use Rattle.pfs_c.specs.declared.handle.Prepared.{Prepared}
 use Rattle.pfs_c.proofs.handle.Prepared.TheLaws as of-handle

@@ -7,16 +7,13 @@ use Rattle.std.proofs.lemmas.List.{get_or-set_same, get_or-set_other, get_or-rep
 use Rattle.std.proofs.lemmas.List.FromFn.{map-range_with_len_more}
 use Rattle.pfs_base.specs.declared.bench.TheConstants.{SPAN_MAX}
 use Rattle.pfs_base.specs.declared.limits.TheConstants.{MOST_JOBS, MOST_MACHINES, LONGEST_TIME}
-use Rattle.pfs_base.specs.FlowShop.{FlowShop, time_of, IsWithin}
+use Rattle.pfs_base.specs.FlowShop.{FlowShop, IsWithin}
 use Rattle.pfs_base.specs.Limits.{limits}
-use Rattle.pfs_base.specs.Paths.{greatest, operation, makespan}
+use Rattle.pfs_base.specs.Paths.{operation, makespan}
 use Rattle.pfs_base.proofs.Published.Heads.{head, head_before, head_le, head_before_le, head_more, head_before_more}
 use Rattle.pfs_base.proofs.Published.Heads.{heaviest_is, makespan_is, time_of-le}
-use Rattle.pfs_base.proofs.Published.Heaviest.{greatest-append, greatest-cons}
 use Rattle.pfs_insert.specs.Exchange.{heaviest_front, heaviest_back}
-use Rattle.pfs_insert.specs.Insertion.{makespan_with}
-use Rattle.pfs_insert.proofs.Published.TableRows.{back_none, back_last, back_more, operation_at, exchange_law}
-use Rattle.pfs_insert.proofs.Published.TableRows.{same_heads}
+use Rattle.pfs_insert.proofs.Published.TableRows.{back_none, back_last, back_more}
 use Rattle.pfs_c.specs.Private.Rows.{done_before, HeadsAt, TailsAt}
 
 module _ (shop : FlowShop) (jobs : List ℕ) where
@@ -134,63 +131,6 @@ module _ (shop : FlowShop) (jobs : List ℕ) where
   tails_none count few machine lt =
       get_or-replicate count machine 0 0 (omega arith) ∙ sym (back_none shop jobs (length jobs) machine (omega arith))
 
--- ---- the makespan with a job at a place
-
-module _ (shop : FlowShop) (jobs : List ℕ) (job place : ℕ) where
-  abbrev weigh_put : ℕ → ℕ → ℕ
-  weigh_put = operation shop (insert jobs place job)
-
-  abbrev sum_across : ℕ → ℕ
-  sum_across machine =
-      heaviest_front shop (insert jobs place job) place machine + heaviest_back shop jobs place machine
-
-  -- the greatest sum of a head and a tail at the first machines
-  pub record SpanTo (machine before most : ℕ) : Type 0 where
-    pub before_it : before ≡ head_before weigh_put place machine
-    pub most_it : most ≡ greatest (map sum_across (range_with_len 0 machine))
-    pub most_short : most ≤ SPAN_MAX
-
-  pub span_first : SpanTo 0 0 0
-  span_first = record { before_it = refl; most_it = refl; most_short = omega arith }
-
-  greatest_more : (machine : ℕ) → greatest (map sum_across (range_with_len 0 (machine + 1)))
-      ≡ max (greatest (map sum_across (range_with_len 0 machine))) (sum_across machine)
-  greatest_more machine =
-      let numbers = map sum_across (range_with_len 0 machine) in
-      let one : greatest (sum_across machine ∷ []) ≡ sum_across machine =
-      omega (arith, greatest-cons (sum_across machine) []) in
-      ap greatest (map-range_with_len_more sum_across 0 machine machine (omega arith))
-      ∙ greatest-append numbers (sum_across machine ∷ []) ∙ ap (λ x. max (greatest numbers) x) one
-
-  pub span_more : (machine over before time tail new most : ℕ) → SpanTo machine before most → place ≤ length jobs
-      → over ≡ done_before shop jobs place machine → time ≡ time_of shop job machine
-      → tail ≡ heaviest_back shop jobs place machine → new ≡ max over before + time
-      → max (new + tail) most ≤ SPAN_MAX → SpanTo (machine + 1) new (max (new + tail) most)
-  span_more machine over before time tail new most so_far within over_is time_is tail_is new_is short =
-      let written : new ≡ head weigh_put (place + 1) machine =
-      omega (
-        arith,
-        over_is ∙ done_is shop jobs place machine ∙ same_heads shop jobs job place within place machine (omega arith),
-        so_far.before_it,
-        time_is ∙ sym (operation_at shop jobs job place within machine),
-        new_is,
-        head_more weigh_put place machine,
-      )
-      in
-      let front : new ≡ heaviest_front shop (insert jobs place job) place machine =
-      written ∙ ap (λ row. head weigh_put row machine) (add-one place) ∙ sym (heaviest_is weigh_put place machine) in
-      record {
-        before_it = written ∙ sym (head_before_more weigh_put place machine);
-        most_it = omega (arith, greatest_more machine, front, tail_is, so_far.most_it);
-        most_short = short;
-      }
-
-  pub span_last : (machine before most : ℕ) → SpanTo machine before most → place ≤ length jobs → 1 ≤ shop.machines
-      → machine ≡ shop.machines → most ≡ makespan_with shop jobs job place
-  span_last machine before most so_far within some all =
-      so_far.most_it ∙ ap (λ n. greatest (map sum_across (range_with_len 0 n))) all
-      ∙ sym (exchange_law shop jobs job place some within)
-
 -- ---- bounds of heads and tails
 
 module _ (shop : FlowShop) (within : IsWithin limits shop) (jobs : List ℕ) where
@@ -220,10 +160,6 @@ module _ (shop : FlowShop) (within : IsWithin limits shop) (jobs : List ℕ) whe
         within.sizes.few_jobs,
         within.sizes.few_machines,
       )
-
-  pub heads_short : (place machine : ℕ) → place ≤ shop.jobs → machine ≤ shop.machines
-      → done_before shop jobs place machine ≤ most_head
-  heads_short place machine le lt = omega (arith, done_is shop jobs place machine, head_short place machine le lt)
 
   tail_le : (downs ons row machine : ℕ) → row + downs ≡ length jobs → machine + ons + 1 ≡ shop.machines
       → heaviest_back shop jobs row machine ≤ (downs + ons) * LONGEST_TIME

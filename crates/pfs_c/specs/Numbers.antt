@@ -1,47 +1,47 @@
 -- The numbers that the functions return.
-use Rattle.std.specs.Prelude.{◌≡◌, ◌⊎◌, ℤ, Option, Some, None}
+use Rattle.std.specs.Prelude.{◌≡◌, ◌⊎◌, ℤ, pos, Option, Some, None}
 use Rattle.pfs_c.specs.declared.numbers.CallFault.{CallFault}
 use Rattle.pfs_c.specs.declared.numbers.CallFault.TheVariants as faults
-use Rattle.pfs_c.specs.declared.numbers.TheConstants as numbers
+use Rattle.pfs_c.specs.declared.numbers.TheConstants.{PFS_OK}
 
 -- the number that C receives for a fault
 abbrev pub fault_number : CallFault → ℤ
-fault_number faults.Memory = numbers.PFS_MEMORY
-fault_number faults.Size = numbers.PFS_SIZE
-fault_number faults.Length = numbers.PFS_LENGTH
-fault_number faults.Time = numbers.PFS_TIME
-fault_number faults.Job = numbers.PFS_JOB
-fault_number faults.Repeated = numbers.PFS_REPEATED
-fault_number faults.Take = numbers.PFS_TAKE
-fault_number faults.Passes = numbers.PFS_PASSES
-fault_number faults.Rounds = numbers.PFS_ROUNDS
-fault_number faults.Seed = numbers.PFS_SEED
-fault_number faults.Layout = numbers.PFS_LAYOUT
-fault_number faults.Block = numbers.PFS_BLOCK
-fault_number faults.Makespan = numbers.PFS_MAKESPAN
-fault_number faults.Room = numbers.PFS_ROOM
-fault_number faults.NotPrepared = numbers.PFS_NOT_PREPARED
-fault_number faults.NoBlock = numbers.PFS_NO_BLOCK
-fault_number faults.SizeCount = numbers.PFS_SIZE_COUNT
-fault_number faults.SizeRange = numbers.PFS_SIZE_RANGE
-fault_number faults.MixedLine = numbers.PFS_MIXED_LINE
-fault_number faults.TimeRange = numbers.PFS_TIME_RANGE
-fault_number faults.MachineNumber = numbers.PFS_MACHINE_NUMBER
-fault_number faults.ExtraNumber = numbers.PFS_EXTRA_NUMBER
-fault_number faults.Truncated = numbers.PFS_TRUNCATED
-fault_number faults.InputTooLong = numbers.PFS_INPUT_TOO_LONG
-fault_number faults.Syntax = numbers.PFS_SYNTAX
-fault_number faults.JobRange = numbers.PFS_JOB_RANGE
-fault_number faults.JobTwice = numbers.PFS_JOB_TWICE
-fault_number faults.FileTooLong = numbers.PFS_FILE_TOO_LONG
+fault_number faults.Memory = pos 1
+fault_number faults.Size = pos 2
+fault_number faults.Length = pos 3
+fault_number faults.Time = pos 4
+fault_number faults.Job = pos 5
+fault_number faults.Repeated = pos 6
+fault_number faults.Take = pos 7
+fault_number faults.Passes = pos 8
+fault_number faults.Rounds = pos 9
+fault_number faults.Seed = pos 10
+fault_number faults.Layout = pos 11
+fault_number faults.Block = pos 12
+fault_number faults.Makespan = pos 13
+fault_number faults.Room = pos 14
+fault_number faults.NotPrepared = pos 15
+fault_number faults.NoBlock = pos 20
+fault_number faults.SizeCount = pos 21
+fault_number faults.SizeRange = pos 22
+fault_number faults.MixedLine = pos 23
+fault_number faults.TimeRange = pos 24
+fault_number faults.MachineNumber = pos 25
+fault_number faults.ExtraNumber = pos 26
+fault_number faults.Truncated = pos 27
+fault_number faults.InputTooLong = pos 28
+fault_number faults.Syntax = pos 30
+fault_number faults.JobRange = pos 31
+fault_number faults.JobTwice = pos 32
+fault_number faults.FileTooLong = pos 33
 
 -- a call returns the number of the first fault in its arguments; if there is none, it returns PFS_OK or, if an
 -- allocation failed, PFS_MEMORY
 abbrev pub Returns : ℤ → Option CallFault → Type 0
 Returns result (Some why) = result ≡ fault_number why
-Returns result None = (result ≡ numbers.PFS_OK) ⊎ (result ≡ numbers.PFS_MEMORY)
+Returns result None = (result ≡ PFS_OK) ⊎ (result ≡ fault_number faults.Memory)
 
 -- the same of a call that allocates nothing
 abbrev pub number_returned : Option CallFault → ℤ
-number_returned None = numbers.PFS_OK
+number_returned None = PFS_OK
 number_returned (Some why) = fault_number why

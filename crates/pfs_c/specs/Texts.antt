@@ -25,7 +25,6 @@ use Rattle.pfs_c.specs.Validation.{shop_of, unless, jobs_fault}
 use Rattle.pfs_c.specs.Numbers.{fault_number, number_returned}
 use Rattle.pfs_c.specs.declared.numbers.CallFault.{CallFault}
 use Rattle.pfs_c.specs.declared.numbers.CallFault.TheVariants as faults
-use Rattle.pfs_c.specs.declared.numbers.TheConstants.{PFS_MEMORY}
 use Rattle.pfs_c.specs.declared.texts.PfsBlock.{PfsBlock}
 use Rattle.pfs_c.specs.declared.texts.PfsNotes.{PfsNotes}
 
@@ -154,7 +153,7 @@ pub record NeedsMemory (bytes : List ℕ) (layout : Layout) (block : ℕ) : Type
 -- the allocation at the end of the size line failed, or the number is that of the file's verdict, which is unique
 abbrev pub ReturnsFile : ℤ → List ℕ → ℕ → ℕ → ℕ → Type 0
 ReturnsFile number bytes layout block room =
-    ((number ≡ PFS_MEMORY) × IsSomeAnd (layout_named layout) (λ named. NeedsMemory bytes named block))
+    ((number ≡ fault_number faults.Memory) × IsSomeAnd (layout_named layout) (λ named. NeedsMemory bytes named block))
     ⊎ ((verdict : Result Problem LayoutFault) × (IsVerdict bytes layout block verdict
     × (number ≡ number_returned (verdict_fault room verdict))))
 
@@ -165,7 +164,7 @@ ReturnsRead number bytes layout block room = MatchOption (asked_fault layout blo
 -- the allocation for the order failed, which happens only once the text is known to match the grammar and before its
 -- jobs are validated, or the number is that of the file's verdict
 abbrev pub ReturnsReadOrder : ℤ → List ℕ → ℕ → Type 0
-ReturnsReadOrder number bytes room = ((number ≡ PFS_MEMORY) × IsText bytes)
+ReturnsReadOrder number bytes room = ((number ≡ fault_number faults.Memory) × IsText bytes)
     ⊎ ((verdict : Result StatedOrder OrderFault) × (IsOrderVerdict bytes verdict
     × (number ≡ number_returned (order_verdict_fault room verdict))))
 
@@ -199,4 +198,4 @@ write_order_fault jobs machines makespan = first_some (order_size_fault (length 
 -- fits and PFS_ROOM if not
 abbrev pub ReturnsWrite : ℤ → Option CallFault → ℕ → ℕ → Type 0
 ReturnsWrite number (Some why) room wanted = number ≡ fault_number why
-ReturnsWrite number None room wanted = (number ≡ PFS_MEMORY) ⊎ (number ≡ number_returned (room_fault room wanted))
+ReturnsWrite number None room wanted = (number ≡ fault_number faults.Memory) ⊎ (number ≡ number_returned (room_fault room wanted))

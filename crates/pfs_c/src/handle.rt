@@ -1,15 +1,69 @@
-//! The handle of a prepared instance, as C holds it.
-ghost use Rattle.std.specs.Prelude.{◌≡◌, MatchOption, MatchResult, Option};
+//! An instance that is prepared and released, and the handle by which C holds it.
+ghost use Rattle.std.specs.Prelude.{◌≡◌, ◌≢◌, IfOk, MatchOption, MatchResult, Option};
 ghost use Rattle.std.specs.declared.option.Option.TheVariants.{None, Some};
 ghost use Rattle.pfs_base.specs.FlowShop.{FlowShop};
+ghost use Rattle.pfs_c.specs.Validation.{shop_of, shop_fault};
+ghost use Rattle.pfs_c.specs.Numbers.{Returns};
+ghost use Rattle.pfs_c.specs.Private.Outcomes.{Rejects};
 
+use crate::given::{NO_NOTES, instance_of, validate_shop};
 use crate::kept::Kept;
-use crate::numbers::CallFault;
-use crate::opened::OpenBox;
-use std::alloc::Global;
+use crate::numbers::{CallFault, PFS_OK};
+use std::alloc::{Allocator, Global};
 use std::marker::Model;
 use std::mem::replace;
 use std::ptr::null_mut;
+
+/// Prepares an instance. If the struct holds one already, that one is released.
+#[unsafe(no_mangle)]
+#[tactic(auto, using(crate::proofs::Returning::rejected))]
+pub extern "C" fn pfs_prepare(
+    alloc: Global,
+    times: &[u32],
+    jobs: usize,
+    machines: usize,
+    instance: &mut Prepared,
+) -> i32
+    ensures number { Returns result (shop_fault times.now jobs machines) }
+    ensures done { result ≡ PFS_OK → instance.new.shop ≡ Some (shop_of times.now jobs machines) }
+    ensures kept { result ≢ PFS_OK → instance.new.shop ≡ instance.old.shop }
+{
+    match kept_of(alloc, times, jobs, machines) {
+        Ok(kept) => {
+            instance.put(kept);
+            PFS_OK
+        }
+        Err(why) => why.number(),
+    }
+}
+
+fn kept_of(
+    alloc: Global,
+    times: &[u32],
+    jobs: usize,
+    machines: usize,
+) -> Result<Box<Kept>, CallFault>
+    ensures rejected { Rejects result (shop_fault times.now jobs machines) }
+    ensures made { IfOk result (λ made. made.value ≡ shop_of times.now jobs machines) }
+{
+    validate_shop(times, jobs, machines)?;
+    let instance = instance_of(alloc, times, jobs, machines, NO_NOTES)?;
+    let kept = Kept::new(alloc, instance)?;
+    match Box::new(alloc, kept) {
+        Ok(kept) => Ok(kept),
+        Err(_) => Err(CallFault::Memory),
+    }
+}
+
+/// Releases an instance. The struct holds none after it.
+#[unsafe(no_mangle)]
+pub extern "C" fn pfs_release(alloc: Global, instance: &mut Prepared)
+    ensures { instance.new.shop ≡ None }
+{
+    if let Ok(kept) = instance.take(alloc) {
+        drop(kept);
+    }
+}
 
 /// The struct `pfs_instance` of C: the address of a prepared instance in a box, or null. `Global` takes no bytes. A type
 /// with a `Vec` in it can't cross to C, so the pointer is one to bytes. It has no drop, so the compiler rejects a
@@ -29,8 +83,8 @@ impl Model for Prepared {
 }
 
 impl Prepared {
-    /// Makes a handle that holds no instance.
-    pub(crate) fn none(alloc: Global) -> Prepared
+    // Makes a handle that holds no instance.
+    fn none(alloc: Global) -> Prepared
         ensures { result.shop ≡ None }
     {
         Prepared {
@@ -39,8 +93,8 @@ impl Prepared {
         }
     }
 
-    /// Makes a handle that holds a kept instance.
-    pub(crate) fn of(kept: OpenBox<Kept, Global>) -> Prepared
+    // Makes a handle that holds a kept instance.
+    fn of(kept: OpenBox<Kept, Global>) -> Prepared
         ensures { result.shop ≡ Some kept.content }
     {
         let OpenBox { pointer, allocator } = kept;
@@ -50,8 +104,8 @@ impl Prepared {
         }
     }
 
-    /// Returns the instance, or `None` if the handle holds none.
-    pub(crate) fn into_kept(self) -> Option<OpenBox<Kept, Global>>
+    // Returns the instance, or `None` if the handle holds none.
+    fn into_kept(self) -> Option<OpenBox<Kept, Global>>
         ensures { MatchOption result (self.shop ≡ None) (λ kept. self.shop ≡ Some kept.content) }
     {
         let Prepared { at, alloc } = self;
@@ -84,5 +138,37 @@ impl Prepared {
         if let Some(old) = replace(self, Prepared::of(OpenBox::from_box(kept))).into_kept() {
             drop(old.into_box());
         }
+    }
+}
+
+/// A box that is taken apart, so that C can hold the pointer. It owns the content and the right to free the memory. It
+/// has no drop, so the compiler rejects a function that forgets one.
+pub(crate) struct OpenBox<T, A: Allocator> {
+    pointer: *mut T,
+    allocator: A,
+    ghost content: { T },
+}
+
+impl<T, A: Allocator> Model for OpenBox<T, A> {
+    ghost use Rattle.std.specs.Box.Ownership.{box_owns};
+
+    ghost also_owns = { λ open_box. box_owns (A.dealloc_token open_box.allocator) T.row open_box.pointer open_box.content };
+}
+
+impl<T: Drop, A: Allocator> OpenBox<T, A> {
+    // Takes a box apart.
+    fn from_box(closed: Box<T, A>) -> OpenBox<T, A>
+        ensures { result.content ≡ closed.value }
+    {
+        let (pointer, allocator) = Box::into_raw_with_allocator(closed);
+        OpenBox { pointer, allocator }
+    }
+
+    // Puts the box together again.
+    fn into_box(self) -> Box<T, A>
+        ensures { result.value ≡ self.content }
+    {
+        let OpenBox { pointer, allocator } = self;
+        unsafe { Box::from_raw(allocator, pointer) }
     }
 }

@@ -1,21 +1,21 @@
 //! What is prepared: an instance, and the memory of the calls on it.
-ghost use Rattle.std.specs.Prelude.{◌≡◌, ◌+◌, ◌<◌, ◌≤◌, length, take, Contains, IfOk, IfErr};
+ghost use Rattle.std.specs.Prelude.{◌≡◌, ◌+◌, ◌<◌, ◌≤◌, length, take, filter, not, nat_eq, Contains, IfOk, IfErr};
 ghost use Rattle.std.specs.List.{All};
 ghost use Rattle.pfs_base.specs.FlowShop.{IsWithin};
 ghost use Rattle.pfs_base.specs.Limits.{limits};
 ghost use Rattle.pfs_base.specs.Paths.{makespan};
 ghost use Rattle.pfs_insert.specs.Inserter.{IsBestPlace};
 ghost use Rattle.pfs_order.specs.Sequence.{IsSequence};
+ghost use Rattle.pfs_search.specs.Greedy.{moved};
+ghost use Rattle.pfs_search.specs.Search.{IsSearchOf};
 ghost use Rattle.pfs_search.specs.Solution.{InLimits, IsImproved, IsNeh};
-ghost use Rattle.pfs_c.specs.Building.{after_visits};
+ghost use Rattle.pfs_c.specs.Building.{after_visits, visited};
 ghost use Rattle.pfs_c.specs.Inserting.{AreInsertions};
 
 use crate::given::copy_sequence;
-use crate::moving::make_visits;
 use crate::numbers::CallFault;
-use crate::rows::{insertions_by_rows, span_of};
+use crate::rows::span_of;
 use pfs_base::{Bench, Instance};
-use pfs_insert::Placed;
 use pfs_order::Seq;
 use pfs_search::{Rounds, Search};
 use std::alloc::Global;
@@ -27,12 +27,10 @@ pub(crate) struct Kept {
     instance: Instance,
     search: Search,
     sequence: Seq,
-    // A row of tails for each job of a sequence.
-    tails: Vec<u64>,
 }
 
 impl Model for Kept {
-    ghost use Rattle.std.specs.Prelude.{◌≡◌, ◌+◌, ◌*◌, length};
+    ghost use Rattle.std.specs.Prelude.{◌≡◌};
     ghost use Rattle.pfs_base.specs.FlowShop.{FlowShop, IsWithin};
     ghost use Rattle.pfs_base.specs.Limits.{limits};
     ghost use Rattle.pfs_search.specs.Search.{IsSearchOf};
@@ -45,7 +43,6 @@ impl Model for Kept {
       within : IsWithin limits a.instance.shop;
       search : IsSearchOf a.instance.shop a.search;
       size : a.sequence.size ≡ a.instance.shop.jobs;
-      room : length a.tails.items ≡ a.instance.shop.jobs * a.instance.shop.machines;
     } };
 }
 
@@ -61,15 +58,10 @@ impl Kept {
         let Ok(sequence) = Seq::new(alloc, instance.jobs()) else {
             return Err(CallFault::Memory);
         };
-        let size = instance.jobs() * instance.machines();
-        let Ok(tails) = vec![in alloc; 0; size] else {
-            return Err(CallFault::Memory);
-        };
         Ok(Kept {
             instance,
             search,
             sequence,
-            tails,
         })
     }
 
@@ -109,23 +101,25 @@ impl Kept {
             order.new result cells.new }
         ensures shop { self.new ≡ self.old }
     {
-        let span = self.span_of(order);
+        let span = span_of(&self.instance, order);
         self.search.start(&self.instance, order, span);
         *cells = self.search.rounds(alloc, &self.instance, first, rounds);
         copy_sequence(self.search.kept.order.seq(), order);
         self.instance.metered().reveal(self.search.kept.span)
     }
 
-    /// The best place for a job in a sequence, and the makespan with the job there.
-    pub(crate) fn best(&mut self, alloc: Global, sequence: &[u32], job: usize) -> Placed<u64>
+    /// Writes the best place for a job in a sequence, and returns the makespan with the job there.
+    pub(crate) fn best(&mut self, sequence: &[u32], job: usize, place: &mut usize) -> u64
         requires sequence { IsSequence self.old.jobs sequence.now }
         requires job { job < self.old.jobs }
         requires absent { Contains sequence.now job → ⊥ }
-        ensures best { IsBestPlace self.old sequence.now job result.place result.span }
+        ensures best { IsBestPlace self.old sequence.now job place.new result }
         ensures shop { self.new ≡ self.old }
     {
         self.sequence.set(sequence);
-        self.search.best(alloc, &self.instance, &self.sequence, job)
+        let best = self.search.best(&self.instance, &self.sequence, job);
+        *place = best.place;
+        best.span
     }
 
     /// Writes the makespan with a job at each place of a sequence.
@@ -138,19 +132,14 @@ impl Kept {
         ensures shop { self.new ≡ self.old }
     {
         self.sequence.set(sequence);
-        if !self
-            .search
-            .insertions(&self.instance, &self.sequence, job, spans)
-        {
-            insertions_by_rows(&self.instance, &mut self.tails, sequence, job, spans);
-        }
+        self.search
+            .insertions(&self.instance, &self.sequence, job, spans);
     }
 
     /// Makes passes over a list of jobs, from the sequence of the first `count` jobs of `order`, and overwrites `order`
     /// with the result. Returns the makespan of the result.
     pub(crate) fn visit(
         &mut self,
-        alloc: Global,
         list: &[u32],
         passes: u32,
         order: &mut [u32],
@@ -166,18 +155,62 @@ impl Kept {
     {
         let seq = &mut self.sequence;
         seq.set(&order[..count]);
-        make_visits(alloc, &self.instance, &mut self.search, seq, list, passes);
+        make_visits(&self.instance, &mut self.search, seq, list, passes);
         // Called for its contract, which says that the jobs of a sequence are distinct.
         let _size = seq.size();
         copy_sequence(seq, order);
-        self.span_of(order)
+        span_of(&self.instance, order)
     }
+}
 
-    /// The makespan of a sequence.
-    pub(crate) fn span_of(&self, sequence: &[u32]) -> u64
-        requires { IsSequence self.now.jobs sequence.now }
-        ensures { result ≡ makespan self.now sequence.now }
-    {
-        span_of(&self.instance, sequence)
+// Makes passes over a list of jobs: each job leaves its place in a sequence, if it has one, for its first best one.
+fn make_visits(instance: &Instance, search: &mut Search, seq: &mut Seq, list: &[u32], passes: u32)
+    requires search { IsSearchOf instance.now.shop search.old }
+    requires size { seq.old.size ≡ instance.now.shop.jobs }
+    requires small { All (λ job. job < instance.now.shop.jobs) list.now }
+    ensures jobs { seq.new ≡ record seq.old { jobs = after_visits instance.now.shop list.now passes seq.old.jobs } }
+    ensures search { IsSearchOf instance.now.shop search.new }
+{
+    for _pass in 0..passes {
+        visit_once(instance, search, seq, list);
+    }
+}
+
+// One pass.
+fn visit_once(instance: &Instance, search: &mut Search, seq: &mut Seq, list: &[u32])
+    requires search { IsSearchOf instance.now.shop search.old }
+    requires size { seq.old.size ≡ instance.now.shop.jobs }
+    requires small { All (λ job. job < instance.now.shop.jobs) list.now }
+    ensures jobs { seq.new ≡ record seq.old { jobs = visited instance.now.shop list.now seq.old.jobs } }
+    ensures search { IsSearchOf instance.now.shop search.new }
+{
+    for job in list {
+        move_job(instance, search, seq, *job as usize);
+    }
+}
+
+// A job leaves its place, if it has one, for its first best one.
+fn move_job(instance: &Instance, search: &mut Search, seq: &mut Seq, job: usize)
+    requires search { IsSearchOf instance.now.shop search.old }
+    requires size { seq.old.size ≡ instance.now.shop.jobs }
+    requires small { job < instance.now.shop.jobs }
+    ensures jobs { seq.new ≡ record seq.old { jobs = moved instance.now.shop seq.old.jobs job } }
+    ensures search { IsSearchOf instance.now.shop search.new }
+{
+    take_out(seq, job);
+    let best = search.best(instance, seq, job);
+    seq.insert_at(best.place, job);
+}
+
+// Removes a job from a sequence that may contain it.
+fn take_out(seq: &mut Seq, job: usize)
+    ensures jobs { seq.new ≡ record seq.old { jobs = filter (λ other. not (nat_eq other job)) seq.old.jobs } }
+    ensures absent { Contains seq.new.jobs job → ⊥ }
+{
+    // Called for its contract, which says that the jobs of a sequence are distinct.
+    let _size = seq.size();
+    if seq.has(job) {
+        let place = seq.place_of(job);
+        seq.remove_at(place);
     }
 }

@@ -4,17 +4,11 @@
 //! `times[job * machines + machine]`. Jobs, machines and places count from 0.
 #![tactic(auto)]
 
-mod building;
 mod given;
 mod handle;
-mod heads;
-mod inserting;
 mod kept;
 pub mod laws;
-mod moving;
 mod numbers;
-mod opened;
-mod preparing;
 mod random;
 mod rows;
 mod searching;

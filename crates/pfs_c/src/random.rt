@@ -3,8 +3,8 @@ ghost use Rattle.std.specs.Prelude.{◌≡◌, ◌≢◌, ◌*◌, length, IfOk}
 ghost use Rattle.pfs_layout.specs.Generator.{generated};
 ghost use Rattle.pfs_c.specs.Numbers.{Returns};
 ghost use Rattle.pfs_c.specs.Random.{words_from};
-ghost use Rattle.pfs_c.specs.Validation.{generate_fault, seed_fault};
-ghost use Rattle.pfs_c.specs.Private.Outcomes.{Validates, Rejects};
+ghost use Rattle.pfs_c.specs.Validation.{generate_fault};
+ghost use Rattle.pfs_c.specs.Private.Outcomes.{Rejects};
 
 use crate::given::{validate_length, validate_sizes};
 use crate::numbers::{CallFault, PFS_OK};
@@ -67,17 +67,9 @@ fn generated_of(
     ensures long { IfOk result (λ made. long ≡ jobs * machines) }
 {
     validate_sizes(jobs, machines)?;
-    validate_seed(seed)?;
+    if seed < 1 || seed > 2_147_483_646 {
+        return Err(CallFault::Seed);
+    }
     validate_length(long, jobs * machines)?;
     generate(alloc, jobs, machines, seed).or(Err(CallFault::Memory))
-}
-
-fn validate_seed(seed: u64) -> Result<(), CallFault>
-    ensures { Validates result (seed_fault seed) }
-{
-    if seed >= 1 && seed <= 2_147_483_646 {
-        Ok(())
-    } else {
-        Err(CallFault::Seed)
-    }
 }

@@ -2,10 +2,8 @@
 ghost use Rattle.std.specs.Prelude.{◌≡◌, ◌≢◌, ℕ, ◌+◌, ◌*◌, ◌<◌, ◌≤◌, length, max, slice_index};
 ghost use Rattle.pfs_base.specs.FlowShop.{time_of};
 ghost use Rattle.pfs_base.specs.Paths.{makespan};
-ghost use Rattle.pfs_insert.specs.Insertion.{makespan_with};
 ghost use Rattle.pfs_order.specs.Sequence.{IsSequence};
 ghost use Rattle.pfs_c.specs.HeadsTails.{AreRowHeads, AreRowTails};
-ghost use Rattle.pfs_c.specs.Inserting.{AreInsertions};
 ghost use Rattle.pfs_c.specs.Private.Rows.{HeadsAt, TailsAt};
 
 use pfs_base::{Instance, MOST_MACHINES, SPAN_MAX};
@@ -118,36 +116,6 @@ fn span_in(instance: &Instance, sequence: &[u32], heads: &mut [u64]) -> u64
     heads[instance.machines() - 1]
 }
 
-// The makespan of a sequence with a job inserted at a place, from the heads of the jobs before it and the tails of
-// those after it.
-#[inline(always)]
-fn span_with(
-    instance: &Instance,
-    sequence: &[u32],
-    job: usize,
-    place: usize,
-    heads: &[u64],
-    tails: &[u64],
-) -> u64
-    requires sequence { IsSequence instance.now.shop.jobs sequence.now }
-    requires job { job < instance.now.shop.jobs }
-    requires place { place ≤ length sequence.now }
-    requires wide { instance.now.shop.machines ≤ length heads.now }
-    requires wide_tails { instance.now.shop.machines ≤ length tails.now }
-    requires heads { HeadsAt instance.now.shop sequence.now place heads.now }
-    requires tails { TailsAt instance.now.shop sequence.now place tails.now }
-    ensures { result ≡ makespan_with instance.now.shop sequence.now job place }
-{
-    let times = times_of(instance, job);
-    let mut before = 0;
-    let mut most = 0;
-    for machine in 0..instance.machines() {
-        before = greater(heads[machine], before) + u64::from(times[machine]);
-        most = greater(before + tails[machine], most);
-    }
-    most
-}
-
 /// Fills the rows of heads from the first place to the last.
 pub(crate) fn fill_heads(instance: &Instance, sequence: &[u32], heads: &mut [u64])
     requires sequence { IsSequence instance.now.shop.jobs sequence.now }
@@ -189,30 +157,4 @@ fn copy_row(row: &[u64], machines: usize, place: usize, table: &mut [u64])
     for machine in 0..machines {
         table[first + machine] = row[machine];
     }
-}
-
-/// Writes the makespan with a job at each place of a sequence. The tails overwrite the front of `tails`.
-pub(crate) fn insertions_by_rows(
-    instance: &Instance,
-    tails: &mut [u64],
-    sequence: &[u32],
-    job: usize,
-    makespans: &mut [u64],
-)
-    requires sequence { IsSequence instance.now.shop.jobs sequence.now }
-    requires job { job < instance.now.shop.jobs }
-    requires room { length makespans.old ≡ length sequence.now + 1 }
-    requires long { length sequence.now * instance.now.shop.machines ≤ length tails.old }
-    ensures { AreInsertions instance.now.shop sequence.now job makespans.new }
-{
-    fill_tails(instance, sequence, tails);
-    let machines = instance.machines();
-    let mut heads = [0; MOST_MACHINES];
-    for place in 0..sequence.len() {
-        let after = &tails[place * machines..(place + 1) * machines];
-        makespans[place] = span_with(instance, sequence, job, place, &heads, after);
-        add_head(instance, sequence, place, &mut heads);
-    }
-    let (last, none) = (sequence.len(), [0; MOST_MACHINES]);
-    makespans[last] = span_with(instance, sequence, job, last, &heads, &none);
 }

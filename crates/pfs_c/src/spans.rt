@@ -1,19 +1,28 @@
-//! Makespans and bounds, for C.
-ghost use Rattle.std.specs.Prelude.{◌≡◌, ◌≢◌, ℕ, ◌+◌, ◌*◌, ◌<◌, ◌≤◌, length, IfOk, IfErr, IfSome};
+//! Makespans, bounds, insertions, time tables, and heads and tails, for C.
+ghost use Rattle.std.specs.Prelude.{◌≡◌, ◌≢◌, ℕ, ◌+◌, ◌*◌, ◌<◌, ◌≤◌, [], ◌∷◌, length, IfOk, IfErr, IfSome};
 ghost use Rattle.std.specs.declared.option.Option.TheVariants.{None};
 ghost use Rattle.pfs_audit.specs.Bound.{bound_of};
+ghost use Rattle.pfs_audit.specs.Schedule.{IsLeastSchedule};
+ghost use Rattle.pfs_base.specs.Lists.{first_some};
 ghost use Rattle.pfs_base.specs.Paths.{makespan};
+ghost use Rattle.pfs_insert.specs.Inserter.{IsBestPlace};
 ghost use Rattle.pfs_order.specs.Sequence.{IsSequence};
+ghost use Rattle.pfs_c.specs.HeadsTails.{AreRowHeads, AreRowTails, heads_tails_fault};
+ghost use Rattle.pfs_c.specs.Inserting.{AreInsertions, insertions_fault};
 ghost use Rattle.pfs_c.specs.Many.{AreMakespans, makespans_fault, sequence_at, sequences_fault};
-ghost use Rattle.pfs_c.specs.Numbers.{number_returned};
-ghost use Rattle.pfs_c.specs.Validation.{jobs_fault, on_shop};
-ghost use Rattle.pfs_c.specs.Private.Outcomes.{Validates};
+ghost use Rattle.pfs_c.specs.Numbers.{Returns, number_returned};
+ghost use Rattle.pfs_c.specs.Tables.{EndAfterTimes, table_entry, table_fault};
+ghost use Rattle.pfs_c.specs.Validation.{insertion_fault, jobs_fault, length_fault, on_shop};
+ghost use Rattle.pfs_c.specs.Private.Outcomes.{Rejects, Validates};
 
-use crate::given::{validate_jobs, validate_product};
+use crate::given::{
+    order_of, validate_insertion, validate_jobs, validate_length, validate_product,
+};
 use crate::handle::Prepared;
+use crate::kept::Kept;
 use crate::numbers::{CallFault, PFS_OK, number_of};
-use crate::rows::span_of;
-use pfs_audit::bound;
+use crate::rows::{fill_heads, fill_tails, span_of};
+use pfs_audit::{TimeTable, bound, table};
 use pfs_base::{Instance, MOST_JOBS};
 use std::alloc::Global;
 
@@ -35,19 +44,12 @@ pub extern "C" fn pfs_makespan(
         Ok(kept) => kept,
         Err(why) => return why.number(),
     };
-    let done = makespan_in(kept.instance(), sequence, span);
+    let valid = validate_jobs(kept.instance().jobs(), sequence);
+    if valid.is_ok() {
+        *span = span_of(kept.instance(), sequence);
+    }
     instance.put(kept);
-    number_of(done)
-}
-
-fn makespan_in(instance: &Instance, sequence: &[u32], span: &mut u64) -> Result<(), CallFault>
-    ensures validated { Validates result (jobs_fault instance.now.shop.jobs sequence.now) }
-    ensures done { IfOk result (λ _. span.new ≡ makespan instance.now.shop sequence.now) }
-    ensures kept { IfErr result (λ _. span.new ≡ span.old) }
-{
-    validate_jobs(instance.jobs(), sequence)?;
-    *span = span_of(instance, sequence);
-    Ok(())
+    number_of(valid)
 }
 
 /// Computes a lower bound of the makespan of every order (Taillard 1993).
@@ -89,26 +91,25 @@ pub extern "C" fn pfs_makespans(
         Ok(kept) => kept,
         Err(why) => return why.number(),
     };
-    let done = makespans_in(kept.instance(), sequences, len, makespans);
+    let valid = validate_many(kept.instance().jobs(), sequences, len, makespans.len());
+    if valid.is_ok() {
+        fill_makespans(kept.instance(), sequences, len, makespans);
+    }
     instance.put(kept);
-    number_of(done)
+    number_of(valid)
 }
 
-fn makespans_in(
-    instance: &Instance,
-    sequences: &[u32],
-    long: usize,
-    makespans: &mut [u64],
-) -> Result<(), CallFault>
-    ensures validated { Validates result
-        (makespans_fault instance.now.shop sequences.now long (length makespans.old)) }
-    ensures done { IfOk result (λ _. AreMakespans instance.now.shop sequences.now long makespans.new) }
-    ensures kept { IfErr result (λ _. makespans.new ≡ makespans.old) }
+// Validates the length of a list of sequences, and then the sequences one after the other, each from the left.
+fn validate_many(jobs: usize, sequences: &[u32], long: usize, count: usize) -> Result<(), CallFault>
+    requires { jobs ≤ MOST_JOBS }
+    ensures validated { Validates result (first_some
+        (length_fault (length sequences.now) (count * long) ∷ sequences_fault jobs count long sequences.now ∷ [])) }
+    ensures room { IfOk result (λ done. length sequences.now ≡ count * long) }
+    ensures each { IfOk result (λ done. (index : ℕ) → index < count
+        → IsSequence jobs (sequence_at long sequences.now index)) }
 {
-    validate_product(sequences.len(), makespans.len(), long)?;
-    validate_sequences(instance.jobs(), sequences, long, makespans.len())?;
-    fill_makespans(instance, sequences, long, makespans);
-    Ok(())
+    validate_product(sequences.len(), count, long)?;
+    validate_sequences(jobs, sequences, long, count)
 }
 
 // Validates the sequences one after the other, each from the left.
@@ -142,4 +143,203 @@ fn fill_makespans(instance: &Instance, sequences: &[u32], long: usize, makespans
         let first = index * long;
         makespans[index] = span_of(instance, &sequences[first..first + long]);
     }
+}
+
+/// Finds the best place of a job in a sequence of others, of equal ones the first, and the makespan with the job there.
+#[unsafe(no_mangle)]
+pub extern "C" fn pfs_insert(
+    alloc: Global,
+    instance: &mut Prepared,
+    sequence: &[u32],
+    job: u32,
+    place: &mut usize,
+    span: &mut u64,
+) -> i32
+    ensures number { result ≡ number_returned
+        (on_shop instance.old.shop (λ shop. insertion_fault shop sequence.now job)) }
+    ensures done { result ≡ PFS_OK →
+        IfSome instance.old.shop (λ shop. IsBestPlace shop sequence.now job place.new span.new) }
+    ensures shop { instance.new.shop ≡ instance.old.shop }
+    ensures kept_place { result ≢ PFS_OK → place.new ≡ place.old }
+    ensures kept_span { result ≢ PFS_OK → span.new ≡ span.old }
+{
+    let mut kept = match instance.take(alloc) {
+        Ok(kept) => kept,
+        Err(why) => return why.number(),
+    };
+    let done = insert_in(&mut kept, sequence, job, place, span);
+    instance.put(kept);
+    number_of(done)
+}
+
+fn insert_in(
+    kept: &mut Kept,
+    sequence: &[u32],
+    job: u32,
+    place: &mut usize,
+    span: &mut u64,
+) -> Result<(), CallFault>
+    ensures validated { Validates result (insertion_fault kept.old sequence.now job) }
+    ensures done { IfOk result (λ _. IsBestPlace kept.old sequence.now job place.new span.new) }
+    ensures shop { kept.new ≡ kept.old }
+    ensures kept_place { IfErr result (λ _. place.new ≡ place.old) }
+    ensures kept_span { IfErr result (λ _. span.new ≡ span.old) }
+{
+    validate_insertion(kept.instance().jobs(), sequence, job)?;
+    *span = kept.best(sequence, job as usize, place);
+    Ok(())
+}
+
+/// Computes the makespan with a job at each place of a sequence of others. `makespans[place]` is that with the job
+/// before the one at this place, and the last entry that with the job after the last one.
+#[unsafe(no_mangle)]
+pub extern "C" fn pfs_insertions(
+    alloc: Global,
+    instance: &mut Prepared,
+    sequence: &[u32],
+    job: u32,
+    makespans: &mut [u64],
+) -> i32
+    ensures number { result ≡ number_returned (on_shop instance.old.shop
+        (λ shop. insertions_fault shop sequence.now job (length makespans.old))) }
+    ensures done { result ≡ PFS_OK →
+        IfSome instance.old.shop (λ shop. AreInsertions shop sequence.now job makespans.new) }
+    ensures shop { instance.new.shop ≡ instance.old.shop }
+    ensures kept { result ≢ PFS_OK → makespans.new ≡ makespans.old }
+{
+    let mut kept = match instance.take(alloc) {
+        Ok(kept) => kept,
+        Err(why) => return why.number(),
+    };
+    let done = insertions_in(&mut kept, sequence, job, makespans);
+    instance.put(kept);
+    number_of(done)
+}
+
+fn insertions_in(
+    kept: &mut Kept,
+    sequence: &[u32],
+    job: u32,
+    makespans: &mut [u64],
+) -> Result<(), CallFault>
+    ensures validated { Validates result (insertions_fault kept.old sequence.now job (length makespans.old)) }
+    ensures done { IfOk result (λ _. AreInsertions kept.old sequence.now job makespans.new) }
+    ensures shop { kept.new ≡ kept.old }
+    ensures kept { IfErr result (λ _. makespans.new ≡ makespans.old) }
+{
+    validate_length(makespans.len(), sequence.len() + 1)?;
+    validate_insertion(kept.instance().jobs(), sequence, job)?;
+    kept.insertions(sequence, job as usize, makespans);
+    Ok(())
+}
+
+/// Computes when each operation of an order of all jobs starts and ends, each as early as possible. Both tables are
+/// stored row by row: row r belongs to the job at place r of the order, and has an entry for each machine.
+#[unsafe(no_mangle)]
+#[tactic(auto, using(crate::proofs::Returning::rejected))]
+pub extern "C" fn pfs_table(
+    alloc: Global,
+    instance: &mut Prepared,
+    order: &[u32],
+    starts: &mut [u64],
+    ends: &mut [u64],
+) -> i32
+    ensures number { Returns result (on_shop instance.old.shop
+        (λ shop. table_fault shop order.now (length starts.old) (length ends.old))) }
+    ensures starts { result ≡ PFS_OK → IfSome instance.old.shop (λ shop.
+        IsLeastSchedule shop order.now (table_entry shop.machines starts.new)) }
+    ensures ends { result ≡ PFS_OK → IfSome instance.old.shop (λ shop.
+        EndAfterTimes shop order.now starts.new ends.new) }
+    ensures shop { instance.new.shop ≡ instance.old.shop }
+    ensures kept_starts { result ≢ PFS_OK → starts.new ≡ starts.old }
+    ensures kept_ends { result ≢ PFS_OK → ends.new ≡ ends.old }
+{
+    let kept = match instance.take(alloc) {
+        Ok(kept) => kept,
+        Err(why) => return why.number(),
+    };
+    let table = table_in(alloc, kept.instance(), order, starts.len(), ends.len());
+    instance.put(kept);
+    match table {
+        Ok(table) => {
+            starts.copy_from_slice(table.starts());
+            ends.copy_from_slice(table.ends());
+            PFS_OK
+        }
+        Err(why) => why.number(),
+    }
+}
+
+// The time table, for output lists with `starts` and `ends` entries.
+fn table_in(
+    alloc: Global,
+    instance: &Instance,
+    order: &[u32],
+    starts: usize,
+    ends: usize,
+) -> Result<TimeTable, CallFault>
+    ensures rejected { Rejects result (table_fault instance.now.shop order.now starts ends) }
+    ensures starts { IfOk result (λ table. length table.starts ≡ starts) }
+    ensures ends { IfOk result (λ table. length table.ends ≡ ends) }
+    ensures least { IfOk result (λ table.
+        IsLeastSchedule instance.now.shop order.now (table_entry instance.now.shop.machines table.starts)) }
+    ensures timed { IfOk result (λ table. EndAfterTimes instance.now.shop order.now table.starts table.ends) }
+{
+    let (jobs, machines) = (instance.jobs(), instance.machines());
+    validate_length(order.len(), jobs)?;
+    validate_length(starts, jobs * machines)?;
+    validate_length(ends, jobs * machines)?;
+    validate_jobs(jobs, order)?;
+    let order = order_of(alloc, order)?;
+    table(alloc, instance, &order).or(Err(CallFault::Memory))
+}
+
+/// The heads and tails of a sequence of distinct jobs, row by row: row r is the job at place r of the sequence, and has
+/// an entry for each machine. A head is the earliest end of the operation. A tail is the longest path from the start of
+/// the operation to the end of the sequence.
+#[unsafe(no_mangle)]
+pub extern "C" fn pfs_heads_tails(
+    alloc: Global,
+    instance: &mut Prepared,
+    sequence: &[u32],
+    heads: &mut [u64],
+    tails: &mut [u64],
+) -> i32
+    ensures number { result ≡ number_returned (on_shop instance.old.shop
+        (λ shop. heads_tails_fault (length heads.old) (length tails.old) shop sequence.now)) }
+    ensures heads { result ≡ PFS_OK → IfSome instance.old.shop (λ shop. AreRowHeads shop sequence.now heads.new) }
+    ensures tails { result ≡ PFS_OK → IfSome instance.old.shop (λ shop. AreRowTails shop sequence.now tails.new) }
+    ensures shop { instance.new.shop ≡ instance.old.shop }
+    ensures kept_heads { result ≢ PFS_OK → heads.new ≡ heads.old }
+    ensures kept_tails { result ≢ PFS_OK → tails.new ≡ tails.old }
+{
+    let kept = match instance.take(alloc) {
+        Ok(kept) => kept,
+        Err(why) => return why.number(),
+    };
+    let done = heads_tails_in(kept.instance(), sequence, heads, tails);
+    instance.put(kept);
+    number_of(done)
+}
+
+fn heads_tails_in(
+    instance: &Instance,
+    sequence: &[u32],
+    heads: &mut [u64],
+    tails: &mut [u64],
+) -> Result<(), CallFault>
+    ensures validated { Validates result
+        (heads_tails_fault (length heads.old) (length tails.old) instance.now.shop sequence.now) }
+    ensures heads { IfOk result (λ _. AreRowHeads instance.now.shop sequence.now heads.new) }
+    ensures tails { IfOk result (λ _. AreRowTails instance.now.shop sequence.now tails.new) }
+    ensures kept_heads { IfErr result (λ _. heads.new ≡ heads.old) }
+    ensures kept_tails { IfErr result (λ _. tails.new ≡ tails.old) }
+{
+    let machines = instance.machines();
+    validate_product(heads.len(), sequence.len(), machines)?;
+    validate_product(tails.len(), sequence.len(), machines)?;
+    validate_jobs(instance.jobs(), sequence)?;
+    fill_heads(instance, sequence, heads);
+    fill_tails(instance, sequence, tails);
+    Ok(())
 }

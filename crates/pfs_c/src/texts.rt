@@ -4,9 +4,7 @@ ghost use Rattle.pfs_c.specs.Texts.{layout_named, notes_of};
 
 mod bytes;
 mod reading;
-mod reading_order;
 mod writing;
-mod writing_order;
 
 use pfs_base::Notes;
 use pfs_layout::Layout;

@@ -1,19 +1,23 @@
-//! Reading instance files in memory.
+//! Reading instance files and order files in memory.
 ghost use Rattle.std.specs.Prelude.{◌≡◌, ◌≢◌, ℕ, ◌*◌, ◌<◌, ◌≤◌, ◌<ℤ◌, ◌≤ℤ◌, List, ◌++◌, length, take, drop};
 ghost use Rattle.std.specs.Prelude.{IfOk, IfErr};
 ghost use Rattle.pfs_base.specs.Limits.{limits};
 ghost use Rattle.pfs_layout.specs.File.{IsInstanceFile};
 ghost use Rattle.pfs_layout.specs.Rejection.{RejectsInstance};
 ghost use Rattle.pfs_layout.specs.declared.fault.LayoutFault.{LayoutFault};
+ghost use Rattle.pfs_order.specs.OrderFile.{IsText, IsOrderFile, RejectsOrder};
+ghost use Rattle.pfs_order.specs.declared.fault.OrderFault.{OrderFault};
 ghost use Rattle.pfs_c.specs.Numbers.{fault_number};
-ghost use Rattle.pfs_c.specs.Texts.{file_fault, file_place, given_problem};
-ghost use Rattle.pfs_c.specs.Texts.{HoldsProblem, HasFault, NeedsMemory, ReturnsRead};
+ghost use Rattle.pfs_c.specs.Texts.{file_fault, file_place, given_problem, order_fault, order_file_of, order_place};
+ghost use Rattle.pfs_c.specs.Texts.{HoldsProblem, HasFault, NeedsMemory, ReturnsRead, ReturnsReadOrder};
 
-use crate::numbers::{CallFault, PFS_NO_BLOCK, PFS_OK, PFS_ROOM};
+use crate::given::copy_sequence;
+use crate::numbers::{CallFault, PFS_NO_BLOCK, PFS_OK, PFS_ROOM, PFS_SYNTAX};
 use crate::texts::bytes::Bytes;
 use crate::texts::{PfsBlock, PfsNotes, layout_of};
 use pfs_base::{Instance, MOST_BLOCKS};
 use pfs_layout::{Layout, LayoutFault, read_block};
+use pfs_order::{OrderFault, OrderFile, read_order};
 use std::alloc::Global;
 
 /// Reads a block, counted from 1, of an instance file in memory, in the layout that a number names. The processing
@@ -57,8 +61,9 @@ pub extern "C" fn pfs_read(
         Ok(instance) => instance,
         Err(LayoutFault::Memory) => return CallFault::Memory.number(),
         Err(fault) => {
-            *place = place_of(fault);
-            return fault_of(fault).number();
+            let (why, at) = file_answer(fault);
+            *place = at;
+            return why.number();
         }
     };
     *found = PfsBlock {
@@ -94,38 +99,98 @@ fn read_file(
     read_block(alloc, &mut source, layout, block)
 }
 
-// How C receives a fault of an instance file.
-fn fault_of(fault: LayoutFault) -> CallFault
-    ensures { result ≡ file_fault fault }
+// How C receives a fault of an instance file, and its count, line or offset, or 0 if it has none.
+fn file_answer(fault: LayoutFault) -> (CallFault, u64)
+    ensures why { result.0 ≡ file_fault fault }
+    ensures place { result.1 ≡ file_place fault }
 {
     match fault {
-        LayoutFault::NoBlock { .. } => CallFault::NoBlock,
-        LayoutFault::SizeCount { .. } => CallFault::SizeCount,
-        LayoutFault::SizeRange { .. } => CallFault::SizeRange,
-        LayoutFault::MixedLine { .. } => CallFault::MixedLine,
-        LayoutFault::TimeRange { .. } => CallFault::TimeRange,
-        LayoutFault::MachineNumber { .. } => CallFault::MachineNumber,
-        LayoutFault::ExtraNumber { .. } => CallFault::ExtraNumber,
-        LayoutFault::Truncated { .. } => CallFault::Truncated,
-        LayoutFault::TooLong => CallFault::InputTooLong,
-        LayoutFault::SeedRange => CallFault::Seed,
-        LayoutFault::Read | LayoutFault::Memory => CallFault::Memory,
+        LayoutFault::NoBlock { found } => (CallFault::NoBlock, found as u64),
+        LayoutFault::SizeCount { line } => (CallFault::SizeCount, line as u64),
+        LayoutFault::SizeRange { line } => (CallFault::SizeRange, line as u64),
+        LayoutFault::MixedLine { offset } => (CallFault::MixedLine, offset as u64),
+        LayoutFault::TimeRange { offset } => (CallFault::TimeRange, offset as u64),
+        LayoutFault::MachineNumber { offset } => (CallFault::MachineNumber, offset as u64),
+        LayoutFault::ExtraNumber { offset } => (CallFault::ExtraNumber, offset as u64),
+        LayoutFault::Truncated { have } => (CallFault::Truncated, have as u64),
+        LayoutFault::TooLong => (CallFault::InputTooLong, 0),
+        LayoutFault::SeedRange => (CallFault::Seed, 0),
+        LayoutFault::Read | LayoutFault::Memory => (CallFault::Memory, 0),
     }
 }
 
-// The count, line or offset of a fault of an instance file, or 0 if it has none.
-fn place_of(fault: LayoutFault) -> u64
-    ensures { result ≡ file_place fault }
+/// Reads an order file of version 1 or 2 in memory. The order is stored in the front of `order`, where jobs count from
+/// 0. `machines` is 0 if the file states none. The makespan is the one that the file states, right or wrong. If the
+/// order does not fit, the function returns `PFS_ROOM` and still sets jobs, machines and makespan.
+///
+/// It returns a number from `PFS_SYNTAX` on if the file has a fault; then `place` is the fault's offset, or its place
+/// in the order, counted from 1. Memory for the order is allocated once the text is known to match the grammar, before
+/// its jobs are validated.
+#[unsafe(no_mangle)]
+pub extern "C" fn pfs_read_order(
+    alloc: Global,
+    bytes: &[u8],
+    order: &mut [u32],
+    jobs: &mut usize,
+    machines: &mut usize,
+    makespan: &mut u64,
+    place: &mut u64,
+) -> i32
+    ensures number { ReturnsReadOrder result bytes.now (length order.old) }
+    ensures done { result ≡ PFS_OK
+        → IsOrderFile bytes.now (order_file_of (take jobs.new order.new) machines.new makespan.new) }
+    ensures fits { result ≡ PFS_OK → jobs.new ≤ length order.old }
+    ensures rest { result ≡ PFS_OK → drop jobs.new order.new ≡ drop jobs.new order.old }
+    ensures room { result ≡ PFS_ROOM → length order.old < jobs.new }
+    ensures reported { result ≡ PFS_ROOM → (all : List ℕ) × ((length all ≡ jobs.new)
+        × IsOrderFile bytes.now (order_file_of all machines.new makespan.new)) }
+    ensures fault { PFS_SYNTAX ≤ℤ result → (fault : OrderFault) × (RejectsOrder bytes.now fault
+        × (result ≡ fault_number (order_fault fault)) × (place.new ≡ order_place fault)) }
+    ensures order_kept { result ≢ PFS_OK → order.new ≡ order.old }
+    ensures sizes_kept { result ≢ PFS_OK → result ≢ PFS_ROOM
+        → (jobs.new ≡ jobs.old) × (machines.new ≡ machines.old) × (makespan.new ≡ makespan.old) }
+    ensures place_kept { result <ℤ PFS_SYNTAX → place.new ≡ place.old }
+{
+    let file = match read_text(alloc, bytes) {
+        Ok(file) => file,
+        Err(OrderFault::Memory) => return CallFault::Memory.number(),
+        Err(fault) => {
+            let (why, at) = order_answer(fault);
+            *place = at;
+            return why.number();
+        }
+    };
+    *jobs = file.order().len();
+    *machines = file.machines().unwrap_or(0);
+    *makespan = file.makespan();
+    if order.len() < file.order().len() {
+        return CallFault::Room.number();
+    }
+    copy_sequence(file.order().seq(), order);
+    PFS_OK
+}
+
+// Reads what an order file states.
+fn read_text(alloc: Global, bytes: &[u8]) -> Result<OrderFile, OrderFault>
+    ensures file { IfOk result (λ file. IsOrderFile bytes.now file) }
+    ensures rejected { IfErr result (λ fault. fault ≢ OrderFault.Memory → RejectsOrder bytes.now fault) }
+    ensures memory { result ≡ Err OrderFault.Memory → IsText bytes.now }
+    ensures read { result ≢ Err OrderFault.Read }
+{
+    let mut source = Bytes::new(bytes);
+    read_order(alloc, &mut source)
+}
+
+// How C receives a fault of an order file, and its offset or place, or 0 if it has none.
+fn order_answer(fault: OrderFault) -> (CallFault, u64)
+    ensures why { result.0 ≡ order_fault fault }
+    ensures place { result.1 ≡ order_place fault }
 {
     match fault {
-        LayoutFault::NoBlock { found } => found as u64,
-        LayoutFault::SizeCount { line } | LayoutFault::SizeRange { line } => line as u64,
-        LayoutFault::MixedLine { offset }
-        | LayoutFault::TimeRange { offset }
-        | LayoutFault::MachineNumber { offset }
-        | LayoutFault::ExtraNumber { offset } => offset as u64,
-        LayoutFault::Truncated { have } => have as u64,
-        LayoutFault::TooLong | LayoutFault::SeedRange | LayoutFault::Read | LayoutFault::Memory =>
-            0,
+        OrderFault::Syntax { offset } => (CallFault::Syntax, offset as u64),
+        OrderFault::JobRange { place } => (CallFault::JobRange, place as u64),
+        OrderFault::Repeated { place } => (CallFault::JobTwice, place as u64),
+        OrderFault::TooLong => (CallFault::FileTooLong, 0),
+        OrderFault::Read | OrderFault::Memory => (CallFault::Memory, 0),
     }
 }

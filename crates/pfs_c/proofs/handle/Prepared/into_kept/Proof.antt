@@ -40,7 +40,7 @@ use Rattle.std_heap.specs.contracts.Global.{the_row as global}
 use Rattle.std_heap.specs.contracts.GlobalAllocator.TheImpl.{ghosts}
 use Rattle.std_heap.proofs.GlobalToken.{dealloc_token-Testable}
 use Rattle.pfs_c.specs.contracts.kept.Kept.{the_row as kept}
-use Rattle.pfs_c.specs.contracts.opened.OpenBox.{the_type as open-type}
+use Rattle.pfs_c.specs.contracts.handle.OpenBox.{the_type as open-type}
 use Rattle.pfs_c.specs.contracts.handle.Prepared.{the_row as handle}
 use Rattle.pfs_c.specs.declared.handle.Prepared.{Prepared}
 use Rattle.pfs_c.proofs.handle.Prepared.TheLaws.{lowered, lowers}

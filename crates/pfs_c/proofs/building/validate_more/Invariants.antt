@@ -1,6 +1,0 @@
-use Rattle.std.proofs.Common.{◌++◌, take}
-use Rattle.pfs_order.specs.Sequence.{IsSequence}
-use Rattle.pfs_c.proofs.building.validate_more.Given as goal
-
-abbrev pub invariant-loop-place : goal.invariant-loop-place
-invariant-loop-place l = IsSequence l.jobs (l.sequence ++ take l.place l.more)

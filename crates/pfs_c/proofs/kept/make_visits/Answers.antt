@@ -1,0 +1,18 @@
+use Rattle.std.proofs.Common.{ap, sym, ◌∙◌}
+use Rattle.pfs_order.specs.Sequence.{Sequence}
+use Rattle.pfs_c.specs.Building.{visited}
+use Rattle.pfs_c.proofs.Visits.{visits_more}
+use Rattle.pfs_c.proofs.kept.make_visits.Goals as goal
+
+pub loop-pass-preserved : goal.loop-pass-preserved
+loop-pass-preserved c =
+    let shop = c.args.instance.now.shop in
+    let seq = c.args.seq.now in
+    let list = c.args.list.now in
+    record {
+      search = c.visit_once.ensures.search;
+      size = ap (λ (s : Sequence). s.size) c.visit_once.ensures.jobs ∙ c.loop-pass.invariant.size;
+      order = c.visit_once.ensures.jobs
+          ∙ ap (λ (s : Sequence). record s { jobs = visited shop list s.jobs }) c.loop-pass.invariant.order
+          ∙ ap (λ jobs. record seq { jobs = jobs }) (sym (visits_more shop list c.loop-pass._pass seq.jobs));
+    }
