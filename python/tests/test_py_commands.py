@@ -461,6 +461,10 @@ def test_memory_that_runs_out_is_reported_on_one_line(folder: pathlib.Path, monk
     monkeypatch.setattr(_library.library, "pfs_rounds", lambda *_: _library.MEMORY)
     assert _commands.main([*LONG, "--rounds", "3"]) == 4
     assert capsys.readouterr() == (shop_in(folder).neh().to_text(), "pfs: no memory\n"), "the order is lost"
+    (folder / "times.csv").write_text(TABLE)
+    assert _commands.main(["plan", "times.csv"]) == 4
+    out, got = capsys.readouterr()
+    assert out.startswith("makespan ") and without_summary(got) == "pfs: no memory\n", "the plan is lost"
 
 
 @pytest.mark.parametrize("words", [
