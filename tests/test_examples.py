@@ -134,10 +134,7 @@ def test_a_search_in_parts(built: pathlib.Path, pfs: Program, shop: pathlib.Path
     assert found.stdout.encode() == whole
     assert (shop / "state").read_bytes() == b"40\n" + whole
     assert {path.name for path in shop.iterdir()} == {"shop", "state"}
-
-
-def test_a_search_ends_in_time(built: pathlib.Path, shop: pathlib.Path) -> None:
-    assert run(built, "timed_search", "shop", "state", "7", "0", cwd=shop).stderr.startswith("10 rounds, ")
+    assert run(built, "timed_search", "shop", "other", "7", "0", cwd=shop).stderr.startswith("10 rounds, ")
 
 
 @pytest.mark.parametrize(("state", "why"), [
@@ -183,12 +180,6 @@ def test_an_own_search_reports_failed_allocations(built: pathlib.Path, shop: pat
                for line in failed), failed
 
 
-def test_an_own_search_rejects_other_files(built: pathlib.Path, shop: pathlib.Path) -> None:
-    (shop / "empty").write_bytes(b"")
-    got = run(built, "own_search", "empty", "3", "7", cwd=shop)
-    assert got == Done(2, "", "own_search: empty: the file ends before the block\n")
-
-
 def test_a_search_with_temperature(built: pathlib.Path, pfs: Program, shop: pathlib.Path) -> None:
     """It finds the best known makespan of this instance, of which a search without temperature stays above."""
     neh = int(pfs.run("solve --layout taillard shop", shop).stdout.split()[-1])
@@ -224,7 +215,7 @@ def test_a_plan_runs_and_audits_the_search_with_temperature(built: pathlib.Path,
             ("out/taillard/ta001", "1278", "ok")}
 
 
-def test_files_that_cannot_be_opened_or_written(built: pathlib.Path, shop: pathlib.Path) -> None:
+def test_files_that_cannot_be_opened_read_or_written(built: pathlib.Path, shop: pathlib.Path) -> None:
     got = run(built, "timed_search", "none", "state", "7", "0", cwd=shop)
     assert got == Done(4, "", "timed_search: none: cannot open\n")
     got = run(built, "timed_search", "shop", "none/state", "7", "0", cwd=shop)
@@ -234,6 +225,9 @@ def test_files_that_cannot_be_opened_or_written(built: pathlib.Path, shop: pathl
     assert got == Done(4, "", "ig_temperature: none: cannot read\n")
     assert run(built, "audit_orders", "none", "x", cwd=shop) == Done(4, "", "audit_orders: none: cannot open\n")
     assert run(built, "audit_orders", "shop", "none", cwd=shop) == Done(4, "", "audit_orders: none: cannot open\n")
+    (shop / "empty").write_bytes(b"")
+    got = run(built, "own_search", "empty", "3", "7", cwd=shop)
+    assert got == Done(2, "", "own_search: empty: the file ends before the block\n")
 
 
 @pytest.mark.parametrize("words", [["timed_search", "shop", "state", "7", "0"], ["neh_ties", "5", "2", "1"],

@@ -29,11 +29,6 @@ on_slurm = pytest.mark.xdist_group("slurm")
 over_ssh = pytest.mark.xdist_group("ssh")
 
 
-@pytest.fixture(scope="module", autouse=True)
-def parallel() -> None:
-    tool("parallel")
-
-
 def assert_refused(got: Done, *said: str) -> None:
     """With one line, which has these texts."""
     assert (got.status, got.stdout, got.stderr.count("\n")) == (2, "", 1), got.stderr[-500:]
@@ -337,11 +332,6 @@ def test_names_of_instances_are_not_formulas_in_a_spreadsheet(experiment: Experi
 
 # Runs by time
 
-@pytest.fixture
-def with_library(libpfs: Library) -> dict[str, str]:
-    return dict(os.environ, PFS_LIBRARY=str(libpfs.path))
-
-
 def test_runs_by_time_take_their_time(experiment: Experiment, with_library: dict[str, str]) -> None:
     """Jobs times half the machines times the factor, in milliseconds. The order is that of the rounds in the CSV."""
     before = ALL + "takes = [2]\nseeds = [1, 2]\n"
@@ -402,7 +392,11 @@ def search(libpfs: Library, monkeypatch: pytest.MonkeyPatch) -> Callable[..., on
 
 def test_a_search_by_time_continues_with_another_seed(search: Callable[..., one.Search],
                                                       monkeypatch: pytest.MonkeyPatch) -> None:
-    """After the last round of a seed, here the eighth. No part goes beyond it."""
+    """After the last round of a seed, here the eighth. No part goes beyond it. If NEH takes as long as there is, no
+    round begins."""
+    for seconds, spent, rounds in ((2.5, 3, 0), (5, 4, 1)):
+        found = search(1)
+        assert (one.search(found, seconds), found.rounds) == (spent, rounds)
     monkeypatch.setattr(one, "PART", 5)
     monkeypatch.setattr(one, "MOST_ROUNDS", 8)
     seed, step = 2 ** 64 - 5, 11400714819323198485
@@ -419,13 +413,6 @@ def test_a_search_by_time_continues_with_another_seed(search: Callable[..., one.
         other.run_rounds(found.rounds - 8)
         orders.append(other.order[:])
     assert orders[0] == found.order[:] != orders[1], "rounds of two seeds"
-
-
-def test_the_time_of_neh_counts(search: Callable[..., one.Search]) -> None:
-    """If it takes as long as there is, no round begins."""
-    for seconds, spent, rounds in ((2.5, 3, 0), (5, 4, 1)):
-        found = search(1)
-        assert (one.search(found, seconds), found.rounds) == (spent, rounds)
 
 
 @pytest.mark.parametrize("path", ["none.so", "plan.toml"], ids=["missing", "no library"])
@@ -807,20 +794,13 @@ def test_slurm_is_asked_for_an_array_of(plan: str, words: list[str], array: str,
 
 # The pages
 
-def test_the_manual_page_has_the_exit_statuses(top: pathlib.Path) -> None:
-    """Of runs that fail and of audits that find a wrong order, and of what is rejected."""
-    page = (top / "python" / "pfs-experiments.1").read_text()
-    got = dict(re.findall(r"^\.It (\d)\n([^.]*\.)", page.partition(".Sh EXIT STATUS")[2].partition(".Sh ")[0],
-                          re.MULTILINE))
-    assert list(got) == ["0", "1", "2"] and got["0"] == "Done." and "rejected" in got["2"]
-    assert "failed" in got["1"] and "wrong" in got["1"]
-
 
 @pytest.mark.seconds(20)
 def test_the_lines_of_the_way_lead_to_a_report(top: pathlib.Path, pfs: Program, folder: pathlib.Path,
                                                scripts: pathlib.Path, scipy: None) -> None:
     """Of README, in a copy that has the built program, which is taken as it is, and of the manual page. The plan has
     fewer runs."""
+    tool("parallel")
     for name in ("experiments", "python/src"):
         shutil.copytree(top / name, folder / name, ignore=shutil.ignore_patterns("out", "__pycache__"))
     for name in ("Makefile", "crates.txt"):
@@ -839,3 +819,8 @@ def test_the_lines_of_the_way_lead_to_a_report(top: pathlib.Path, pfs: Program, 
     for line in (*lines, "cp experiments/example.toml .", "rm -r example.csv example.csv.d report", *manual[1:]):
         assert run_tool(line.split(" "), folder, env=with_path(folder / "bin")).status == 0, line
     assert sum(int(row["runs"]) for row in csv_rows(folder / "report" / "table.csv")) == 3 * (1 + 2 * 3)
+    page = (top / "python" / "pfs-experiments.1").read_text()
+    got = dict(re.findall(r"^\.It (\d)\n([^.]*\.)", page.partition(".Sh EXIT STATUS")[2].partition(".Sh ")[0],
+                          re.MULTILINE))
+    assert list(got) == ["0", "1", "2"] and got["0"] == "Done." and "rejected" in got["2"]
+    assert "failed" in got["1"] and "wrong" in got["1"]

@@ -121,17 +121,13 @@ def caller(folder: pathlib.Path) -> pathlib.Path:
     return folder
 
 
-def test_a_program_is_built_by_pkg_config(prefix: pathlib.Path, caller: pathlib.Path) -> None:
+def test_a_program_is_built_by_pkg_config_and_by_cmake(prefix: pathlib.Path, caller: pathlib.Path) -> None:
     [library] = prefix.rglob("libpfs.so")
     env = dict(os.environ, PKG_CONFIG_PATH=str(library.with_name("pkgconfig")), LD_LIBRARY_PATH=str(library.parent))
     flags = output_of([tool("pkg-config"), "--cflags", "--libs", "pfs"], caller, env=env)
-    for words in (flags, flags.replace("-lpfs", "-l:libpfs.a")):
-        output_of(["cc", "caller.c", "-o", "caller", *words.split()], caller)
+    for each in (flags, flags.replace("-lpfs", "-l:libpfs.a")):
+        output_of(["cc", "caller.c", "-o", "caller", *each.split()], caller)
         assert output_of(["./caller"], caller, env=env) == f"{VERSION} {VERSION}\n"
-
-
-def test_a_program_is_built_by_cmake(prefix: pathlib.Path, caller: pathlib.Path) -> None:
-    """But not where it asks for a later library."""
     words = [tool("cmake"), "-S", ".", "-B", "made", f"-DCMAKE_PREFIX_PATH={prefix}"]
     (caller / "CMakeLists.txt").write_text(CMAKE.format(wanted="99.0"))
     assert f"version: {VERSION}" in run_tool(words, caller).stderr

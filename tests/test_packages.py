@@ -161,7 +161,7 @@ def test_without_a_commit_or_what_was_built_nothing_is_made(missing: str, env: d
 
 # What is made
 
-def test_the_spdx_file_lists_what_is_installed_and_what_is_built_in(made: Made) -> None:
+def test_the_spdx_file_and_the_notices_list_what_is_built_in(made: Made, top: pathlib.Path) -> None:
     bill = json.loads(made.path(".spdx.json").read_text())
     assert (bill["spdxVersion"], bill["dataLicense"], bill["SPDXID"]) == ("SPDX-2.3", "CC0-1.0", "SPDXRef-DOCUMENT")
     assert bill["creationInfo"]["created"] == "2001-09-09T01:46:40Z"
@@ -186,9 +186,15 @@ def test_the_spdx_file_lists_what_is_installed_and_what_is_built_in(made: Made) 
                      *((each, "GENERATED_FROM", "pfs") for each in ("pfs", SHARED, "libpfs.a", wheel.name)),
                      *((each, "DYNAMIC_LINK", "libc6") for each in ("pfs", SHARED)),
                      *((each, "STATIC_LINK", crate) for each in ("pfs", SHARED, "libpfs.a") for crate in crates)}
+    text = (top / "debian" / "copyright").read_text()
+    crates = imported(top / "tools" / "dist").crates_in("pfs")
+    assert crates == {"clap", "itoa", "rand_core", "rand_pcg", "thiserror"}
+    assert {crate for crate in crates if crate not in text} == set()
+    licence = (top / "LICENSE-MIT").read_text().split("\n\n", 1)[1]
+    assert "".join(f" {line or '.'}\n" for line in licence.splitlines()) in text
 
 
-def test_the_tarball_has_the_installed_files_and_runs(made: Made, folder: pathlib.Path) -> None:
+def test_the_tarball_has_the_installed_files_runs_and_is_removed(made: Made, folder: pathlib.Path) -> None:
     """With its notices, its sums, and the commit and the kit. All is root's, as old as the commit."""
     with tarfile.open(made.path(".tar.gz")) as tar:
         assert {(it.uid, it.gid, it.mtime) for it in tar.getmembers()} == {(0, 0, OLD)}
@@ -205,10 +211,6 @@ def test_the_tarball_has_the_installed_files_and_runs(made: Made, folder: pathli
     assert found.pop("share/doc/pfs/NOTICES") == (made.copy.top / "debian" / "copyright").read_bytes()
     assert found.pop(VERSIONED[0]).decode().startswith("prefix=${pcfiledir}/../..\n") and found.pop(VERSIONED[1])
     assert_same_files(found, {place: (made.copy.top / file).read_bytes() for place, file in (PLACES | LIBRARY).items()})
-
-
-def test_the_pages_lines_unpack_the_tarball_and_remove_it(made: Made, folder: pathlib.Path) -> None:
-    """The folders that were there stay, with their modes, and no others."""
     local = folder / "usr" / "local"
     for name in ("bin", "include", "lib", "man", "share"):
         (local / name).mkdir(parents=True)
@@ -360,13 +362,3 @@ def test_pip_replaces_a_wheel_by_one_of_a_later_commit(made: Made, folder: pathl
     assert got == "makespan 9 min\nbound 9 min\noptimal\n1 table\n2 chair\n"
     got = output_of(["clean/bin/python3", "-c", "import pfs._library; print(pfs._library.PATH)"], folder, env=env)
     assert pathlib.Path(got).is_relative_to(folder / "clean")
-
-
-def test_the_notices_name_what_is_built_in(top: pathlib.Path) -> None:
-    """The kit's crates, and the text of the licence that asks for it."""
-    text = (top / "debian" / "copyright").read_text()
-    crates = imported(top / "tools" / "dist").crates_in("pfs")
-    assert crates == {"clap", "itoa", "rand_core", "rand_pcg", "thiserror"}
-    assert {crate for crate in crates if crate not in text} == set()
-    licence = (top / "LICENSE-MIT").read_text().split("\n\n", 1)[1]
-    assert "".join(f" {line or '.'}\n" for line in licence.splitlines()) in text

@@ -1,4 +1,5 @@
 """What an experiment was made with, what has changed since, and what there is of it before its end."""
+import functools
 import hashlib
 import json
 import os
@@ -7,8 +8,6 @@ import subprocess
 
 import pytest
 from support.experiments import Experiment
-from support.library import Library
-from support.needs import tool
 from support.tools import Done, csv_rows, run_tool, wait_until, write_script
 
 ORDER = "#!/bin/sh\necho {order}\n"
@@ -18,11 +17,6 @@ method = "mine"
 command = "./mine {{instance}}"
 files = ["data"]
 """
-
-
-@pytest.fixture(scope="module", autouse=True)
-def parallel() -> None:
-    tool("parallel")
 
 
 def sum_of(data: bytes) -> str:
@@ -75,11 +69,10 @@ def test_the_file_has_the_version_the_sums_and_each_start(mine: Experiment, top:
         assert len(json.loads((mine.runs / "provenance.json").read_text())["starts"]) == 1
 
 
-def test_a_search_by_time_has_the_sum_of_the_library(experiment: Experiment, libpfs: Library) -> None:
-    env = dict(os.environ, PFS_LIBRARY=str(libpfs.path))
-    experiment.plan('instances = ["shops/b"]\ntime_factors = [1]\n').run(env=env)
+def test_a_search_by_time_has_the_sum_of_the_library(experiment: Experiment, with_library: dict[str, str]) -> None:
+    experiment.plan('instances = ["shops/b"]\ntime_factors = [1]\n').run(env=with_library)
     stored = json.loads((experiment.runs / "provenance.json").read_text())
-    assert stored["sha256"]["libpfs.so.1"] == sum_of(libpfs.path.read_bytes())
+    assert stored["sha256"]["libpfs.so.1"] == sum_of(pathlib.Path(with_library["PFS_LIBRARY"]).read_bytes())
 
 
 # The reference of a plan
@@ -102,12 +95,11 @@ def test_a_reference_must_name_an_instance(experiment: Experiment) -> None:
 
 # Its report
 
-def test_a_report_audits_the_runs_with_the_instances_next_to_the_csv(mine: Experiment, libpfs: Library) -> None:
+def test_a_report_audits_the_runs_with_the_instances_next_to_the_csv(mine: Experiment,
+                                                                     with_library: dict[str, str]) -> None:
     """As long as they are there and whole. An order that isn't that of the makespan is an error."""
-    env = dict(os.environ, PFS_LIBRARY=str(libpfs.path))
-
-    def report() -> Done:
-        return run_tool([mine.scripts / "pfs-experiments", "report", "out.csv", "report"], mine.folder, env=env)
+    words = [mine.scripts / "pfs-experiments", "report", "out.csv", "report"]
+    report = functools.partial(run_tool, words, mine.folder, env=with_library)
 
     mine.run()
     assert (report().status, csv_rows(mine.folder / "report" / "table.csv")[0]["audited"]) == (0, "1")

@@ -15,7 +15,6 @@ from unittest import mock
 
 import pytest
 from support.colours import least_difference
-from support.library import Library
 from support.tools import Done, csv_rows, run_tool
 
 for _name in ("matplotlib", "pandas", "scipy"):
@@ -98,7 +97,7 @@ def test_a_report_has_its_table_and_its_plots(ending: str, begin: bytes, report:
     got = report(REPORTED, "--format", ending)
     assert (got.status, got.stderr) == (0, "")
     assert sorted(os.listdir(folder / "report")) == [name.replace("png", ending) for name in FILES]
-    assert (folder / "report" / "table.csv").read_text() == TABLE
+    assert (folder / "report" / "table.csv").read_bytes() == TABLE.encode()
     assert (folder / "report" / "table.md").read_text() == got.stdout
     rows = [[cell.strip() for cell in line[1:-1].split("|")] for line in got.stdout.splitlines()[2:-2]]
     assert rows == [line.split(",") for line in TABLE.splitlines()[1:]]
@@ -147,17 +146,7 @@ def test_a_missing_module_is_named_with_its_package(module: str, scripts: pathli
     assert not (folder / "report").exists(), "what is written before the module is missed"
 
 
-def test_the_greatest_numbers_are_reported(report: Reported, folder: pathlib.Path) -> None:
-    """And the least seconds."""
-    rows = [f"a,5000,200,{rounds},5000,100,18446744073709551615,1,{makespan},1,{gap},{cells},{seconds},ok\n"
-            for rounds, makespan, gap, cells, seconds in (
-                (0, 1, "0.0000", 1, "1e-320"), (0, 999999999999999999, "99999999999999999800.0000", 2, "1e-9"),
-                (1000000, 999999999999999999, "1e20", 18446744073709551615, "1e12"))]
-    assert report(HEAD + "\n" + "".join(rows)).status == 0
-    assert [float(each) for each in column(folder, "greatest_rpd_percent")] == pytest.approx([1e20] * 2)
-
-
-def test_a_csv_that_pandas_wrote_is_read(report: Reported, folder: pathlib.Path) -> None:
+def test_a_csv_that_pandas_wrote_and_the_greatest_numbers(report: Reported, folder: pathlib.Path) -> None:
     """Which writes whole numbers with a point in columns where some are missing, and an index before; with a byte order
     mark."""
     written, rows = io.StringIO(), list(csv.DictReader(io.StringIO(REPORTED)))
@@ -169,6 +158,12 @@ def test_a_csv_that_pandas_wrote_is_read(report: Reported, folder: pathlib.Path)
     assert ",20.0,5.0," in written.getvalue()
     assert report("\N{BOM}" + written.getvalue()).status == 0
     assert (folder / "report" / "table.csv").read_text() == TABLE
+    lines = [f"a,5000,200,{rounds},5000,100,18446744073709551615,1,{makespan},1,{gap},{cells},{seconds},ok\n"
+             for rounds, makespan, gap, cells, seconds in (
+                 (0, 1, "0.0000", 1, "1e-320"), (0, 999999999999999999, "99999999999999999800.0000", 2, "1e-9"),
+                 (1000000, 999999999999999999, "1e20", 18446744073709551615, "1e12"))]
+    assert report(HEAD + "\n" + "".join(lines)).status == 0
+    assert [float(each) for each in column(folder, "greatest_rpd_percent")] == pytest.approx([1e20] * 2)
 
 
 # Names of methods from a CSV of somebody else.
@@ -180,7 +175,7 @@ ESCAPED = {"{x}": r"\{x\}", "50%": r"50\%", "a_b": r"a\_b", "#1": r"\#1", "$": r
            "a_b; c, d": r"\shortstack[r]{a\_b; c\\d}"}
 
 
-def test_names_stay_in_their_cells(report: Reported, folder: pathlib.Path) -> None:
+def test_names_stay_in_their_cells_and_are_escaped(report: Reported, folder: pathlib.Path) -> None:
     """They aren't read as marks in Markdown, formulas in a spreadsheet, or codes on a terminal or in a picture."""
     with open(folder / "out.csv", "w", newline="") as file:
         csv.writer(file).writerows([
@@ -198,9 +193,6 @@ def test_names_stay_in_their_cells(report: Reported, folder: pathlib.Path) -> No
     shown = (folder / "report" / "seconds.svg").read_text()
     for text in ("a|b", "&lt;img src=x&gt;", r"two\nlines", r"\x1b[31mred", "$x^^$", "\u200b_x_"):
         assert text in shown, f"{text} is in no picture"
-
-
-def test_names_are_escaped_in_latex(report: Reported, folder: pathlib.Path) -> None:
     names = (name.replace('"', '""') for name in ESCAPED)
     assert report("instance,makespan,method\n" + "".join(f'a,{at},"{name}"\n' for at, name in enumerate(names, 10))
                   ).status == 0
@@ -210,7 +202,7 @@ def test_names_are_escaped_in_latex(report: Reported, folder: pathlib.Path) -> N
 
 # The reference
 
-def test_the_rpd_is_relative_to_the_reference(report: Reported, folder: pathlib.Path) -> None:
+def test_the_rpd_is_relative_to_the_reference(top: pathlib.Path, report: Reported, folder: pathlib.Path) -> None:
     """By the last part of an instance's path. Else to the column, if any has a reference there. An instance without one
     has no RPD."""
     text = REPORTED.replace("\na,", "\nsome/folder/a,")
@@ -233,21 +225,18 @@ def test_the_rpd_is_relative_to_the_reference(report: Reported, folder: pathlib.
     (folder / "best.csv").write_text("instance,makespan\na,50\na,51\n")
     got = report(REPORTED, "--reference", "best.csv")
     assert (got.status, got.stderr) == (2, "pfs-experiments report: best.csv: a has two makespans\n")
-
-
-def test_the_rpd_is_that_of_the_pages_formula(top: pathlib.Path, report: Reported, folder: pathlib.Path) -> None:
     text = (top / "experiments" / "README.md").read_text()
     formula = re.search(r"RPD is the relative percentage deviation from the reference, ([^.]*)\.", text)
     assert formula, "no formula in experiments/README.md"
-    got = formula[1].replace("·", "*").replace("\N{MINUS SIGN}", "-")
-    assert re.fullmatch(r"[\s()*/+0-9-]*", re.sub("makespan|reference", "", got)), got
+    plain = formula[1].replace("·", "*").replace("\N{MINUS SIGN}", "-")
+    assert re.fullmatch(r"[\s()*/+0-9-]*", re.sub("makespan|reference", "", plain)), plain
     assert report("instance,makespan,reference\na,113,80\nb,0,0\nc,1,0\n").status == 0
-    wanted = eval(got, {"__builtins__": {}}, {"makespan": 113, "reference": 80})
+    wanted = eval(plain, {"__builtins__": {}}, {"makespan": 113, "reference": 80})
     assert column(folder, "greatest_rpd_percent") == [f"{wanted:.3f}"]
     assert column(folder, "mean_rpd_percent") == [f"{wanted / 2:.3f}"], "0 of a reference 0; more than 0 has no RPD"
 
 
-def test_taillards_instances_are_compared_with_the_best_known_makespans(report: Reported, folder: pathlib.Path) -> None:
+def test_the_best_known_makespans_are_references(report: Reported, folder: pathlib.Path) -> None:
     """By their names and sizes, unless a reference is given. The best known ones of these are 1278 and 26040."""
     text = ("instance,jobs,machines,makespan\nout/ta001,20,5,1291\nta111,500,20,26301\nta002,50,5,2724\n"
             "mine,20,5,1000\n")
@@ -258,6 +247,8 @@ def test_taillards_instances_are_compared_with_the_best_known_makespans(report: 
     (folder / "other.csv").write_text("instance,makespan\nta001,1000\n")
     assert report(text, "--reference", "other.csv").status == 0
     assert column(folder, "mean_rpd_percent") == ["29.100", "", f"{100 * 261 / 26040:.3f}"]
+    got = report("instance,makespan,reference\na,100,\nta001,1232,\nta002,1400,\nb,100,101\nb,99,101\n")
+    assert "\nBelow the reference: b 99 (101), ta001 1232 (1278).\n" in got.stdout
 
 
 @pytest.mark.parametrize("text", ["ta001,1231,,", "x/tai20_5.txt:1,1231,,", "i,99,,\ni,100,100,1", "TA001.txt,1231,,"])
@@ -269,12 +260,7 @@ def test_a_makespan_below_the_bound_is_an_error(text: str, report: Reported) -> 
                               f"{int(makespan) + 1}: no order has it\n")
 
 
-def test_a_makespan_below_the_reference_is_told(report: Reported) -> None:
-    got = report("instance,makespan,reference\na,100,\nta001,1232,\nta002,1400,\nb,100,101\nb,99,101\n")
-    assert "\nBelow the reference: b 99 (101), ta001 1232 (1278).\n" in got.stdout
-
-
-def test_orders_are_audited_where_the_instance_is_at_hand(scripts: pathlib.Path, libpfs: Library,
+def test_orders_are_audited_where_the_instance_is_at_hand(scripts: pathlib.Path, with_library: dict[str, str],
                                                           folder: pathlib.Path) -> None:
     """As one of Taillard's, or next to a CSV. The makespan of the order 1 2 3 .. of ta001 is 1448."""
     order = " ".join(map(str, range(1, 21)))
@@ -282,8 +268,7 @@ def test_orders_are_audited_where_the_instance_is_at_hand(scripts: pathlib.Path,
              "wrong size: 3 jobs, but the instance has 20"}
 
     def tool(*words: str) -> Done:
-        return run_tool([scripts / "pfs-experiments", *words], folder,
-                        env=dict(os.environ, PFS_LIBRARY=str(libpfs.path)))
+        return run_tool([scripts / "pfs-experiments", *words], folder, env=with_library)
 
     def report_of(text: str) -> Done:
         (folder / "out.csv").write_text(f"instance,seed,makespan,order\n{text}")
@@ -304,21 +289,6 @@ def test_orders_are_audited_where_the_instance_is_at_hand(scripts: pathlib.Path,
 
 
 # Several methods
-
-def test_each_setting_of_a_method_is_compared_by_means_of_the_instances_that_both_have(
-        report: Reported, folder: pathlib.Path) -> None:
-    """The means of the first one at 0 and at 100 rounds are 110 and 103 of a, and 120 and 105 of b. What one CSV
-    doesn't say of an instance, another one does."""
-    other = "instance,makespan\nx/a,102\nx/a,105\nx/b,105\nx/z,1\n"
-    assert report(out=REPORTED, second=other).status == 0
-    names = ("rounds", "take", "instances", "won", "tied", "lost")
-    rows = [tuple(row[name] for name in names) for row in csv_rows(folder / "report" / "comparison.csv")]
-    assert rows == [("0", "4", "2", "0", "0", "2"), ("100", "4", "2", "1", "1", "0")]
-    rows = [(row["method"], row["jobs"], row["runs"]) for row in csv_rows(folder / "report" / "table.csv")]
-    assert ("second", "20", "3") in rows
-    row = csv_rows(folder / "report" / "instances.csv")[1]
-    assert [row[name] for name in ("instance", "rounds", "runs", "best", "mean", "deviation", "mean_rpd_percent")] == [
-        "a", "100", "2", "101", "103", f"{8 ** 0.5:.15g}", f"{200 / 101:.3f}"]
 
 
 def test_methods_without_a_common_instance_are_reported(report: Reported, folder: pathlib.Path) -> None:
@@ -374,7 +344,7 @@ def test_two_methods_are_compared_by_plain_definitions(scales: list[int], differ
     assert float(row["vargha_delaney_a"]) == pytest.approx(wins / len(differences), abs=0.0006)
 
 
-def test_the_effect_size_is_the_mean_over_the_instances(report: Reported, folder: pathlib.Path) -> None:
+def test_the_effect_size_and_the_counts_are_by_instance(report: Reported, folder: pathlib.Path) -> None:
     """On the first instance 3 of 4 pairs of runs are won, and on the second, which is longer, 1 and a tie. On the third
     one method lacks a seed, which has no part."""
     spans: dict[str, dict[str, tuple[int, ...]]] = {"a": {"i": (10, 12), "j": (500, 510), "k": (7,)},
@@ -385,6 +355,16 @@ def test_the_effect_size_is_the_mean_over_the_instances(report: Reported, folder
     assert report(**texts).status == 0
     assert column(folder, "vargha_delaney_a", "comparison") == [f"{(0.75 + 0.375 + 1) / 3:.3f}"]
     assert column(folder, "lost", "comparison") == ["1"]
+    other = "instance,makespan\nx/a,102\nx/a,105\nx/b,105\nx/z,1\n"
+    assert report(out=REPORTED, second=other).status == 0
+    names = ("rounds", "take", "instances", "won", "tied", "lost")
+    rows = [tuple(row[name] for name in names) for row in csv_rows(folder / "report" / "comparison.csv")]
+    assert rows == [("0", "4", "2", "0", "0", "2"), ("100", "4", "2", "1", "1", "0")]
+    rows = [(row["method"], row["jobs"], row["runs"]) for row in csv_rows(folder / "report" / "table.csv")]
+    assert ("second", "20", "3") in rows
+    row = csv_rows(folder / "report" / "instances.csv")[1]
+    assert [row[name] for name in ("instance", "rounds", "runs", "best", "mean", "deviation", "mean_rpd_percent")] == [
+        "a", "100", "2", "101", "103", f"{8 ** 0.5:.15g}", f"{200 / 101:.3f}"]
 
 
 def test_only_equal_rounds_or_times_are_compared(report: Reported, folder: pathlib.Path) -> None:
@@ -423,7 +403,7 @@ def test_three_settings_have_average_ranks(report: Reported, folder: pathlib.Pat
     assert [float(row["p"]) for row in rows] == pytest.approx([math.exp(-statistic / 2)] * 3 + [1] * 3, rel=1e-3)
 
 
-def test_many_pairs_have_the_normal_approximation(report: Reported, folder: pathlib.Path) -> None:
+def test_many_pairs_and_holms_correction_for_them(report: Reported, folder: pathlib.Path) -> None:
     """For 51 pairs, of which the first method wins all; it is near the exact one for 50."""
     for count in (50, 51):
         texts = {name: "instance,makespan,reference\n" + "".join(
@@ -433,10 +413,6 @@ def test_many_pairs_have_the_normal_approximation(report: Reported, folder: path
         middle, deviation = count * (count + 1) / 4, math.sqrt(count * (count + 1) * (2 * count + 1) / 24)
         normal = math.erfc(middle / deviation / math.sqrt(2))
         assert p == pytest.approx(2 / 2 ** 50 if count == 50 else normal, rel=1e-3)
-
-
-def test_holms_correction_is_for_all_pairs() -> None:
-    """The least p is taken as often as there are pairs, and none is less than one before, nor greater than 1."""
     pandas = pytest.importorskip("pandas")
     cases: list[tuple[list[float | None], list[float | None]]] = [
         ([0.04, None, 0.03, 0.05], [0.09, None, 0.09, 0.09]), ([0.9, 0.5], [1, 1]), ([0.01, 0.04], [0.02, 0.04])]
@@ -451,7 +427,7 @@ PAPER = "instance,jobs,machines,makespan,method,reference\n" + "".join(
         (20, "part", (9,))) for at, rpd in enumerate(rpds))
 
 
-def test_the_table_of_sizes_has_a_column_for_each_method(report: Reported, folder: pathlib.Path) -> None:
+def test_the_table_of_sizes_has_each_method_and_published_mean(report: Reported, folder: pathlib.Path) -> None:
     """And a row of means. With a method that lacks instances, only the others are in it, which a note says."""
     assert report(PAPER + "20-1,20,5,101,part,100\n").status == 0
     assert list(csv.reader(io.StringIO((folder / "report" / "sizes.csv").read_text()))) == [
@@ -474,10 +450,6 @@ def test_the_table_of_sizes_has_a_column_for_each_method(report: Reported, folde
     assert re.findall(r"\\(?:top|mid|bottom)rule", tex) == ["\\toprule", "\\midrule", "\\midrule", "\\bottomrule"]
     assert r"jobs$\times$machines & 5\% \& more & mine\_1 \\" in tex
     assert r"mean & 1.750 & 3.500 \\" in tex and r"\begin{tabular}{lrr}" in tex
-
-
-def test_published_means_are_columns_of_the_table_of_sizes(report: Reported, folder: pathlib.Path) -> None:
-    """A makespan may be a mean too. A column that lacks a size has no mean."""
     published = "jobs,machines,rpd,method\n20,5,0.04,P\n20,5,0.5,Q\n50,5,1.25,Q\n"
     assert report(out="instance,jobs,machines,makespan,reference\na,20,5,100.5,100\nb,50,5,102,100\n",
                   paper=published).status == 0
@@ -503,7 +475,7 @@ def lines_of(axis: Any) -> dict[str, Any]:
     return {line.get_label(): [tuple(map(float, point)) for point in line.get_xydata()] for line in axis.get_lines()}
 
 
-def test_a_line_goes_through_the_means_and_its_band_from_seed_to_seed(done: Callable[[str], Any]) -> None:
+def test_lines_bands_scale_and_colours_of_the_plots_by_rounds(done: Callable[[str], Any]) -> None:
     """The seeds at 100 rounds have the mean gaps 2 and 6, and the mean RPDs 0 and 3.9220."""
     runs = done(REPORTED)
     rpds = [(900 / 101 + 1700 / 103) / 2, 0, (400 / 101 + 400 / 103) / 2]
@@ -514,16 +486,17 @@ def test_a_line_goes_through_the_means_and_its_band_from_seed_to_seed(done: Call
         band = {(x, round(y, 4)) for x, y in axis.collections[-1 if len(axis.collections) == 1 else 0]
                 .get_paths()[0].vertices}
         assert band == {(0, round(points[0], 4)), *((100, round(each, 4)) for each in points[1:])}
-
-
-def test_rounds_have_a_logarithmic_scale(done: Callable[[str], Any]) -> None:
-    """From the first rounds on: tenfold rounds are always as far apart. 0 comes before them."""
     text = HEAD + "\n" + "".join(f"a,20,5,{rounds},4,0,1,1,{200 - at},100,{100 - at}.0,1,0.1,ok\n"
                                  for at, rounds in enumerate((0, 10, 100, 1000, 10000)))
     axis = plots.by_rounds(done(text), "rpd", "y", "title", None).axes[0]
     places = [axis.transData.transform((rounds, 0))[0] for rounds in (0, 10, 100, 1000, 10000)]
     steps = [later - place for place, later in zip(places[1:], places[2:])]
     assert steps == pytest.approx([steps[0]] * 3, rel=0.01) and 0 < places[1] - places[0]
+    text = HEAD + "\n" + "".join(f"{jobs},{jobs},5,{rounds},4,0,1,1,9,9,{jobs}.0,1,0.1,ok\n"
+                                 for jobs in (20, 50, 100, 200, 500) for rounds in (0, 10))
+    lines = plots.by_rounds(done(text), "gap_percent", "y", "title", None).axes[0].get_lines()
+    fills = [to_hex(line.get_color()) for line in lines]
+    assert len(fills) == 5 and min(map(least_difference, fills, fills[1:])) > 10, fills
 
 
 # Takes 2 and 4 and passes 0 and 3, each with other gaps, at 0 and at 10 rounds.
@@ -542,7 +515,7 @@ def test_a_panel_shows_the_gaps_of_the_take_and_the_passes_in_its_title(done: Ca
                    for (take, passes), (first, second) in GAPS.items()}
 
 
-def test_the_rpd_by_seconds(done: Callable[[str], Any]) -> None:
+def test_the_plots_of_times(done: Callable[[str], Any]) -> None:
     """A panel for each size; the seconds have a logarithmic scale with two marks or more."""
     figure = plots.by_seconds(done(REPORTED), None)
     first, second, _ = figure.axes
@@ -551,10 +524,6 @@ def test_the_rpd_by_seconds(done: Callable[[str], Any]) -> None:
     assert label == "out, take 4" and points == [(0.002, pytest.approx(12.708, abs=0.001)),
                                                  (0.5, pytest.approx(1.961, abs=0.001))]
     assert first.get_xscale() == "log" and len([tick for tick in first.get_xticks() if 1e-3 <= tick <= 10]) >= 2
-
-
-def test_a_box_has_the_nanoseconds_a_cell_of_most_rounds(done: Callable[[str], Any]) -> None:
-    """Of 1, 2, 3, 4 and 10. The title names these rounds."""
     text = HEAD + "\na,20,5,0,4,0,1,1,101,100,1.0000,1000,0.001000,ok\n" + "".join(
         f"a,20,5,100,4,0,{at},1,101,100,1.0000,1000000,{time / 1000:.6f},ok\n"
         for at, time in enumerate((1, 2, 3, 4, 10)))
@@ -579,15 +548,6 @@ def test_the_plot_of_means_has_intervals_of_students_distribution(done: Callable
         assert bars == [pytest.approx([statistics.fmean(rpds) - half, statistics.fmean(rpds) + half], abs=0.002)
                         for rpds in methods.values()]
         assert axis.get_ylim()[0] == 0
-
-
-def test_sizes_have_distinguishable_colours(done: Callable[[str], Any]) -> None:
-    """By all eyes, five numbers of jobs on the same machines."""
-    text = HEAD + "\n" + "".join(f"{jobs},{jobs},5,{rounds},4,0,1,1,9,9,{jobs}.0,1,0.1,ok\n"
-                                 for jobs in (20, 50, 100, 200, 500) for rounds in (0, 10))
-    lines = plots.by_rounds(done(text), "gap_percent", "y", "title", None).axes[0].get_lines()
-    fills = [to_hex(line.get_color()) for line in lines]
-    assert len(fills) == 5 and min(map(least_difference, fills, fills[1:])) > 10, fills
 
 
 @pytest.mark.parametrize(("width", "options"), [("3.5", ["--no-title"]), ("7", [])])

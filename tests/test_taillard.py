@@ -39,10 +39,13 @@ def shops(scripts: pathlib.Path, pfs: Program, tmp_path_factory: pytest.TempPath
     return folder / "shops"
 
 
-def test_the_list_has_ten_instances_of_each_size(listed: Listed) -> None:
+def test_the_list_has_ten_instances_of_each_size(listed: Listed, best_known: dict[str, int]) -> None:
+    """And their best known makespans."""
     assert list(listed) == NAMES
     assert [(int(row["jobs"]), int(row["machines"])) for row in listed.values()] \
         == [size for size in SIZES for _ in range(10)]
+    assert [name for name, span in best_known.items() if span < int(listed[name]["lower_bound"])] == []
+
 
 
 @pytest.mark.parametrize("name", NAMES)
@@ -69,9 +72,8 @@ TABLE_PASSES = [0, 1]
 
 
 @pytest.fixture(scope="module")
-def best_known(top: pathlib.Path) -> dict[str, int]:
-    rows = csv_rows(top / "python" / "src" / "pfs" / "best_known.csv")
-    return {row["instance"]: int(row["makespan"]) for row in rows}
+def best_known(listed: Listed) -> dict[str, int]:
+    return {name: int(row["best_makespan"]) for name, row in listed.items()}
 
 
 def test_a_killed_program_leaves_no_part_of_an_instance(scripts: pathlib.Path, pfs: Program,
@@ -86,11 +88,6 @@ def test_a_killed_program_leaves_no_part_of_an_instance(scripts: pathlib.Path, p
     assert whole == ["ta001"], "a part of ta002 has the name of the whole instance"
     run_tool([tool("prlimit"), "--fsize=100", *words, pfs.path, "small"], folder)
     assert list((folder / "small").iterdir()) == [], "a part of ta001, for which there was no room"
-
-
-def test_best_known_makespans_are_of_all_instances(best_known: dict[str, int], listed: Listed) -> None:
-    assert list(best_known) == NAMES
-    assert [name for name, span in best_known.items() if span < int(listed[name]["lower_bound"])] == []
 
 
 def test_the_deviation_of_neh_is_the_published_one(best_known: dict[str, int], shops: pathlib.Path,

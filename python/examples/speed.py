@@ -35,23 +35,6 @@ def numpy_place(times: Times, sequence: Order, job: int) -> tuple[int, int]:
     return place, int(free[place, -1])
 
 
-def plain_place(times: Times, sequence: Order, job: int) -> tuple[int, int]:
-    """Return the best place, with a loop over all cells for each place. Compiled by numba."""
-    jobs, machines = len(sequence) + 1, times.shape[1]
-    best_place, best = 0, 1 << 62
-    for place in range(jobs):
-        free = np.zeros(machines, dtype=np.int64)
-        for at in range(jobs):
-            current = job if at == place else sequence[at - (at > place)]
-            done = 0
-            for machine in range(machines):
-                done = max(done, free[machine]) + times[current, machine]
-                free[machine] = done
-        if free[machines - 1] < best:
-            best_place, best = place, free[machines - 1]
-    return best_place, best
-
-
 def seconds(call: Callable[[], Any], number: int, repeat: int = 7) -> float:
     """Return the least time of a call."""
     return min(timeit.repeat(call, number=number, repeat=repeat)) / number
@@ -94,13 +77,6 @@ def places() -> None:
     report("`best_place`, array of 99 jobs, 20 machines", call)
     assert shop.best_place(sequence, 99) == numpy_place(times, sequence, 99)
     report("NumPy, all places at once", seconds(lambda: numpy_place(times, sequence, 99), 3), call)
-    try:
-        import numba
-    except ImportError:
-        return
-    compiled = numba.njit(plain_place)
-    assert shop.best_place(sequence, 99) == compiled(times, sequence, 99)
-    report("numba, each place from scratch", seconds(lambda: compiled(times, sequence, 99), 20), call)
 
 
 def searches(program: str, folder: pathlib.Path) -> None:

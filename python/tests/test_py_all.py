@@ -8,6 +8,7 @@ import subprocess
 import sys
 import threading
 import time
+import unittest.mock
 from collections.abc import Iterator
 from typing import Any
 
@@ -32,16 +33,13 @@ def test_the_solutions_are_those_of_each_search(workers: int) -> None:
     assert got == [(number, 6) for number in range(1, 7)]
 
 
-def test_the_defaults() -> None:
-    assert pfs.solve_all(SHOPS[:1]) == {(0, 0): SHOPS[0].solve()}
-
-
 def test_searches_by_time_and_with_a_target() -> None:
     begun = time.monotonic()
     found = pfs.solve_all([pfs.generate(60, 10, 9)], [1, 2], time_limit=0.3, workers=2)
     assert 0.2 < time.monotonic() - begun < 30 and all(best.rounds > 0 for best in found.values())
     shop = pfs.taillard(1)
     assert pfs.solve_all([shop], [0], 1000, target=1278) == {(0, 0): shop.solve(1000, target=1278)}
+    assert pfs.solve_all(SHOPS[:1]) == {(0, 0): SHOPS[0].solve()}
 
 
 def test_what_was_found_is_not_searched_again() -> None:
@@ -59,14 +57,11 @@ def test_what_was_found_is_not_searched_again() -> None:
     assert pfs.solve_all([shop], [0], time_limit=600, found={(0, 0): near}) == {(0, 0): near}
 
 
-def test_progress_that_returns_true_ends_the_searches() -> None:
+def test_progress_that_returns_true_or_raises_ends_the_searches() -> None:
     shops = [pfs.generate(60, 10, seed) for seed in range(1, 9)]
     found = pfs.solve_all(shops, [1], 2000, workers=1, progress=lambda done, total: np.bool_(done == 2))
     assert 2 <= len(found) < 8 and found[0, 1] == shops[0].solve(2000, seed=1)
     assert len(pfs.solve_all(SHOPS, [1], 5, workers=1, progress=lambda done, total: 1)) == 3
-
-
-def test_what_progress_raises_has_what_was_found() -> None:
     def refuse(done: int, total: int) -> None:
         if done == 2:
             raise KeyError("enough")
@@ -155,18 +150,7 @@ def test_a_search_by_time_that_is_interrupted_is_not_kept(tmp_path: pathlib.Path
     assert time.monotonic() - begun < 40
 
 
-def test_ctrl_c_before_the_first_search_keeps_what_was_found() -> None:
-    def shops() -> Iterator[pfs.Instance]:
-        yield SHOPS[0]
-        raise KeyboardInterrupt
-
-    found = {(0, 1): SHOPS[0].solve(5, seed=1)}
-    with pytest.raises(pfs.InterruptedAll) as stop:
-        pfs.solve_all(shops(), [1], 9, found=found)
-    assert stop.value.found == found
-
-
-def test_ctrl_c_leaves_no_thread_that_is_just_starting(monkeypatch: pytest.MonkeyPatch) -> None:
+def test_ctrl_c_while_threads_start_and_before_them(monkeypatch: pytest.MonkeyPatch) -> None:
     """It comes once all have started."""
     start, started = threading.Thread.start, list[threading.Thread]()
 
@@ -179,9 +163,17 @@ def test_ctrl_c_leaves_no_thread_that_is_just_starting(monkeypatch: pytest.Monke
     with pytest.raises(pfs.InterruptedAll):
         pfs.solve_all(SHOPS, [1], 1_000_000, workers=2)
     assert len(started) == 2 and not any(thread.is_alive() for thread in started)
+    def shops() -> Iterator[pfs.Instance]:
+        yield SHOPS[0]
+        raise KeyboardInterrupt
+
+    found = {(0, 1): SHOPS[0].solve(5, seed=1)}
+    with pytest.raises(pfs.InterruptedAll) as stop:
+        pfs.solve_all(shops(), [1], 9, found=found)
+    assert stop.value.found == found
 
 
-def test_a_thread_that_cant_be_started_loses_nothing(monkeypatch: pytest.MonkeyPatch) -> None:
+def test_a_thread_that_cant_be_started_and_memory_that_runs_out(monkeypatch: pytest.MonkeyPatch) -> None:
     start, started = threading.Thread.start, list[threading.Thread]()
 
     def refuse(thread: threading.Thread) -> None:
@@ -197,13 +189,8 @@ def test_a_thread_that_cant_be_started_loses_nothing(monkeypatch: pytest.MonkeyP
         pfs.solve_all(SHOPS, [1], 9, workers=2, found=found)
     assert getattr(stop.value, "found")[0, 1].rounds >= 5, "what was found before is lost"
     assert not started[0].is_alive(), "a search goes on after the error"
-
-
-def test_memory_that_runs_out_in_a_search_is_reported(monkeypatch: pytest.MonkeyPatch) -> None:
-    def refuse(*_: object) -> None:
-        raise MemoryError
-
-    monkeypatch.setattr(_search.Search, "run_rounds", refuse)
+    monkeypatch.undo()
+    monkeypatch.setattr(_search.Search, "run_rounds", unittest.mock.Mock(side_effect=MemoryError))
     with pytest.raises(MemoryError):
         pfs.solve_all(SHOPS, [1], 9, workers=2)
 

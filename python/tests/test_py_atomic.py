@@ -56,20 +56,8 @@ def test_a_full_disk_and_ctrl_c_leave_the_old_file(tmp_path: pathlib.Path, kind:
 
 
 @pytest.mark.parametrize("kind", WRITERS)
-def test_no_link_is_followed_in_the_place_of_the_new_file(tmp_path: pathlib.Path, kind: str,
-                                                          monkeypatch: pytest.MonkeyPatch) -> None:
-    path = path_for(kind, tmp_path)
-    monkeypatch.setattr(secrets, "token_hex", lambda _: "0123")
-    precious = tmp_path / "precious"
-    precious.write_text("kept")
-    path.with_name(f"{path.name}.0123.new").symlink_to(precious)
-    WRITERS[kind](path)
-    assert precious.read_text() == "kept", f"{kind} was written through a link"
-    assert not path.is_symlink() and sorted(os.listdir(tmp_path)) == sorted([path.name, "precious"])
-
-
-@pytest.mark.parametrize("kind", WRITERS)
-def test_a_link_to_a_file_and_its_permissions_stay(tmp_path: pathlib.Path, kind: str) -> None:
+def test_a_link_to_a_file_stays_and_no_other_one_is_followed(tmp_path: pathlib.Path, kind: str,
+                                                             monkeypatch: pytest.MonkeyPatch) -> None:
     path = path_for(kind, tmp_path)
     (tmp_path / "folder").mkdir()
     target = tmp_path / "folder" / "target"
@@ -79,6 +67,14 @@ def test_a_link_to_a_file_and_its_permissions_stay(tmp_path: pathlib.Path, kind:
     WRITERS[kind](path)
     assert path.is_symlink() and target.read_text() != "the old one"
     assert stat.S_IMODE(target.stat().st_mode) == 0o600, "the permissions have changed"
+    path = path_for(kind, tmp_path / "folder")
+    monkeypatch.setattr(secrets, "token_hex", lambda _: "0123")
+    precious = path.with_name("precious")
+    precious.write_text("kept")
+    path.with_name(f"{path.name}.0123.new").symlink_to(precious)
+    WRITERS[kind](path)
+    assert precious.read_text() == "kept", f"{kind} was written through a link"
+    assert not path.is_symlink() and {*os.listdir(path.parent)} == {path.name, "precious", "target"}
 
 
 @pytest.mark.parametrize("mask", [0o022, 0o077])
@@ -91,17 +87,13 @@ def test_a_new_file_has_the_permissions_of_the_mask(tmp_path: pathlib.Path, mask
     assert stat.S_IMODE((tmp_path / "shop").stat().st_mode) == 0o666 & ~mask
 
 
-def test_a_pipe_is_written_to(tmp_path: pathlib.Path) -> None:
+def test_a_pipe_is_written_to_and_names_that_no_file_holds_are_not(tmp_path: pathlib.Path) -> None:
     os.mkfifo(tmp_path / "pipe")
     reader = os.open(tmp_path / "pipe", os.O_RDONLY | os.O_NONBLOCK)
     SHOP.write(tmp_path / "pipe")
     assert os.read(reader, 4096).decode() == SHOP.to_text()
     os.close(reader)
     assert os.listdir(tmp_path) == ["pipe"]
-
-
-def test_names_that_no_file_holds_leave_the_old_file(tmp_path: pathlib.Path) -> None:
-    """They come from file names that aren't UTF-8."""
     (tmp_path / "out.csv").write_text("the old one")
     shop = pfs.Instance([[1]], job_names=["\udce4"])
     with pytest.raises(UnicodeEncodeError):

@@ -1,11 +1,10 @@
 """Audits of published tables. Expected makespans are those of the second program of the tests."""
 import csv
 import pathlib
-import random
 import re
 import time
-from collections.abc import Callable, Sequence
-from typing import Any, NamedTuple
+from collections.abc import Sequence
+from typing import Any
 
 import numpy as np
 import pandas
@@ -16,29 +15,6 @@ from pfs.experiments import ExperimentError
 from pfs.experiments.__main__ import command_line
 from pfs.experiments.audit import audit
 
-# The sizes of the orlib files, each with four instances; and the first instance and the blocks of Taillard's files.
-SIZES = [(jobs, machines) for jobs in (10, 20, 30, 40, 50, 60) for machines in (5, 10, 15, 20)]
-SIZES += [(jobs, machines) for jobs in (100, 200, 300, 400, 500, 600, 700, 800) for machines in (20, 40, 60)]
-BLOCKS = {"tai20_5": (1, 10), "tai50_20": (51, 10), "tai100_10": (71, 10), "tai100_20": (81, 10), "tai20_10": (11, 8)}
-# How each method writes an order: the number of its first job, and the text.
-METHODS: dict[str, tuple[int, Callable[[Sequence[int]], str]]] = {
-    "IG": (1, lambda order: " ".join(map(str, order))),
-    "HGA": (1, lambda order: ",".join(map(str, order))),
-    "TSM": (0, lambda order: f"[{', '.join(map(str, order))}]"),
-    "ILS": (0, lambda order: " ".join(f"J{job}" for job in order)),
-}
-
-
-class Line(NamedTuple):
-    """A row of a table, with the order counted from 0 and its makespan."""
-
-    name: str
-    method: str
-    stated: int
-    order: list[int]
-    shop: pfs.Instance
-
-
 def makespan(shop: pfs.Instance, order: Sequence[int]) -> int:
     return plainly.makespan(shop.times.tolist(), order)
 
@@ -48,116 +24,68 @@ def run(words: str) -> int:
     return audit(command_line().parse_args(["audit", *words.split()]))
 
 
-def write_instances(folder: pathlib.Path) -> dict[str, pfs.Instance]:
-    """Write files of both layouts, with other endings and letters than the names in the table."""
-    shops = {}
-    for at, (jobs, machines) in enumerate(SIZES):
-        for number in range(1, 5):
-            shop = pfs.generate(jobs, machines, 1_000 + 10 * at + number)
-            shops[f"VFR{jobs}_{machines}_{number}_Gap"] = shop
-            path = folder / str(machines) / f"vfr{jobs}_{machines}_{number}_gap.TXT"
-            path.parent.mkdir(exist_ok=True)
-            shop.write(path, "orlib")
-    for name, (first, count) in BLOCKS.items():
-        blocks = {f"ta{number:03}": pfs.taillard(number) for number in range(first, first + count)}
-        (folder / f"{name}.txt").write_text("".join(shop.to_text() for shop in blocks.values()))
-        shops |= blocks
-    (folder / "README").write_text("Instances of two benchmarks.\n")
-    return shops
+@pytest.fixture
+def table(tmp_path: pathlib.Path, monkeypatch: pytest.MonkeyPatch) -> list[tuple[Any, ...]]:
+    """The rows of a table in the current folder, each with the verdict and its reason: instance, method, order and
+    stated makespan. There are instances of both layouts; one method counts jobs from 0."""
+    monkeypatch.chdir(tmp_path)
+    sizes = {"VFR6_3_1_Gap": 6, "VFR6_3_2_Gap": 6, "VFR8_3_1_Gap": 8}
+    shops = {name: pfs.generate(jobs, 3, at) for at, (name, jobs) in enumerate(sizes.items(), 1)} | {
+        "ta001": pfs.taillard(1)}
+    for at, name in enumerate(sizes):
+        path = tmp_path / "instances" / str(at) / f"{name.lower()}.TXT"
+        path.parent.mkdir(parents=True)
+        shops[name].write(path, "orlib")
+    (tmp_path / "instances" / "tai20_5.txt").write_text("".join(pfs.taillard(at).to_text() for at in (1, 2)))
+    (tmp_path / "instances" / "README").write_text("Instances of two benchmarks.\n")
+    one, two, large, published = shops
+    own = {name: [*range(2, shop.jobs + 1), 1] for name, shop in shops.items()}
+    spans = {name: makespan(shops[name], [job - 1 for job in order]) for name, order in own.items()}
+    swapped = [own[one][-1], *own[one][1:-1], own[one][0]]
+    other = makespan(shops[one], [job - 1 for job in swapped])
+    states = f"states {{}}, takes {spans[one]}".format
+    return [
+        *((name, "IG", " ".join(map(str, own[name])), spans[name], "valid", "") for name in shops),
+        (one, "IG", own[one], spans[one] - 100, "wrong makespan", states(spans[one] - 100)),
+        (one, "IG", swapped, other + 1, "wrong makespan", f"states {other + 1}, takes {other}"),
+        (one, "IG", [2, 3, 4, 5, 2, 1], 7, "job twice", "job 2 at places 1 and 5; job 6 is missing"),
+        (one, "IG", [0, 3, 4, 5, 6, 1], 7, "job out of range", "job 0 at place 1: the jobs are 1 to 6; job 2 is "),
+        (one, "IG", own[one][:-1], 7, "job missing", "job 1 is missing"),
+        (one, "IG", own[two], spans[two], "wrong makespan", f"{two} is stated to take {spans[two]}"),
+        (two, "IG", swapped, other, "wrong makespan", f"the order takes {other} on {one}"),
+        (two, "IG", own[two][::-1], spans[two], "wrong makespan", f"the reversed order takes {spans[two]}"),
+        (large, "IG", own[one], spans[one], "wrong size",
+         f"6 jobs, but the instance has 8; the order takes {spans[one]} on {one}"),
+        (one, "IG", [job - 1 for job in own[one]], spans[one], "counted from 0",
+         f"others count from 1; counted from 0, it takes {spans[one]}"),
+        *((name, "TSM", str([f"J{job - 1}" for job in own[name]]).replace("'", ""), spans[name], "valid", "")
+          for name in shops),
+        (one, "TSM", [2, 3, 4, 5, 6, 99], 7, "job out of range", "job 6 at place 5: the jobs are 0 to 5; job 0 is "),
+    ]
 
 
-def lines_for(shops: dict[str, pfs.Instance]) -> list[Line]:
-    chance, lines = random.Random(5), []
-    for at, (name, shop) in enumerate(shops.items()):
-        order = chance.sample(range(shop.jobs), shop.jobs)
-        lines.append(Line(name, list(METHODS)[at % 4], makespan(shop, order), order, shop))
-    return lines
-
-
-class Planted(NamedTuple):
-    """An error: the text of the order, the stated makespan, and the verdict with its reason."""
-
-    text: str
-    stated: int
-    verdict: str
-    why: str
-
-
-def with_errors(lines: list[Line]) -> dict[int, Planted]:
-    """Return twelve errors by row. Rows 0, 4, 8.. are of IG, 1, 5, 9.. of HGA, 2, 6, 10.. of TSM."""
-    def change(row: int, verdict: str, why: str, numbers: list[int] | None = None, stated: int | None = None) -> None:
-        line, (first, write) = lines[row], METHODS[lines[row].method]
-        text = write([job + first for job in line.order] if numbers is None else numbers)
-        planted[row] = Planted(text, line.stated if stated is None else stated, verdict, why)
-
-    def numbers_of(row: int) -> list[int]:
-        return [job + METHODS[lines[row].method][0] for job in lines[row].order]
-
-    planted: dict[int, Planted] = {}
-    less = lines[0].stated - 100
-    change(0, "wrong makespan", f"states {less}, takes {lines[0].stated}", stated=less)
-    change(191, "wrong makespan", f"states {lines[191].stated + 1}, takes {lines[191].stated}",
-           stated=lines[191].stated + 1)
-    twice = numbers_of(84)
-    change(84, "job twice", f"job {twice[2]} at places 3 and 8; job {twice[7]} is missing", [*twice[:7], twice[2],
-                                                                                          *twice[8:]])
-    from_0 = numbers_of(20)
-    change(20, "job out of range", f"job 0 at place 5: the jobs are 1 to 20; job {from_0[4]} is missing",
-           [*from_0[:4], 0, *from_0[5:]])
-    other = lines[44]
-    change(40, "wrong makespan", f"the order takes {other.stated} on {other.name}", numbers_of(44), other.stated)
-    change(105, "job missing", f"job {numbers_of(105)[-1]} is missing", numbers_of(105)[:-1])
-    change(57, "wrong makespan", f"the reversed order takes {lines[57].stated}", numbers_of(57)[::-1])
-    swapped = numbers_of(61)
-    swapped[0], swapped[-1] = swapped[-1], swapped[0]
-    order = [job - 1 for job in swapped]
-    change(61, "wrong makespan", f"states {lines[61].stated}, takes {makespan(lines[61].shop, order)}", swapped)
-    change(204, "wrong makespan", f"{lines[208].name} is stated to take {lines[208].stated}", stated=lines[208].stated)
-    change(218, "job out of range", f"job 100 at place 1: the jobs are 0 to 99; job {lines[218].order[0]} is missing",
-           [100, *lines[218].order[1:]])
-    change(36, "counted from 0", f"others count from 1; counted from 0, it takes {lines[36].stated}", lines[36].order)
-    other = lines[33]
-    change(48, "wrong size", f"30 jobs, but the instance has 40; the order takes {other.stated} on {other.name}",
-           [job + 1 for job in other.order], other.stated)
-    return planted
-
-
-@pytest.mark.seconds(5)
-def test_a_table_with_twelve_errors(tmp_path: pathlib.Path, monkeypatch: pytest.MonkeyPatch,
-                                    capsys: pytest.CaptureFixture[str]) -> None:
-    (tmp_path / "instances").mkdir()
-    shops = write_instances(tmp_path / "instances")
-    lines = lines_for(shops)
-    planted = with_errors(lines)
-    assert (len(lines), len(planted)) == (240, 12)
-    with open(tmp_path / "supplement.csv", "w", newline="") as file:
+def test_a_table_with_errors(table: list[tuple[Any, ...]], capsys: pytest.CaptureFixture[str]) -> None:
+    with open("supplement.csv", "w", newline="") as file:
         writer = csv.writer(file, delimiter=";")
         writer.writerow(["SEQUENCE", "Algorithm", "C_max", "seconds", "Instance"])
-        for row, line in enumerate(lines):
-            first, write = METHODS[line.method]
-            text, stated = planted[row][:2] if row in planted else (write([job + first for job in line.order]),
-                                                                    line.stated)
-            writer.writerow([text, line.method, stated, "", line.name])
-    found = pfs.audit(tmp_path / "supplement.csv", tmp_path / "instances")
-    assert [each.row for each in found] == list(range(2, len(lines) + 2))
-    wrong = {each.row - 2: each for each in found if not each.valid}
-    assert sorted(wrong) == sorted(planted)
-    for row, (_, _, verdict, why) in planted.items():
-        assert (wrong[row].verdict, why in wrong[row].why) == (verdict, True), wrong[row]
-    for line, each in zip(lines, found):
-        if each.valid:
-            assert (each.instance, each.method, each.stated) == line[:3] and each.makespan == line.stated
-            assert each.bound == line.shop.bound() and each.why == ""
+        writer.writerows([order if isinstance(order, str) else ",".join(map(str, order)), method, stated, "", name]
+                         for name, method, order, stated, *_ in table)
+    found = pfs.audit("supplement.csv", "instances")
+    assert [each[:4] for each in found] == [(at, row[0], row[1], row[3]) for at, row in enumerate(table, 2)]
+    for each, (name, _, _, stated, verdict, why) in zip(found, table):
+        assert each.verdict.removesuffix(" and optimal") == verdict and why in each.why, each
+        assert each.valid == (verdict == "valid") and (each.makespan == stated or not each.valid)
+    assert found[3].bound == pfs.taillard(1).bound() and found[0].bound > 0
     # The command prints and writes the same.
-    monkeypatch.chdir(tmp_path)
     assert run("supplement.csv --instances instances --csv audited.csv") == 1
     *printed, last = capsys.readouterr().out.splitlines()
     assert printed == [f"line {each.row}, {each.instance} {each.method}: {each.verdict}: {each.why}"
                        for each in found if not each.valid]
-    assert last.startswith("supplement.csv: 240 orders audited, 228 valid (") and last.endswith(" optimal), 12 wrong")
+    assert re.fullmatch(r"supplement.csv: 19 orders audited, 8 valid \(\d optimal\), 11 wrong", last)
     rows = list(csv.reader(open("audited.csv")))
     assert rows == [["line", *pfs.Audited._fields[1:]], *([str(cell) if cell is not None else "" for cell in each]
                                                           for each in found)]
+
 
 
 # Other tables
@@ -233,12 +161,19 @@ def test_files_that_are_unclear(text: str, line: int, said: str, tmp_path: pathl
     assert fault.value.line == line
 
 
-def test_a_frame() -> None:
+def test_a_frame_and_makespans_below_the_reference() -> None:
     frame = pandas.DataFrame(rows_of("2 1 3", "1 2 3"), index=["x", "y"]).assign(makespan=[10.0, 11.0])
     audited = pandas.DataFrame(pfs.audit(frame, [SMALL]))
     assert audited[["makespan", "valid"]].to_numpy().tolist() == [[10, True], [11, True]]
     with pytest.raises(TypeError, match="a DataFrame, the path of a CSV, or a list of dicts"):
         pfs.audit([1, 2], [SMALL])
+    shop = pfs.Instance(SMALL.times, name="small", upper=12)
+    longer = pfs.Instance([[3, 2], [2, 5], [4, 2]], name="longer", upper=13)
+    found = pfs.audit([*rows_of("1 2 3", makespan=11), {"instance": "longer", "makespan": 12, "order": "1 2 3"}],
+                      [shop, longer])
+    assert [(each.valid, each.verdict, each.why) for each in found] == [
+        (True, "valid and below the reference", "the reference is 12"),
+        (True, "valid and below the reference", "the reference is 13")]
 
 
 def test_names(tmp_path: pathlib.Path) -> None:
@@ -288,16 +223,6 @@ def test_the_command(tmp_path: pathlib.Path, monkeypatch: pytest.MonkeyPatch,
     pathlib.Path("one.csv").write_text("instance,Cmax,order\nta1,1,1\n")
     with pytest.raises(ExperimentError, match="one.csv: cell A2: no instance 'ta1'"):
         run("one.csv")
-
-
-def test_below_the_reference() -> None:
-    shop = pfs.Instance(SMALL.times, name="small", upper=12)
-    longer = pfs.Instance([[3, 2], [2, 5], [4, 2]], name="longer", upper=13)
-    found = pfs.audit([*rows_of("1 2 3", makespan=11), {"instance": "longer", "makespan": 12, "order": "1 2 3"}],
-                      [shop, longer])
-    assert [(each.valid, each.verdict, each.why) for each in found] == [
-        (True, "valid and below the reference", "the reference is 12"),
-        (True, "valid and below the reference", "the reference is 13")]
 
 
 @pytest.mark.seconds(3)

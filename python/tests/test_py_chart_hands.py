@@ -124,15 +124,11 @@ def test_two_fingers_zoom_and_one_moves(seen: dict[str, Any], move: str) -> None
 
 
 @TOGETHER
-def test_a_finger_scrolls_past_a_tall_chart(seen: dict[str, Any]) -> None:
-    assert seen["action"] == "pan-y"
-
-
-@TOGETHER
-def test_the_keys_and_the_wheel_of_the_browser_are_its_own(seen: dict[str, Any]) -> None:
+def test_keys_the_wheel_and_fingers_that_scroll_are_the_browsers(seen: dict[str, Any]) -> None:
     assert [name for name, taken in seen["taken"].items() if taken] == [] and len(seen["taken"]) == 16
     assert seen["kept"], "another view"
     assert seen["own"] == [True, True], "those of the chart"
+    assert seen["action"] == "pan-y"
 
 
 # The colours that are seen on a screen and on paper, and the size of what is drawn there.

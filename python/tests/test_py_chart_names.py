@@ -10,6 +10,8 @@ import pytest
 from browser import PEN, looked_at, printed, with_script
 from test_py_chart_hands import pages_of
 
+pytest.importorskip("matplotlib")
+
 MACHINES = ["saw", "drill", "paint"]
 # The bars of the first job are long, and those of the others short or very short.
 TIMES = [[400, 300, 500], [40, 12, 40], [40, 40, 0], [12, 1, 40], [40, 40, 40]]
@@ -174,7 +176,6 @@ def texts_of(made: pfs.Schedule, **more: Any) -> tuple[list[str], list[str], Any
 
 @pytest.mark.parametrize(("names", "sign"), [(NAMES, ""), (["4711", *NAMES[1:]], "#")])
 def test_bars_of_pictures_have_names_or_places_of_a_key(names: list[str], sign: str) -> None:
-    pytest.importorskip("matplotlib")
     bars, key, figure = texts_of(plan(names))
     assert key == [f"{sign}{place} {names[job]}" for place, job in enumerate(ORDER, 1)]
     assert bars.count(names[0]) == 3 and {f"{sign}2", f"{sign}3", f"{sign}4"} <= set(bars)
@@ -186,9 +187,8 @@ def test_bars_of_pictures_have_names_or_places_of_a_key(names: list[str], sign: 
     assert all(0 <= box.y0 and box.y1 < scale.y0 and 0 <= box.x0 and box.x1 <= figure.bbox.width for box in boxes)
 
 
-def test_pictures_without_a_key() -> None:
+def test_pictures_without_a_key_and_with_names_that_are_cut_in_it() -> None:
     """Where all names fit, there are none, the rows are low, or the axes are the caller's."""
-    pytest.importorskip("matplotlib")
     import matplotlib.figure
     fitting = pfs.Instance([[100, 100, 100]] * 5, job_names=list("abcde"))
     for made in (fitting.schedule(ORDER), plan(None)):
@@ -198,10 +198,16 @@ def test_pictures_without_a_key() -> None:
     axes = matplotlib.figure.Figure(figsize=(12, 3)).subplots()
     bars, key, figure = texts_of(plan(), ax=axes)
     assert key == [] and set(bars) <= set(NAMES), "no place without a key"
+    names = ["x" * 300, *NAMES[1:]]
+    _, key, figure = texts_of(plan(names), width=4)
+    cut = key[0]
+    assert cut.startswith("1 xxx") and cut.endswith("x\u2026") and len(cut) < 100
+    assert [line.split(" ", 1)[1] for line in key[1:]] == [names[job] for job in ORDER[1:]]
+    figure.draw_without_rendering()
+    assert max(text.get_window_extent().x1 for text in figure.texts) <= figure.bbox.width
 
 
 def test_names_fit_the_bars_next_to_long_names_of_machines() -> None:
-    pytest.importorskip("matplotlib")
     made = pfs.Instance(TIMES, job_names=["0815-" * 30, *NAMES[1:]], machine_names=[*MACHINES[:2], "oven " * 30])
     bars, _, figure = texts_of(made.schedule(ORDER))
     assert figure.axes[0].get_yticklabels()[2].get_text() == ("oven " * 30)[:41] + "\u2026"
@@ -214,17 +220,6 @@ def test_names_fit_the_bars_next_to_long_names_of_machines() -> None:
         if text.get_text() != "idle":
             (left, _), (right, _) = axis.transData.transform([(at, 0) for at in spans[text.get_position()]])
             assert left <= text.get_window_extent().x0 and text.get_window_extent().x1 <= right, text
-
-
-def test_names_that_are_wider_than_a_picture_are_cut_in_its_key() -> None:
-    pytest.importorskip("matplotlib")
-    names = ["x" * 300, *NAMES[1:]]
-    _, key, figure = texts_of(plan(names), width=4)
-    cut = key[0]
-    assert cut.startswith("1 xxx") and cut.endswith("x\u2026") and len(cut) < 100
-    assert [line.split(" ", 1)[1] for line in key[1:]] == [names[job] for job in ORDER[1:]]
-    figure.draw_without_rendering()
-    assert max(text.get_window_extent().x1 for text in figure.texts) <= figure.bbox.width
 
 
 # The search and the lists of a page
@@ -298,12 +293,7 @@ def test_a_job_that_is_sought_is_listed_and_seen(sought: dict[str, Any], text: s
 
 
 @TOGETHER
-def test_an_empty_search_shows_all_again(sought: dict[str, Any]) -> None:
-    assert sought["again"] == sought[""]
-
-
-@TOGETHER
-def test_a_machine_is_listed(sought: dict[str, Any]) -> None:
+def test_a_machine_is_listed_and_nothing_of_it_needs_a_mouse(sought: dict[str, Any]) -> None:
     made = plan(SHORT_NAMES)
     [listed] = sought["machine"]
     assert (listed["caption"], listed["heads"]) == ("Machine drill", ["place", "job", "start", "end"])
@@ -312,11 +302,7 @@ def test_a_machine_is_listed(sought: dict[str, Any]) -> None:
     assert sought["choices"] == ["none", "all", *MACHINES] and sought["none"] == []
     assert [each["caption"] for each in sought["all"]] == [f"Machine {name}" for name in MACHINES]
     assert len(sought["all"][2]["rows"]) == 4, "no job that skips the machine"
-
-
-@TOGETHER
-def test_search_and_lists_need_no_mouse(sought: dict[str, Any]) -> None:
-    """They are reached by the tab key and have names, and tables their headings, for screen readers."""
+    assert sought["again"] == sought[""]
     assert sought["reached"] == [[0, 1, "Find a job"], [0, 1, "List a machine"]]
     assert sought["role"] == "status" and sought["stays"], "Enter leaves the page as it is"
     assert sought["machine"][0]["scopes"] == ["col"] * 4

@@ -190,14 +190,9 @@ def assert_bars(sheet: Sheet, made: pfs.Schedule) -> None:
 
 
 @TOGETHER
-def test_the_bars_are_at_their_times_in_the_colours_of_the_picture(whole: Sheet) -> None:
+def test_the_bars_are_at_their_times_in_the_colours_of_the_picture(seen: dict[str, Any], whole: Sheet) -> None:
     assert_bars(whole, schedule())
     assert len({bar.colour for bar in whole.bars}) == 4
-
-
-@TOGETHER
-def test_the_bars_are_seen_at_first(seen: dict[str, Any]) -> None:
-    """By the pixels of the canvas before anything is done with the page."""
     made, colours = schedule(), colours_of(schedule())
     due = [colours[int(made.order[place])] if made.ends[place, machine] > made.starts[place, machine] else None
            for place in range(3) for machine in range(3)]
@@ -206,14 +201,7 @@ def test_the_bars_are_seen_at_first(seen: dict[str, Any]) -> None:
 
 
 @TOGETHER
-def test_the_title_says_what_is_drawn(seen: dict[str, Any]) -> None:
-    bound = schedule().instance.bound() / 10
-    assert seen["title"] == f"plan: 3 jobs on 3 machines: makespan {schedule().makespan / 10} h, bound {bound} " \
-                            "(dashed), critical path outlined"
-
-
-@TOGETHER
-def test_machines_jobs_and_the_scale_are_named(whole: Sheet) -> None:
+def test_what_is_written_on_bars_and_beside_them(seen: dict[str, Any], whole: Sheet) -> None:
     assert whole.names == ["saw", "drill", "paint"]
     texts = [text["text"] for text in whole.texts]
     assert "time (h)" in texts, "the unit of the times isn't shown"
@@ -226,16 +214,15 @@ def test_machines_jobs_and_the_scale_are_named(whole: Sheet) -> None:
     assert len(whole.marks) >= 5
     places = sorted(whole.marks)
     assert min(after - before for before, after in zip(places, places[1:])) >= 79, "marks stand too near to each other"
-
-
-@TOGETHER
-def test_names_can_be_read_on_their_bars(whole: Sheet) -> None:
-    """Black on light colours and white on dark ones, as in the picture."""
+    bound = schedule().instance.bound() / 10
+    assert seen["title"] == f"plan: 3 jobs on 3 machines: makespan {schedule().makespan / 10} h, bound {bound} " \
+                            "(dashed), critical path outlined"
     inks = {"black": "#000000", "white": "#ffffff"}
     figure = schedule().plot()
-    due = {text.get_text(): inks[text.get_color()] for text in figure.axes[0].texts
-           if text.get_text() in ("table", "chair", "box")}
-    assert {text["text"]: text["colour"] for text in whole.labels(schedule()).values()} == due
+    assert {text["text"]: text["colour"] for text in whole.labels(schedule()).values()} == {
+        text.get_text(): inks[text.get_color()] for text in figure.axes[0].texts if text.get_text() in names}
+    idle = idle_of(schedule())
+    assert whole.shares() == {0: idle[0] + " idle", 1: idle[1], 2: idle[2]}
 
 
 def idle_of(made: pfs.Schedule) -> list[str]:
@@ -244,13 +231,7 @@ def idle_of(made: pfs.Schedule) -> list[str]:
 
 
 @TOGETHER
-def test_each_row_has_its_machines_idle_share(whole: Sheet) -> None:
-    due = idle_of(schedule())
-    assert whole.shares() == {0: due[0] + " idle", 1: due[1], 2: due[2]}
-
-
-@TOGETHER
-def test_the_bound_is_a_dashed_line_through_all_rows(whole: Sheet) -> None:
+def test_the_bound_is_a_dashed_line_and_the_critical_path_is_outlined(whole: Sheet) -> None:
     """On a white line that is wider."""
     shop = schedule().instance
     assert shop.bound() < schedule().makespan
@@ -260,6 +241,9 @@ def test_the_bound_is_a_dashed_line_through_all_rows(whole: Sheet) -> None:
     for x, top, end, bottom, *_ in found:
         assert x == end and whole.time(x) == pytest.approx(shop.bound(), abs=whole.unit), "the bound's line"
         assert top < whole.rows[0] - 10 and bottom > whole.rows[-1] + 10
+    assert_critical(whole, schedule())
+    # Two operations follow each other on the second machine.
+    assert [round(box.end - box.start) for box in whole.boxes] == [20, 85, 20]
 
 
 def assert_critical(sheet: Sheet, made: pfs.Schedule) -> None:
@@ -276,13 +260,6 @@ def assert_critical(sheet: Sheet, made: pfs.Schedule) -> None:
         assert box.colour == "#000000" and box.line == 2
         time, machine = end, machine + 1
     assert (time, machine) == (made.makespan, made.instance.machines), "the end of the path"
-
-
-@TOGETHER
-def test_the_critical_path_is_outlined(whole: Sheet) -> None:
-    assert_critical(whole, schedule())
-    # Two operations follow each other on the second machine.
-    assert [round(box.end - box.start) for box in whole.boxes] == [20, 85, 20]
 
 
 @TOGETHER
@@ -321,7 +298,7 @@ def test_keys_and_the_wheel_show_other_times(seen: dict[str, Any], move: str) ->
 
 
 @TOGETHER
-def test_the_operation_that_one_points_at_is_outlined_and_told(seen: dict[str, Any]) -> None:
+def test_the_operation_that_one_points_at_is_outlined_and_told(seen: dict[str, Any], whole: Sheet) -> None:
     """By a wide line, and the job's other operations by a narrower one."""
     made = schedule()
     sheet = Sheet(seen["pointed"], made.instance)
@@ -333,24 +310,17 @@ def test_the_operation_that_one_points_at_is_outlined_and_told(seen: dict[str, A
     told = "job table\nmachine drill\nstart 7.0\nend 9.5"
     assert [seen[name]["tip"] for name in ("pointed", "idle", "unpointed", "zoomed")] == [told, "", "", told]
     assert {box.line for name in ("idle", "unpointed") for box in Sheet(seen[name], made.instance).boxes} == {2}
-
-
-@TOGETHER
-def test_a_chart_has_the_width_of_its_window(seen: dict[str, Any], whole: Sheet) -> None:
     sheet = Sheet(seen["narrow"], schedule().instance)
     assert whole.right > 800 and 400 < sheet.right < 600
     assert_bars(sheet, schedule())
 
 
 @pytest.mark.seconds(5)
-def test_a_screen_with_more_pixels(chromium: str, tmp_path: pathlib.Path) -> None:
+def test_a_screen_with_more_pixels_and_a_page_without_work(chromium: str, tmp_path: pathlib.Path) -> None:
     places = "[[xOf(table.starts[1][0]) + 5, yOf(1) + ROW / 5], [xOf(table.ends[2][2]) - 5, yOf(2) + ROW / 5]]"
     seen = seen_of(chromium, schedule(), tmp_path, places=places, scale=2, is_plain=True)
     colours = colours_of(schedule())
     assert seen["scale"] == 2 and seen["pixels"] == [colours[1], colours[2]]
-
-
-def test_a_page_on_which_nothing_takes_time(chromium: str, tmp_path: pathlib.Path) -> None:
     made = pfs.Instance([[0, 0], [0, 0]], machine_names=["saw", "drill"]).schedule([0, 1])
     seen = seen_of(chromium, made, tmp_path, is_plain=True)
     assert [text["text"] for text in seen["whole"]["texts"] if text["align"] == "right"] == ["saw", "drill"]

@@ -11,6 +11,8 @@ import plainly
 import pytest
 from browser import PEN, looked_at
 
+pytest.importorskip("matplotlib")
+
 BEGINNINGS = {"svg": b"<?xml", "png": b"\x89PNG\r\n", "pdf": b"%PDF-", "html": b"<!DOCTYPE html>"}
 TIMES = [[30, 25, 0], [20, 50, 15], [40, 10, 20]]
 
@@ -32,13 +34,6 @@ def test_each_ending(tmp_path: pathlib.Path, named: pfs.Schedule, ending: str) -
     named.plot(str(tmp_path / f"again.{ending}"), critical=True, bound=True)
     again = (tmp_path / f"again.{ending}").read_bytes()
     assert (len(again), hash(again)) == (len(first), hash(first)), "a chart that is drawn again has other bytes"
-
-
-def test_another_ending(tmp_path: pathlib.Path, named: pfs.Schedule) -> None:
-    for name in ("chart", "chart.jpg", "svg"):
-        with pytest.raises(ValueError, match="the name of a chart ends with .svg, .png, .pdf or .html"):
-            named.plot(tmp_path / name)
-    assert not list(tmp_path.iterdir())
 
 
 def bars_of(figure: Any) -> dict[str, list[tuple[float, float]]]:
@@ -64,9 +59,6 @@ def test_the_picture_has_each_operation_and_the_names(named: pfs.Schedule) -> No
     assert axis.get_title() == f"3 jobs on 3 machines: {lengths}, critical path outlined"
     assert axis.get_xlabel() == "time (h)" and axis.xaxis.get_major_formatter()(25) == "2.5"
     assert named.plot(unit="days").axes[0].get_xlabel() == "time (days)"
-
-
-def test_jobs_and_machines_count_from_0_where_they_have_no_names() -> None:
     axis = pfs.Instance(TIMES).schedule([2, 0, 1]).plot().axes[0]
     assert [label.get_text() for label in axis.get_yticklabels()] == ["0", "1", "2"]
     assert {"0", "1", "2"} <= {text.get_text() for text in axis.texts}
@@ -98,7 +90,6 @@ print(json.dumps({name: [before[name], now] for name, now in settings().items() 
 @pytest.mark.parametrize("path", ["chart.svg", "chart.png", "chart.pdf", "chart.html", "none/chart.svg"])
 def test_settings_stay_as_they_are(tmp_path: pathlib.Path, path: str) -> None:
     """In another process: an earlier test may have changed them in this one."""
-    pytest.importorskip("matplotlib")
     done = plainly.python("-c", SETTINGS, path, cwd=tmp_path)
     assert done.returncode == 0 and (tmp_path / path).exists() == (path[:4] != "none"), done.stderr
     assert json.loads(done.stdout) == {}, "settings of the process that a chart has changed"
@@ -191,9 +182,6 @@ def test_the_policy_keeps_other_scripts_and_styles_out(chromium: str, tmp_path: 
     assert title.startswith("plan: 3 jobs"), "the page's policy lets a foreign script in"
     assert heading == "block", "the page's policy lets a foreign style in"
     assert chart == "block", "the page's policy keeps its own style out"
-
-
-def test_a_page_asks_for_nothing(tmp_path: pathlib.Path, named: pfs.Schedule) -> None:
     named.plot(tmp_path / "chart.html")
     text = (tmp_path / "chart.html").read_text("utf-8")
     assert "default-src 'none'" in text
@@ -208,8 +196,7 @@ def a_schedule() -> pfs.Schedule:
     return pfs.Instance([[3, 2], [2, 5], [4, 1]]).schedule([1, 0, 2])
 
 
-def test_width_dpi_and_title(tmp_path: pathlib.Path) -> None:
-    pytest.importorskip("matplotlib")
+def test_width_dpi_title_and_axes_of_ones_own(tmp_path: pathlib.Path) -> None:
     figure = a_schedule().plot(tmp_path / "chart.png", width=4, dpi=50)
     head = (tmp_path / "chart.png").read_bytes()[16:24]
     assert int.from_bytes(head[:4], "big") == 200 and figure.get_size_inches()[0] == 4
@@ -219,10 +206,6 @@ def test_width_dpi_and_title(tmp_path: pathlib.Path) -> None:
     assert a_schedule().plot().axes[0].get_title() == "3 jobs on 2 machines: makespan 10"
     a_schedule().plot(tmp_path / "chart.html", title="KW <48>")
     assert "<h1>KW &lt;48&gt;</h1>" in (tmp_path / "chart.html").read_text()
-
-
-def test_a_chart_on_axes_of_ones_own() -> None:
-    pytest.importorskip("matplotlib")
     import matplotlib.figure
     figure = matplotlib.figure.Figure(figsize=(8, 3))
     axes = figure.subplots(1, 2)
@@ -235,7 +218,6 @@ def test_a_chart_on_axes_of_ones_own() -> None:
 
 
 def test_jupyter_shows_the_chart(monkeypatch: pytest.MonkeyPatch) -> None:
-    pytest.importorskip("matplotlib")
     text = a_schedule()._repr_svg_()
     assert text is not None and "<svg" in text and "critical" in text and "bound" in text
     assert pfs.generate(100, 20, 1).schedule(range(100))._repr_svg_(), "the largest picture"

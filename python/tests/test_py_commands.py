@@ -351,17 +351,12 @@ def test_a_state_is_on_the_disk_before_it_replaces_the_old_one(folder: pathlib.P
     assert not any("O_WRONLY" in line or "O_RDWR" in line or "O_TRUNC" in line for line in opened), opened
 
 
-def on_a_terminal(words: list[str], folder: pathlib.Path) -> tuple[str, str]:
-    """What goes to standard output, and what to standard error, which is a terminal."""
-    words = [sys.executable, "-m", "pfs", *words]
+def test_progress_is_reported_on_a_terminal_only(folder: pathlib.Path) -> None:
+    words = [sys.executable, "-m", "pfs", *LONG, "--rounds", "400"]
     with open(folder / "printed", "wb") as out, Terminal(words, folder, env=environment(), stdout=out) as terminal:
         assert terminal.read_all() == 0
-    return (folder / "printed").read_text(), terminal.seen.decode()
-
-
-def test_progress_is_reported_on_a_terminal_only(folder: pathlib.Path) -> None:
-    printed, got = on_a_terminal([*LONG, "--rounds", "400"], folder)
-    assert printed == run([*LONG, "--rounds", "400"], folder)
+    got = terminal.seen.decode()
+    assert (folder / "printed").read_text() == run([*LONG, "--rounds", "400"], folder)
     lines = [line for line in got.replace("\x1b[K", "").split("\r") if line]
     shop = shop_in(folder)
     assert lines[0] == f"round 0 of 400, makespan {shop.neh().makespan}, bound {shop.bound()}"
@@ -390,24 +385,6 @@ def test_the_time_that_is_left(monkeypatch: pytest.MonkeyPatch, limit: float | N
     progress.update(done, 1278)
     assert limit or not lines[0].endswith("left"), "nothing is known of the time of a round yet"
     assert lines[1].endswith(f", {left} left"), lines
-
-
-@pytest.mark.parametrize(("words", "status", "error"), [
-    (["search", "none", "--layout", "taillard"], 4, "pfs: none: No such file or directory\n"),
-    (["search", "shop", "--layout", "orlib"], 2, "pfs: size line 2 has a wrong count\n"),
-    ([*LONG, "--block", "2"], 2, "pfs: no block, found 1\n"),
-    ([*LONG, "--start", "shop"], 2, "pfs: order file syntax at 0\n"),
-    ([*LONG, "--start", "for_nine"], 3, "pfs: for_nine: an order for 9 machines, and the instance has 10\n"),
-    ([*LONG, "--start", "two"], 3, "pfs: --start has 2 jobs, but the instance has 60\n"),
-    (["plan", "bad.csv"], 2, "pfs: bad.csv: cell B3, column 'saw': 'x' isn't a time: leave the column out if it is no "
-     "machine, or say which columns are machines (--machines)\n"
-     "pfs: bad.csv: cell C3, column 'drill': '-1' isn't a time\n"),
-])
-def test_what_is_rejected(folder: pathlib.Path, words: list[str], status: int, error: str) -> None:
-    (folder / "bad.csv").write_text("job,saw,drill\n\ntable,x,-1\n")
-    (folder / "for_nine").write_text(plainly.order_file(range(60), 9, 1))
-    (folder / "two").write_text("order 2\n1 2\nmakespan 1\n")
-    assert run(words, folder, status, error) == ""
 
 
 def asked(folder: pathlib.Path, monkeypatch: pytest.MonkeyPatch, words: list[str]) -> dict[str, Any]:
@@ -484,6 +461,10 @@ def test_memory_that_runs_out_is_reported_on_one_line(folder: pathlib.Path, monk
     monkeypatch.setattr(_library.library, "pfs_rounds", lambda *_: _library.MEMORY)
     assert _commands.main([*LONG, "--rounds", "3"]) == 4
     assert capsys.readouterr() == (shop_in(folder).neh().to_text(), "pfs: no memory\n"), "the order is lost"
+    (folder / "times.csv").write_text(TABLE)
+    assert _commands.main(["plan", "times.csv"]) == 4
+    out, got = capsys.readouterr()
+    assert out.startswith("makespan ") and without_summary(got) == "pfs: no memory\n", "the plan is lost"
 
 
 @pytest.mark.parametrize("words", [
@@ -494,11 +475,6 @@ def test_words_that_no_command_takes(folder: pathlib.Path, words: list[str]) -> 
     status, printed, got = ended(words, folder)
     assert (status, printed) == (3, "")
     assert re.fullmatch(r"pfs: .+ \(python3 -m pfs.* --help lists what there is\)\n", got)
-
-
-def test_a_full_disk(folder: pathlib.Path) -> None:
-    got = in_shell(f"{' '.join(LONG)} --rounds 1 --state state > /dev/full", folder)
-    assert got == (4, "", "pfs: No space left on device\n") and rounds_in(folder) == 1
 
 
 def in_shell(line: str, folder: pathlib.Path) -> tuple[int, str, str]:
@@ -536,43 +512,42 @@ def test_a_terminal_that_goes_away(folder: pathlib.Path) -> None:
 
 
 TABLE = "job [h];saw;drill;paint\ntable;3;2,5;4\nchair;2;5;1,5\n\"shelf; oak\";4;1;2\nbox;1;1;6\n"
+# Its times in tenths, and the names of its jobs.
+TIMES = [[30, 25, 40], [20, 50, 15], [40, 10, 20], [10, 10, 60]]
+NAMES = ["table", "chair", "shelf; oak", "box"]
 
 
 def test_a_plan(folder: pathlib.Path) -> None:
     (folder / "times.csv").write_text(TABLE)
     printed = run(["plan", "times.csv", "--schedule", "out.csv", "--chart", "out.svg", "--chart", "out.html"], folder)
-    times = [[30, 25, 40], [20, 50, 15], [40, 10, 20], [10, 10, 60]]
-    best = plainly.shortest(times)
-    names = ["table", "chair", "shelf; oak", "box"]
+    best = plainly.shortest(TIMES)
     lines = printed.splitlines()
-    assert lines[0] == f"makespan {best / 10} h" and lines[1] == f"bound {plainly.bound(times) / 10} h"
-    optimal = ["optimal"] if best == plainly.bound(times) else []
+    assert lines[0] == f"makespan {best / 10} h" and lines[1] == f"bound {plainly.bound(TIMES) / 10} h"
+    optimal = ["optimal"] if best == plainly.bound(TIMES) else []
     assert lines[2:-4] == optimal
-    order = [names.index(line.split(" ", 1)[1]) for line in lines[-4:]]
+    order = [NAMES.index(line.split(" ", 1)[1]) for line in lines[-4:]]
     assert [line.split(" ", 1)[0] for line in lines[-4:]] == ["1", "2", "3", "4"]
-    assert plainly.makespan(times, order) == best
-    rows = [f"{names[job]};{machine};{start / 10};{end / 10}".replace(".", ",").replace("shelf; oak", '"shelf; oak"')
-            for job, row in zip(order, plainly.schedule(times, order))
+    assert plainly.makespan(TIMES, order) == best
+    rows = [f"{NAMES[job]};{machine};{start / 10};{end / 10}".replace(".", ",").replace("shelf; oak", '"shelf; oak"')
+            for job, row in zip(order, plainly.schedule(TIMES, order))
             for machine, (start, end) in zip(["saw", "drill", "paint"], row)]
     assert (folder / "out.csv").read_text().splitlines() == ["\ufeffjob;machine;start;end", *rows]
-    drawn = f"bound {plainly.bound(times) / 10} (dashed), critical path outlined"
+    drawn = f"bound {plainly.bound(TIMES) / 10} (dashed), critical path outlined"
     assert f"makespan {best / 10}, {drawn}" in (folder / "out.svg").read_text()
     assert f"makespan {best / 10} h, {drawn}" in (folder / "out.html").read_text()
     assert run(["plan", "times.csv", "--unit", "Stunden", "--rounds", "0"], folder).startswith("makespan ")
 
 
 def test_an_order_that_was_changed_by_hand(folder: pathlib.Path) -> None:
-    """It is read from what `plan` prints, from its schedule, or as names."""
+    """It is read from what `plan` prints, from its schedule, or as NAMES."""
     (folder / "times.csv").write_text(TABLE)
-    times = [[30, 25, 40], [20, 50, 15], [40, 10, 20], [10, 10, 60]]
-    names = ["table", "chair", "shelf; oak", "box"]
     head: list[str] = []
     lines: list[str] = []
     for line in run(["plan", "times.csv", "--rounds", "0"], folder).splitlines():
         (lines if line[0].isdigit() else head).append(line)
-    changed = [names.index(line.split(" ", 1)[1]) for line in [lines[3], *lines[:3]]]
-    span = plainly.makespan(times, changed)
-    listed = [names[job] for job in changed]
+    changed = [NAMES.index(line.split(" ", 1)[1]) for line in [lines[3], *lines[:3]]]
+    span = plainly.makespan(TIMES, changed)
+    listed = [NAMES[job] for job in changed]
     texts = {"a plan": "\n".join([*head, *[lines[3], *lines[:3]]]), "names": "\n".join(listed),
              "a list": "\n\n".join(f"{place}. {name}" for place, name in enumerate(listed, 1)),
              "a schedule": "job;machine;start;end\n" + "".join(f'"{name}";saw;0;1\n"{name}";drill;1;2\n'
@@ -588,7 +563,13 @@ def test_an_order_that_was_changed_by_hand(folder: pathlib.Path) -> None:
         again = run(["plan", "times.csv", "--order", "out.csv"], folder)
         assert again == printed, what
     best = run(["plan", "times.csv", "--order", "order", "--rounds", "100"], folder)
-    assert best.startswith(f"makespan {plainly.shortest(times) / 10} h\n"), "rounds begin with the order"
+    assert best.startswith(f"makespan {plainly.shortest(TIMES) / 10} h\n"), "rounds begin with the order"
+    (folder / "times.csv").write_text("job,saw\nmakespan 3,3\n1 bound 3,2\noptimal,1\n2,4\n")
+    names = ["optimal", "1 bound 3", "2", "makespan 3"]
+    for text in ("\n".join(names), "\n".join(f"{place} {name}" for place, name in enumerate(names, 1))):
+        (folder / "order").write_text(text)
+        lines = run(["plan", "times.csv", "--order", "order"], folder).splitlines()
+        assert lines[-4:] == [f"{place} {name}" for place, name in enumerate(names, 1)]
 
 
 @pytest.mark.parametrize(("text", "error"), [
@@ -599,15 +580,6 @@ def test_orders_that_are_rejected(folder: pathlib.Path, text: str, error: str) -
     (folder / "times.csv").write_text("job,saw\na,3\nb,2\n2 c,1\n")
     (folder / "order").write_text(text, "utf-8")
     assert run(["plan", "times.csv", "--order", "order"], folder, 2, f"pfs: order: {error}\n") == ""
-
-
-def test_names_that_look_like_places_and_makespans(folder: pathlib.Path) -> None:
-    (folder / "times.csv").write_text("job,saw\nmakespan 3,3\n1 bound 3,2\noptimal,1\n2,4\n")
-    names = ["optimal", "1 bound 3", "2", "makespan 3"]
-    for text in ("\n".join(names), "\n".join(f"{place} {name}" for place, name in enumerate(names, 1))):
-        (folder / "order").write_text(text)
-        lines = run(["plan", "times.csv", "--order", "order"], folder).splitlines()
-        assert lines[-4:] == [f"{place} {name}" for place, name in enumerate(names, 1)]
 
 
 # Held jobs, and the order of the day before
@@ -623,12 +595,9 @@ def planned(folder: pathlib.Path, words: str) -> tuple[list[str], int, str]:
 
 def test_jobs_that_are_held(folder: pathlib.Path) -> None:
     """The search finds the best of the orders that begin with them."""
-    times = {"table": [30, 25, 40], "chair": [20, 50, 15], "shelf; oak": [40, 10, 20], "box": [10, 10, 60]}
-    rows = list(times.values())
-
     def shortest(*first: str) -> int:
-        return min(plainly.makespan(rows, order) for order in itertools.permutations(range(4))
-                   if [list(times)[job] for job in order][:len(first)] == list(first))
+        return min(plainly.makespan(TIMES, order) for order in itertools.permutations(range(4))
+                   if [NAMES[job] for job in order][:len(first)] == list(first))
 
     assert shortest("chair") > shortest() and shortest("table", "chair") > shortest("table")
     for first in (["chair"], ["table", "chair"]):
@@ -647,27 +616,25 @@ def test_the_order_of_the_day_before(folder: pathlib.Path) -> None:
     (folder / "order").write_text("done before\nchair\nbox\n")
     note = ("order: left out, as the table has no such jobs: done before\n"
             "order: new, and inserted at their best places: table, shelf; oak\n")
-    rows, best = [[30, 25, 40], [20, 50, 15], [40, 10, 20], [10, 10, 60]], [1, 3]
+    best = [1, 3]
     for job in (0, 2):
-        place = min(range(len(best) + 1), key=lambda at: plainly.makespan(rows, [*best[:at], job, *best[at:]]))
+        place = min(range(len(best) + 1), key=lambda at: plainly.makespan(TIMES, [*best[:at], job, *best[at:]]))
         best.insert(place, job)
-    names = ["table", "chair", "shelf; oak", "box"]
-    assert planned(folder, "--order order") == ([names[job] for job in best], plainly.makespan(rows, best), note)
+    assert planned(folder, "--order order") == ([NAMES[job] for job in best], plainly.makespan(TIMES, best), note)
     kept, makespan, got = planned(folder, "--order order --keep")
     orders = [order for order in itertools.permutations(range(4)) if order.index(1) < order.index(3)]
-    assert makespan == min(plainly.makespan(rows, order) for order in orders) and got == note
+    assert makespan == min(plainly.makespan(TIMES, order) for order in orders) and got == note
     assert kept.index("chair") < kept.index("box")
-    (folder / "order").write_text("\n".join(names))
-    assert planned(folder, "--order order --keep --rounds 100")[0] == names, "there is no new job to move"
-    assert planned(folder, "--order times.csv")[0] == names, "the table itself is an order"
+    (folder / "order").write_text("\n".join(NAMES))
+    assert planned(folder, "--order order --keep --rounds 100")[0] == NAMES, "there is no new job to move"
+    assert planned(folder, "--order times.csv")[0] == NAMES, "the table itself is an order"
 
 
 def test_another_order_is_compared(folder: pathlib.Path) -> None:
-    rows = [[30, 25, 40], [20, 50, 15], [40, 10, 20], [10, 10, 60]]
     (folder / "order").write_text("table\nchair\nshelf; oak\nbox\n")
     (folder / "other").write_text("box\ntable\nchair\nshelf; oak\n")
     begin = datetime.datetime(2026, 11, 30, 6)
-    spans = [plainly.makespan(rows, order) / 10 for order in ([3, 0, 1, 2], [0, 1, 2, 3])]
+    spans = [plainly.makespan(TIMES, order) / 10 for order in ([3, 0, 1, 2], [0, 1, 2, 3])]
     ends = [f"makespan {hours} h, end {begin + datetime.timedelta(hours=hours):%Y-%m-%d %H:%M}" for hours in spans]
     got = planned(folder, "--order order --compare other --begin 2026-11-30T06:00")[2]
     assert got == f"other: {ends[0]}; the plan: {ends[1]}\nother: moved: box (place 1 to 4)\n"
@@ -724,6 +691,14 @@ NO_CALENDARS = {"--begin tomorrow": "'tomorrow' is not a local date and time suc
      "x.jpg: the name of a chart ends with .svg, .png, .pdf or .html"),
     ([*PLAN, "--chart", "x.svg"], 4, "plot needs matplotlib (Debian: python3-matplotlib; pip install 'pfs[charts]')"),
     ([*LONG, "--state", "state", "--start", "none"], 4, "none" + NOT_THERE),
+    (["search", "none", "--layout", "taillard"], 4, "none" + NOT_THERE),
+    (["search", "shop", "--layout", "orlib"], 2, "size line 2 has a wrong count"),
+    ([*LONG, "--block", "2"], 2, "no block, found 1"), ([*LONG, "--start", "shop"], 2, "order file syntax at 0"),
+    ([*LONG, "--start", "for_nine"], 3, "for_nine: an order for 9 machines, and the instance has 10"),
+    ([*LONG, "--start", "two"], 3, "--start has 2 jobs, but the instance has 60"),
+    (["plan", "bad.csv"], 2, "bad.csv: cell B3, column 'saw': 'x' isn't a time: leave the column out if it is no "
+     "machine, or say which columns are machines (--machines)\n"
+     "pfs: bad.csv: cell C3, column 'drill': '-1' isn't a time"),
     ([*LONG, "--state", "order.html"], 2, "order.html: not the state of a search"),
     ([*LONG, "--take", "61"], 3, "--take must be from 1 to 60, not 61"),
     *(([*PLAN, *BEGIN, *words.split()], 3, f"argument {words.split()[0]}: {why} (python3 -m pfs plan --help lists what "
@@ -746,6 +721,9 @@ def test_what_is_rejected_before_the_search(folder: pathlib.Path, monkeypatch: p
     (folder / "plain.csv").write_text(TABLE.replace(" [h]", ""))
     (folder / "link.csv").symlink_to("times.csv")
     (folder / "order.html").write_text("table\n")
+    (folder / "bad.csv").write_text("job,saw,drill\n\ntable,x,-1\n")
+    (folder / "for_nine").write_text(plainly.order_file(range(60), 9, 1))
+    (folder / "two").write_text("order 2\n1 2\nmakespan 1\n")
     before = {path: path.read_bytes() for path in folder.iterdir()}
     assert run(words, folder, status, f"pfs: {error}\n") == ""
     assert {path: path.read_bytes() for path in folder.iterdir()} == before
@@ -829,6 +807,8 @@ def test_a_state_that_cant_be_written_loses_no_order(folder: pathlib.Path) -> No
     best = pfs.read_order(folder / "order")
     assert shop_in(folder).solve(rounds_in(folder / "moved")).makespan >= best.makespan
     assert best.makespan == shop_in(folder).makespan(best.order)
+    said = in_shell(f"{' '.join(LONG)} --rounds 1 --state state > /dev/full", folder)
+    assert said == (4, "", "pfs: No space left on device\n") and rounds_in(folder) == 1
 
 
 def test_names_that_a_terminal_would_take_for_commands(folder: pathlib.Path) -> None:
@@ -843,6 +823,11 @@ def test_names_that_a_terminal_would_take_for_commands(folder: pathlib.Path) -> 
     run(words, folder, 2, "pfs: \\x1b[2J.csv: cell B2, column 'saw': '-1' isn't a time\n")
     (folder / "a\nb.csv").write_text("job,saw\na,-1\n")
     run(["plan", "a\nb.csv"], folder, 2, "pfs: a\\nb.csv: cell B2, column 'saw': '-1' isn't a time\n")
+    (folder / "times.csv").write_text("job,saw\nM\xfcller,3\n", "utf-8")
+    child = start(["plan", "times.csv"], folder, environment() | {"PYTHONIOENCODING": "ascii"})
+    printed, got = child.communicate(timeout=60)
+    assert (child.returncode, got) == (0, b"1 job, 1 machine (saw), times without a unit\n")
+    assert printed.splitlines()[-1] == b"1 M\\xfcller"
 
 
 @pytest.mark.parametrize("words", [["plan", "x.csv", "--\x1b[2J"], ["plan", "x.csv", "\x1b[2J"], ["\x1b[2J"],
@@ -853,14 +838,6 @@ def test_words_that_a_terminal_would_take_for_commands(folder: pathlib.Path, wor
     (folder / "x.csv").write_text("job,saw\na,1\n")
     status, _, got = ended(words, folder)
     assert status in (3, 4) and all(line.isprintable() for line in got.splitlines()), repr(got)
-
-
-def test_names_that_standard_output_has_no_letters_for(folder: pathlib.Path) -> None:
-    (folder / "times.csv").write_text("job,saw\nM\xfcller,3\n", "utf-8")
-    child = start(["plan", "times.csv"], folder, environment() | {"PYTHONIOENCODING": "ascii"})
-    printed, got = child.communicate(timeout=60)
-    assert (child.returncode, got) == (0, b"1 job, 1 machine (saw), times without a unit\n")
-    assert printed.splitlines()[-1] == b"1 M\\xfcller"
 
 
 @pytest.mark.parametrize("ending", ["svg", "html", "png"])

@@ -81,8 +81,16 @@ def test_the_library_that_the_variable_names_goes_before_the_packages(monkeypatc
     assert _library.path_of_library() == "/elsewhere/libpfs.so.1", "the package's library goes before the named one"
 
 
-def test_the_functions_are_called_as_the_header_declares_them() -> None:
-    """Each parameter by its type in C, in which a list is a pointer and a length."""
+def test_the_numbers_limits_and_functions_are_those_of_the_header() -> None:
+    text = (TOP / "lib" / "pfs.h").read_text()
+    defined = {name: int(value) for name, value in
+               re.findall(r"^#define PFS_(\w+) (?:UINT64_C\()?(\d+)\b", text, re.MULTILINE)}
+    own = {name: value for name, value in vars(_library).items() if isinstance(value, int) and name in defined}
+    assert len(own) > 12 and own == {name: defined[name] for name in own}
+    assert _library.LAYOUTS == {"taillard": defined["TAILLARD"], "orlib": defined["ORLIB"]}
+    assert (_library.MOST_NOTE, _library.MOST_SEED) == (2**32 - 1, 2**64 - 1)
+    version = re.search(r'^#define PFS_VERSION "(.*)"$', text, re.MULTILINE)
+    assert version and version[1] == pfs.__version__
     types = {"size_t": "c_ulong", "uint32_t": "c_uint", "uint64_t": "c_ulong", "int": "c_int"}
     header = re.sub(r"/\*.*?\*/", "", (TOP / "lib" / "pfs.h").read_text(), flags=re.DOTALL)
     declared = dict(re.findall(r"^(?:int|void) (pfs_\w+)\((.*?)\)(?: PFS_CHECKED)?;", header,
@@ -93,18 +101,6 @@ def test_the_functions_are_called_as_the_header_declares_them() -> None:
         due = ["c_void_p" if "*" in each else types[each.split()[-2]] for each in parameters.split(",")]
         assert [kind.__name__ for kind in _library.PROTOTYPES[name]] == due, f"the types of {name}"
         assert [kind.__name__ for kind in getattr(_library.library, name).argtypes] == due
-
-
-def test_the_numbers_and_limits_are_those_of_the_header() -> None:
-    text = (TOP / "lib" / "pfs.h").read_text()
-    defined = {name: int(value) for name, value in
-               re.findall(r"^#define PFS_(\w+) (?:UINT64_C\()?(\d+)\b", text, re.MULTILINE)}
-    own = {name: value for name, value in vars(_library).items() if isinstance(value, int) and name in defined}
-    assert len(own) > 12 and own == {name: defined[name] for name in own}
-    assert _library.LAYOUTS == {"taillard": defined["TAILLARD"], "orlib": defined["ORLIB"]}
-    assert (_library.MOST_NOTE, _library.MOST_SEED) == (2**32 - 1, 2**64 - 1)
-    version = re.search(r'^#define PFS_VERSION "(.*)"$', text, re.MULTILINE)
-    assert version and version[1] == pfs.__version__
 
 
 def test_modules_that_need_no_library_are_imported_without_one(tmp_path: pathlib.Path) -> None:

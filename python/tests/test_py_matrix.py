@@ -55,17 +55,14 @@ def test_a_fault_has_its_line_and_column(text: str, line: int, column: int, why:
     assert (fault.value.line, fault.value.column) == (line, column) and fault.value.text.startswith(why)
 
 
-def test_a_long_file_is_rejected(monkeypatch: pytest.MonkeyPatch) -> None:
-    monkeypatch.setattr("pfs._library.LONGEST_INPUT", 8)
-    assert read("1 1\n700\n") == pfs.Instance([[700]])
-    with pytest.raises(pfs.TableFault, match="the file has more than 8 bytes"):
-        read("1 1\n7000\n")
-
-
-def test_there_is_one_block() -> None:
+def test_there_is_one_block_and_a_limit_of_bytes(monkeypatch: pytest.MonkeyPatch) -> None:
     with pytest.raises(ValueError, match="block must be from 1 to 1, not 2"):
         pfs.read(io.BytesIO(b"1 1\n7\n"), "matrix", 2)
     with pytest.raises(ValueError, match="layout must be 'taillard' or 'orlib', not 'matrix'"):
         pfs.read_all(io.BytesIO(b"1 1\n7\n"), "matrix")
     with pytest.raises(ValueError, match="layout must be 'taillard', 'orlib' or 'matrix', not 'matrices'"):
         pfs.read(io.BytesIO(b"1 1\n7\n"), "matrices")
+    monkeypatch.setattr("pfs._library.LONGEST_INPUT", 8)
+    assert read("1 1\n700\n") == pfs.Instance([[700]])
+    with pytest.raises(pfs.TableFault, match="the file has more than 8 bytes"):
+        read("1 1\n7000\n")

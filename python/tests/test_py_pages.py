@@ -135,7 +135,7 @@ def test_the_command_lines_of_a_page(page: pathlib.Path, files: pathlib.Path, pr
 
 
 @pytest.mark.seconds(15)
-def test_compare(tmp_path: pathlib.Path) -> None:
+def test_the_examples(tmp_path: pathlib.Path) -> None:
     pytest.importorskip("pandas")
     pytest.importorskip("matplotlib")
     done = plainly.python(HERE / "examples" / "compare.py", "out", cwd=tmp_path)
@@ -150,11 +150,6 @@ def test_compare(tmp_path: pathlib.Path) -> None:
         assert float(gap) == pytest.approx(100 * (int(makespan) / shop.lower - 1), abs=0.001)
         assert re.search(rf"^{name}\b.*\b{makespan}\b", done.stdout, re.MULTILINE)
     assert (tmp_path / "out" / "compare.png").read_bytes().startswith(b"\x89PNG")
-
-
-@pytest.mark.seconds(5)
-def test_ig_temperature(tmp_path: pathlib.Path) -> None:
-    """Its processor time has that of the start. It finds a best known makespan."""
     script, shop = HERE / "examples" / "ig_temperature.py", pfs.taillard(1)
     shop.write(tmp_path / "ta001")
     for words, most in (("ta001", "1", "0"), shop.neh().makespan), (("ta001", "1", "2"), shop.upper):

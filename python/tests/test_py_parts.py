@@ -1,5 +1,4 @@
 """Building blocks of search methods: heads and tails, construction and local search."""
-import itertools
 from collections.abc import Callable
 from typing import Any
 
@@ -22,16 +21,11 @@ def parts(draw: st.DrawFn) -> tuple[plainly.Table, list[int], list[int]]:
 
 
 @given(plainly.shops_and_sequences())
-def test_heads_are_the_ends_of_the_schedule(case: tuple[plainly.Table, list[int]]) -> None:
+def test_heads_and_tails_are_those_of_schedules(case: tuple[plainly.Table, list[int]]) -> None:
     times, sequence = case
     ends = [[end for _, end in row] for row in plainly.schedule(times, sequence)]
     heads = pfs.Instance(times).heads(sequence)
     assert heads.tolist() == ends and heads.shape == (len(sequence), len(times[0])) and heads.dtype == np.int64
-
-
-@given(plainly.shops_and_sequences())
-def test_tails_are_the_heads_of_the_reversed_instance(case: tuple[plainly.Table, list[int]]) -> None:
-    """Each job backwards over the machines, and the sequence from its last job to its first."""
     times, sequence = case
     backwards = [row[::-1] for row in times]
     ends = [[end for _, end in row][::-1] for row in plainly.schedule(backwards, sequence[::-1])][::-1]
@@ -89,16 +83,9 @@ def test_a_sequence_is_taken_where_an_order_is() -> None:
     assert (shop.places(others, int(found.jobs[0])) == shop.places(others.jobs, int(found.jobs[0]))).all()
 
 
-def test_neh_inserts_by_decreasing_totals() -> None:
-    shop = pfs.taillard(1)
-    assert (shop.n_jobs, shop.n_machines) == (20, 5)
-    neh = shop.neh()
-    found = shop.insert_all([], (-shop.times.sum(axis=1)).argsort(kind="stable"))
-    assert (found.jobs.tolist(), found.makespan) == (neh.order.tolist(), neh.makespan)
-
-
 def test_the_greatest_number_of_jobs() -> None:
     shop = pfs.generate(5000, 1, 1)
+    assert (shop.n_jobs, shop.n_machines) == (5000, 1)
     found = shop.insert_all(range(2500), range(2500, 5000))
     assert sorted(found.jobs.tolist()) == [*range(5000)] and found.makespan == shop.makespan(found.jobs)
     assert shop.heads(range(5000))[-1, -1] == found.makespan
@@ -133,11 +120,3 @@ def test_wrong_arguments(case: str) -> None:
     with pytest.raises(kind) as error:
         call()
     assert text in str(error.value)
-
-
-def test_each_pair_of_two_wrong_lists_reports_the_sequence_first() -> None:
-    for sequence, jobs in itertools.product([[0, 0], [5]], [[1, 1], [6]]):
-        with pytest.raises(ValueError, match="^sequence: "):
-            SHOP.insert_all(sequence, jobs)
-        with pytest.raises(ValueError, match="^sequence: "):
-            SHOP.local_search(sequence, jobs)

@@ -16,11 +16,39 @@ import numpy as np
 import pfs
 import plainly
 import pytest
-from clocks import Clock
 from hypothesis import given
 from hypothesis import strategies as st
 from pfs import _commands, _library, _search
 from pfs.experiments import one
+
+
+class Clock:
+    """In the place of the module `time`. Only rounds move it, so that the lengths of parts are known: each takes this
+    number of seconds."""
+
+    def __init__(self, seconds: float) -> None:
+        self.now, self.seconds = 1024.0, seconds
+        # The rounds of each part so far.
+        self.parts: list[int] = []
+
+    def monotonic(self) -> float:
+        return self.now
+
+    def perf_counter(self) -> float:
+        return self.now
+
+    def patch(self, monkeypatch: pytest.MonkeyPatch) -> None:
+        """Makes it the clock of searches."""
+        made = _search.Search.run_rounds
+
+        def run_rounds(search: _search.Search, count: int) -> None:
+            made(search, count)
+            self.now += count * self.seconds
+            self.parts.append(count)
+
+        monkeypatch.setattr(_search.Search, "run_rounds", run_rounds)
+        for module in (_search, _commands):
+            monkeypatch.setattr(module, "time", self)
 
 
 class Cut:
@@ -90,6 +118,8 @@ def test_the_program_prints_the_same_order(tmp_path: pathlib.Path, program: str,
 def test_the_defaults() -> None:
     shop = pfs.taillard(4)
     assert shop.solve() == shop.solve(1000, take=4, passes=0, seed=0, first=0)
+    assert shop.solve(3, time_limit=60) == shop.solve(3, time_limit=float("inf")) == shop.solve(3)
+    assert shop.solve(time_limit=10**400, rounds=2) == shop.solve(2), "a limit longer than any float"
     assert shop.solve(10, first=999_990, start=range(20)).rounds == 1_000_000
     assert pfs.Instance([[1], [2]]).solve(3) == pfs.Instance([[1], [2]]).solve(3, take=2)
 
@@ -102,12 +132,6 @@ def test_a_start_of_ones_own(case: tuple[plainly.Table, list[int]]) -> None:
     assert (kept.order.tolist(), kept.makespan, kept.cells) == (order, plainly.makespan(times, order), 0)
     assert shop.solve(5, start=order) == shop.solve(5, start=kept) == shop.solve(5, start=np.array(order, dtype=">i2"))
     assert shop.solve(5, start=order).makespan <= kept.makespan
-
-
-def test_first_is_another_part_of_the_seed() -> None:
-    shop = pfs.taillard(11)
-    found = {shop.solve(5, start=range(20), first=first).order.tobytes() for first in (0, 5, 10, 15)}
-    assert len(found) == 4
 
 
 class Closing:
@@ -176,14 +200,6 @@ def test_what_a_bar_raises_has_the_solution(cut: Callable[[list[int]], None]) ->
     assert getattr(stop.value, "solution", None) == shop.solve(50), "an error of `close` has no solution"
 
 
-def test_an_option_that_is_rejected_has_no_solution() -> None:
-    rejected: list[dict[str, Any]] = [{"rounds": -1}, {"time_limit": -1}, {"progress": 3}, {"start": [0] * 20}]
-    for words in rejected:
-        with pytest.raises((TypeError, ValueError)) as fault:
-            pfs.taillard(1).solve(**words)
-        assert not hasattr(fault.value, "solution")
-
-
 def test_memory_that_runs_out_loses_nothing(cut: Callable[[list[int]], None],
                                               monkeypatch: pytest.MonkeyPatch) -> None:
     """The rounds before are kept, and nothing is allocated to hand them out."""
@@ -244,18 +260,6 @@ def test_parts_without_a_limit(monkeypatch: pytest.MonkeyPatch, seconds: float, 
     clock.patch(monkeypatch)
     pfs.generate(6, 3, 1).solve(300)
     assert clock.parts == due, f"the parts of 300 rounds, of {seconds} seconds each"
-
-
-def test_a_time_limit_ends_between_two_parts() -> None:
-    """The time itself is that of the machine, which other programs use too."""
-    shop = pfs.generate(100, 20, 5)
-    begun = time.monotonic()
-    found = shop.solve(time_limit=0.5)
-    assert time.monotonic() - begun > 0.4
-    assert 0 < found.rounds < 1_000_000
-    assert found.to_text() == shop.solve(found.rounds).to_text()
-    assert shop.solve(3, time_limit=60) == shop.solve(3, time_limit=float("inf")) == shop.solve(3)
-    assert shop.solve(time_limit=10**400, rounds=2) == shop.solve(2), "a limit longer than any float"
 
 
 @pytest.mark.parametrize("seconds", [0.02, 0.11, 0.34, 0.55])
@@ -406,7 +410,6 @@ def test_a_call_frees_the_lock() -> None:
     ({"rounds": 2, "first": 999_999}, ValueError, "rounds must be from 0 to 1, not 2$"),
     ({"first": 1_000_001}, ValueError, "first must be from .*, not 1000001"),
     ({"rounds": 1.5}, TypeError, "rounds must be an integer, not 1.5"),
-    ({"rounds": True}, TypeError, "rounds must be an integer, not True"),
     ({"take": 0}, ValueError, "take must be from 1 to 20, not 0"),
     ({"take": 21}, ValueError, "take must be from 1 to 20, not 21"),
     ({"take": 2**64 + 1}, ValueError, "take must be from .*, not 18446744073709551617"),
@@ -423,11 +426,8 @@ def test_a_call_frees_the_lock() -> None:
     ({"progress": 3}, TypeError, "progress must be callable"),
     ({"target": -1}, ValueError, "target must be from 0 to [0-9,]+, not -1"),
     ({"target": 1278.0}, TypeError, "target must be an integer, not 1278.0"),
-    ({"target": True}, TypeError, "target must be an integer, not True"),
     ({"stop": True}, TypeError, "stop must be an event with `is_set`, such as threading.Event, not True"),
     ({"history": 1}, TypeError, "history must be True or False, not 1"),
-    ({"start": pfs.Solution(range(20), 7, machines=4)}, ValueError,
-     "start is an order for 4 machines, but the instance has 5"),
 ])
 def test_options_that_are_rejected(words: dict[str, Any], kind: type[Exception], why: str) -> None:
     with pytest.raises(kind, match=why):
@@ -498,7 +498,7 @@ def test_a_search_by_time_ends_at_the_bound() -> None:
     assert shop.solve(time_limit=0.2, target=0).rounds > found.rounds, "a target of 0 ends no search early"
 
 
-def test_progress_that_returns_true_ends_the_search(cut: Callable[[list[int]], None]) -> None:
+def test_progress_that_returns_true_and_an_event_end_the_search(cut: Callable[[list[int]], None]) -> None:
     cut([10])
     shop = pfs.taillard(1)
     enough: list[Any] = [True, np.True_]
@@ -514,9 +514,6 @@ def test_progress_that_returns_true_ends_the_search(cut: Callable[[list[int]], N
             return True
 
     assert shop.solve(50, progress=Shown).rounds == 50, "a bar that says that it was shown ends the search"
-
-
-def test_an_event_ends_the_search(cut: Callable[[list[int]], None]) -> None:
     cut([10])
     shop = pfs.taillard(1)
     stop = threading.Event()
@@ -602,12 +599,6 @@ def test_without_a_start_the_others_are_inserted_as_neh_does(times: plainly.Tabl
     assert shop.solve(0, hold=[0]).order.tolist() == order
 
 
-def test_no_round_of_a_search_that_holds_jobs_increases_the_makespan() -> None:
-    shop = pfs.Instance(pfs.generate(20, 8, 4).times % 4)
-    makespans = [shop.solve(rounds, hold=[3], take=2).makespan for rounds in range(60)]
-    assert makespans == sorted(makespans, reverse=True) and len(set(makespans)) > 1
-
-
 def test_a_search_that_holds_jobs_is_continued() -> None:
     """After an interruption, and in parts of any length."""
     shop = pfs.generate(50, 10, 4)
@@ -625,6 +616,9 @@ def test_a_search_that_holds_jobs_is_continued() -> None:
     rest = shop.solve(60 - half.rounds, hold=[3, 1], start=half, first=half.rounds)
     assert (rest.order.tolist(), rest.rounds) == (whole.order.tolist(), 60)
     assert shop.solve(60, hold=[3, 1], target=whole.makespan).makespan == whole.makespan
+    shop = pfs.Instance(pfs.generate(20, 8, 4).times % 4)
+    makespans = [shop.solve(rounds, hold=[3], take=2).makespan for rounds in range(60)]
+    assert makespans == sorted(makespans, reverse=True) and len(set(makespans)) > 1
 
 
 @pytest.mark.parametrize(("words", "kind", "why"), [

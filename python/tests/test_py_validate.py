@@ -61,134 +61,107 @@ def test_lists_of_each_make() -> None:
         assert large.makespan(falling) == plainly.makespan(large.times.tolist(), list(range(399, -1, -1)))
 
 
-@pytest.mark.parametrize(("times", "kind", "why"), [
-    ([3, 2], ValueError, r"a row for each job and a column for each machine, not the shape \(2,\)"),
-    (7, ValueError, r"not the shape \(\)"),
-    ([[[1]]], ValueError, r"not the shape \(1, 1, 1\)"),
-    ([[1, 2], [3]], ValueError, "times can't be converted to an array"),
-    (np.zeros((0, 2)), ValueError, "times has 0 jobs and 2 machines"),
-    (np.zeros((2, 0)), ValueError, "times has 2 jobs and 0 machines"),
-    (np.zeros((5001, 1)), ValueError, "times has 5,001 jobs and 1 machines"),
-    (np.zeros((1, 201)), ValueError, "times has 1 jobs and 201 machines"),
-    ([[1, 2], [3, 2.5]], ValueError, "times: 2.5 at job 1, machine 1 isn't a whole number"),
-    ([[1, float("nan")]], ValueError, "times: nan at job 0, machine 1 isn't a whole number"),
-    ([[1, float("inf")]], ValueError, "times: inf at job 0, machine 1 isn't a whole number"),
-    ([[1, 2], [-3, 2]], ValueError, "times: -3 at job 1, machine 0 isn't from 0 to 1,000,000,000"),
-    ([[1, 1_000_000_001]], ValueError, "times: 1000000001 at job 0, machine 1 isn't from 0 to 1,000,000,000"),
-    ([[1, 2**70]], ValueError, "times: 1180591620717411303424 at job 0, machine 1 isn't from 0 to"),
-    ([[1, None]], TypeError, "times: None at job 0, machine 1 isn't a whole number"),
-    (np.array([[2**32]], dtype=np.float32), ValueError, "times: 42949[.0-9]+ at job 0, machine 0 isn't from 0 to"),
-    (np.array([[2**63]], dtype=np.uint64), ValueError, "times: 9223372036854775808 at job 0"),
-    (np.array([[-1]], dtype=np.int8), ValueError, "times: -1 at job 0, machine 0 isn't from 0 to"),
-    ([["1", "2"]], TypeError, "times must be whole numbers, not of dtype <U1"),
-    ([[True, 2], [3, 4]], TypeError, "times must be whole numbers, not of dtype bool"),
-    ([[1, 2], (3, np.False_)], TypeError, "times must be whole numbers, not of dtype bool"),
-    (np.array([[1, np.True_]], dtype=object), TypeError, "times: True at job 0, machine 1 isn't a whole number"),
-    ([[1j]], TypeError, "not of dtype complex"),
-    (np.array([[1]], dtype="M8[s]"), TypeError, "not of dtype datetime"),
-    (np.array([[(1,)]], dtype=[("a", int)]), TypeError, "times must be whole numbers"),
-    (np.ma.masked_array([[1, 2]], mask=[[False, True]]),  # type: ignore[no-untyped-call]
-     TypeError, "masked"),
-    ([[3, 4], np.ma.masked_array([1, 2], mask=[False, True])], TypeError, "masked"),
-    (None, ValueError, r"not the shape \(\)"),
-])
-def test_times_that_are_rejected(times: Any, kind: type[Exception], why: str) -> None:
+SHOP = pfs.Instance(TIMES)
+INSERTIONS: list[tuple[Any, type[Exception], str]] = [
+    (([0, 1], 3), ValueError, "job must be from 0 to 2, not 3"),
+    (([0, 1], -1), ValueError, "job must be from .*, not -1"),
+    (([0, 1], 1), ValueError, "job 1 is already in the sequence"),
+    (([0, 0], 1), ValueError, "sequence: job 0 occurs twice, at places 0 and 1"),
+    (([0, 7], 1), ValueError, "sequence: 7 at place 1 isn't a job"),
+    (([0, 1], 2.0), TypeError, "job must be an integer, not 2.0"),
+    (([0, 1], 2**64 + 2), ValueError, "job must be from .*, not 18446744073709551618")]
+REJECTED: dict[Callable[[Any], object], list[tuple[Any, type[Exception], str]]] = {
+    pfs.Instance: [
+        ([3, 2], ValueError, r"a row for each job and a column for each machine, not the shape \(2,\)"),
+        (7, ValueError, r"not the shape \(\)"),
+        ([[1, 2], [3]], ValueError, "times can't be converted to an array"),
+        (np.zeros((0, 2)), ValueError, "times has 0 jobs and 2 machines"),
+        (np.zeros((2, 0)), ValueError, "times has 2 jobs and 0 machines"),
+        (np.zeros((5001, 1)), ValueError, "times has 5,001 jobs and 1 machines"),
+        (np.zeros((1, 201)), ValueError, "times has 1 jobs and 201 machines"),
+        ([[1, 2], [3, 2.5]], ValueError, "times: 2.5 at job 1, machine 1 isn't a whole number"),
+        ([[1, float("nan")]], ValueError, "times: nan at job 0, machine 1 isn't a whole number"),
+        ([[1, float("inf")]], ValueError, "times: inf at job 0, machine 1 isn't a whole number"),
+        (np.array([[-1]], dtype=np.int8), ValueError, "times: -1 at job 0, machine 0 isn't from 0 to"),
+        ([[1, 2], [-3, 2]], ValueError, "times: -3 at job 1, machine 0 isn't from 0 to 1,000,000,000"),
+        ([[1, 1_000_000_001]], ValueError, "times: 1000000001 at job 0, machine 1 isn't from 0 to 1,000,000,000"),
+        ([[1, 2**70]], ValueError, "times: 1180591620717411303424 at job 0, machine 1 isn't from 0 to"),
+        ([[1, None]], TypeError, "times: None at job 0, machine 1 isn't a whole number"),
+        (np.array([[2**32]], dtype=np.float32), ValueError, "times: 42949[.0-9]+ at job 0, machine 0 isn't from 0 to"),
+        (np.array([[2**63]], dtype=np.uint64), ValueError, "times: 9223372036854775808 at job 0"),
+        ([["1", "2"]], TypeError, "times must be whole numbers, not of dtype <U1"),
+        ([[True, 2], [3, 4]], TypeError, "times must be whole numbers, not of dtype bool"),
+        ([[1, 2], (3, np.False_)], TypeError, "times must be whole numbers, not of dtype bool"),
+        (np.array([[1, np.True_]], dtype=object), TypeError, "times: True at job 0, machine 1 isn't a whole number"),
+        (np.array([[1]], dtype="M8[s]"), TypeError, "not of dtype datetime"),
+        (np.array([[(1,)]], dtype=[("a", int)]), TypeError, "times must be whole numbers"),
+        (np.ma.masked_array([[1, 2]], mask=[[False, True]]),  # type: ignore[no-untyped-call]
+         TypeError, "masked"),
+        ([[3, 4], np.ma.masked_array([1, 2], mask=[False, True])],  # type: ignore[no-untyped-call]
+         TypeError, "masked"),
+        (None, ValueError, r"not the shape \(\)"),
+    ],
+    SHOP.makespan: [
+        ([0, 3], ValueError, "order: 3 at place 1 isn't a job: jobs are 0 to 2"),
+        ([1, 0, 1], ValueError, "order: job 1 occurs twice, at places 0 and 2"),
+        ([0, -1], ValueError, "order: -1 at place 1 isn't a job"),
+        (np.array([0, 2**63], dtype=np.uint64), ValueError, "order: 9223372036854775808 at place 1 isn't a job"),
+        ([0, 0.5], ValueError, "order: 0.5 at place 1 isn't a whole number"),
+        ([0, "1"], TypeError, "order must be whole numbers"),
+        ([0, None], TypeError, "order: None at place 1 isn't a whole number"),
+        ([True, False], TypeError, "order must be whole numbers, not of dtype bool"),
+        (np.array([True, False]), TypeError, "order must be whole numbers, not of dtype bool"),
+        ([2, np.True_, 0], TypeError, "order must be whole numbers, not of dtype bool"),
+        (np.array([2, True, 0], dtype=object), TypeError, "order: True at place 1 isn't a whole number"),
+        (np.array([1, 2**32], dtype=np.longdouble), ValueError, "order: 42949[.0-9]+ at place 1 isn't a job"),
+        (np.array([0, 200], dtype=np.uint8), ValueError, "order: 200 at place 1 isn't a job: jobs are 0 to 2"),
+        (np.array([np.int8(-1)], dtype=object), ValueError, "order: -1 at place 0 isn't a job"),
+        ([[0, 1, 2]], ValueError, r"order must be a list of jobs, not of the shape \(1, 3\)"),
+        (0, ValueError, r"not of the shape \(\)"),
+        (None, ValueError, r"not of the shape \(\)"),
+        ([0, [1]], ValueError, "order can't be converted to an array"),
+        (np.zeros(100_000, dtype=np.uint32), ValueError, "order: job 0 occurs twice, at places 0 and 1"),
+    ],
+    SHOP.schedule: [
+        ([0, 1], ValueError, "order has 2 jobs, but the instance has 3"),
+        ([0, 1, 2, 0], ValueError, "order has 4 jobs, but"), ([], ValueError, "order has 0 jobs, but"),
+        ([0, 1, 0], ValueError, "order: job 0 occurs twice, at places 0 and 2")],
+    lambda given: SHOP.places(*given): INSERTIONS, lambda given: SHOP.best_place(*given): INSERTIONS,
+    SHOP.makespans: [
+        ([0, 1], ValueError, r"orders must have a row for each sequence of jobs, not the shape \(2,\)"),
+        ([[0, 1], [0]], ValueError, "orders can't be converted to an array"),
+        ([[0, 1], [1, 3]], ValueError, "orders, row 1: 3 at place 1 isn't a job: jobs are 0 to 2"),
+        ([[0, 1], [2, 2]], ValueError, "orders, row 1: job 2 occurs twice, at places 0 and 1"),
+        ([[0, -1]], ValueError, "orders: -1 at row 0, place 1 isn't a job"),
+        ([[0, 2**32]], ValueError, "orders: 4294967296 at row 0, place 1 isn't a job"),
+        ([[0, 0.5]], ValueError, "orders: 0.5 at row 0, place 1 isn't a whole number"),
+        ([[True, False]], TypeError, "orders must be whole numbers, not of dtype bool"),
+        ([["a"]], TypeError, "orders must be whole numbers"), (None, ValueError, "orders must have a row"),
+        (np.zeros((2, 100_000), dtype=np.uint32), ValueError, "orders, row 0: job 0 occurs twice")],
+    lambda words: pfs.generate(*words): [
+        ((0, 1, 1), ValueError, "jobs must be from 1 to 5,000, not 0"),
+        ((5001, 1, 1), ValueError, "jobs must be from .*, not 5001"),
+        ((1, 201, 1), ValueError, "machines must be from 1 to 200, not 201"),
+        ((1, 1, 0), ValueError, "seed must be from 1 to 2,147,483,646, not 0"),
+        ((1, 1, 2**31 - 1), ValueError, "seed must be from .*, not 2147483647"),
+        ((1, 1, 2**64 + 1), ValueError, "seed must be from .*, not 18446744073709551617"),
+        ((1.0, 1, 1), TypeError, "jobs must be an integer, not 1.0"),
+    ],
+}
+
+
+@pytest.mark.parametrize(("call", "given", "kind", "why"), [(call, *row) for call, each in REJECTED.items()
+                                                            for row in each])
+def test_what_is_rejected(call: Callable[[Any], object], given: Any, kind: type[Exception], why: str) -> None:
     with pytest.raises(kind, match=why):
-        pfs.Instance(times)
-
-
-@pytest.mark.parametrize(("order", "kind", "why"), [
-    ([0, 3], ValueError, "order: 3 at place 1 isn't a job: jobs are 0 to 2"),
-    ([1, 0, 1], ValueError, "order: job 1 occurs twice, at places 0 and 2"),
-    ([3, 3], ValueError, "order: 3 at place 0 isn't a job"),
-    ([0, -1], ValueError, "order: -1 at place 1 isn't a job"),
-    (np.array([0, 2**63], dtype=np.uint64), ValueError, "order: 9223372036854775808 at place 1 isn't a job"),
-    ([0, 2**32], ValueError, "order: 4294967296 at place 1 isn't a job"),
-    ([0, 0.5], ValueError, "order: 0.5 at place 1 isn't a whole number"),
-    ([0, "1"], TypeError, "order must be whole numbers"),
-    ([0, None], TypeError, "order: None at place 1 isn't a whole number"),
-    (np.array([True, False]), TypeError, "order must be whole numbers, not of dtype bool"),
-    ([True, False], TypeError, "order must be whole numbers, not of dtype bool"),
-    ([2, np.True_, 0], TypeError, "order must be whole numbers, not of dtype bool"),
-    (np.array([2, True, 0], dtype=object), TypeError, "order: True at place 1 isn't a whole number"),
-    (np.array([1, 2**32], dtype=np.float32), ValueError, "order: 42949[.0-9]+ at place 1 isn't a job"),
-    (np.array([1, 2**32], dtype=np.longdouble), ValueError, "order: 42949[.0-9]+ at place 1 isn't a job"),
-    (np.array([0, 200], dtype=np.uint8), ValueError, "order: 200 at place 1 isn't a job: jobs are 0 to 2"),
-    (np.array([0, -1], dtype=np.int8), ValueError, "order: -1 at place 1 isn't a job"),
-    (np.array([np.int8(-1)], dtype=object), ValueError, "order: -1 at place 0 isn't a job"),
-    ([[0, 1, 2]], ValueError, r"order must be a list of jobs, not of the shape \(1, 3\)"),
-    (0, ValueError, r"not of the shape \(\)"),
-    (None, ValueError, r"not of the shape \(\)"),
-    ("012", ValueError, r"not of the shape \(\)"),
-    ([0, [1]], ValueError, "order can't be converted to an array"),
-    (list(range(5000)), ValueError, "order: 3 at place 3 isn't a job"),
-    (np.zeros(100_000, dtype=np.uint32), ValueError, "order: job 0 occurs twice, at places 0 and 1"),
-])
-def test_orders_that_are_rejected(order: Any, kind: type[Exception], why: str) -> None:
-    with pytest.raises(kind, match=why):
-        pfs.Instance(TIMES).makespan(order)
-
-
-def test_orders_of_some_jobs_are_rejected_where_all_are_due() -> None:
-    shop = pfs.Instance(TIMES)
-    orders: list[list[int]] = [[0, 1], [0, 1, 2, 0], []]
-    for order in orders:
-        with pytest.raises(ValueError, match=f"order has {len(order)} jobs, but the instance has 3"):
-            shop.schedule(order)
-    with pytest.raises(ValueError, match="order: job 0 occurs twice, at places 0 and 2"):
-        shop.schedule([0, 1, 0])
-
-
-@pytest.mark.parametrize(("sequence", "job", "kind", "why"), [
-    ([0, 1], 3, ValueError, "job must be from 0 to 2, not 3"),
-    ([0, 1], -1, ValueError, "job must be from .*, not -1"),
-    ([0, 1], 1, ValueError, "job 1 is already in the sequence"),
-    ([0, 0], 1, ValueError, "sequence: job 0 occurs twice, at places 0 and 1"),
-    ([0, 7], 1, ValueError, "sequence: 7 at place 1 isn't a job"),
-    ([0, 1], 2.0, TypeError, "job must be an integer, not 2.0"),
-    ([0, 1], 2**64 + 2, ValueError, "job must be from .*, not 18446744073709551618"),
-])
-def test_insertions_that_are_rejected(sequence: list[int], job: Any, kind: type[Exception], why: str) -> None:
-    with pytest.raises(kind, match=why):
-        pfs.Instance(TIMES).best_place(sequence, job)
-    with pytest.raises(kind, match=why):
-        pfs.Instance(TIMES).places(sequence, job)
-
-
-@pytest.mark.parametrize(("orders", "kind", "why"), [
-    ([0, 1], ValueError, r"orders must have a row for each sequence of jobs, not the shape \(2,\)"),
-    ([[0, 1], [0]], ValueError, "orders can't be converted to an array"),
-    ([[0, 1], [1, 3]], ValueError, "orders, row 1: 3 at place 1 isn't a job: jobs are 0 to 2"),
-    ([[0, 1], [2, 2]], ValueError, "orders, row 1: job 2 occurs twice, at places 0 and 1"),
-    ([[0, -1]], ValueError, "orders: -1 at row 0, place 1 isn't a job"),
-    ([[0, 2**32]], ValueError, "orders: 4294967296 at row 0, place 1 isn't a job"),
-    ([[0, 0.5]], ValueError, "orders: 0.5 at row 0, place 1 isn't a whole number"),
-    ([[True, False]], TypeError, "orders must be whole numbers, not of dtype bool"),
-    ([["a"]], TypeError, "orders must be whole numbers"), (None, ValueError, "orders must have a row"),
-    (np.zeros((2, 100_000), dtype=np.uint32), ValueError, "orders, row 0: job 0 occurs twice")])
-def test_rows_of_orders_that_are_rejected(orders: Any, kind: type[Exception], why: str) -> None:
-    with pytest.raises(kind, match=why):
-        pfs.Instance(TIMES).makespans(orders)
-
-
-@pytest.mark.parametrize(("words", "kind", "why"), [
-    ((0, 1, 1), ValueError, "jobs must be from 1 to 5,000, not 0"),
-    ((5001, 1, 1), ValueError, "jobs must be from .*, not 5001"),
-    ((1, 201, 1), ValueError, "machines must be from 1 to 200, not 201"),
-    ((1, 1, 0), ValueError, "seed must be from 1 to 2,147,483,646, not 0"),
-    ((1, 1, 2**31 - 1), ValueError, "seed must be from .*, not 2147483647"),
-    ((1, 1, 2**64 + 1), ValueError, "seed must be from .*, not 18446744073709551617"),
-    ((1.0, 1, 1), TypeError, "jobs must be an integer, not 1.0"),
-])
-def test_instances_that_are_not_generated(words: Any, kind: type[Exception], why: str) -> None:
-    with pytest.raises(kind, match=why):
-        pfs.generate(*words)
+        call(given)
 
 
 @pytest.mark.parametrize("truth", [True, np.True_])
 def test_truth_values_are_no_numbers(truth: Any) -> None:
     shop = pfs.Instance(TIMES)
     calls: dict[str, Callable[[], Any]] = {
+        "target": lambda: shop.solve(1, target=truth),
         "rounds": lambda: shop.solve(truth), "take": lambda: shop.solve(1, take=truth),
         "passes": lambda: shop.solve(1, passes=truth), "seed": lambda: shop.solve(1, seed=truth),
         "first": lambda: shop.solve(1, first=truth), "time_limit": lambda: shop.solve(1, time_limit=truth),

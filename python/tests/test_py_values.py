@@ -6,7 +6,6 @@ import io
 import itertools
 import pathlib
 import pickle
-import random
 import re
 import sys
 from collections.abc import Callable
@@ -34,18 +33,6 @@ def test_makespan_and_insertions(case: tuple[plainly.Table, list[int]]) -> None:
         assert shop.best_place(sequence, job) == plainly.best_place(times, sequence, job)
 
 
-@pytest.mark.parametrize("seed", range(6))
-def test_all_orders_of_a_small_shop(seed: int) -> None:
-    chance = random.Random(seed)
-    times = [[chance.randint(0, 9) for _ in range(1 + seed % 4)] for _ in range(6)]
-    shop = pfs.Instance(times)
-    spans = {order: shop.makespan(order) for order in itertools.permutations(range(6))}
-    assert spans == {order: plainly.makespan(times, order) for order in itertools.permutations(range(6))}
-    assert shop.bound() <= min(spans.values()) <= shop.neh().makespan <= max(spans.values())
-    # Six jobs of which each round puts four back: the search finds a shortest one.
-    assert shop.solve(300, passes=1).makespan == min(spans.values())
-
-
 @given(plainly.shops())
 def test_bound(times: plainly.Table) -> None:
     assert pfs.Instance(times).bound() == plainly.bound(times)
@@ -58,24 +45,6 @@ def test_the_bound_of_pairs_of_machines(times: plainly.Table) -> None:
     pairs = [plainly.two_machine_bound(times, one, other) for one, other in itertools.combinations(machines, 2)]
     assert shop.bound("pairs") == max([plainly.bound(times), *pairs]) <= plainly.shortest(times)
     assert shop.bound("machines") == shop.bound()
-
-
-@given(plainly.shops(6, 2))
-def test_on_two_machines_the_bound_of_pairs_is_the_shortest_makespan(times: plainly.Table) -> None:
-    assert pfs.Instance(times).bound("pairs") == plainly.shortest(times)
-
-
-def test_the_bound_of_pairs_is_below_the_published_makespans() -> None:
-    bounds = [(shop.bound(), shop.bound("pairs"), shop.upper) for shop in map(pfs.taillard, range(1, 121, 7))]
-    assert all(one <= other <= upper for one, other, upper in bounds)
-    assert sum(one < other for one, other, _ in bounds) > 3
-
-
-@pytest.mark.parametrize(("method", "kind"), [("johnson", ValueError), ("", ValueError), (None, TypeError),
-                                              (b"pairs", TypeError), (True, TypeError)])
-def test_methods_of_bounds_that_are_rejected(method: Any, kind: type[Exception]) -> None:
-    with pytest.raises(kind, match="method must be 'machines' or 'pairs', not "):
-        pfs.Instance([[1]]).bound(method)
 
 
 @pytest.mark.quick
@@ -98,7 +67,7 @@ def test_makespans(times: plainly.Table, data: st.DataObject) -> None:
 
 
 @given(plainly.shops_and_orders())
-def test_schedule(case: tuple[plainly.Table, list[int]]) -> None:
+def test_schedule_critical_path_and_idle_times(case: tuple[plainly.Table, list[int]]) -> None:
     times, order = case
     made = pfs.Instance(times).schedule(order)
     rows = plainly.schedule(times, order)
@@ -112,11 +81,6 @@ def test_schedule(case: tuple[plainly.Table, list[int]]) -> None:
     frame = made.to_frame()
     assert list(frame.columns) == ["job", "machine", "start", "end"]
     assert frame.to_numpy().tolist() == operations
-
-
-@given(plainly.shops_and_orders())
-def test_a_critical_path_has_no_wait(case: tuple[plainly.Table, list[int]]) -> None:
-    """Its times add up to the makespan, and each step goes to the next place or to the next machine."""
     times, order = case
     path = pfs.Instance(times).schedule(order).critical_path()
     assert path[0] == (0, 0) and path[-1] == (len(order) - 1, len(times[0]) - 1)
@@ -124,11 +88,6 @@ def test_a_critical_path_has_no_wait(case: tuple[plainly.Table, list[int]]) -> N
     assert set(steps) <= {(0, 1), (1, 0)}
     assert sum(times[order[place]][machine] for place, machine in path) == plainly.makespan(times, order)
     assert all(type(number) is int for operation in path for number in operation)
-
-
-@given(plainly.shops_and_orders())
-def test_idle_times(case: tuple[plainly.Table, list[int]]) -> None:
-    """What a machine waits, works, and waits after its last operation is the makespan."""
     times, order = case
     made = pfs.Instance(times).schedule(order)
     rows = plainly.schedule(times, order)
@@ -139,33 +98,23 @@ def test_idle_times(case: tuple[plainly.Table, list[int]]) -> None:
     assert made.starts.tolist() == [[start for start, _ in row] for row in rows], "idle times share memory with starts"
 
 
-def test_schedule_has_names(tmp_path: pathlib.Path) -> None:
-    shop = pfs.Instance([[30, 25], [20, 50]], job_names=["table", "chair, small"], machine_names=["saw", "drill"],
-                        decimals=1)
-    made = shop.schedule([1, 0])
+@pytest.mark.parametrize("names", [{"job_names": ["table", "chair, small"]}, {"machine_names": ["saw", "drill"]}, {}])
+def test_a_schedule_has_the_names_that_there_are(names: dict[str, Any], tmp_path: pathlib.Path,
+                                                 monkeypatch: pytest.MonkeyPatch) -> None:
+    """And times with the decimals of the instance."""
+    made = pfs.Instance([[30, 25], [20, 50]], **names, decimals=1).schedule([1, 0])
+    (table, chair), (saw, drill) = (names.get(name, [0, 1]) for name in ("job_names", "machine_names"))
+    due = [[chair, saw, 0.0, 2.0], [chair, drill, 2.0, 7.0], [table, saw, 2.0, 5.0], [table, drill, 7.0, 9.5]]
+    assert made.to_frame().to_numpy().tolist() == due
     assert made.to_csv(tmp_path / "plan.csv") is None
-    assert (tmp_path / "plan.csv").read_text() == (
-        'job,machine,start,end\n"chair, small",saw,0.0,2.0\n"chair, small",drill,2.0,7.0\n'
-        "table,saw,2.0,5.0\ntable,drill,7.0,9.5\n")
-    assert (made.to_csv(delimiter=";") or "").splitlines()[-1] == "table;drill;7,0;9,5"
-    assert made.to_frame().to_numpy().tolist() == [
-        ["chair, small", "saw", 0.0, 2.0], ["chair, small", "drill", 2.0, 7.0],
-        ["table", "saw", 2.0, 5.0], ["table", "drill", 7.0, 9.5]]
-
-
-@pytest.mark.parametrize("names", [{"job_names": ["a", "b"]}, {"machine_names": ["saw"]}, {}])
-def test_a_frame_of_a_schedule_has_the_names_that_there_are(names: dict[str, Any],
-                                                            monkeypatch: pytest.MonkeyPatch) -> None:
-    pytest.importorskip("pandas")
-    frame = pfs.Instance([[1], [2]], **names).schedule([1, 0]).to_frame()
-    jobs: list[object] = ["b", "a"] if "job_names" in names else [1, 0]
-    machines: list[object] = ["saw"] * 2 if "machine_names" in names else [0, 0]
-    assert frame["job"].tolist() == jobs, "the column of the jobs"
-    assert frame["machine"].tolist() == machines, "the column of the machines"
+    with open(tmp_path / "plan.csv", newline="") as file:
+        assert list(csv.reader(file))[1:] == [list(map(str, row)) for row in due]
+    assert (made.to_csv(delimiter=";") or "").splitlines()[-1] == f"{table};{drill};7,0;9,5"
     modules: dict[str, Any] = sys.modules
     monkeypatch.setitem(modules, "pandas", None)
     with pytest.raises(ImportError, match="to_frame needs pandas"):
-        pfs.Instance([[1]]).schedule([0]).to_frame()
+        made.to_frame()
+
 
 
 @pytest.mark.parametrize("delimiter", [",", ";", "\t"])
@@ -189,16 +138,9 @@ def test_a_name_is_one_cell(tmp_path: pathlib.Path, name: str, delimiter: str) -
 
 def test_the_greatest_shop() -> None:
     shop = pfs.Instance(np.full((5000, 200), 1_000_000_000))
+    assert shop.times.dtype == np.int64, "times and their differences wrap"
     assert shop.makespan(range(5000)) == shop.bound() == 5199 * 10**9
     assert shop.schedule(np.arange(5000)).makespan == 5199 * 10**9
-
-
-def test_times_can_be_subtracted() -> None:
-    """The differences and sums that slope indices are made of don't wrap."""
-    shop = pfs.Instance([[3, 1_000_000_000], [2, 0]])
-    assert shop.times.dtype == np.int64
-    assert (shop.times[:, 0] - shop.times[:, 1]).tolist() == [-999_999_997, 2]
-    assert (-shop.times.sum(axis=1)).tolist() == [-1_000_000_003, -2]
 
 
 def test_rpd() -> None:
@@ -209,16 +151,25 @@ def test_rpd() -> None:
     assert pfs.Instance([[1]]).rpd(3, 2) == 50
 
 
-@pytest.mark.parametrize(("words", "kind", "why"), [
-    ((9,), ValueError, "rpd needs a reference, since `upper` of the instance is 0"),
-    ((-1, 5), ValueError, "makespan must be from 0 to [0-9,]+, not -1"),
-    ((9, 0), ValueError, "reference must be from 1 to [0-9,]+, not 0"),
-    ((9.5, 5), TypeError, "makespan must be an integer, not 9.5"), ((True, 5), TypeError, "makespan must be"),
-    ((9, True), TypeError, "reference must be"), (([1, 0], 5), TypeError, "makespan must be an integer"),
-    ((2**64, 5), ValueError, "makespan must be from .*, not 18446744073709551616")])
-def test_rpds_that_are_rejected(words: tuple[Any, ...], kind: type[Exception], why: str) -> None:
+REJECTED: list[tuple[Callable[..., Any], tuple[Any, ...], type[Exception], str]] = [
+    *((pfs.Instance([[1]]).bound, (method,), kind, "method must be 'machines' or 'pairs', not ")
+      for method, kind in (("johnson", ValueError), ("", ValueError), (None, TypeError), (b"pairs", TypeError))),
+    *((pfs.Instance([[1]]).rpd, words, kind, why) for words, kind, why in [
+        ((9,), ValueError, "rpd needs a reference, since `upper` of the instance is 0"),
+        ((-1, 5), ValueError, "makespan must be from 0 to [0-9,]+, not -1"),
+        ((9, 0), ValueError, "reference must be from 1 to [0-9,]+, not 0"),
+        ((9.5, 5), TypeError, "makespan must be an integer, not 9.5"), ((True, 5), TypeError, "makespan must be"),
+        ((9, True), TypeError, "reference must be"), (([1, 0], 5), TypeError, "makespan must be an integer"),
+        ((2**64, 5), ValueError, "makespan must be from .*, not 18446744073709551616")]),
+    *((pfs.from_frame, (frame,), TypeError, "frame must be a pandas DataFrame, not ") for frame in ([[1]], None)),
+]
+
+
+@pytest.mark.parametrize(("call", "words", "kind", "why"), REJECTED)
+def test_what_is_rejected(call: Callable[..., Any], words: tuple[Any, ...], kind: type[Exception], why: str) -> None:
     with pytest.raises(kind, match=why):
-        pfs.Instance([[1]]).rpd(*words)
+        call(*words)
+
 
 
 def test_returned_arrays_are_read_only() -> None:
@@ -285,46 +236,35 @@ def test_objects_of_which_one_attribute_is_another_are_unequal(kind: type[Any], 
     assert not one == other and one != other, f"two of another {name} are equal"
 
 
-@pytest.mark.parametrize("how", COPIES)
-@pytest.mark.parametrize("kind", COMPARED)
-def test_a_copy_has_each_attribute(kind: type[Any], how: str) -> None:
-    one = made_of(kind)
-    other = COPIES[how](one)
-    assert fields_of(other) == fields_of(one), f"an attribute is lost where one is {how}"
-    assert other == one and hash(other) == hash(one) and type(other) is kind
-    assert one != 1 and one != fields_of(one)
+def things() -> list[Any]:
+    """What is copied, with a value in each attribute."""
+    return [
+        *map(made_of, COMPARED), pfs.taillard(1).solve(200, history=True), made_of(pfs.Instance).schedule([1, 0]),
+        pfs.FileFault("file", 24, 17, 3, 2, "a hint"), pfs.OrderFault("order", 31, 3),
+        pfs.TableFault("plan.csv", 4, 2, "no time", "saw", (pfs.TableFault("plan.csv", 5, 2, "none"),)),
+        pfs.Interrupted(pfs.Solution([1, 0], 9, 16, 2, 5)), pfs.InterruptedAll({(0, 1): pfs.Solution([0], 1)})]
+
+
+def kept_by(thing: Any) -> dict[str, Any]:
+    """Each attribute, as a list, a text or a number."""
+    names = [name for name in getattr(thing, "__slots__", None) or vars(thing) if name[0] != "_"]
+    values = {name: getattr(thing, name) for name in [*names, *(["times"] if isinstance(thing, pfs.Instance) else [])]}
+    return {name: value.tolist() if isinstance(value, np.ndarray) else list(map(kept_by, value)) if name == "others"
+            else value for name, value in values.items()}
 
 
 @pytest.mark.parametrize("how", COPIES)
-def test_a_copy_of_a_solution_has_its_history(how: str) -> None:
-    found = pfs.taillard(1).solve(200, history=True)
-    assert COPIES[how](found).history == found.history != ()
-    assert found == pfs.taillard(1).solve(200), "the history is compared"
+def test_a_copy_has_each_attribute(how: str) -> None:
+    for one in things():
+        if isinstance(one, pfs.Schedule) and how[-1] in "01":
+            continue
+        other = COPIES[how](one)
+        assert type(other) is type(one) and str(other) == str(one)
+        assert kept_by(other) == kept_by(one) != {}, f"an attribute is lost where one is {how}"
+        if type(one) in COMPARED:
+            assert other == one and hash(other) == hash(one) and one != 1
+    assert pfs.taillard(1).solve(200, history=True) == pfs.taillard(1).solve(200), "the history is compared"
 
-
-@pytest.mark.parametrize("how", [how for how in COPIES if how[-1] not in "01"])
-def test_a_copy_of_a_schedule_has_each_attribute(how: str) -> None:
-    made = made_of(pfs.Instance).schedule([1, 0])
-    other = COPIES[how](made)
-    assert other.instance == made.instance and other.makespan == made.makespan
-    for name in ("order", "starts", "ends"):
-        assert getattr(other, name).tolist() == getattr(made, name).tolist(), name
-    assert other.to_csv() == made.to_csv()
-
-
-FAULTS: list[BaseException] = [
-    pfs.FileFault("file", 24, 17, 3, 2, "a hint"), pfs.OrderFault("order", 31, 3),
-    pfs.TableFault("plan.csv", 4, 2, "no time"),
-    pfs.Interrupted(pfs.Solution([1, 0], 9, 16, 2, 5))]
-
-
-@pytest.mark.parametrize("how", COPIES)
-@pytest.mark.parametrize("fault", FAULTS, ids=[type(fault).__name__ for fault in FAULTS])
-def test_a_copy_of_an_exception_has_each_attribute(fault: BaseException, how: str) -> None:
-    other = COPIES[how](fault)
-    assert (type(other), str(other), vars(other)) == (type(fault), str(fault), vars(fault))
-    assert len(vars(fault)) == {"FileFault": 8, "OrderFault": 5, "TableFault": 9, "Interrupted": 1}[
-        type(fault).__name__]
 
 
 def test_instances_and_solutions_are_shown() -> None:
@@ -361,13 +301,9 @@ def test_a_frame_of_decimal_times(times: Any, decimals: int, due: list[list[int]
     pandas = pytest.importorskip("pandas")
     shop = pfs.from_frame(pandas.DataFrame(times), decimals=decimals, unit="h")
     assert (shop.times.tolist(), shop.decimals, shop.unit) == (due, decimals, "h")
-
-
-@pytest.mark.parametrize("dtype", ["object", "category", "Float64"])
-def test_a_frame_of_whole_times_has_decimals_too(dtype: str) -> None:
-    pandas = pytest.importorskip("pandas")
-    frame = pandas.DataFrame({"saw": pandas.Series([2, 3], dtype=dtype), "drill": [4, 5]})
-    assert pfs.from_frame(frame, decimals=1).times.tolist() == [[20, 40], [30, 50]], f"{dtype} isn't scaled"
+    for dtype in ("object", "category", "Float64"):
+        frame = pandas.DataFrame({"saw": pandas.Series([2, 3], dtype=dtype), "drill": [4, 5]})
+        assert pfs.from_frame(frame, decimals=1).times.tolist() == [[20, 40], [30, 50]], f"{dtype} isn't scaled"
 
 
 @pytest.mark.parametrize(("times", "decimals", "kind", "why"), [
@@ -382,13 +318,6 @@ def test_frames_that_are_rejected(times: Any, decimals: Any, kind: type[Exceptio
     pandas = pytest.importorskip("pandas")
     with pytest.raises(kind, match=why):
         pfs.from_frame(pandas.DataFrame(times), decimals=decimals)
-
-
-def test_only_frames_are_frames() -> None:
-    others: list[Any] = [[[1]], np.ones((1, 1)), None]
-    for other in others:
-        with pytest.raises(TypeError, match="frame must be a pandas DataFrame, not "):
-            pfs.from_frame(other)
 
 
 def test_jobs_by_their_names() -> None:

@@ -9,6 +9,7 @@ from contextlib import contextmanager, suppress
 from typing import IO, Any, NamedTuple
 
 import pytest
+from support.library import Library
 from support.needs import tool
 from support.program import Program
 from support.tools import Done, csv_rows, run_tool, wait_until, with_path, write_script
@@ -179,11 +180,18 @@ class Experiment(NamedTuple):
 @pytest.fixture
 def experiment(scripts: pathlib.Path, pfs: Program, folder: pathlib.Path) -> Experiment:
     """The shops and the plan, in a new folder."""
+    tool("parallel")
     made = Experiment(scripts, folder, pfs)
     (folder / "shops").mkdir()
     for name, size in SHOPS.items():
         (folder / "shops" / name).write_text(made.printed("generate", *map(str, size)))
     return made.plan(PLAN)
+
+
+@pytest.fixture
+def with_library(libpfs: Library) -> dict[str, str]:
+    """The variables with which searches by time and audits find the library."""
+    return dict(os.environ, PFS_LIBRARY=str(libpfs.path))
 
 
 @pytest.fixture

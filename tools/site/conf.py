@@ -28,6 +28,7 @@ html_show_sourcelink = False
 myst_heading_anchors = 4
 numpydoc_show_class_members = False
 autodoc_typehints = "none"
+autodoc_default_options = {"members": True}
 autodoc_member_order = "bysource"
 
 

@@ -126,17 +126,12 @@ def audit(table: Table, shops: Shops = (), *, layout: str | None = None, first: 
     first = None if first is None else checked_int(first, "first", 0, 1)
     given = Given.of(table)
     rows = list(given.rows(Shelf(shops, layout)))
-    firsts = {method: first if first is not None else given.first_job(method, group)
-              for method, group in by_method(rows).items()}
-    others = Others(rows)
-    return [audited(row, firsts[row.method], others) for row in rows]
-
-
-def by_method(rows: list[Row]) -> dict[str, list[Row]]:
-    groups = defaultdict(list)
+    groups: dict[str, list[Row]] = defaultdict(list)
     for row in rows:
         groups[row.method].append(row)
-    return groups
+    firsts = {method: given.first_job(method, group) if first is None else first for method, group in groups.items()}
+    others = Others(rows)
+    return [audited(row, firsts[row.method], others) for row in rows]
 
 
 # The instances
@@ -218,7 +213,7 @@ def shops_in(path: pathlib.Path, layouts: Iterable[str]) -> list[Instance]:
 
 def known_instance(shop: Instance) -> Instance | None:
     """Return Taillard's instance with these times, with its name and best known makespan."""
-    for number, (_, jobs, machines, seed, _) in enumerate(taillard_rows(), 1):
+    for number, (_, jobs, machines, seed, *_) in enumerate(taillard_rows(), 1):
         if (jobs, machines, seed) == (shop.jobs, shop.machines, shop.seed):
             known = taillard(number)
             return known if (known.times == shop.times).all() else None
@@ -321,8 +316,6 @@ def text_in(cell: Any) -> str:
 def numbers_in(cell: Any) -> list[int] | str:
     """Return the numbers of an order, or why there are none.
 
-    Examples
-    --------
     >>> numbers_in("[3, 1, 2]"), numbers_in("J3 J1 J2"), numbers_in("3 x")
     ([3, 1, 2], [3, 1, 2], "'x' at place 2 isn't the number of a job")
     """

@@ -4,7 +4,6 @@ from __future__ import annotations
 import csv
 import functools
 import importlib.resources
-import io
 import re
 
 # A file's name, its ending, and the number of a block.
@@ -17,8 +16,6 @@ TAILLARD, TAILLARD_BLOCK = re.compile("ta([0-9]{3})"), re.compile("tai([0-9]+)_(
 def key_of(name: str, block: str = "") -> str:
     """Return the name of an instance without folder, ending and case, and with the number of its block.
 
-    Examples
-    --------
     >>> key_of("a/VFR10_5_1_Gap.txt"), key_of("tai20_5.txt 3"), key_of("tai20_5", "3"), key_of("Ta001")
     ('vfr10_5_1', 'tai20_5:3', 'tai20_5:3', 'ta001')
     """
@@ -32,8 +29,6 @@ def key_of(name: str, block: str = "") -> str:
 def taillard_number(key: str) -> int:
     """Return the number of Taillard's instance that is named so, or as a block of his files; 0 if there is none.
 
-    Examples
-    --------
     >>> taillard_number("ta120"), taillard_number("tai20_5:10"), taillard_number("tai20_5:11"), taillard_number("ta121")
     (120, 10, 0, 0)
     """
@@ -49,8 +44,6 @@ def taillard_number(key: str) -> int:
 def canonical(name: str) -> str:
     """Return the name by which results of an instance are compared.
 
-    Examples
-    --------
     >>> canonical("out/Ta001"), canonical("tai20_5.txt:1"), canonical("VRF10_5_1_Gap.txt")
     ('ta001', 'ta001', 'vfr10_5_1')
     """
@@ -60,19 +53,9 @@ def canonical(name: str) -> str:
 
 
 @functools.cache
-def taillard_rows() -> tuple[tuple[str, int, int, int, int], ...]:
-    """Return the name, jobs, machines, seed and published lower bound of each of Taillard's instances."""
-    return tuple((name, int(jobs), int(machines), int(seed), int(lower))
-                 for name, jobs, machines, seed, lower in rows_in("taillard.csv"))
-
-
-@functools.cache
-def best_known() -> dict[str, int]:
-    """Return the best known makespan of each of Taillard's instances."""
-    return {name: int(makespan) for name, makespan, _ in rows_in("best_known.csv")}
-
-
-def rows_in(name: str) -> list[list[str]]:
-    """Return the rows of a table in the package, without its header."""
-    text = importlib.resources.files("pfs").joinpath(name).read_text("utf-8")
-    return list(csv.reader(io.StringIO(text)))[1:]
+def taillard_rows() -> tuple[tuple[str, int, int, int, int, int], ...]:
+    """Return the name, jobs, machines, seed, published lower bound and best known makespan of each of Taillard's
+    instances."""
+    text = importlib.resources.files("pfs").joinpath("taillard.csv").read_text("utf-8")
+    return tuple((name, int(jobs), int(machines), int(seed), int(lower), int(upper))
+                 for name, jobs, machines, seed, lower, upper in list(csv.reader(text.splitlines()))[1:])

@@ -16,8 +16,6 @@ def bound_by_pairs(times: Order) -> int:
     The bound of a pair is the least makespan on these two machines, if the other machines could process all jobs at
     once, plus the least times before the first machine and after the second.
 
-    Examples
-    --------
     >>> bound_by_pairs(np.array([[3, 2], [2, 5], [4, 1]]))
     10
     """
@@ -37,8 +35,6 @@ def two_machines(first: Order, lags: Order, second: Order) -> int:
 
     The order is Johnson's (1954), with the lag added to both times.
 
-    Examples
-    --------
     >>> two_machines(np.array([3, 2, 4]), np.array([0, 0, 0]), np.array([2, 5, 1]))
     10
     """

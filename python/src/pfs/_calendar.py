@@ -73,10 +73,9 @@ class Calendar:
 
     Raises
     ------
-    ValueError
-        A text has another form, shifts overlap, a day is named twice, or a date is more than ten years after the begin.
-    TypeError
-        An argument is of another kind.
+    TypeError, ValueError
+        An argument is of another kind, a text has another form, shifts overlap, a day is named twice, or a date is more
+        than ten years after the begin.
 
     Examples
     --------
@@ -209,8 +208,6 @@ class Clock:
 def text_of(moment: datetime, digits: int) -> str:
     """Return a date and time with this number of decimals of its seconds; with -1, without seconds.
 
-    Examples
-    --------
     >>> moment = datetime(2026, 11, 30, 6)
     >>> text_of(moment, -1), text_of(moment, 0), text_of(moment, 2)
     ('2026-11-30 06:00', '2026-11-30 06:00:00', '2026-11-30 06:00:00.00')
@@ -222,8 +219,6 @@ def text_of(moment: datetime, digits: int) -> str:
 def day_of(moment: datetime) -> str:
     """Return the day of the week and the date.
 
-    Examples
-    --------
     >>> day_of(datetime(2026, 11, 30, 6))
     'Mon 2026-11-30'
     """

@@ -80,8 +80,10 @@ def plot(schedule: Schedule, path: str | os.PathLike[str] | None, critical: bool
                        key=shop.job_names is not None and frame.ax is None,
                        beside=_drawing.beside(machines))
     if clock is not None:
+        end, digits = clock.span(0, schedule.makespan)[1], clock.digits(schedule.starts, schedule.ends)
         look = look._replace(scale=scale_of(clock), marks=clock.marks(schedule.makespan, most_marks(look)),
-                             breaks=clock.breaks(schedule.makespan), end=end_of(clock, schedule))
+                             breaks=clock.breaks(schedule.makespan),
+                             end=f"{day_of(end)} {text_of(end, digits).partition(' ')[2]}")
     elif look.unit == CLOCK:
         step = next((step for step in MINUTES if step * most_marks(look) >= schedule.makespan), MINUTES[-1])
         look = look._replace(scale=f"time ({CLOCK})", marks=[(time, look.formatted(time)) for time in
@@ -140,12 +142,6 @@ def dates_of(clock: Clock, schedule: Schedule) -> dict[str, Any]:
     times, microseconds = clock.ratio()
     return {"spans": clock.calendar.spans, "loop": clock.calendar.loop, "times": times, "microseconds": microseconds,
             "digits": clock.digits(schedule.starts, schedule.ends), "scale": scale_of(clock)}
-
-
-def end_of(clock: Clock, schedule: Schedule) -> str:
-    """The day and the time of day of the end."""
-    end = clock.span(0, schedule.makespan)[1]
-    return f"{day_of(end)} {text_of(end, clock.digits(schedule.starts, schedule.ends)).partition(' ')[2]}"
 
 
 def lists_of(table: _drawing.Table, look: _drawing.Look, schedule: Schedule, clock: Clock | None) -> str:

@@ -107,8 +107,6 @@ class ProgressLine:
 def clock(seconds: float) -> str:
     """Return a time in hours, minutes and seconds.
 
-    Examples
-    --------
     >>> clock(0.2), clock(3725)
     ('0:00:01', '1:02:05')
     """
@@ -181,8 +179,13 @@ def plan_command(given: argparse.Namespace) -> int:
             outputs.append(lambda: shop.schedule(best).to_csv(given.schedule, delimiter, mark=mark, calendar=calendar))
         outputs += [partial(draw, shop, best, chart, calendar, given.title) for chart in given.chart]
         outputs.append(lambda: compare(given.compare, shop, other, best, clock))
-        faults = [fault, *(failure_of(output) for output in outputs)]
-    statuses = [report(line_of(each), SYSTEM) for each in faults if each is not None]
+        faults = [] if fault is None else [fault]
+        for output in outputs:
+            try:
+                output()
+            except (OSError, MemoryError, ImportError, ValueError) as failure:
+                faults.append(failure)
+    statuses = [report(line_of(each), SYSTEM) for each in faults]
     return statuses[0] if statuses else stop.status()
 
 
@@ -292,15 +295,6 @@ def ended_at(shop: Instance, best: Solution, clock: Clock | None) -> list[str]:
     return found
 
 
-def failure_of(output: Callable[[], object]) -> Exception | None:
-    """Make an output, and return why it failed."""
-    try:
-        output()
-    except (OSError, MemoryError, ImportError, ValueError) as fault:
-        return fault
-    return None
-
-
 def printed(text: str) -> None:
     """Write a text to standard output, with escapes for characters that its encoding lacks."""
     encoding = sys.stdout.encoding or "utf-8"
@@ -360,15 +354,14 @@ def add_plan_words(plan: argparse.ArgumentParser) -> None:
     plan.add_argument("--version", **VERSION_OPTION)
     plan.add_argument("table", metavar="TIMES.csv", help="a row for each job, a column for each machine, with names; "
                       "also a workbook .xlsx")
-    add_table_words(plan.add_argument_group("the table"))
-    add_order_words(plan.add_argument_group("the order"))
-    add_date_words(plan.add_argument_group("dates and shifts"))
-    add_output_words(plan.add_argument_group("what is written"))
+    add_input_words(plan)
+    add_output_words(plan)
     plan.set_defaults(run=plan_command)
 
 
-def add_table_words(plan: argparse._ArgumentGroup) -> None:
-    """Add the options that say how a table is read."""
+def add_input_words(parser: argparse.ArgumentParser) -> None:
+    """Add the options that say how a table is read, and those about orders and held jobs."""
+    plan = parser.add_argument_group("the table")
     plan.add_argument("--unit", default="", help="of the times; else what stands in brackets in the first cell")
     plan.add_argument("--decimal", choices=tuple(DECIMAL_SIGNS),
                       help="the decimal sign of the times; the other sign may then group thousands; else the sign that "
@@ -379,10 +372,7 @@ def add_table_words(plan: argparse._ArgumentGroup) -> None:
     plan.add_argument("--allow-totals", action="store_true",
                       help="take rows and columns with the names of sums, means or quantities, and a last one with the "
                       "sums of the others, as jobs and machines")
-
-
-def add_order_words(plan: argparse._ArgumentGroup) -> None:
-    """Add the options about orders and held jobs."""
+    plan = parser.add_argument_group("the order")
     plan.add_argument("--order", metavar="FILE",
                       help="an order to begin with: the names of the jobs, one in a line, or what plan printed, or its "
                       "schedule. Jobs that the table lacks are left out, and jobs that the order lacks are inserted at "
@@ -398,8 +388,9 @@ def add_order_words(plan: argparse._ArgumentGroup) -> None:
                       help="another order, as for --order: standard error says how the plan ends and which jobs moved")
 
 
-def add_date_words(plan: argparse._ArgumentGroup) -> None:
-    """Add the options that say when there is work."""
+def add_output_words(parser: argparse.ArgumentParser) -> None:
+    """Add the options that say when there is work, and those that name files to write."""
+    plan = parser.add_argument_group("dates and shifts")
     plan.add_argument("--begin", type=checked(begin_of), metavar="DATETIME",
                       help="when the work begins, such as 2026-11-30T06:00; the schedule and the chart then have local "
                       "dates and times of day, for which times need the unit min, h, s or d")
@@ -413,10 +404,7 @@ def add_date_words(plan: argparse._ArgumentGroup) -> None:
     plan.add_argument("--closed", type=checked(dates_of), action="append", default=[], metavar="DATES",
                       help="dates on which no shift starts, such as 2026-12-24..2027-01-01; several with commas, or "
                       "the option more than once")
-
-
-def add_output_words(plan: argparse._ArgumentGroup) -> None:
-    """Add the options that name files to write."""
+    plan = parser.add_argument_group("what is written")
     plan.add_argument("--schedule", metavar="OUT.csv", help="when each operation starts and ends, as .csv or .xlsx")
     plan.add_argument("--chart", metavar="OUT.svg", action="append", default=[],
                       help="the chart, as .svg, .png, .pdf or a page .html; may be given more than once")

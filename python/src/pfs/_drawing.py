@@ -201,8 +201,10 @@ def draw(figure: Figure, table: Table, look: Look, axis: Axis | None = None) -> 
         draw_machine(axis, table, look, machine, fills)
         draw_numbers(axis, table, look, machine, fills)
     draw_breaks(axis, look)
-    if look.bound is not None:
-        draw_bound(axis, look.bound)
+    if look.bound is not None:  # a dashed line with a white edge, not clipped at the end of the axis
+        axis.axvline(look.bound, color="white", linewidth=2.4, zorder=3.5, clip_on=False, gid="beside-bound")
+        axis.axvline(look.bound, color="black", linestyle=(0, (4, 3)), linewidth=1.2, zorder=3.6, clip_on=False,
+                     gid="bound")
     if look.critical:
         draw_path(axis, table, look)
     if has_key(table, look):
@@ -342,12 +344,6 @@ def draw_breaks(axis: Axis, look: Look) -> None:
         if times:
             axis.vlines(times, 0, 1, transform=axis.get_xaxis_transform(), color="black", linewidth=wide,
                         linestyle=style, zorder=2.5, gid=name)
-
-
-def draw_bound(axis: Axis, bound: int) -> None:
-    """Draw a dashed line with a white edge, not clipped at the end of the axis."""
-    axis.axvline(bound, color="white", linewidth=2.4, zorder=3.5, clip_on=False, gid="beside-bound")
-    axis.axvline(bound, color="black", linestyle=(0, (4, 3)), linewidth=1.2, zorder=3.6, clip_on=False, gid="bound")
 
 
 def draw_path(axis: Axis, table: Table, look: Look) -> None:

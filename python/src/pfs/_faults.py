@@ -137,8 +137,6 @@ class TableFault(Fault):
 def cell_name(line: int, column: int) -> str:
     """Return the name of a cell in a spreadsheet.
 
-    Examples
-    --------
     >>> cell_name(3, 4), cell_name(1, 28)
     ('D3', 'AB1')
     """

@@ -11,7 +11,7 @@ from typing import IO, Any, TypeAlias
 import numpy as np
 
 from pfs import _library as c
-from pfs._benchmarks import best_known, taillard_rows
+from pfs._benchmarks import taillard_rows
 from pfs._faults import INSTANCE_FAULTS, ORDER_FAULTS, FileFault, OrderFault, TableFault
 from pfs._hints import EXTRA_NUMBER, MACHINE_NUMBER, NUMBER_LINE, TRUNCATED, hint_of, where
 from pfs._instance import Instance
@@ -155,10 +155,8 @@ def read(source: Source, layout: str, block: int = 1) -> Instance:
 
     Raises
     ------
-    FileFault
-        If the file doesn't follow its layout, ``"taillard"`` or ``"orlib"``.
-    TableFault
-        If it doesn't follow the layout ``"matrix"``.
+    FileFault, TableFault
+        If the file doesn't follow its layout; a TableFault for ``"matrix"``.
     OSError
         If the file can't be read.
 
@@ -185,7 +183,10 @@ def read(source: Source, layout: str, block: int = 1) -> Instance:
 
 
 def read_all(source: Source, layout: str) -> list[Instance]:
-    """Read all instances of a file.
+    """Read all instances of a file, one at least and 1,000 at most.
+
+    An instance is named by the last line ``instance NAME`` before its size line, as in OR-Library's files, or else by
+    the name of the file and the number of the block.
 
     Parameters
     ----------
@@ -193,12 +194,6 @@ def read_all(source: Source, layout: str) -> list[Instance]:
         The file.
     layout : str
         ``"taillard"`` or ``"orlib"``.
-
-    Returns
-    -------
-    list of Instance
-        One at least, and 1,000 at most. An instance is named by the last line ``instance NAME`` before its size line,
-        as in OR-Library's files, or else by the name of the file and the number of the block.
 
     Raises
     ------
@@ -225,17 +220,12 @@ def read_all(source: Source, layout: str) -> list[Instance]:
 
 
 def read_order(source: Source) -> Solution:
-    """Read an order file, of version 1 or 2.
+    """Return the order of an order file, of version 1 or 2, and the makespan that it states, which isn't checked.
 
     Parameters
     ----------
     source : str, os.PathLike or binary file
-        The file, in which jobs count from 1.
-
-    Returns
-    -------
-    Solution
-        The order, in which jobs count from 0, and the makespan that the file states, which isn't checked.
+        The file, in which jobs count from 1. In the result they count from 0.
 
     Raises
     ------
@@ -273,7 +263,7 @@ def words_of(text: str) -> list[str]:
 
 
 def parse_order(text: str, first: int = 0) -> Order:
-    """Read an order from a text, such as a line of a table in a paper.
+    """Read an order from a text, such as a line of a table in a paper, as an array of int64, counted from 0.
 
     Parameters
     ----------
@@ -282,17 +272,10 @@ def parse_order(text: str, first: int = 0) -> Order:
     first : int
         The number of the first job in the text, 0 or 1. In most papers it is 1.
 
-    Returns
-    -------
-    numpy.ndarray
-        The jobs, counted from 0, as int64.
-
     Raises
     ------
-    TypeError
-        If the text isn't a str, or ``first`` isn't an integer.
-    ValueError
-        If the text isn't a list of numbers, or doesn't have each job from ``first`` exactly once.
+    TypeError, ValueError
+        If the text isn't a str, isn't a list of numbers, or doesn't have each job from ``first`` exactly once.
 
     Examples
     --------
@@ -340,11 +323,9 @@ def from_frame(frame: Any, *, unit: str = "", decimals: int = 0) -> Instance:
 
     Raises
     ------
-    TypeError
-        If it isn't a DataFrame, or has values that aren't numbers.
-    ValueError
-        If a time is missing, has more decimals, other than by the rounding of its type, or is out of range, or a name
-        occurs twice.
+    TypeError, ValueError
+        If it isn't a DataFrame of numbers, a time is missing, has more decimals, other than by the rounding of its
+        type, or is out of range, or a name occurs twice.
 
     Examples
     --------
@@ -419,11 +400,6 @@ def taillard(number: int) -> Instance:
         The instance, with its seed. ``lower`` is the published lower bound, and ``upper`` the best known makespan
         (Taillard's list of best known bounds). Both are published numbers; they aren't proved here.
 
-    Raises
-    ------
-    TypeError, ValueError
-        If the number isn't an integer from 1 to 120.
-
     Examples
     --------
     >>> import pfs
@@ -431,5 +407,5 @@ def taillard(number: int) -> Instance:
     >>> shop, shop.lower, shop.upper
     (<Instance ta001: 20 jobs, 5 machines>, 1232, 1278)
     """
-    name, jobs, machines, seed, lower = taillard_rows()[checked_int(number, "number", 1, 120) - 1]
-    return Instance(generate(jobs, machines, seed).times, name=name, seed=seed, lower=lower, upper=best_known()[name])
+    name, jobs, machines, seed, lower, upper = taillard_rows()[checked_int(number, "number", 1, 120) - 1]
+    return Instance(generate(jobs, machines, seed).times, name=name, seed=seed, lower=lower, upper=upper)

@@ -14,6 +14,7 @@ from typing import NoReturn
 
 from pfs import _drawing as chart
 from pfs._atomic import atomic_write
+from pfs._names import printable
 from pfs._optional import optional
 
 # The most pixels of a PNG, so that it fits into memory.
@@ -99,7 +100,7 @@ def dots(text: str) -> int:
     return number(text)
 
 
-def printable(text: str) -> str:
+def on_one_line(text: str) -> str:
     if not text.isprintable():
         raise argparse.ArgumentTypeError(f"{text!r} has characters that can't be printed")
     return text
@@ -110,10 +111,10 @@ def parse_args() -> argparse.Namespace:
     parser = CommandLine(usage=(__doc__ or "").partition("usage: ")[2])
     parser.add_argument("--critical", action="store_true", help="outline a critical path")
     parser.add_argument("--bound", type=number, help="draw a dashed line at this lower bound")
-    parser.add_argument("--unit", type=printable, default=defaults.unit, help="the unit of the times")
+    parser.add_argument("--unit", type=on_one_line, default=defaults.unit, help="the unit of the times")
     parser.add_argument("--width", type=inches, default=defaults.width, help="the width of the picture, in inches")
     parser.add_argument("--dpi", type=dots, default=defaults.dpi, help="dots per inch of a PNG or an image of rows")
-    parser.add_argument("--title", type=printable, default=True, help="the title; none if it is empty")
+    parser.add_argument("--title", type=on_one_line, default=True, help="the title; none if it is empty")
     parser.add_argument("--no-title", dest="title", action="store_false", help=argparse.SUPPRESS)
     parser.add_argument("table", nargs="?", metavar="TABLE")
     parser.add_argument("picture", metavar="PICTURE")
@@ -147,17 +148,11 @@ def draw() -> None:
               f"the rows are an image of {look.dpi} dots per inch", file=sys.stderr)
 
 
-def shown(text: str) -> str:
-    """Return a text on one line, with control characters escaped."""
-    line = " ".join(text.split())
-    return "".join(each if each.isprintable() else each.encode("unicode_escape").decode() for each in line)
-
-
 def main() -> int:
     try:
         draw()
     except (GanttError, ImportError, OSError, UnicodeDecodeError) as error:
-        print(f"pfs-gantt: {shown(str(error))}", file=sys.stderr)
+        print(f"pfs-gantt: {printable(' '.join(str(error).split()))}", file=sys.stderr)
         return 2
     return 0
 

@@ -18,8 +18,6 @@ NUMBERS_OF_SIZE = {c.LAYOUTS["taillard"]: 5, c.LAYOUTS["orlib"]: 2}
 def where(text: bytes, number: int, place: int) -> tuple[int, int]:
     """Return the line and the column of a fault.
 
-    Examples
-    --------
     >>> where(b"1 2\\n3 x\\n", MIXED_LINE, 6)
     (2, 3)
     """

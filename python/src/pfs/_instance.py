@@ -4,6 +4,7 @@ from __future__ import annotations
 import os
 from collections.abc import Iterable
 from ctypes import byref, c_size_t, c_uint64, create_string_buffer
+from functools import partial
 from typing import Any, NamedTuple
 
 import numpy as np
@@ -166,8 +167,7 @@ class Instance:
         return f"<Instance {self.name + ': ' if self.name else ''}{self.jobs} jobs, {self.machines} machines>"
 
     def _metadata(self) -> dict[str, Any]:
-        names = ("name", "job_names", "machine_names", "unit", "decimals", "seed", "upper", "lower")
-        return {name: getattr(self, name) for name in names}
+        return {name: getattr(self, name) for name in self.__slots__ if name[0] != "_"}
 
     def __eq__(self, other: object) -> bool:
         if not isinstance(other, Instance):
@@ -181,7 +181,7 @@ class Instance:
         return self._data, self._times.shape
 
     def __reduce__(self) -> tuple[Any, ...]:
-        return _instance_of, (np.array(self.times), self._metadata())
+        return partial(Instance, **self._metadata()), (np.array(self.times),)
 
     def _taken(self) -> Prepared:
         """Return what the library has prepared in this process and no other call uses, or prepare the instance again. A
@@ -239,11 +239,6 @@ class Instance:
             The makespan to check. By default it is that of a `Solution` or `Sequence`, and otherwise only the order is
             checked.
 
-        Raises
-        ------
-        TypeError, ValueError
-            If the order isn't a list of numbers or names, or the makespan isn't an integer or is out of range.
-
         Examples
         --------
         >>> import pfs
@@ -272,13 +267,11 @@ class Instance:
         ----------
         method : str
             ``"machines"``: the greatest of the jobs' total times and of the machine-based bounds, each of which is the
-            load of a machine with the least times before and after it (Taillard 1993). The library computes it, and it
-            is proved.
+            load of a machine with the least times before and after it (Taillard 1993). It is proved.
 
-            ``"pairs"``: the greatest of that bound and of the two-machine bounds of all pairs of machines, by Johnson's
-            order with lags (Johnson 1954, Mitten 1959; Lageweg, Lenstra and Rinnooy Kan 1978). It is computed in
-            Python. It is **not proved**, but tested against all orders of small instances. It takes about a millisecond
-            for 20 jobs on 5 machines, and minutes for 5,000 jobs on 200.
+            ``"pairs"``: the greatest of that bound and of the two-machine bounds of all pairs of machines (Johnson
+            1954, Mitten 1959; Lageweg, Lenstra and Rinnooy Kan 1978). It is computed in Python and **not proved**, but
+            tested. It takes about a millisecond for 20 jobs on 5 machines, and minutes for 5,000 jobs on 200.
 
         Examples
         --------
@@ -296,7 +289,8 @@ class Instance:
         return max(bound.value, bound_by_pairs(self._times)) if method == "pairs" else bound.value
 
     def rpd(self, makespan: int | Solution | Sequence, reference: int | None = None) -> float:
-        """Return the relative percentage deviation of a makespan from a reference.
+        """Return the relative percentage deviation of a makespan from a reference,
+        ``100 * (makespan - reference) / reference``.
 
         Parameters
         ----------
@@ -304,19 +298,7 @@ class Instance:
             0 or more.
         reference : int, optional
             A makespan of 1 or more. The default is ``upper``, which is the best known makespan of an instance of
-            :func:`pfs.taillard`.
-
-        Returns
-        -------
-        float
-            ``100 * (makespan - reference) / reference``. It is negative if the makespan is less than the reference.
-
-        Raises
-        ------
-        TypeError
-            If one of the two isn't an integer.
-        ValueError
-            If one of them is out of range, or there is no reference and ``upper`` is 0.
+            :func:`pfs.taillard`; if that is 0, a reference is needed.
 
         Examples
         --------
@@ -332,35 +314,23 @@ class Instance:
         return 100 * (own - base) / base
 
     def neh(self) -> Solution:
-        """Return the order of NEH (Nawaz, Enscore and Ham 1983).
+        """Return the order of NEH (Nawaz, Enscore and Ham 1983), which ``pfs solve`` prints without rounds.
 
-        NEH sorts the jobs by decreasing total time and inserts each at its best place. Of equally good places it
-        chooses the first.
-
-        Returns
-        -------
-        Solution
-            The same order as ``pfs solve`` prints without rounds.
+        NEH sorts the jobs by decreasing total time and inserts each at its best place, the first of equally good ones.
         """
         search = Search(self, None, 0, None, 0, 0)
         search.begin()
         return search.solution()
 
     def best_place(self, sequence: Jobs, job: int) -> Place:
-        """Return the best place for a job in a partial sequence.
+        """Return the first place with the least makespan for a job in a partial sequence, and that makespan.
 
         Parameters
         ----------
         sequence : array_like
             Distinct jobs, counted from 0.
         job : int
-            The job to insert, which isn't in the sequence.
-
-        Returns
-        -------
-        Place
-            ``place``, the first place with the least makespan, and this ``makespan``. Insert the job with
-            ``sequence.insert(place, job)``.
+            The job, which isn't in the sequence. ``sequence.insert(place, job)`` inserts it.
 
         Examples
         --------
@@ -385,16 +355,13 @@ class Instance:
 
         Parameters
         ----------
-        sequence : array_like
-            Distinct jobs, counted from 0.
-        job : int
-            The job to insert, which isn't in the sequence.
+        sequence, job : array_like, int
+            As for :meth:`best_place`, which returns the first minimum.
 
         Returns
         -------
         numpy.ndarray
-            An array of int64 with ``len(sequence) + 1`` makespans: element ``p`` is the makespan after
-            ``sequence.insert(p, job)``. Its first minimum is the place that :meth:`best_place` returns.
+            An array of int64: element ``p`` is the makespan after ``sequence.insert(p, job)``.
 
         Examples
         --------
@@ -456,12 +423,7 @@ class Instance:
         Parameters
         ----------
         sequence : array_like
-            Distinct jobs, counted from 0.
-
-        Returns
-        -------
-        numpy.ndarray
-            An array of int64 with a row for each job of the sequence, in its order, and a column for each machine.
+            As for :meth:`heads`, whose array has the same shape.
 
         Examples
         --------
@@ -485,8 +447,7 @@ class Instance:
     def insert_all(self, sequence: Jobs, jobs: Jobs) -> Sequence:
         """Insert jobs into a partial sequence one after the other, each at its best place.
 
-        One call takes less time than a call of :meth:`best_place` for each job. From an empty sequence and all jobs by
-        decreasing total processing time, it finds the order of :meth:`neh`.
+        From an empty sequence and all jobs by decreasing total processing time, it finds the order of :meth:`neh`.
 
         Parameters
         ----------
@@ -568,18 +529,13 @@ class Instance:
         return ValueError(f"jobs: job {wrong[0]} {'is already' if is_in else 'is not'} in the sequence")
 
     def makespans(self, orders: npt.ArrayLike) -> Order:
-        """Return the makespans of many sequences of equal length, in one call.
+        """Return the makespans of many sequences of equal length, as an array of int64.
 
         Parameters
         ----------
         orders : array_like
             A row for each sequence, of distinct jobs, counted from 0: orders of all jobs, or partial sequences. Or a
             list of `Solution` or `Sequence`.
-
-        Returns
-        -------
-        numpy.ndarray
-            An array of int64 with the makespan of each row.
 
         Examples
         --------
@@ -663,11 +619,10 @@ class Instance:
         ------
         TypeError, ValueError
             If an option is of the wrong type or out of range, or ``start`` isn't an order of all jobs or is a solution
-            for another number of machines. The exception has no attribute ``solution``.
+            for another number of machines.
         Interrupted
-            After Ctrl-C. It is a ``KeyboardInterrupt``, and its ``solution`` is the best so far. To continue, call
-            ``solve(.., start=stop.solution, first=stop.solution.rounds)`` with the rounds that are left. The result is
-            the same as without the interruption.
+            After Ctrl-C. Its ``solution`` is the best so far. To continue, call ``solve(.., start=stop.solution,
+            first=stop.solution.rounds)`` with the rounds that are left, to the same result.
         Exception
             If ``progress`` raises it. Its attribute ``solution`` is the best so far.
 
@@ -719,18 +674,7 @@ class Instance:
         return Schedule(self, own, starts, ends)
 
     def to_text(self, layout: str = "taillard") -> str:
-        """Return the text of an instance file with one block.
-
-        Parameters
-        ----------
-        layout : str
-            ``"taillard"``, or ``"orlib"``, which has no notes.
-
-        Returns
-        -------
-        str
-            The same text as ``pfs convert`` prints.
-        """
+        """Return the text of a file in a layout, ``"taillard"`` or ``"orlib"``, as ``pfs convert`` prints it."""
         number = layout_number(layout)
         notes = c.Notes(self.seed, self.upper, self.lower)
         length = c_size_t()
@@ -746,11 +690,6 @@ class Instance:
         path : str or os.PathLike
             The file. An existing file is replaced atomically.
         layout : str
-            ``"taillard"``, or ``"orlib"``, which has no notes.
+            As for :meth:`to_text`.
         """
         atomic_write(path, self.to_text(layout).encode("ascii"))
-
-
-def _instance_of(times: npt.ArrayLike, metadata: dict[str, Any]) -> Instance:
-    """Restore a pickled instance."""
-    return Instance(times, **metadata)

@@ -24,8 +24,6 @@ CLOCK = "h:mm"
 def seconds_in(unit: str) -> int | None:
     """Return the seconds in a unit of time, or None if it isn't one.
 
-    Examples
-    --------
     >>> seconds_in("Min."), seconds_in("Zeit in h"), seconds_in("pieces")
     (60, 3600, None)
     """
@@ -36,19 +34,20 @@ def seconds_in(unit: str) -> int | None:
 def shown(name: str) -> str:
     """Return a name as charts and terminals show it, with escapes for control characters.
 
-    Examples
-    --------
     >>> print(shown("saw 2\\x1b[2J\\n"))
     saw 2\\x1b[2J\\n
     """
     return UNSHOWN.sub(lambda found: found[0].encode("unicode_escape").decode(), name)
 
 
+def printable(text: str) -> str:
+    """Return a text with escapes for all that isn't printable."""
+    return "".join(sign if sign.isprintable() else sign.encode("unicode_escape").decode() for sign in text)
+
+
 def amount(time: int, decimals: int, unit: str = "") -> str:
     """Return a time with its decimals, or as hours and minutes, as text.
 
-    Examples
-    --------
     >>> amount(125, 1), amount(5, 2), amount(-5, 2), amount(7, 0), amount(90, 0, "h:mm")
     ('12.5', '0.05', '-0.05', '7', '1:30')
     """

@@ -89,14 +89,11 @@ class Schedule:
                 yield job, machine, start, end
 
     def critical_path(self) -> list[tuple[int, int]]:
-        """Return a critical path: operations that follow each other without a wait, from time 0 to the makespan.
+        """Return the places and machines of a critical path: operations that follow each other without a wait, from
+        time 0 to the makespan.
 
-        Returns
-        -------
-        list of (int, int)
-            The place in the order and the machine of each operation. From one operation to the next either the place or
-            the machine increases by 1, so there are jobs + machines - 1 of them. Their times add up to the makespan. If
-            there are several paths, then going back from the end a step along the machine is preferred.
+        From one operation to the next either the place or the machine increases by 1. If there are several paths, then
+        going back from the end a step along the machine is preferred.
 
         Examples
         --------
@@ -108,15 +105,10 @@ class Schedule:
         return critical_path(self.starts, self.ends)
 
     def idle(self) -> Order:
-        """Return the idle time of each machine before each operation.
+        """Return the idle time of each machine before each operation, an array of int64 and of shape (jobs, machines).
 
-        Returns
-        -------
-        numpy.ndarray
-            An array of int64 and of shape (jobs, machines), in the unit of ``times``: ``idle[place, machine]`` is the
-            time from the end of the machine's previous operation, or from 0, to the start of this one.
-            ``idle.sum(axis=0)`` is the idle time of each machine before its last operation, and ``makespan - ends[-1]``
-            is that after it.
+        Element ``[place, machine]`` is the time from the end of the machine's previous operation, or from 0, to the
+        start of this one. ``makespan - ends[-1]`` is the idle time after the last one.
 
         Examples
         --------
@@ -133,17 +125,8 @@ class Schedule:
     def to_frame(self) -> Any:
         """Return the operations as a pandas DataFrame.
 
-        Returns
-        -------
-        pandas.DataFrame
-            A row for each operation, by place in the order and then by machine, with the columns ``job``, ``machine``,
-            ``start`` and ``end``. Jobs and machines have their names in the instance, or numbers from 0 if they have no
-            names. Times have the instance's decimals.
-
-        Raises
-        ------
-        ImportError
-            If pandas isn't installed.
+        It has a row for each operation, by place in the order and then by machine, with the columns ``job``,
+        ``machine``, ``start`` and ``end``: names, or numbers from 0, and times with the instance's decimals.
 
         Examples
         --------
@@ -221,10 +204,8 @@ class Schedule:
 
         Raises
         ------
-        ImportError
-            If openpyxl isn't installed.
-        ValueError
-            As by :meth:`to_csv`.
+        ImportError, ValueError
+            If openpyxl isn't installed, or as by :meth:`to_csv`.
         """
         shop = self.instance
         clock = None if calendar is None else Clock(calendar, shop)
@@ -284,13 +265,9 @@ class Schedule:
 
         Raises
         ------
-        ImportError
-            If matplotlib isn't installed.
-        TypeError
-            If an argument is of the wrong type.
-        ValueError
-            If the name has another ending, a number is out of range, ``ax`` is given for a page, or a calendar
-            for times whose unit is not a unit of time.
+        ImportError, TypeError, ValueError
+            If matplotlib isn't installed, an argument is of the wrong type, the name has another ending, a number is
+            out of range, ``ax`` is given for a page, or a calendar for times whose unit is not a unit of time.
         """
         from pfs._chart import Frame, plot
         return plot(self, path, critical=critical, bound=bound, unit=unit, frame=Frame(width, dpi, title, ax),

@@ -93,12 +93,8 @@ class Solution:
         return type(self), self._fields(), (None, {"history": self.history})
 
     def to_text(self) -> str:
-        """Return the text of an order file, as ``pfs solve`` prints it. In the file jobs count from 1.
-
-        Returns
-        -------
-        str
-            An order file of version 2, or of version 1 if ``machines`` is unknown.
+        """Return the text of an order file, as ``pfs solve`` prints it: of version 2, or of version 1 if ``machines``
+        is unknown. In the file jobs count from 1.
 
         Raises
         ------

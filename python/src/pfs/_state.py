@@ -32,7 +32,11 @@ class State:
     def __init__(self, path: str | None, shop: Instance, search: Search) -> None:
         self.path = path
         self.shop = shop
-        self.identity = identity_of(shop, search)
+        # Only a search with the same inputs may continue from its state.
+        self.identity = {
+            "instance": hashlib.sha256(repr(shop.times.shape).encode() + shop._data).hexdigest(),
+            "start": "NEH" if search.start is None else hashlib.sha256(search.start).hexdigest(),
+            "take": search.take, "passes": search.passes, "seed": search.seed}
         self.cells = 0
         self.lock: int | None = None
         self.fault: OSError | None = None
@@ -67,7 +71,9 @@ class State:
         if self.fault is not None:
             raise self.fault
         if self.path is not None:
-            text = state_text(self.identity, best, self.cells + best.cells)
+            state = {"state": VERSION, **self.identity, "rounds": best.rounds, "makespan": best.makespan,
+                     "cells": self.cells + best.cells, "order": [job + 1 for job in best.order.tolist()]}
+            text = json.dumps(state | {"sum": checksum(state)}) + "\n"
             atomic_write(self.path, text.encode("ascii"), f"{os.path.realpath(self.path)}.new")
 
 
@@ -90,20 +96,6 @@ def lock_of(path: str) -> int:
             os.close(lock)
             raise StateInUse(f"{path}: another search is using this state") from None
         os.close(lock)
-
-
-def identity_of(shop: Instance, search: Search) -> dict[str, Any]:
-    """Return the inputs of a search. Only a search with the same inputs may continue from its state."""
-    start = "NEH" if search.start is None else hashlib.sha256(search.start).hexdigest()
-    times = hashlib.sha256(repr(shop.times.shape).encode() + shop._data).hexdigest()
-    return {"instance": times, "start": start, "take": search.take, "passes": search.passes, "seed": search.seed}
-
-
-def state_text(identity: dict[str, Any], best: Solution, cells: int) -> str:
-    """Return the content of a state file."""
-    state = {"state": VERSION} | identity | {"rounds": best.rounds, "makespan": best.makespan, "cells": cells}
-    state |= {"order": [job + 1 for job in best.order.tolist()]}
-    return json.dumps(state | {"sum": checksum(state)}) + "\n"
 
 
 def checksum(state: dict[str, Any]) -> str:

@@ -188,8 +188,6 @@ def read_csv(source: str | os.PathLike[str], unit: str = "", *, decimal: str | N
     TableFault
         If a cell isn't a time or is ambiguous, a name is missing or occurs twice, all names are numbers as if they were
         times, units differ, or there are totals. It has all faults of the table.
-    ValueError
-        If ``decimal`` is another text.
     ImportError
         If the file is a workbook, and openpyxl isn't installed.
 
@@ -559,8 +557,6 @@ def reject_sums(table: Rows, times: Order) -> None:
 def counted(number: int, what: str) -> str:
     """Return a number with its noun.
 
-    Examples
-    --------
     >>> counted(1, "job"), counted(2, "job")
     ('1 job', '2 jobs')
     """
@@ -570,8 +566,6 @@ def counted(number: int, what: str) -> str:
 def described(shop: Instance) -> str:
     """Return one line about what was read.
 
-    Examples
-    --------
     >>> described(Instance([[35, 20]], machine_names=["saw", "drill"], unit="min", decimals=1))
     '1 job, 2 machines (saw, drill), times in min with 1 decimal'
     """

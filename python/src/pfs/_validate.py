@@ -73,18 +73,13 @@ def has_bools(given: Any) -> bool:
     return any(not BOOLS.isdisjoint(map(type, row)) for row in rows)
 
 
-def first_index(mask: npt.NDArray[np.bool_]) -> tuple[int, ...]:
-    """Return the index of the first true element."""
-    return tuple(int(at) for at in np.unravel_index(int(np.argmax(mask)), mask.shape))
-
-
 def as_uint32(own: npt.NDArray[Any], most: int, what: str, where: str, limits: str) -> npt.NDArray[np.uint32]:
     """Return an array of integers, or of floats without a fraction, as uint32. Each number is 0 to `most`.
 
     In error messages, `where` is the format of an index, and `limits` follows a number that is out of range."""
 
     def error_at(kind: type[Exception], wrong: npt.NDArray[np.bool_], text: str) -> Exception:
-        at = first_index(wrong)
+        at = np.unravel_index(int(np.argmax(wrong)), wrong.shape)
         return kind(f"{what}: {own[at]!s} at {where.format(*at)} {text}")
 
     if own.size == 0:

@@ -1,7 +1,13 @@
 """Experiments: plans of runs, their CSVs and reports. `pfs-experiments` is the command line."""
 from __future__ import annotations
 
-from collections.abc import Sequence
+import csv
+import io
+from collections.abc import Iterable, Sequence
+
+from pfs._names import printable as plain
+
+__all__ = ["ExperimentError", "csv_text", "listed", "plain"]
 
 
 class ExperimentError(Exception):
@@ -13,7 +19,8 @@ def listed(names: Sequence[str], most: int = 10) -> str:
     return ", ".join([*names[:most], *([".."] if len(names) > most else [])])
 
 
-def plain(text: str) -> str:
-    """Returns a text with control characters escaped, for a terminal."""
-    return "".join(sign if sign.isprintable() else sign.encode("unicode_escape", "backslashreplace").decode()
-                   for sign in text)
+def csv_text(rows: Iterable[Sequence[object]]) -> str:
+    """Returns rows as a CSV."""
+    text = io.StringIO()
+    csv.writer(text, lineterminator="\n").writerows(rows)
+    return text.getvalue()

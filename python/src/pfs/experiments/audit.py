@@ -3,8 +3,6 @@ from __future__ import annotations
 
 import argparse
 import contextlib
-import csv
-import io
 import os
 import pathlib
 
@@ -14,7 +12,7 @@ from pfs._audit import audit as audited
 from pfs._faults import Fault
 from pfs._files import read, read_order
 from pfs._instance import Instance
-from pfs.experiments import ExperimentError, plain, stage
+from pfs.experiments import ExperimentError, csv_text, plain, stage
 from pfs.experiments.plan import Row, rows_of
 from pfs.experiments.run import path_cell
 
@@ -29,7 +27,9 @@ def audit(args: argparse.Namespace) -> int:
     if args.csv and os.path.exists(args.csv) and os.path.samefile(args.csv, args.table):
         raise ExperimentError(f"{args.csv} is the table: name another file for the verdicts")
     if args.csv:
-        atomic_write(args.csv, csv_of(found).encode(errors="backslashreplace"))
+        rows = [[text_cell(cell) if isinstance(cell, str) else cell for cell in row] for row in found]
+        text = csv_text([["line", *Audited._fields[1:]], *rows])
+        atomic_write(args.csv, text.encode(errors="backslashreplace"))
     for row in found:
         if row.why:
             name = f"{row.instance} {row.method}".rstrip()
@@ -38,14 +38,6 @@ def audit(args: argparse.Namespace) -> int:
     optimal, wrong = sum(row.makespan == row.bound for row in valid), len(found) - len(valid)
     print(f"{args.table}: {len(found)} orders audited, {len(valid)} valid ({optimal} optimal), {wrong} wrong")
     return 1 if wrong else 0
-
-
-def csv_of(found: list[Audited]) -> str:
-    text = io.StringIO()
-    writer = csv.writer(text, lineterminator="\n")
-    writer.writerow(["line", *Audited._fields[1:]])
-    writer.writerows([text_cell(cell) if isinstance(cell, str) else cell for cell in row] for row in found)
-    return text.getvalue()
 
 
 # The CSVs of a report

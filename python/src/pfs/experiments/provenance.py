@@ -23,7 +23,10 @@ Inputs = list[tuple[str, str, pathlib.Path]]
 def note_start(folder: pathlib.Path, plan: dict[str, Any], inputs: Inputs) -> None:
     """Writes the version, the plan and the sums of the copies, and adds this start to the earlier ones."""
     sums = {name: hashlib.sha256(copy.read_bytes()).hexdigest() for name, _, copy in inputs}
-    starts = [*earlier_starts(folder), this_start()]
+    start = {"at": datetime.datetime.now(datetime.timezone.utc).isoformat(timespec="seconds"),
+             "host": os.uname().nodename, "processor": processor(), "processors": os.cpu_count(),
+             "system": platform.platform(), "python": platform.python_version()}
+    starts = [*earlier_starts(folder), start]
     text = json.dumps({"version": VERSION, "plan": plan, "sha256": sums, "starts": starts}, indent=1)
     atomic_write(folder / NAME, f"{text}\n".encode())
 
@@ -33,12 +36,6 @@ def earlier_starts(folder: pathlib.Path) -> list[Any]:
     with contextlib.suppress(OSError, ValueError, RecursionError, KeyError, TypeError):
         return list(json.loads((folder / NAME).read_bytes())["starts"])
     return []
-
-
-def this_start() -> dict[str, Any]:
-    now = datetime.datetime.now(datetime.timezone.utc).isoformat(timespec="seconds")
-    return {"at": now, "host": os.uname().nodename, "processor": processor(), "processors": os.cpu_count(),
-            "system": platform.platform(), "python": platform.python_version()}
 
 
 def processor() -> str:

@@ -3,8 +3,6 @@ it is of. Runs that failed are only counted."""
 from __future__ import annotations
 
 import argparse
-import csv
-import io
 import logging
 import pathlib
 import re
@@ -12,9 +10,9 @@ import sys
 from typing import TYPE_CHECKING, Any
 
 from pfs._atomic import text_cell
-from pfs._benchmarks import best_known, canonical, taillard_rows
+from pfs._benchmarks import canonical, taillard_rows
 from pfs._optional import optional
-from pfs.experiments import ExperimentError, listed, plain
+from pfs.experiments import ExperimentError, csv_text, listed, plain
 from pfs.experiments.fair import SETTING, common, made_of
 from pfs.experiments.plan import MOST_MAKESPAN, reference_for, reference_of, rows_of
 from pfs.experiments.stage import write_text
@@ -155,8 +153,7 @@ def numbers_in(texts: pd.Series, column: str, path: str) -> pd.Series:
 def taillards_of(runs: pd.DataFrame) -> pd.DataFrame:
     """Returns what is known of each run's instance if it is one of Taillard's, by its name and its size."""
     import pandas as pd
-    table = pd.DataFrame(taillard_rows(), columns=["name", *SIZE, "seed", "bound"])
-    table["best"] = table["name"].map(best_known())
+    table = pd.DataFrame(taillard_rows(), columns=["name", *SIZE, "seed", "bound", "best"])
     own = table.set_index("name").reindex(runs["instance"].map(canonical)).set_index(runs.index)
     return own.where((runs[SIZE].isna() | (runs[SIZE] == own[SIZE])).all(axis=1))
 
@@ -270,11 +267,8 @@ def cell(column: str, value: Any) -> str:
 
 
 def csv_of(rows: list[list[str]]) -> str:
-    text = io.StringIO()
-    csv.writer(text, lineterminator="\n").writerows(
-        [each if re.fullmatch(r"-?[0-9.]+(?:e[+-]?[0-9]+)?", each, re.ASCII) else text_cell(each) for each in row]
-        for row in rows)
-    return text.getvalue()
+    return csv_text([each if re.fullmatch(r"-?[0-9.]+(?:e[+-]?[0-9]+)?", each, re.ASCII) else text_cell(each)
+                     for each in row] for row in rows)
 
 
 def markdown(text: str) -> str:

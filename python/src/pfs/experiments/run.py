@@ -15,7 +15,7 @@ import sys
 from types import FrameType
 
 from pfs._atomic import FORMULA, text_cell
-from pfs.experiments import ExperimentError, one, plain, stage
+from pfs.experiments import ExperimentError, csv_text, one, plain, stage
 from pfs.experiments.plan import Row, reference_for, rows_of
 from pfs.experiments.stage import Experiment, prepare, require_program, stage_of, write_text
 
@@ -172,12 +172,9 @@ def write_csv(experiment: Experiment, csv_path: str) -> tuple[int, int]:
         row |= {"reference": str(known[0]), "source": text_cell(known[1])} if known else {}
         rows.append(row | {"method": text_cell(run["method"])})
         killed += int(result.get("left") or 0)
-    text = io.StringIO()
     more = [column for column in ("time_factor", "method") if any(run[column] for run in experiment.runs)]
-    writer = csv.DictWriter(text, [*COLUMNS, *more], lineterminator="\n", extrasaction="ignore")
-    writer.writeheader()
-    writer.writerows(rows)
-    write_text(csv_path, text.getvalue())
+    columns = [*COLUMNS, *more]
+    write_text(csv_path, csv_text([columns, *([row.get(column, "") for column in columns] for row in rows)]))
     failed, left = sum(row["status"] != "ok" for row in rows), len(experiment.runs) - len(rows)
     report_errors(rows)
     if killed:

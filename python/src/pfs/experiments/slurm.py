@@ -24,7 +24,9 @@ def slurm(args: argparse.Namespace) -> int:
     stage.require_program("sbatch", "slurm-client")
     experiment = stage.prepare(args.plan, args.csv, args.pfs)
     left = list_left(experiment, args.retry)
-    tasks = min(len(left), int(args.tasks)) if args.tasks else tasks_for(left)
+    # Runs that are shorter than a minute share a task.
+    usual = min(MOST_TASKS, max(1, math.ceil(sum(map(seconds_of, left)) / LEAST_SECONDS)))
+    tasks = min(len(left), int(args.tasks or usual))
     task = str(pathlib.Path(one.__file__).with_name("task"))
     words = ["sbatch", "--wait", f"--array=1-{tasks}", f"--job-name={experiment.stage}", "--dependency=singleton",
              "--output=slurm/%A-%a.log", *args.options, task, experiment.stage]
@@ -37,12 +39,6 @@ def slurm(args: argparse.Namespace) -> int:
     if left:
         subprocess.run(words, cwd=experiment.folder, stdin=subprocess.DEVNULL, stdout=sys.stderr)
     return 1 if any(gather(experiment, args.csv)) else 0
-
-
-def tasks_for(left: list[Row]) -> int:
-    """Returns the number of tasks. Runs that are shorter than a minute share one."""
-    needed = math.ceil(sum(map(seconds_of, left)) / LEAST_SECONDS)
-    return min(len(left), MOST_TASKS, max(1, needed))
 
 
 def seconds_of(run: Row) -> float:

@@ -74,7 +74,7 @@ def taillard(args: argparse.Namespace) -> int:
     """Writes Taillard's 120 instances into a folder, as files ta001 to ta120."""
     pfs = find_pfs(args.pfs)
     args.folder.mkdir(parents=True, exist_ok=True)
-    for name, *numbers, _ in taillard_rows():
+    for name, *numbers, _, _ in taillard_rows():
         words = [pfs, "generate", *map(str, numbers)]
         done = subprocess.run(words, stdin=subprocess.DEVNULL, capture_output=True)
         if done.returncode != 0:

@@ -30,7 +30,9 @@ def compared(done: pd.DataFrame) -> pd.DataFrame:
     compared by the means of each instance, and equal means may differ by a rounding."""
     rows = []
     for (one, first), (other, second) in itertools.combinations(done.groupby(SETTING), 2):
-        if are_comparable(one, other):
+        # Of the same rounds or time factor, or of two methods of which one has neither.
+        budgets = [budget_of(one), budget_of(other)]
+        if budgets[0] == budgets[1] or (one[0] != other[0] and UNKNOWN in budgets):
             runs = pd.concat([first, second])
             runs = runs[common(made_of(runs))[0]]
             both = by_instance(runs, one).join(by_instance(runs, other), rsuffix="_other")
@@ -55,12 +57,6 @@ def ranked(shared: pd.DataFrame) -> pd.DataFrame:
         rows += [{"group": number, **dict(zip(SETTING, setting)), "instances": len(group), "mean_rank": rank, "p": p}
                  for setting, rank in group.rank(axis=1).mean().sort_values(kind="stable").items()]
     return pd.DataFrame(rows)
-
-
-def are_comparable(one: tuple[Any, ...], other: tuple[Any, ...]) -> bool:
-    """Whether two settings have the same rounds or time factor, or are of two methods of which one has neither."""
-    budgets = [budget_of(one), budget_of(other)]
-    return budgets[0] == budgets[1] or (one[0] != other[0] and UNKNOWN in budgets)
 
 
 def budget_of(setting: tuple[Any, ...]) -> tuple[float, float]:
