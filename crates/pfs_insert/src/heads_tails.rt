@@ -11,24 +11,29 @@ use crate::rows::{fill_row, fill_rows};
 use pfs_base::{Bench, Length};
 use pfs_order::Seq;
 use std::alloc::Global;
-use std::marker::Model;
+use std::marker::{Model, PhantomData};
 
 /// An inserter that computes heads and tails of the sequence without the job, and from them the makespan
 /// with the job at each place (Taillard, 1990). One insertion counts (4k - 2)·m cells, where the order has
 /// k jobs with the inserted one, on m machines. It reserves its memory when it is made, so `best`
 /// allocates nothing.
-//
+#[derive(Drop)]
+pub struct HeadsTails<B: Bench> {
+    table: Table<B::Span>,
+    bench: PhantomData<B>,
+}
+
 // `lengths` has 2n + 1 rows of m lengths, for n jobs on m machines: n rows of heads, n rows of tails, and the row of
 // the inserted job. Row `count` of the heads is that of the first `count` jobs, and row `count` of the tails that of the
 // last `count` jobs. So the first row of each is a row of zeros.
 #[derive(Drop)]
-pub struct HeadsTails<B: Bench> {
+struct Table<S: Length> {
     jobs: usize,
     machines: usize,
-    lengths: Vec<B::Span>,
+    lengths: Vec<S>,
 }
 
-impl<B: Bench> Model for HeadsTails<B> {
+impl<S: Length> Model for Table<S> {
     ghost use Rattle.pfs_insert.specs.Inserter.{Sizes};
     ghost use Rattle.pfs_insert.specs.Private.Rows.{IsTable};
 
@@ -36,7 +41,7 @@ impl<B: Bench> Model for HeadsTails<B> {
 
     ghost view = { λ a. record { jobs = a.jobs; machines = a.machines } };
 
-    ghost invariant = { λ a. IsTable B.Span.number (record { jobs = a.jobs; machines = a.machines }) a.lengths.items };
+    ghost invariant = { λ a. IsTable S.number (record { jobs = a.jobs; machines = a.machines }) a.lengths.items };
 }
 
 impl<B: Bench> HeadsTails<B> {
@@ -56,15 +61,18 @@ impl<B: Bench> HeadsTails<B> {
             return Err(InsertFault::Memory);
         }
         Ok(HeadsTails {
-            jobs,
-            machines,
-            lengths,
+            table: Table {
+                jobs,
+                machines,
+                lengths,
+            },
+            bench: PhantomData,
         })
     }
 }
 
 impl<B: Bench> Inserter<B> for HeadsTails<B> {
-    ghost sizes = { λ a. a };
+    ghost sizes = { λ a. a.table };
 
     ghost cost = { heads_tails_cost };
 
@@ -78,7 +86,7 @@ impl<B: Bench> Inserter<B> for HeadsTails<B> {
         seq: &Seq,
         job: usize,
     ) -> Result<Placed<B::Span>, InsertFault> {
-        Ok(best_in_table(bench, seq, job, &mut self.lengths))
+        Ok(best_in_table(bench, seq, job, &mut self.table.lengths))
     }
 }
 
