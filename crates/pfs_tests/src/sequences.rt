@@ -1,10 +1,7 @@
-//! Edits of sequences, orders that are made from them, and insertions into them.
+//! Edits of sequences, and orders that are made from them.
 ghost use Rattle.std.specs.Prelude.{◌≤◌};
 ghost use Rattle.pfs_base.specs.declared.limits.TheConstants.{MOST_JOBS};
 
-use pfs_base::Bench;
-use pfs_insert::{Afresh, HeadsTails, Inserter};
-use pfs_layout::generate;
 use pfs_order::{Order, OrderFault, Seq};
 use std::alloc::Global;
 use std::process::Abort;
@@ -64,26 +61,5 @@ fn makes_orders(rt: HostRuntime) -> Result<(), Fail> {
     assert_eq!(rt; full.len(), full.size());
     order.copy_from(&full);
     assert_jobs(&rt, order.seq(), &[1, 0, 2]);
-    Ok(())
-}
-
-#[test]
-fn inserters_agree_on_any_number_of_machines(rt: HostRuntime) -> Result<(), Fail> {
-    let seq = seq_of(&rt, rt.alloc(), 6, &[3, 0, 4, 1, 5])?;
-    assert!(rt; !seq.has(2));
-    for machines in 1..20 {
-        let instance = generate(rt.alloc(), 6, machines, 873_654_221)?;
-        let mut bench = instance.metered();
-        let mut plain = Afresh::new(rt.alloc(), &bench)?;
-        let mut fast = HeadsTails::new(rt.alloc(), &bench)?;
-        let one = plain.best(rt.alloc(), &mut bench, &seq, 2)?;
-        let other = fast.best(rt.alloc(), &mut bench, &seq, 2)?;
-        assert_eq!(rt; other.place, one.place, "{machines} machines");
-        assert_eq!(rt;
-            bench.reveal(other.span),
-            bench.reveal(one.span),
-            "{machines} machines"
-        );
-    }
     Ok(())
 }
