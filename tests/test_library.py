@@ -29,7 +29,7 @@ OTHERS = ["random", "generate", "read", "read_order", "write_order"]
 FUNCTIONS = [*QUIET, *LOUD, *OTHERS, "prepare", "release"]
 TEXTS = {"pfs_message", "pfs_version"}
 NAMES = {f"pfs_{name}" for name in FUNCTIONS} | TEXTS
-# The words of library_calls: the functions, and calls on a larger instance.
+# The arguments of library_calls: the functions, and calls on a larger instance.
 NAMED = [*QUIET, *LOUD, *OTHERS, "prepare", "prepare_again", "prepare_large", "insert_large", "search_large"]
 ALL_CALLS = Ran(b"173 calls, 0 failures\n", b"", 0)
 # No call makes as many allocations.
