@@ -1,8 +1,8 @@
 //! Devices that fail at one of their calls: each call in turn, up to the last that is made, and a later one, which
 //! is never reached. No call is repeated, and none follows a failure or the end.
-use crate::fakes::{Broken, Pieces, Taken};
+use crate::fakes::{FailsOnce, Pieces, Taken};
 use crate::texts::{BY_JOB, BY_MACHINE, ORDER, ORDER2};
-use pfs_base::{FromRead, ToWrite, WriteFault, put};
+use pfs_base::{FromRead, Sink, Source, ToWrite, WriteFault, put};
 use pfs_desk::{DeskFault, write_fault};
 use pfs_layout::{Layout, LayoutFault, read_block, write_block};
 use pfs_order::{Order, OrderFault, read_order, write_order};
@@ -45,10 +45,26 @@ fn read_block_reads_up_to_its_result(rt: HostRuntime) {
 }
 
 #[test]
+fn a_call_of_std_is_made_once_and_fails_for_an_error_or_a_write_of_nothing(rt: HostRuntime) {
+    let mut buf = [0u8; 4];
+    for (error, read) in [
+        (Some(ErrorKind::Interrupted), None),
+        (Some(ErrorKind::Other), None),
+        (None, Some(0)),
+    ] {
+        let mut reader = FailsOnce::new(error);
+        assert_eq!(rt; FromRead::new(&mut reader).read(&mut buf), read);
+        assert_eq!(rt; reader.calls(), 1);
+        let mut writer = FailsOnce::new(error);
+        assert_eq!(rt; ToWrite::new(&mut writer).write(b"text"), None);
+        assert_eq!(rt; writer.calls(), 1);
+    }
+}
+
+#[test]
 fn a_failed_read_is_no_end(rt: HostRuntime) {
     for kind in [ErrorKind::Interrupted, ErrorKind::Other] {
-        let error = Some(kind);
-        let mut reader = FromRead::new(BY_MACHINE[..120].chain(Broken { error }));
+        let mut reader = FromRead::new(BY_MACHINE[..120].chain(FailsOnce::new(Some(kind))));
         let result = read_block(rt.alloc(), &mut reader, Layout::Taillard, 1);
         assert_eq!(rt; result.err(), Some(LayoutFault::Read));
     }

@@ -3,7 +3,7 @@
 ghost use Rattle.std.specs.Prelude.{◌≡◌, false};
 
 use crate::failing::{CALLS, assert_taken};
-use crate::fakes::{Broken, Pieces, Taken};
+use crate::fakes::{FailsOnce, Pieces, Taken};
 use crate::texts::{BY_JOB, BY_MACHINE, FIVE_JOBS, ORDER, ORDER2};
 use pfs_base::{FromRead, Sink, Source, ToWrite, WriteFault};
 use pfs_desk::{
@@ -209,8 +209,7 @@ fn each_engine_validates_its_instance_first(rt: HostRuntime) {
 fn a_failed_read_ends_no_number(rt: HostRuntime) {
     for engine in READING {
         for kind in [ErrorKind::Interrupted, ErrorKind::Other] {
-            let error = Some(kind);
-            let mut reader = FromRead::new(BY_MACHINE[..120].chain(Broken { error }));
+            let mut reader = FromRead::new(BY_MACHINE[..120].chain(FailsOnce::new(Some(kind))));
             let mut orders = Pieces::whole(ORDER);
             let mut writer = Taken::new(256, 256);
             let returned = engine.run(rt.alloc(), &mut reader, &mut orders, &mut writer);

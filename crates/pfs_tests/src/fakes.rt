@@ -307,31 +307,3 @@ impl Write for FailsOnce {
         Ok(())
     }
 }
-
-/// A reader and writer of std whose calls all return this error, or move no byte if it is `None`.
-#[derive(Drop)]
-pub struct Broken {
-    pub error: Option<ErrorKind>,
-}
-
-impl Read for Broken {
-    fn read(&mut self, _buf: &mut [u8]) -> io::Result<usize> {
-        match self.error {
-            Some(kind) => Err(io::Error::from(kind)),
-            None => Ok(0),
-        }
-    }
-}
-
-impl Write for Broken {
-    fn write(&mut self, _buf: &[u8]) -> io::Result<usize> {
-        match self.error {
-            Some(kind) => Err(io::Error::from(kind)),
-            None => Ok(0),
-        }
-    }
-
-    fn flush(&mut self) -> io::Result<()> {
-        Ok(())
-    }
-}

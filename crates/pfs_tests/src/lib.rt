@@ -1,10 +1,8 @@
-//! Tests of instances, and of devices that fail or move few bytes a call, and what these tests and `pfs_calls` share.
+//! Tests of devices that fail or move few bytes a call, and what these tests and `pfs_calls` share.
 //! What contracts state is proved, and not tested again here.
 #![tactic(auto)]
 
 pub mod any_bench;
-#[cfg(test)]
-mod base;
 #[cfg(test)]
 mod buffers;
 pub mod events;
@@ -14,15 +12,11 @@ mod failing;
 mod failing_engines;
 pub mod fakes;
 #[cfg(test)]
-mod fronts;
-#[cfg(test)]
 mod logs;
 #[cfg(test)]
 mod long_inputs;
 #[cfg(test)]
 mod memory_files;
-#[cfg(test)]
-mod sequences;
 pub mod shops;
 #[cfg(test)]
 mod texts;

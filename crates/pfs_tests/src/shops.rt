@@ -66,17 +66,6 @@ pub fn three_machines(alloc: Global) -> Result<Instance, BaseFault>
     shop(alloc, 3, 3, &[3, 1, 0, 3, 0, 1, 0, 6, 0])
 }
 
-/// Returns a sequence of these jobs out of three; jobs that aren't below 3 or are already in it are left out.
-pub fn sequence_of(alloc: Global, jobs: &[usize]) -> Result<Seq, OrderFault> {
-    let mut seq = Seq::new(alloc, 3)?;
-    for job in jobs {
-        if *job < seq.size() && !seq.has(*job) {
-            seq.insert_at(seq.len(), *job);
-        }
-    }
-    Ok(seq)
-}
-
 /// Returns the sequence of the second job and then the first, out of three.
 pub fn second_and_first(alloc: Global) -> Result<Seq, OrderFault>
     ensures { IfOk result (λ made. made ≡ record { size = 3; jobs = 1 ∷ 0 ∷ [] }) }
