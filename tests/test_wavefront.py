@@ -1,6 +1,6 @@
 """Instances at the limits of a wavefront's lanes. A step has 1, 2, 3, 5, 8, 13 or 26 vectors of 8
 lanes, the fewest with a lane for each machine. The product of the longest time and the number of operations on a path
-is less than 65,535 with lanes of 16 bits, less than 2^31 - 1 with lanes of 32 bits, and greater with lanes of 64 bits.
+is less than 65,535 with lanes of 16 bits, less than 2^32 - 1 with lanes of 32 bits, and greater with lanes of 64 bits.
 Searches are compared with those of the second program."""
 import pathlib
 from random import Random
@@ -64,11 +64,13 @@ SHOPS: dict[str, Instance] = {
     "a long time": with_one_long_time(20, 24, 1_523),
     "a time that is too long for 16 bits": with_one_long_time(20, 24, 1_525),
     "71 times of 924 are 65,604": with_one_long_time(48, 24, 924),
-    "71 times of 30,246,248 are 2^31 - 40": with_one_long_time(48, 24, 30_246_248),
-    "a time that is too long for 32 bits": with_one_long_time(48, 24, 30_246_249),
-    # 2^31 - 1 is prime, so no instance has a longest path of it.
-    "a longest path of 2^31 - 2": equal(16, 3, 119_304_647),
+    "71 times of 60,492,497 are 2^32 - 9": with_one_long_time(48, 24, 60_492_497),
+    "a time that is too long for 32 bits": with_one_long_time(48, 24, 60_492_498),
     "a longest path of 2^31": equal(16, 1, 134_217_728),
+    # Half of 2^32 - 2 is prime, so no instance has a longest path of it.
+    "a longest path of 2^32 - 4": equal(16, 3, 238_609_294),
+    "a longest path of 2^32 - 1": equal(16, 2, 252_645_135),
+    "a longest path of 2^32": equal(16, 1, 268_435_456),
     # Few jobs, and lanes of 64 bits with each number of vectors, with the longest times.
     **{f"{jobs} jobs on {machines} machines, times to {most}": drawn(jobs, machines, most)
        for jobs in (1, 2, 4, 6) for machines in (1, 3, 8, 26, 200) for most in (100_000, 1_000_000_000)},

@@ -8,7 +8,7 @@ capped_least_law cap values others count place same is small =
     let here = same place inside in (
       record {
         within = is.within;
-        least = λ other lt. omega (arith, is.least other lt, same other lt);
+        least = λ other lt. omega (arith, is.least other lt, same other lt, here);
         first = λ other before. omega (arith, is.first other before, same other (omega arith));
       },
       omega arith,

@@ -6,11 +6,12 @@ use Rattle.std.proofs.lemmas.List.{get_or-take, get_or-replicate, get_or_default
 use Rattle.std.proofs.lemmas.List.{length-replicate, same_lists, take-map}
 use Rattle.std.specs.List.{All}
 use Rattle.pfs_base.specs.FlowShop.{FlowShop}
-use Rattle.pfs_wave.specs.Private.Lanes.{Rows, zeros}
+use Rattle.pfs_wave.specs.Private.Lanes.{Holding, Rows, zeros}
 use Rattle.pfs_wave.specs.Private.Blocks.{AreTimes, Cells, HasRows, step_of}
 use Rattle.pfs_wave.specs.Private.HeldRows.{AreMoved, HoldLanes, HoldOutside, IsHolding, IsKept, IsPadded, column, rows_at}
 use Rattle.pfs_wave.specs.Private.Padded.{padded_time}
 use Rattle.pfs_wave.proofs.SkewedTimes.{vector_inside}
+use Rattle.pfs_wave.proofs.TailCells.{changed}
 
 module _ {count jobs : ℕ} {rows : List (List ℕ)} {len : ℕ} {order : List ℕ} {times : List (List ℕ)}
     (holding : IsHolding count jobs rows len order times) where
@@ -28,15 +29,16 @@ module _ {count jobs : ℕ} {rows : List (List ℕ)} {len : ℕ} {order : List �
       ]
 
   -- its times are those of the shop
-  pub holding_times : (shop : FlowShop) (steps : ℕ) → jobs ≡ shop.jobs → HasRows shop count rows → steps ≤ length order
-      → AreTimes count steps (padded_time shop (take len order)) times
-  holding_times shop steps jobs_is has few =
+  pub holding_times : (Holds : Holding) → ((n : ℕ) → Holds n n) → (shop : FlowShop) (steps : ℕ) → jobs ≡ shop.jobs
+      → HasRows shop count rows → steps ≤ length order
+      → AreTimes Holds count steps (padded_time shop (take len order)) times
+  holding_times Holds itself shop steps jobs_is has few =
       let long = held_len in
       let some = holding.some in
       let all = holding.steps in
       record {
         cells_are = λ step lt k k_lt row lane lane_lt here.
-            ap (λ s. get_or (step_of count times s k) lane 0) (sym here)
+            changed Holds (ap (λ s. get_or (step_of count times s k) lane 0) (sym here)
             ∙ (holding.lanes k k_lt).times_are row lane lane_lt (omega arith)
             ∙ elim (cases_lt row len) [
               | inl some_job ↦
@@ -48,7 +50,7 @@ module _ {count jobs : ℕ} {rows : List (List ℕ)} {len : ℕ} {order : List �
               | inr none ↦
                   ap (λ j. get_or (step_of count rows j k) lane 0) (holding.rest row none (omega arith) ∙ jobs_is)
                   ∙ has.none lane k lane_lt k_lt ∙ rw (le-ltb row (length (take len order)) (omega arith)) refl
-            ];
+            ]) refl (itself _);
         none_before = λ step lt lane k lane_lt k_lt early.
             (holding.lanes k k_lt).none_before step lane early lane_lt (omega arith);
       }
@@ -265,10 +267,10 @@ holding_none count jobs shop rows order times has jobs_is order_is times_are =
     }
 
 -- the first steps of a table of times
-pub times_taken : {X : Type 0} (lanes : X → List ℕ) (count steps n : ℕ) (time : Cells) (table : List X)
-    → steps * count ≤ n → AreTimes count steps time (map lanes table)
-    → AreTimes count steps time (map lanes (take n table))
-times_taken lanes count steps n time table enough are =
+pub times_taken : {X : Type 0} (Holds : Holding) (lanes : X → List ℕ) (count steps n : ℕ) (time : Cells) (table : List X)
+    → steps * count ≤ n → AreTimes Holds count steps time (map lanes table)
+    → AreTimes Holds count steps time (map lanes (take n table))
+times_taken Holds lanes count steps n time table enough are =
     let same : (step k : ℕ) → step < steps → k < count
     → step_of count (map lanes (take n table)) step k ≡ step_of count (map lanes table) step k =
     λ step k lt k_lt.
@@ -277,7 +279,7 @@ times_taken lanes count steps n time table enough are =
     ∙ get_or-take n (map lanes table) (step * count + k) [] (omega arith) in
     record {
       cells_are = λ step lt k k_lt row lane lane_lt here.
-          ap (λ l. get_or l lane 0) (same step k lt k_lt) ∙ are.cells_are step lt k k_lt row lane lane_lt here;
+          changed Holds (ap (λ l. get_or l lane 0) (same step k lt k_lt)) refl (are.cells_are step lt k k_lt row lane lane_lt here);
       none_before = λ step lt lane k lane_lt k_lt early.
           ap (λ l. get_or l lane 0) (same step k lt k_lt) ∙ are.none_before step lt lane k lane_lt k_lt early;
     }

@@ -1,16 +1,26 @@
--- A lane of vectors that are combined.
-use Rattle.std.proofs.Common.{ℕ, ◌≡◌, ◌<◌, List, max, length, get_or, arith}
+-- Lanes of vectors that are combined, and the values that they hold.
+use Rattle.std.proofs.Common.{ℕ, ◌≡◌, ◌+◌, ◌<◌, List, max, length, arith}
 use Rattle.std.specs.Simd.Lanes.{zip2}
-use Rattle.pfs_wave.specs.Private.Lanes.{capped_add}
-use Rattle.pfs_wave.specs.Private.Blocks.{next_cell}
+use Rattle.pfs_wave.specs.Private.Lanes.{Holding, HoldsBelow, IsEach, capped_add}
+use Rattle.pfs_wave.specs.Wavefront.{HoldsCapped}
 use Rattle.pfs_wave.proofs.Steps.{zip_lane}
 
-pub combined : (f : ℕ → ℕ → ℕ) (a b : List ℕ) {result : List ℕ} (lane : ℕ) → result ≡ zip2 f a b → length a ≡ 8
-    → length b ≡ 8 → lane < 8 → get_or result lane 0 ≡ f (get_or a lane 0) (get_or b lane 0)
-combined f a b lane is p q lt = rw is (zip_lane 8 f a b lane (omega arith) q lt)
+-- the lanes of a vector that is made from each two lanes
+pub each_lane : (Holds : Holding) (f operation : ℕ → ℕ → ℕ)
+    → ((n m a b : ℕ) → Holds n a → Holds m b → Holds (f n m) (operation a b)) → (one other : List ℕ) {result : List ℕ}
+    → result ≡ zip2 f one other → length one ≡ 8 → length other ≡ 8 → IsEach Holds operation one other result
+each_lane Holds f operation law one other is p q lane a b lt held too =
+    rw (is, zip_lane 8 f one other lane (omega arith) q lt) (law _ _ a b held too)
 
--- a value computed from two times at once
-pub beside_is : (cap beside above time next_above next_time : ℕ)
-    → max (capped_add cap (max beside above) (capped_add cap time next_time)) (capped_add cap next_above next_time)
-    ≡ next_cell cap (next_cell cap beside above time) next_above next_time
-beside_is cap beside above time next_above next_time = omega arith
+-- numbers that hold values up to a cap
+pub capped_greater : (cap n m a b : ℕ) → HoldsCapped cap n a → HoldsCapped cap m b → HoldsCapped cap (max n m) (max a b)
+capped_greater cap n m a b held too = omega arith
+
+pub capped_sum : (cap n m a b : ℕ) → HoldsCapped cap n a → HoldsCapped cap m b
+    → HoldsCapped cap (capped_add cap n m) (a + b)
+capped_sum cap n m a b held too = omega arith
+
+-- numbers that hold values below a limit
+pub below_greater : (limit n m a b : ℕ) → HoldsBelow limit n a → HoldsBelow limit m b
+    → HoldsBelow limit (max n m) (max a b)
+below_greater limit n m a b held too small = omega (arith, held (omega arith), too (omega arith))

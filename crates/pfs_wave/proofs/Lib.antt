@@ -1,6 +1,5 @@
 pub mod BlendSteps
 pub mod BestFound
-pub mod CappedCells
 pub mod CappedLeast
 pub mod EightLanes
 pub mod HeldLemmas
@@ -21,4 +20,5 @@ pub mod PastRows
 pub mod PutParts
 pub mod SumCells
 pub mod TailCells
+pub mod TrueCells
 pub mod VectorLemmas

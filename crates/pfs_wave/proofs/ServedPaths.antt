@@ -10,7 +10,10 @@ use Rattle.pfs_base.proofs.Published.Heads.{none_longer}
 use Rattle.pfs_base.proofs.Published.Heaviest.{greatest-cons}
 use Rattle.pfs_insert.specs.Inserter.{IsBestPlace}
 use Rattle.pfs_insert.specs.Insertion.{makespan_with}
+use Rattle.pfs_wave.specs.Private.Lanes.{HoldsBelow}
+use Rattle.pfs_wave.specs.Private.Least.{IsLeastHeld}
 use Rattle.pfs_wave.specs.Private.Waves.{longest_path}
+use Rattle.pfs_wave.proofs.BestFound.{below_limit, found}
 use Rattle.pfs_wave.proofs.Longest.{longest_with_law}
 
 -- each number of a list is at most the greatest
@@ -30,6 +33,15 @@ module _ (shop : FlowShop) (cap : ℕ) (some : 1 ≤ shop.machines) (short : lon
         mul-le-mul_right (greatest shop.times) least,
         short,
       )
+
+  -- the first place of the least number is the best place
+  pub served_best : (jobs : List ℕ) (job : ℕ) {place least : ℕ} → length jobs < shop.jobs
+      → IsLeastHeld (HoldsBelow cap) (makespan_with shop jobs job) (length jobs + 1) place least
+      → IsBestPlace shop jobs job place least
+  served_best jobs job few held =
+      let small = λ (place : ℕ) (lt : place < length jobs + 1). served_path jobs job place few (omega arith) in
+      found shop jobs job cap (below_limit cap (makespan_with shop jobs job) small held) refl 0 (omega arith)
+      (small 0 (omega arith))
 
   -- every time is at most the cap
   pub served_times : 1 ≤ shop.jobs → All (λ time. time ≤ cap) shop.times

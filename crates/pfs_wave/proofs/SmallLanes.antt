@@ -1,5 +1,5 @@
 -- Lanes up to a cap.
-use Rattle.std.proofs.Common.{ℕ, zero, suc, ◌+◌, ◌*◌, ◌≤◌, max, min, List, [], ◌∷◌, ◌++◌, length, get_or, arith}
+use Rattle.std.proofs.Common.{ℕ, zero, suc, ◌+◌, ◌*◌, ◌≤◌, max, List, [], ◌∷◌, ◌++◌, length, get_or, arith}
 use Rattle.std.proofs.Common.{inl, inr}
 use Rattle.std.proofs.lemmas.Bool.{cases_lt}
 use Rattle.std.proofs.lemmas.List.{get_or_past}
@@ -14,12 +14,6 @@ abbrev pub AreSmall : ℕ → List ℕ → Type 0
 AreSmall cap lanes = All (λ value. value ≤ cap) lanes
 
 module _ (cap : ℕ) where
-  pub first_small : (x : ℕ) (xs : List ℕ) → AreSmall cap (x ∷ xs) → x ≤ cap
-  first_small x xs small = small 0 0 (omega arith)
-
-  pub rest_small : (x : ℕ) (xs : List ℕ) → AreSmall cap (x ∷ xs) → AreSmall cap xs
-  rest_small x xs small k d less = small (suc k) d (omega (arith, less))
-
   none_small : AreSmall cap []
   none_small k d less = absurd (omega (arith, less))
 
@@ -37,39 +31,6 @@ module _ (cap : ℕ) where
       (cons_small d (e ∷ f ∷ g ∷ h ∷ []) ld
       (cons_small e (f ∷ g ∷ h ∷ []) le
       (cons_small f (g ∷ h ∷ []) lf (cons_small g (h ∷ []) lg (cons_small h [] lh none_small)))))))
-
-  both_small : (xs ys : List ℕ) → AreSmall cap xs → AreSmall cap ys → AreSmall cap (xs ++ ys)
-  both_small [] ys small too = too
-  both_small (x ∷ xs) ys small too =
-      cons_small x (xs ++ ys) (first_small x xs small) (both_small xs ys (rest_small x xs small) too)
-
-  -- a lane of two vectors, by its number
-  pub lane_small : (xs ys : List ℕ) → AreSmall cap xs → AreSmall cap ys → (lane : ℕ) → get_or (xs ++ ys) lane 0 ≤ cap
-  lane_small xs ys small too lane =
-      elim (cases_lt lane (length (xs ++ ys))) [
-        | inl inside ↦ both_small xs ys small too lane 0 inside
-        | inr past ↦ omega (arith, get_or_past (xs ++ ys) lane 0 past)
-      ]
-
-  pub greater_small : (xs ys : List ℕ) → AreSmall cap xs → AreSmall cap ys → AreSmall cap (zip2 max xs ys)
-  greater_small [] ys small too = none_small
-  greater_small (x ∷ xs) [] small too = none_small
-  greater_small (x ∷ xs) (y ∷ ys) small too =
-      cons_small (max x y) (zip2 max xs ys) (omega (arith, first_small x xs small, first_small y ys too))
-      (greater_small xs ys (rest_small x xs small) (rest_small y ys too))
-
-  pub lesser_small : (xs ys : List ℕ) → AreSmall cap ys → AreSmall cap (zip2 min xs ys)
-  lesser_small [] ys small = none_small
-  lesser_small (x ∷ xs) [] small = none_small
-  lesser_small (x ∷ xs) (y ∷ ys) small =
-      cons_small (min x y) (zip2 min xs ys) (omega (arith, first_small y ys small))
-      (lesser_small xs ys (rest_small y ys small))
-
-  pub sum_small : (xs ys : List ℕ) → AreSmall cap (zip2 (capped_add cap) xs ys)
-  sum_small [] ys = none_small
-  sum_small (x ∷ xs) [] = none_small
-  sum_small (x ∷ xs) (y ∷ ys) =
-      cons_small (capped_add cap x y) (zip2 (capped_add cap) xs ys) (omega arith) (sum_small xs ys)
 
 -- where no time of the shop is above the cap, no lane of a job's row is
 pub machine_small : (shop : FlowShop) (job lane cap : ℕ) → AreSmall cap shop.times

@@ -1,32 +1,16 @@
 -- A lane of each step.
-use Rattle.std.proofs.Common.{ℕ, suc, ◌≡◌, ◌+◌, ◌-◌, ◌<◌, ◌≤◌, List, [], ◌∷◌, ◌++◌, max, length, drop, get_or, refl, ap}
+use Rattle.std.proofs.Common.{ℕ, suc, ◌≡◌, ◌+◌, ◌-◌, ◌<◌, ◌≤◌, List, [], ◌∷◌, ◌++◌, length, drop, get_or, refl, ap}
 use Rattle.std.proofs.Common.{◌∙◌, sym, arith, inl, inr}
 use Rattle.std.specs.Simd.Lanes.{zip2}
 use Rattle.std.proofs.lemmas.Bool.{cases_lt}
 use Rattle.std.proofs.lemmas.Simd.{get_or-zip2}
 use Rattle.std.proofs.lemmas.List.{length-drop, get_or_append_left, get_or_past, get_or-append_right}
-use Rattle.std.proofs.lemmas.List.{get_or-replicate, length-replicate}
+use Rattle.std.proofs.lemmas.List.{get_or-replicate}
 use Rattle.std.proofs.lemmas.Grind.{get_or_after_one}
-use Rattle.pfs_wave.specs.Private.Lanes.{capped_add, zeros}
-use Rattle.pfs_wave.specs.Wavefront.{capped}
-
-pub capped_none : (cap : ℕ) → 0 ≡ capped cap 0
-capped_none cap = omega arith
-
--- steps on capped values give capped values
-pub capped_step : (cap a b c d t : ℕ) → a ≡ capped cap c → b ≡ capped cap d
-    → capped_add cap (max a b) t ≡ capped cap (max c d + t)
-capped_step cap a b c d t p q = omega arith
-
-pub capped_more : (cap s p q a b c : ℕ) → s ≡ capped cap a → p ≡ capped cap b → q ≡ capped cap c
-    → max s (capped_add cap p q) ≡ capped cap (max a (b + c))
-capped_more cap s p q a b c e f g = omega arith
+use Rattle.pfs_wave.specs.Private.Lanes.{zeros}
 
 pub zeros-get_or : (width lane : ℕ) → lane < width → get_or (zeros width) lane 0 ≡ 0
 zeros-get_or width lane lt = get_or-replicate width lane 0 0 lt
-
-pub length-zeros : (width : ℕ) → length (zeros width) ≡ width
-length-zeros width = length-replicate width 0
 
 length-zip2_le : (f : ℕ → ℕ → ℕ) (a b : List ℕ) → length b ≤ length a → length (zip2 f a b) ≡ length b
 length-zip2_le f [] [] le = refl

@@ -4,10 +4,9 @@ use Rattle.std.proofs.Common.{length, map, arith, refl, ap, ◌∙◌}
 use Rattle.std.proofs.lemmas.Int.{ints}
 use Rattle.std.proofs.lemmas.Bool.Decides.{nat_tests}
 use Rattle.pfs_wave.specs.Private.Lanes.{capped_add}
-use Rattle.pfs_wave.proofs.SmallLanes.{AreSmall, first_small, rest_small}
 use lib.Lanes.{top, zip2, sel_l, Each1}
 use borrow.Rule.Simd.Lanes.{act1, act2}
-use mir.Syntax.{Width, mask, lt, unsigned, wrap_add, bit_not, w16, w32, w64}
+use mir.Syntax.{Width, mask, lt, unsigned, wrap_add, wrap_sub, bit_not, w16, w32, w64}
 use borrow.Table.Row.{s_int}
 
 abbrev pub less : Width → ℕ → ℕ → ℕ
@@ -49,19 +48,13 @@ short_greater x y = grind (arith, nat_tests, ints)
 long_greater : (x y : ℕ) → cond (top 31 (less w32 x y)) y x ≡ max x y
 long_greater x y = grind (arith, nat_tests, ints)
 
-wide_greater : (x y : ℕ) → cond (top 63 (less w64 x y)) y x ≡ max x y
-wide_greater x y = grind (arith, nat_tests, ints)
-
 pub short_greater_is : (xs ys : List ℕ) → sel_l (map (top 15) (zip2 (less w16) xs ys)) ys xs ≡ zip2 max xs ys
 short_greater_is = greater_lanes w16 15 short_greater
 
 pub long_greater_is : (xs ys : List ℕ) → sel_l (map (top 31) (zip2 (less w32) xs ys)) ys xs ≡ zip2 max xs ys
 long_greater_is = greater_lanes w32 31 long_greater
 
-pub wide_greater_is : (xs ys : List ℕ) → sel_l (map (top 63) (zip2 (less w64) xs ys)) ys xs ≡ zip2 max xs ys
-wide_greater_is = greater_lanes w64 63 wide_greater
-
--- ---- sums of 16 and of 64 bits
+-- ---- sums of 16 bits
 
 short_turned : (x : ℕ) → x < 2 ^ 16 → turned w16 x ≡ 65535 - x
 short_turned x small = grind (arith, nat_tests, ints)
@@ -75,48 +68,25 @@ pub short_sum_is : (xs ys : List ℕ) → Each1 (λ x. x < 2 ^ 16) xs
     ≡ zip2 (capped_add 65535) xs ys
 short_sum_is = saturated_lanes w16 15 65535 (λ x y small. short_sum x y (turned w16 x) small (short_turned x small))
 
-wide_turned : (x : ℕ) → x < 2 ^ 64 → turned w64 x ≡ 18446744073709551615 - x
-wide_turned x small = grind (arith, nat_tests, ints)
+-- ---- the greater of 64 bits, by the sign bit of the difference
 
-wide_sum : (x y z : ℕ) → x < 2 ^ 64 → z ≡ 18446744073709551615 - x
-    → wrapped_sum w64 x (cond (top 63 (less w64 y z)) y z) ≡ capped_add 18446744073709551615 x y
-wide_sum x y z small e = grind (arith, nat_tests, ints)
+abbrev difference : ℕ → ℕ → ℕ
+difference = act2 wrap_sub (s_int w64) (s_int w64) (s_int w64)
 
-pub wide_sum_is : (xs ys : List ℕ) → Each1 (λ x. x < 2 ^ 64) xs
-    → zip2 (wrapped_sum w64) xs (sel_l (map (top 63) (zip2 (less w64) ys (map (turned w64) xs))) ys (map (turned w64) xs))
-    ≡ zip2 (capped_add 18446744073709551615) xs ys
-wide_sum_is =
-    saturated_lanes w64 63 18446744073709551615
-    (λ x y small. wide_sum x y (turned w64 x) small (wide_turned x small))
+abbrev pub wide_greater : ℕ → ℕ → ℕ
+wide_greater x y = cond (top 63 (less w64 (difference x y) 9223372036854775808)) x y
 
--- ---- sums of 32 bits: no sum of two numbers up to 2^31 - 1 wraps
+pub wide_greater_is : (x y : ℕ) → x < 9223372036854775807 → y < 9223372036854775807 → wide_greater x y ≡ max x y
+wide_greater_is x y p q = grind (arith, nat_tests, ints)
 
-no_wrap : (x y : ℕ) → x ≤ 2147483647 → y ≤ 2147483647 → wrapped_sum w32 x y ≡ x + y
-no_wrap x y p q = grind (arith, nat_tests, ints)
+-- as many signs as lanes
+abbrev signs : ℕ → List ℕ
+signs zero = []
+signs (suc n) = 9223372036854775808 ∷ signs n
 
-least_chosen : (x : ℕ) → cond (top 31 (less w32 x 2147483647)) x 2147483647 ≡ min x 2147483647
-least_chosen x = grind (arith, nat_tests, ints)
-
-long_sum : (x y : ℕ) → x ≤ 2147483647 → y ≤ 2147483647
-    → cond (top 31 (less w32 (wrapped_sum w32 x y) 2147483647)) (wrapped_sum w32 x y) 2147483647
-    ≡ capped_add 2147483647 x y
-long_sum x y p q =
-    least_chosen (wrapped_sum w32 x y) ∙ ap (λ s. min s 2147483647) (no_wrap x y p q)
-
--- the least of each sum and a bound, where there are as many bounds as lanes
-abbrev bounds : ℕ → List ℕ
-bounds zero = []
-bounds (suc n) = 2147483647 ∷ bounds n
-
-pub long_sum_is : (n : ℕ) (xs ys : List ℕ) → length xs ≡ n → length ys ≡ n → AreSmall 2147483647 xs
-    → AreSmall 2147483647 ys
-    → sel_l (map (top 31) (zip2 (less w32) (zip2 (wrapped_sum w32) xs ys) (bounds n))) (zip2 (wrapped_sum w32) xs ys)
-    (bounds n)
-    ≡ zip2 (capped_add 2147483647) xs ys
-long_sum_is n [] ys p q small too = refl
-long_sum_is n (x ∷ xs) [] p q small too = absurd (omega arith)
-long_sum_is zero (x ∷ xs) (y ∷ ys) p q small too = absurd (omega arith)
-long_sum_is (suc n) (x ∷ xs) (y ∷ ys) p q small too =
-    cons_same (long_sum x y (first_small 2147483647 x xs small) (first_small 2147483647 y ys too))
-    (long_sum_is n xs ys (omega arith) (omega arith) (rest_small 2147483647 x xs small)
-    (rest_small 2147483647 y ys too))
+pub wide_lanes : (n : ℕ) (xs ys : List ℕ) → length xs ≡ n → length ys ≡ n
+    → sel_l (map (top 63) (zip2 (less w64) (zip2 difference xs ys) (signs n))) xs ys ≡ zip2 wide_greater xs ys
+wide_lanes n [] ys p q = refl
+wide_lanes n (x ∷ xs) [] p q = absurd (omega arith)
+wide_lanes zero (x ∷ xs) (y ∷ ys) p q = absurd (omega arith)
+wide_lanes (suc n) (x ∷ xs) (y ∷ ys) p q = cons_same refl (wide_lanes n xs ys (omega arith) (omega arith))

@@ -8,12 +8,16 @@ use Rattle.pfs_insert.specs.Insertion.{makespan_with, IsFirstLeast}
 abbrev pub capped : ℕ → ℕ → ℕ
 capped cap n = min n cap
 
--- the first place of the least capped value, where that is below the cap, is the first place of the least value, and
--- both values are the same
+-- the number holds a value up to a cap: they are the same, or none of them is below the cap
+abbrev pub HoldsCapped : ℕ → ℕ → ℕ → Type 0
+HoldsCapped cap number value = capped cap number ≡ capped cap value
+
+-- the first place of the least number, where that is below the cap and each number holds a value up to it, is the first
+-- place of the least value, and both are the same
 abbrev pub CappedLeastLaw : Type 0
 CappedLeastLaw =
     (cap : ℕ) (values others : ℕ → ℕ) (count place : ℕ)
-    → ((at : ℕ) → at < count → others at ≡ capped cap (values at))
+    → ((at : ℕ) → at < count → HoldsCapped cap (others at) (values at))
     → IsFirstLeast others count place → others place < cap
     → IsFirstLeast values count place × (others place ≡ values place)
 

@@ -1,12 +1,11 @@
 //! Bands of eight lanes.
-ghost use Rattle.std.specs.Prelude.{◌≡◌, ℕ, ◌-◌, ◌<◌, ◌≤◌, ◌^◌, ◌∷◌, [], ◌++◌, List, length, map, max};
+ghost use Rattle.std.specs.Prelude.{◌≡◌, ℕ, ◌+◌, ◌-◌, ◌<◌, ◌≤◌, ◌^◌, ◌∷◌, [], ◌++◌, List, length, map, max};
 ghost use Rattle.std.specs.Prelude.{take, drop};
 ghost use Rattle.std.specs.List.{All, slice_index_or};
-ghost use Rattle.std.specs.Simd.Lanes.{zip2};
-ghost use Rattle.pfs_wave.specs.Private.Lanes.{capped_add, zeros};
+ghost use Rattle.pfs_wave.specs.Private.Lanes.{Holding, IsEach, zeros};
 ghost use Rattle.pfs_wave.specs.Private.Least.{IsLeastSoFar};
 
-use crate::best::Found;
+use pfs_insert::Placed;
 
 // The lanes that a shuffle of two bands takes, of 0 to 7 in the first and 8 to 15 in the second: those that move up and
 // down, the three blends, and those from the last to the first.
@@ -22,7 +21,8 @@ pub const HALF: [usize; 8] = [0, 1, 2, 3, 12, 13, 14, 15];
 
 pub const BACK: [usize; 8] = [7, 6, 5, 4, 3, 2, 1, 0];
 
-/// Eight lanes, each a number up to `CAP`. Sums stop there.
+/// Eight lanes, each with a number that holds a value. Where the lanes have no room for a value, the number may be
+/// another one.
 pub trait Band: Copy + Drop {
     /// The number of a lane.
     type Number: Copy + Drop;
@@ -33,7 +33,13 @@ pub trait Band: Copy + Drop {
     /// The value of a number.
     ghost number: { Self.Number → ℕ };
 
-    /// The greatest value of a lane.
+    /// That a number holds a value.
+    ghost Holds: { Holding };
+
+    /// Each number holds itself.
+    ghost itself: { (n : ℕ) → Holds n n };
+
+    /// The greatest time of a lane.
     ghost CAP: { ℕ };
 
     /// The number of vectors up to which a pass keeps those of a step in registers.
@@ -58,11 +64,11 @@ pub trait Band: Copy + Drop {
 
     /// The greater value of each lane.
     fn greater(self, other: Self) -> Self
-        ensures { lanes result ≡ zip2 max (lanes self) (lanes other) };
+        ensures { IsEach Holds max (lanes self) (lanes other) (lanes result) };
 
-    /// The sum of each lane, or `CAP` where the sum is greater.
+    /// The sum of each lane.
     fn sum(self, other: Self) -> Self
-        ensures { lanes result ≡ zip2 (capped_add CAP) (lanes self) (lanes other) };
+        ensures { IsEach Holds (λ a b. a + b) (lanes self) (lanes other) (lanes result) };
 
     /// The odd lanes of `other`, and the even lanes of `self`.
     fn odd_from(self, other: Self) -> Self
@@ -101,12 +107,12 @@ pub trait Band: Copy + Drop {
     fn wide(n: Self::Number) -> u64
         ensures { result ≡ number n };
 
-    /// The first place of the least sum.
-    fn first_least(sums: &[Self::Number]) -> Found
+    /// The first place of the least sum, and that sum.
+    fn first_least(sums: &[Self::Number]) -> Placed<u64>
         requires some { 1 ≤ length sums.now }
         requires few { length sums.now ≤ 2 ^ 16 }
         ensures { IsLeastSoFar (λ place. slice_index_or (map number sums.now) place 0) (length sums.now)
-            result.place result.sum };
+            result.place result.span };
 
     ghost eight: { (band : Self) → length (lanes band) ≡ 8 };
 }

@@ -2,11 +2,9 @@
 ghost use Rattle.std.specs.Prelude.{◌≡◌, ℕ, ◌+◌, ◌-◌, ◌*◌, ◌<◌, ◌≤◌, ◌^◌, List, length, map};
 ghost use Rattle.std.specs.List.{slice_index_or};
 ghost use Rattle.pfs_base.specs.FlowShop.{FlowShop};
-ghost use Rattle.pfs_insert.specs.Inserter.{IsBestPlace};
 ghost use Rattle.pfs_insert.specs.Insertion.{makespan_with};
 ghost use Rattle.pfs_wave.specs.Private.Payment.{IsInsertion};
-ghost use Rattle.pfs_wave.specs.Wavefront.{capped};
-ghost use Rattle.pfs_wave.specs.Private.Least.{IsLeastSoFar};
+ghost use Rattle.pfs_wave.specs.Private.Least.{IsLeastHeld, IsLeastSoFar};
 
 use crate::band::Band;
 use crate::permits::Permits;
@@ -15,27 +13,20 @@ use crate::tails::fill_tails;
 use pfs_base::Paid;
 use pfs_insert::Placed;
 
-/// A place, and its sum.
-#[derive(Clone, Copy, Debug, PartialEq, Eq)]
-pub struct Found {
-    pub place: usize,
-    pub sum: u64,
-}
-
-/// The first place of the least sum.
-pub fn first_least(sums: &[u64]) -> Found
+/// The first place of the least sum, and that sum.
+pub fn first_least(sums: &[u64]) -> Placed<u64>
     requires { 1 ≤ length sums.now }
-    ensures { IsLeastSoFar (λ place. slice_index_or sums.now place 0) (length sums.now) result.place result.sum }
+    ensures { IsLeastSoFar (λ place. slice_index_or sums.now place 0) (length sums.now) result.place result.span }
 {
-    let mut found = Found {
+    let mut found = Placed {
         place: 0,
-        sum: sums[0],
+        span: sums[0],
     };
     for place in 1..sums.len() {
-        if sums[place] < found.sum {
-            found = Found {
+        if sums[place] < found.span {
+            found = Placed {
                 place,
-                sum: sums[place],
+                span: sums[place],
             };
         }
     }
@@ -52,23 +43,24 @@ fn key(place: usize, sum: u16) -> u32
 }
 
 /// The same for sums of 16 bits: it is the place of the least key. The compiler vectorizes the loop.
-pub fn first_least_key(sums: &[u16]) -> Found
+pub fn first_least_key(sums: &[u16]) -> Placed<u64>
     requires some { 1 ≤ length sums.now }
     requires few { length sums.now ≤ 2 ^ 16 }
-    ensures { IsLeastSoFar (λ place. slice_index_or sums.now place 0) (length sums.now) result.place result.sum }
+    ensures { IsLeastSoFar (λ place. slice_index_or sums.now place 0) (length sums.now) result.place result.span }
 {
     let mut least = key(0, sums[0]);
     for place in 1..sums.len() {
         least = least.min(key(place, sums[place]));
     }
-    Found {
+    Placed {
         place: (least % 65536) as usize,
-        sum: u64::from(least / 65536),
+        span: u64::from(least / 65536),
     }
 }
 
-/// The best place of a job in a sequence, and the makespan with the job there, from the skewed times of the sequence.
-/// There are as many steps more than jobs as `lanes` have machines. `sums` gets the makespans from index 7 on.
+/// The first place of the least sum of a job in a sequence, and that sum, from the skewed times of the sequence. Sums
+/// hold the makespans. There are as many steps more than jobs as `lanes` have machines. `sums` gets the sums from index
+/// 7 on.
 #[inline(always)]
 pub fn best_place<V: Band, const N: usize>(
     permits: Permits,
@@ -93,15 +85,14 @@ pub fn best_place<V: Band, const N: usize>(
     ensures sums { length sums.new ≡ length sums.old }
     ensures within { result.place + lanes ≤ steps }
     ensures best { (shop : FlowShop) (jobs : List ℕ) (inserted : ℕ)
-        → IsInsertion shop jobs inserted N lanes steps permits.tails permits.sums
+        → IsInsertion V.Holds shop jobs inserted N lanes steps permits.tails permits.sums
         (map V.lanes times.now) (map V.lanes job.now)
-        → (other : ℕ) → other ≤ length jobs → makespan_with shop jobs inserted other < V.CAP
-        → IsBestPlace shop jobs inserted result.place result.span }
+        → IsLeastHeld V.Holds (makespan_with shop jobs inserted) (length jobs + 1) result.place result.span }
     ensures spans { (shop : FlowShop) (jobs : List ℕ) (inserted : ℕ)
-        → IsInsertion shop jobs inserted N lanes steps permits.tails permits.sums
+        → IsInsertion V.Holds shop jobs inserted N lanes steps permits.tails permits.sums
         (map V.lanes times.now) (map V.lanes job.now)
-        → (place : ℕ) → place ≤ length jobs → slice_index_or (map V.number sums.new) (7 + place) 0
-        ≡ capped V.CAP (makespan_with shop jobs inserted place) }
+        → (place : ℕ) → place ≤ length jobs
+        → V.Holds (slice_index_or (map V.number sums.new) (7 + place) 0) (makespan_with shop jobs inserted place) }
 {
     let Permits {
         tails: for_tails,
@@ -113,7 +104,7 @@ pub fn best_place<V: Band, const N: usize>(
     let found = V::first_least(&sums[7..steps + 8 - lanes]);
     Placed {
         place: found.place,
-        span: paid.with(found.sum),
+        span: paid.with(found.span),
     }
 }
 

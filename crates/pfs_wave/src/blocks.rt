@@ -2,11 +2,10 @@
 ghost use Rattle.std.specs.Prelude.{◌≡◌, ℕ, ◌+◌, ◌*◌, ◌<◌, ◌≤◌, ◌^◌, length, IfOk};
 ghost use Rattle.std.specs.List.{All, slice_index_or};
 ghost use Rattle.pfs_base.specs.FlowShop.{FlowShop};
-ghost use Rattle.pfs_insert.specs.Inserter.{IsBestPlace};
 ghost use Rattle.pfs_insert.specs.Insertion.{makespan_with};
 ghost use Rattle.pfs_wave.specs.Private.Blocks.{HasShop, vectors_in};
+ghost use Rattle.pfs_wave.specs.Private.Least.{IsLeastHeld};
 ghost use Rattle.pfs_wave.specs.Private.Payment.{IsPaid};
-ghost use Rattle.pfs_wave.specs.Wavefront.{capped};
 
 use crate::band::Band;
 use crate::best::{best_place, copy_sums};
@@ -21,13 +20,13 @@ use std::marker::Model;
 /// The number of vectors of a step. The loops over the steps are compiled for each of these numbers.
 #[derive(Clone, Copy, Debug, PartialEq, Eq)]
 pub enum Width {
-    One,
-    Two,
-    Three,
-    Five,
-    Eight,
-    Thirteen,
-    TwentySix,
+    One = 1,
+    Two = 2,
+    Three = 3,
+    Five = 5,
+    Eight = 8,
+    Thirteen = 13,
+    TwentySix = 26,
 }
 
 impl Width {
@@ -36,15 +35,7 @@ impl Width {
     pub fn vectors(self) -> usize
         ensures { result ≡ vectors_in self }
     {
-        match self {
-            Width::One => 1,
-            Width::Two => 2,
-            Width::Three => 3,
-            Width::Five => 5,
-            Width::Eight => 8,
-            Width::Thirteen => 13,
-            Width::TwentySix => 26,
-        }
+        self as usize
     }
 
     /// The least number whose lanes have room for this number of machines.
@@ -156,9 +147,8 @@ impl<V: Band> Blocks<V> {
         })
     }
 
-    /// The best place for a job in a sequence, and the makespan with the job there. It is the best place where the
-    /// makespan with the job at some place is below the greatest value of a lane. `spans` gets the makespans with the
-    /// job at the first places, as many as it has room for, up to that value.
+    /// The first place of the least sum of a job in a sequence, and that sum, which holds the makespan with the job
+    /// there. `spans` gets the sums of the first places, as many as it has room for.
     #[inline(never)]
     pub fn best(
         &mut self,
@@ -174,12 +164,12 @@ impl<V: Band> Blocks<V> {
         ensures within { result.place ≤ length sequence.now }
         ensures best { (shop : FlowShop) → HasShop shop self.old
             → IsPaid permits.tails permits.sums (length sequence.now) shop.machines
-            → (other : ℕ) → other ≤ length sequence.now → makespan_with shop sequence.now job other < V.CAP
-            → IsBestPlace shop sequence.now job result.place result.span }
+            → IsLeastHeld V.Holds (makespan_with shop sequence.now job) (length sequence.now + 1)
+            result.place result.span }
         ensures spans { (shop : FlowShop) → HasShop shop self.old
             → IsPaid permits.tails permits.sums (length sequence.now) shop.machines
-            → (place : ℕ) → place < length spans.old → slice_index_or spans.new place 0
-            ≡ capped V.CAP (makespan_with shop sequence.now job place) }
+            → (place : ℕ) → place < length spans.old
+            → V.Holds (slice_index_or spans.new place 0) (makespan_with shop sequence.now job place) }
         ensures same { self.new ≡ self.old }
     {
         match self.width {
@@ -212,12 +202,12 @@ impl<V: Band> Blocks<V> {
         ensures within { result.place ≤ length sequence.now }
         ensures best { (shop : FlowShop) → HasShop shop self.old
             → IsPaid permits.tails permits.sums (length sequence.now) shop.machines
-            → (other : ℕ) → other ≤ length sequence.now → makespan_with shop sequence.now job other < V.CAP
-            → IsBestPlace shop sequence.now job result.place result.span }
+            → IsLeastHeld V.Holds (makespan_with shop sequence.now job) (length sequence.now + 1)
+            result.place result.span }
         ensures spans { (shop : FlowShop) → HasShop shop self.old
             → IsPaid permits.tails permits.sums (length sequence.now) shop.machines
-            → (place : ℕ) → place < length spans.old → slice_index_or spans.new place 0
-            ≡ capped V.CAP (makespan_with shop sequence.now job place) }
+            → (place : ℕ) → place < length spans.old
+            → V.Holds (slice_index_or spans.new place 0) (makespan_with shop sequence.now job place) }
         ensures same { self.new ≡ self.old }
     {
         hold::<V, N>(

@@ -1,18 +1,18 @@
 //! Bands of 32-bit lanes.
 ghost use Rattle.std.proofs.Common.{refl};
 ghost use Rattle.std.specs.Prelude.{◌≡◌, ℕ, ◌≤◌, length};
-ghost use Rattle.std.specs.List.{All};
+ghost use Rattle.pfs_wave.specs.Private.Lanes.{HoldsBelow};
 
-use crate::band::{Band, DOWN, HALF, ODD, PAIRS, UP};
-use crate::best::{Found, first_least};
+use crate::band::{BACK, Band, DOWN, HALF, ODD, PAIRS, UP};
+use crate::best::first_least;
+use pfs_insert::Placed;
 use std::simd::prelude::*;
 
-/// Eight lanes of 32 bits, each a number up to 2^31 - 1. So no sum of two lanes wraps, and it stops at 2^31 - 1.
+/// Eight lanes of 32 bits. They have room for values below 2^32 - 1, and greater sums wrap.
 #[derive(Clone, Copy)]
 pub struct Long {
     values: u32x8,
     ghost eight: { length values ≡ 8 },
-    ghost small: { All (λ value. value ≤ 2147483647) values },
 }
 
 impl Band for Long {
@@ -22,7 +22,11 @@ impl Band for Long {
 
     ghost number = { λ n. n };
 
-    ghost CAP = { 2147483647 };
+    ghost Holds = { HoldsBelow 4294967295 };
+
+    ghost itself = { λ n small. refl };
+
+    ghost CAP = { 4294967295 };
 
     const IN_REGISTERS: usize = 4;
 
@@ -60,7 +64,7 @@ impl Band for Long {
 
     #[inline(always)]
     fn sum(self, other: Long) -> Long {
-        let values = (self.values + other.values).simd_min(u32x8::splat(2147483647));
+        let values = self.values + other.values;
         Long { values }
     }
 
@@ -89,17 +93,8 @@ impl Band for Long {
 
     #[inline(always)]
     fn reversed(self) -> [u64; 8] {
-        let values = self.values.to_array();
-        [
-            u64::from(values[7]),
-            u64::from(values[6]),
-            u64::from(values[5]),
-            u64::from(values[4]),
-            u64::from(values[3]),
-            u64::from(values[2]),
-            u64::from(values[1]),
-            u64::from(values[0]),
-        ]
+        let values = self.values.shuffle(self.values, BACK);
+        values.cast::<u64>().to_array()
     }
 
     #[inline(always)]
@@ -108,7 +103,7 @@ impl Band for Long {
     }
 
     #[inline(always)]
-    fn first_least(sums: &[u64]) -> Found {
+    fn first_least(sums: &[u64]) -> Placed<u64> {
         first_least(sums)
     }
 }

@@ -26,7 +26,6 @@ use std::marker::Model;
 #[derive(Drop)]
 pub struct Narrow {
     blocks: Blocks<Short>,
-    jobs: usize,
     last: Known,
     kept: Known,
 }
@@ -44,31 +43,12 @@ impl Model for Narrow {
     } };
 
     ghost invariant = { λ a. record {
-      jobs : a.jobs ≡ a.blocks.jobs;
       last : a.last.seq.size ≡ a.blocks.jobs;
       kept : a.kept.seq.size ≡ a.blocks.jobs;
     } };
 }
 
 impl Narrow {
-    /// Narrow lanes for an instance, with a known sequence of no jobs. It reserves all memory of an insertion, and
-    /// returns `AllocError` where that fails.
-    fn new(alloc: Global, instance: &Instance) -> Result<Narrow, AllocError>
-        requires { All (λ time. time ≤ 65535) instance.now.shop.times }
-        ensures { IfOk result (λ made. AreNarrow instance.now.shop made) }
-    {
-        let jobs = instance.jobs();
-        let blocks = Blocks::new(alloc, instance)?;
-        let last = Known::new(alloc, jobs, 0)?;
-        let kept = Known::new(alloc, jobs, u64::MAX)?;
-        Ok(Narrow {
-            blocks,
-            jobs,
-            last,
-            kept,
-        })
-    }
-
     // Whether the makespan of a sequence plus this time is known to be below 65,535.
     #[inline(always)]
     fn has_room(&self, seq: &Seq, time: u64) -> bool
@@ -104,7 +84,7 @@ impl Narrow {
         requires absent { Contains seq.now.jobs job → ⊥ }
         ensures { self.new ≡ after_best self.old seq.now job best.place best.span }
     {
-        let is_order = seq.len() + 1 == self.jobs;
+        let is_order = seq.len() + 1 == seq.size();
         self.last.set(seq, job, best);
         if is_order && best.span <= self.kept.span() {
             self.kept.set(seq, job, best);
@@ -171,16 +151,19 @@ fn most_added(instance: &Instance, jobs: &[usize], job: usize) -> u64
     both - alone
 }
 
-/// Narrow lanes for an instance whose paths are too long for 16 bits, if all its times fit in them. It returns
-/// `AllocError` where allocation fails.
+/// Narrow lanes for an instance whose paths are too long for 16 bits, if all its times fit in them, with a known
+/// sequence of no jobs. It reserves all memory of an insertion, and returns `AllocError` where that fails.
 pub fn narrow_lanes(alloc: Global, instance: &Instance) -> Result<Option<Narrow>, AllocError>
     ensures made { IfOk result (λ made. IsSome made
         ↔ ((65535 ≤ longest_path instance.now.shop) × (greatest instance.now.shop.times ≤ 65535))) }
     ensures tables { IfOk result (λ made. HasNarrow instance.now.shop made) }
 {
-    if path_bound(instance) >= 65_535 && longest_time(instance) <= 65_535 {
-        Ok(Some(Narrow::new(alloc, instance)?))
-    } else {
-        Ok(None)
+    if path_bound(instance) < 65_535 || longest_time(instance) > 65_535 {
+        return Ok(None);
     }
+    let jobs = instance.jobs();
+    let blocks = Blocks::new(alloc, instance)?;
+    let last = Known::new(alloc, jobs, 0)?;
+    let kept = Known::new(alloc, jobs, u64::MAX)?;
+    Ok(Some(Narrow { blocks, last, kept }))
 }

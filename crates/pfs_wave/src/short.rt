@@ -3,9 +3,11 @@ ghost use Rattle.std.proofs.Common.{refl};
 ghost use Rattle.std.specs.Prelude.{◌≡◌, ℕ, ◌≤◌, length, min};
 ghost use Rattle.std.specs.Simd.Lanes.{Each1, zip2};
 ghost use Rattle.pfs_wave.specs.Private.Lanes.{capped_add};
+ghost use Rattle.pfs_wave.specs.Wavefront.{HoldsCapped};
 
 use crate::band::{BACK, Band, DOWN, HALF, ODD, PAIRS, UP};
-use crate::best::{Found, first_least_key};
+use crate::best::first_least_key;
+use pfs_insert::Placed;
 use std::simd::prelude::*;
 
 /// Eight lanes of 16 bits. Sums stop at 65,535, as the processor's do.
@@ -30,6 +32,10 @@ impl Band for Short {
 
     ghost number = { λ n. n };
 
+    ghost Holds = { HoldsCapped 65535 };
+
+    ghost itself = { λ n. refl };
+
     ghost CAP = { 65535 };
 
     const IN_REGISTERS: usize = 8;
@@ -44,18 +50,8 @@ impl Band for Short {
 
     #[inline(always)]
     fn from_times(times: [u32; 8]) -> Short {
-        Short {
-            values: u16x8::from_array([
-                times[0] as u16,
-                times[1] as u16,
-                times[2] as u16,
-                times[3] as u16,
-                times[4] as u16,
-                times[5] as u16,
-                times[6] as u16,
-                times[7] as u16,
-            ]),
-        }
+        let values = u32x8::from_array(times).cast::<u16>();
+        Short { values }
     }
 
     #[inline(always)]
@@ -116,7 +112,7 @@ impl Band for Short {
     }
 
     #[inline(always)]
-    fn first_least(sums: &[u16]) -> Found {
+    fn first_least(sums: &[u16]) -> Placed<u64> {
         first_least_key(sums)
     }
 }

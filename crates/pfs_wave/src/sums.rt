@@ -1,5 +1,5 @@
 //! The pass of the heads, the inserted rows and the sums.
-ghost use Rattle.std.specs.Prelude.{◌≡◌, ℕ, suc, ◌+◌, ◌-◌, ◌*◌, ◌<◌, ◌≤◌, ◌^◌, length, map};
+ghost use Rattle.std.specs.Prelude.{◌≡◌, ℕ, suc, ◌+◌, ◌-◌, ◌*◌, ◌<◌, ◌≤◌, ◌^◌, length, map, min};
 ghost use Rattle.std.specs.List.{slice_index_or};
 ghost use Rattle.pfs_wave.specs.Private.Blocks.{AreTimes, HoldCells, IsNoneBefore, IsRow, IsStep, vectors_of};
 ghost use Rattle.pfs_wave.specs.Private.Payment.{AreTimesOf, IsNoneFrom};
@@ -30,14 +30,14 @@ fn step_sums<V: Band, const N: usize>(
     requires times { length times.now ≡ N }
     requires tails { length tails.now ≡ N }
     ensures length { length heads.new ≡ N }
-    ensures cells { (t : TablesOfCells) (rows step : ℕ) → AreTables V.CAP rows t
-        → IsStep N step t.time (vectors_of (map V.lanes times.now))
+    ensures cells { (t : TablesOfCells) (rows step : ℕ) → AreTables rows t
+        → IsStep V.Holds N step t.time (vectors_of (map V.lanes times.now))
         → IsNoneBefore N step (vectors_of (map V.lanes times.now))
-        → IsStep N step t.tail (vectors_of (map V.lanes tails.now))
+        → IsStep V.Holds N step t.tail (vectors_of (map V.lanes tails.now))
         → IsRow N t.job (vectors_of (map V.lanes job.now))
-        → AreSummed N rows step t (vectors_of (map V.lanes heads.old)) (V.lanes before.now.inserted)
+        → AreSummed V.Holds N rows step t (vectors_of (map V.lanes heads.old)) (V.lanes before.now.inserted)
         (V.lanes before.now.sum)
-        → AreSummed N rows (suc step) t (vectors_of (map V.lanes heads.new)) (V.lanes result.inserted)
+        → AreSummed V.Holds N rows (suc step) t (vectors_of (map V.lanes heads.new)) (V.lanes result.inserted)
         (V.lanes result.sum) }
 {
     let mut inserted = from_before(before.inserted);
@@ -55,8 +55,8 @@ fn step_sums<V: Band, const N: usize>(
 
 /// Computes the heads, the inserted rows and the sums of all steps, and keeps the sum of each place. The sum of a place
 /// comes to the last lane seven steps after that of the place; those of the last places are in other lanes after the
-/// last step. It promises the sums of an insertion whose heads, inserted rows and sums are as many cells as the permit
-/// has.
+/// last step, and have fewer machines. It promises the sums of an insertion whose heads, inserted rows and sums are as
+/// many cells as the permit has.
 #[inline(never)]
 pub fn fill_sums<V: Band, const N: usize>(
     permit: Permit,
@@ -76,16 +76,11 @@ pub fn fill_sums<V: Band, const N: usize>(
     requires sums { length sums.old ≡ steps + 7 }
     ensures length { length sums.new ≡ length sums.old }
     ensures sums { (t : TablesOfCells) (rows machines : ℕ) → permit ≡ (3 * rows + 2) * machines
-        → AreTimesOf rows machines t.time → IsNoneFrom machines t.job → AreTables V.CAP rows t
-        → AreTimes N steps t.time (map V.lanes times.now) → HoldCells N steps t.tail (map V.lanes tails.now)
-        → IsRow N t.job (vectors_of (map V.lanes job.now)) → (place : ℕ) → place ≤ rows → place + 7 < steps
-        → slice_index_or (map V.number sums.new) (place + 7) 0 ≡ t.sum place (8 * N) }
-    ensures last { (t : TablesOfCells) (rows machines : ℕ) → permit ≡ (3 * rows + 2) * machines
-        → AreTimesOf rows machines t.time → IsNoneFrom machines t.job → AreTables V.CAP rows t
-        → AreTimes N steps t.time (map V.lanes times.now) → HoldCells N steps t.tail (map V.lanes tails.now)
-        → IsRow N t.job (vectors_of (map V.lanes job.now)) → (place lane : ℕ) → place ≤ rows → lane < 8
-        → place + suc lane ≡ steps
-        → slice_index_or (map V.number sums.new) (place + 7) 0 ≡ t.sum place (suc lane * N) }
+        → AreTimesOf rows machines t.time → IsNoneFrom machines t.job → AreTables rows t
+        → AreTimes V.Holds N steps t.time (map V.lanes times.now)
+        → HoldCells V.Holds N steps t.tail (map V.lanes tails.now)
+        → IsRow N t.job (vectors_of (map V.lanes job.now)) → (place : ℕ) → place ≤ rows → place < steps
+        → V.Holds (slice_index_or (map V.number sums.new) (place + 7) 0) (t.sum place (min 8 (steps - place) * N)) }
 {
     let zero = V::zeros();
     let mut heads = [zero; N];

@@ -1,7 +1,7 @@
 //! The pass of the tails.
 ghost use Rattle.std.specs.Prelude.{◌≡◌, ℕ, suc, ◌+◌, ◌-◌, ◌*◌, ◌<◌, ◌≤◌, ◌≢◌, ◌^◌, ◌⊎◌, length, map};
-ghost use Rattle.std.specs.List.{slice_index_or};
-ghost use Rattle.pfs_wave.specs.Private.Blocks.{Cells, HoldCells, IsColumn, IsStep, next_cell, vectors_of};
+ghost use Rattle.pfs_wave.specs.Private.Blocks.{Cells, HoldCells, IsColumn, IsStep, vectors_of};
+ghost use Rattle.pfs_wave.specs.Private.Lanes.{IsNext, IsSecond};
 ghost use Rattle.pfs_wave.specs.Private.Payment.{AreTimesOf};
 ghost use Rattle.pfs_wave.specs.Private.Recurrences.{AreTails};
 
@@ -14,12 +14,9 @@ use pfs_base::Permit;
 fn second_tail<V: Band, const N: usize>(carry: V, after: &[V], times: &[V]) -> V
     requires after { length after.now ≡ N }
     requires times { length times.now ≡ N }
-    ensures { 2 ≤ N → (lane : ℕ) → lane < 8 → slice_index_or (V.lanes result) lane 0
-        ≡ next_cell V.CAP (next_cell V.CAP (slice_index_or (V.lanes carry) lane 0)
-        (slice_index_or (vectors_of (map V.lanes after.now) (N - 1)) lane 0)
-        (slice_index_or (vectors_of (map V.lanes times.now) (N - 1)) lane 0))
-        (slice_index_or (vectors_of (map V.lanes after.now) (N - 2)) lane 0)
-        (slice_index_or (vectors_of (map V.lanes times.now) (N - 2)) lane 0) }
+    ensures { 2 ≤ N → IsSecond V.Holds (V.lanes carry) (vectors_of (map V.lanes after.now) (N - 1))
+        (vectors_of (map V.lanes times.now) (N - 1)) (vectors_of (map V.lanes after.now) (N - 2))
+        (vectors_of (map V.lanes times.now) (N - 2)) (V.lanes result) }
 {
     if N < 2 {
         return carry;
@@ -37,9 +34,7 @@ fn second_tail<V: Band, const N: usize>(carry: V, after: &[V], times: &[V]) -> V
 #[inline(always)]
 fn next_tail<V: Band>(passed: usize, second: V, tail: V, above: V, time: V) -> V
     ensures second { passed ≡ 1 → V.lanes result ≡ V.lanes second }
-    ensures next { passed ≢ 1 → (lane : ℕ) → lane < 8 → slice_index_or (V.lanes result) lane 0
-        ≡ next_cell V.CAP (slice_index_or (V.lanes tail) lane 0) (slice_index_or (V.lanes above) lane 0)
-        (slice_index_or (V.lanes time) lane 0) }
+    ensures next { passed ≢ 1 → IsNext V.Holds (V.lanes tail) (V.lanes above) (V.lanes time) (V.lanes result) }
 {
     if passed == 1 {
         second
@@ -72,14 +67,14 @@ fn step_tails<V: Band, const N: usize>(
     requires row { length row.old ≡ N }
     ensures length { length now.new ≡ N }
     ensures row_length { length row.new ≡ N }
-    ensures tails { (time tail : Cells) (step : ℕ) → AreTails V.CAP N time tail
-        → IsStep N step time (vectors_of (map V.lanes times.now))
-        → IsStep N (suc step) tail (vectors_of (map V.lanes after.now))
-        → IsStep N (suc step) tail (vectors_of (map V.lanes now.old))
-        → IsColumn N (suc step) tail 0 (V.lanes first)
-        → IsStep N step tail (vectors_of (map V.lanes now.new))
-        × IsStep N step tail (vectors_of (map V.lanes row.new))
-        × IsColumn N step tail 0 (V.lanes result) }
+    ensures tails { (time tail : Cells) (step : ℕ) → AreTails N time tail
+        → IsStep V.Holds N step time (vectors_of (map V.lanes times.now))
+        → IsStep V.Holds N (suc step) tail (vectors_of (map V.lanes after.now))
+        → IsStep V.Holds N (suc step) tail (vectors_of (map V.lanes now.old))
+        → IsColumn V.Holds N (suc step) tail 0 (V.lanes first)
+        → IsStep V.Holds N step tail (vectors_of (map V.lanes now.new))
+        × IsStep V.Holds N step tail (vectors_of (map V.lanes row.new))
+        × IsColumn V.Holds N step tail 0 (V.lanes result) }
 {
     let held = *now;
     let after = chosen::<V, N>(&held, after);
@@ -109,9 +104,10 @@ pub fn fill_tails<V: Band, const N: usize>(
     requires tails { length tails.old ≡ steps * N + N }
     ensures length { length tails.new ≡ length tails.old }
     ensures tails { (rows machines : ℕ) (time tail : Cells) → permit ≡ rows * machines
-        → AreTimesOf rows machines time → AreTails V.CAP N time tail
+        → AreTimesOf rows machines time → AreTails N time tail
         → ((row lane k : ℕ) → lane < 8 → k < N → row + lane ≡ steps → tail row (lane * N + k) ≡ 0)
-        → HoldCells N steps time (map V.lanes times.now) → HoldCells N steps tail (map V.lanes tails.new) }
+        → HoldCells V.Holds N steps time (map V.lanes times.now)
+        → HoldCells V.Holds N steps tail (map V.lanes tails.new) }
 {
     permit.spend();
     let mut first = V::zeros();

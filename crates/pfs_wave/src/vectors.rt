@@ -1,7 +1,8 @@
 //! What the passes do with the vectors of a step.
 ghost use Rattle.std.specs.Prelude.{◌≡◌, ℕ, suc, ◌<◌, length, map, slice_set};
 ghost use Rattle.std.specs.List.{slice_index_or};
-ghost use Rattle.pfs_wave.specs.Private.Blocks.{next_cell, vectors_of};
+ghost use Rattle.pfs_wave.specs.Private.Blocks.{vectors_of};
+ghost use Rattle.pfs_wave.specs.Private.Lanes.{IsNext, IsSecond};
 
 use crate::band::Band;
 
@@ -23,21 +24,17 @@ pub fn array_of<V: Band, const N: usize>(vectors: &[V]) -> [V; N]
 /// The next value of each lane of a table, from the values beside and above it.
 #[inline(always)]
 pub fn next_value<V: Band>(beside: V, above: V, time: V) -> V
-    ensures { (lane : ℕ) → lane < 8 → slice_index_or (V.lanes result) lane 0
-        ≡ next_cell V.CAP (slice_index_or (V.lanes beside) lane 0) (slice_index_or (V.lanes above) lane 0)
-        (slice_index_or (V.lanes time) lane 0) }
+    ensures { IsNext V.Holds (V.lanes beside) (V.lanes above) (V.lanes time) (V.lanes result) }
 {
     beside.greater(above).sum(time)
 }
 
-/// The value after two more vectors. Capped sums are associative, so it is computed from both times, and waits for
-/// `beside` by three operations in place of four.
+/// The value after two more vectors. It is computed from the sum of both times, and waits for `beside` by three
+/// operations in place of four.
 #[inline(always)]
 pub fn second_value<V: Band>(beside: V, above: V, time: V, next_above: V, next_time: V) -> V
-    ensures { (lane : ℕ) → lane < 8 → slice_index_or (V.lanes result) lane 0
-        ≡ next_cell V.CAP (next_cell V.CAP (slice_index_or (V.lanes beside) lane 0) (slice_index_or (V.lanes above) lane 0)
-        (slice_index_or (V.lanes time) lane 0)) (slice_index_or (V.lanes next_above) lane 0)
-        (slice_index_or (V.lanes next_time) lane 0) }
+    ensures { IsSecond V.Holds (V.lanes beside) (V.lanes above) (V.lanes time) (V.lanes next_above) (V.lanes next_time)
+        (V.lanes result) }
 {
     let greater = beside.greater(above);
     let both = time.sum(next_time);

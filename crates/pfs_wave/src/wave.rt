@@ -55,7 +55,7 @@ impl Wave {
         let path = path_bound(instance);
         if path < 65_535 {
             Ok(Wave::Short(Blocks::new(alloc, instance)?))
-        } else if path < 2_147_483_647 {
+        } else if path < 4_294_967_295 {
             Ok(Wave::Long(Blocks::new(alloc, instance)?))
         } else {
             Ok(Wave::Wide(Blocks::new(alloc, instance)?))

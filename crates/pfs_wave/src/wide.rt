@@ -1,26 +1,18 @@
 //! Bands of 64-bit lanes.
 ghost use Rattle.std.proofs.Common.{refl};
-ghost use Rattle.std.specs.Prelude.{◌≡◌, ℕ, ◌≤◌, length, min};
-ghost use Rattle.std.specs.Simd.Lanes.{Each1, zip2};
-ghost use Rattle.pfs_wave.specs.Private.Lanes.{capped_add};
+ghost use Rattle.std.specs.Prelude.{◌≡◌, ℕ, ◌≤◌, length};
+ghost use Rattle.pfs_wave.specs.Private.Lanes.{HoldsBelow};
 
 use crate::band::{BACK, Band, DOWN, HALF, ODD, PAIRS, UP};
-use crate::best::{Found, first_least};
+use crate::best::first_least;
+use pfs_insert::Placed;
 use std::simd::prelude::*;
 
-/// Eight lanes of 64 bits. Sums stop at 2^64 - 1.
+/// Eight lanes of 64 bits. They have room for values below 2^63 - 1, and greater sums wrap.
 #[derive(Clone, Copy)]
 pub struct Wide {
     values: u64x8,
     ghost eight: { length values ≡ 8 },
-}
-
-// The sum of each lane, or 2^64 - 1 where the sum is greater.
-#[inline(always)]
-fn saturating_sum(a: u64x8, b: u64x8) -> u64x8
-    ensures { result ≡ zip2 (capped_add 18446744073709551615) a b }
-{
-    a.saturating_add(b)
 }
 
 impl Band for Wide {
@@ -30,7 +22,11 @@ impl Band for Wide {
 
     ghost number = { λ n. n };
 
-    ghost CAP = { 18446744073709551615 };
+    ghost Holds = { HoldsBelow 9223372036854775807 };
+
+    ghost itself = { λ n small. refl };
+
+    ghost CAP = { 9223372036854775807 };
 
     const IN_REGISTERS: usize = 2;
 
@@ -44,18 +40,8 @@ impl Band for Wide {
 
     #[inline(always)]
     fn from_times(times: [u32; 8]) -> Wide {
-        Wide {
-            values: u64x8::from_array([
-                u64::from(times[0]),
-                u64::from(times[1]),
-                u64::from(times[2]),
-                u64::from(times[3]),
-                u64::from(times[4]),
-                u64::from(times[5]),
-                u64::from(times[6]),
-                u64::from(times[7]),
-            ]),
-        }
+        let values = u32x8::from_array(times).cast::<u64>();
+        Wide { values }
     }
 
     #[inline(always)]
@@ -70,15 +56,17 @@ impl Band for Wide {
         Wide { values }
     }
 
+    // A processor chooses by the sign bit of the difference.
     #[inline(always)]
     fn greater(self, other: Wide) -> Wide {
-        let values = self.values.simd_max(other.values);
+        let no_less = (self.values - other.values).simd_lt(u64x8::splat(1 << 63));
+        let values = no_less.select(self.values, other.values);
         Wide { values }
     }
 
     #[inline(always)]
     fn sum(self, other: Wide) -> Wide {
-        let values = saturating_sum(self.values, other.values);
+        let values = self.values + other.values;
         Wide { values }
     }
 
@@ -116,7 +104,7 @@ impl Band for Wide {
     }
 
     #[inline(always)]
-    fn first_least(sums: &[u64]) -> Found {
+    fn first_least(sums: &[u64]) -> Placed<u64> {
         first_least(sums)
     }
 }

@@ -1,9 +1,9 @@
 -- Blocks of machines. A step of a wavefront has `count` vectors of eight lanes. Lane l of vector k has machine
 -- l * count + k, so a lane has a block of `count` machines. At step x it has the cells of row x - l.
-use Rattle.std.specs.Prelude.{ℕ, ◌≡◌, ◌+◌, ◌*◌, ◌<◌, ◌≤◌, List, [], max}
+use Rattle.std.specs.Prelude.{ℕ, ◌≡◌, ◌+◌, ◌*◌, ◌<◌, ◌≤◌, List, []}
 use Rattle.std.specs.List.{slice_index_or}
 use Rattle.pfs_base.specs.FlowShop.{FlowShop, time_of}
-use Rattle.pfs_wave.specs.Private.Lanes.{capped_add}
+use Rattle.pfs_wave.specs.Private.Lanes.{Holding}
 use Rattle.pfs_wave.specs.Private.Padded.{on_machine}
 use Rattle.pfs_wave.specs.declared.blocks.Width.{Width}
 use Rattle.pfs_wave.specs.declared.blocks.Width.TheVariants as width
@@ -23,16 +23,17 @@ vectors_of row k = slice_index_or row k []
 abbrev pub step_of : ℕ → List (List ℕ) → ℕ → Vectors
 step_of count table step k = slice_index_or table (step * count + k) []
 
--- the lanes of vector k have the cells of their machines, each of the row that is at the lane in this step
-abbrev pub IsColumn : ℕ → ℕ → Cells → ℕ → List ℕ → Type 0
-IsColumn count step cell k lanes =
-    (row lane : ℕ) → lane < 8 → row + lane ≡ step → slice_index_or lanes lane 0 ≡ cell row (lane * count + k)
+-- the lanes of vector k hold the cells of their machines, each of the row that is at the lane in this step
+abbrev pub IsColumn : Holding → ℕ → ℕ → Cells → ℕ → List ℕ → Type 0
+IsColumn Holds count step cell k lanes =
+    (row lane : ℕ) → lane < 8 → row + lane ≡ step → Holds (slice_index_or lanes lane 0) (cell row (lane * count + k))
 
-abbrev pub IsStep : ℕ → ℕ → Cells → Vectors → Type 0
-IsStep count step cell vectors = (k : ℕ) → k < count → IsColumn count step cell k (vectors k)
+abbrev pub IsStep : Holding → ℕ → ℕ → Cells → Vectors → Type 0
+IsStep Holds count step cell vectors = (k : ℕ) → k < count → IsColumn Holds count step cell k (vectors k)
 
-abbrev pub HoldCells : ℕ → ℕ → Cells → List (List ℕ) → Type 0
-HoldCells count steps cell table = (step : ℕ) → step < steps → IsStep count step cell (step_of count table step)
+abbrev pub HoldCells : Holding → ℕ → ℕ → Cells → List (List ℕ) → Type 0
+HoldCells Holds count steps cell table =
+    (step : ℕ) → step < steps → IsStep Holds count step cell (step_of count table step)
 
 -- the lanes that the first row has not reached are 0
 abbrev pub IsNoneBefore : ℕ → ℕ → Vectors → Type 0
@@ -40,18 +41,14 @@ IsNoneBefore count step vectors =
     (lane k : ℕ) → lane < 8 → k < count → step < lane → slice_index_or (vectors k) lane 0 ≡ 0
 
 -- the table of the times of a sequence
-pub record AreTimes (count steps : ℕ) (time : Cells) (table : List (List ℕ)) : Type 0 where
-  pub cells_are : HoldCells count steps time table
+pub record AreTimes (Holds : Holding) (count steps : ℕ) (time : Cells) (table : List (List ℕ)) : Type 0 where
+  pub cells_are : HoldCells Holds count steps time table
   pub none_before : (step : ℕ) → step < steps → IsNoneBefore count step (step_of count table step)
 
 -- some vectors have a value for each machine
 abbrev pub IsRow : ℕ → (ℕ → ℕ) → Vectors → Type 0
 IsRow count value vectors =
     (lane k : ℕ) → lane < 8 → k < count → slice_index_or (vectors k) lane 0 ≡ value (lane * count + k)
-
--- the greater value plus the time, which stops at the cap
-abbrev pub next_cell : ℕ → ℕ → ℕ → ℕ → ℕ
-next_cell cap beside above time = capped_add cap (max beside above) time
 
 -- ---- the rows of a shop
 

@@ -1,6 +1,7 @@
 -- What the passes of an insertion are given, and what they are paid for.
 use Rattle.std.specs.Prelude.{ℕ, ◌≡◌, ◌+◌, ◌*◌, ◌≤◌, List, length}
 use Rattle.pfs_base.specs.FlowShop.{FlowShop, time_of}
+use Rattle.pfs_wave.specs.Private.Lanes.{Holding}
 use Rattle.pfs_wave.specs.Private.Blocks.{AreTimes, Cells, IsRow, vectors_of}
 use Rattle.pfs_wave.specs.Private.Padded.{on_machine, padded_time}
 
@@ -21,11 +22,11 @@ pub record IsPaid (tails sums rows machines : ℕ) : Type 0 where
 
 -- the passes insert a job into a sequence of a shop: they have as many steps more than rows as lanes have machines, the
 -- permits, the times of the sequence, and those of the job
-pub record IsInsertion (shop : FlowShop) (jobs : List ℕ) (job count lanes steps tails sums : ℕ)
+pub record IsInsertion (Holds : Holding) (shop : FlowShop) (jobs : List ℕ) (job count lanes steps tails sums : ℕ)
     (times row : List (List ℕ)) : Type 0 where
   pub some : 1 ≤ shop.machines
   pub few : shop.machines ≤ lanes * count
   pub all : length jobs + lanes ≡ steps
   pub paid : IsPaid tails sums (length jobs) shop.machines
-  pub times_are : AreTimes count steps (padded_time shop jobs) times
+  pub times_are : AreTimes Holds count steps (padded_time shop jobs) times
   pub job_is : IsRow count (on_machine shop (time_of shop job)) (vectors_of row)

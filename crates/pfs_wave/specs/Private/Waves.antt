@@ -19,8 +19,8 @@ blocks_of (wave.Wide blocks) = blocks
 -- the greatest value of its lanes
 abbrev pub cap_of : Wave → ℕ
 cap_of (wave.Short blocks) = 65535
-cap_of (wave.Long blocks) = 2147483647
-cap_of (wave.Wide blocks) = 18446744073709551615
+cap_of (wave.Long blocks) = 4294967295
+cap_of (wave.Wide blocks) = 9223372036854775807
 
 -- it has the times of a shop, and no path of the shop is too long for its lanes
 pub record Serves (shop : FlowShop) (wave : Wave) : Type 0 where

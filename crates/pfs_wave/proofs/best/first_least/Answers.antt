@@ -9,6 +9,6 @@ loop-place-preserved c =
     let value = λ (place : ℕ). slice_index_or c.args.sums.now place 0 in
     let at = c.loop-place in
     elim c.if-sums-place.branch [
-      | then-sums-place w ↦ rw w.found-is (lower value at.place at.found.place at.found.sum at.invariant w.if-sums-place.true)
-      | else-sums-place w ↦ rw w.found-is (kept value at.place at.found.place at.found.sum at.invariant w.if-sums-place.false)
+      | then-sums-place w ↦ rw w.found-is (lower value at.place at.found.place at.found.span at.invariant w.if-sums-place.true)
+      | else-sums-place w ↦ rw w.found-is (kept value at.place at.found.place at.found.span at.invariant w.if-sums-place.false)
     ]

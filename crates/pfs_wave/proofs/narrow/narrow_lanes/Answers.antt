@@ -7,6 +7,6 @@ new-requires c k d lt =
     omega (
       arith,
       greatest_all c.args.instance.now.shop.times k d lt,
-      c.if-longest_time-le65535.true,
+      c.if-longest_time-gt65535.false,
       c.longest_time.ensures,
     )

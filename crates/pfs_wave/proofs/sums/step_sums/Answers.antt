@@ -1,10 +1,8 @@
-use Rattle.std.proofs.Common.{◌-◌, map, max, get_or, ap, ◌∙◌, refl, arith}
-use Rattle.pfs_wave.specs.Private.Lanes.{capped_add}
+use Rattle.std.proofs.Common.{◌+◌, ◌-◌, map, get_or, ap, refl, arith}
 use Rattle.pfs_wave.specs.Private.Blocks.{vectors_of}
-use Rattle.pfs_wave.proofs.LaneSteps.{combined}
 use Rattle.pfs_wave.proofs.StepTables.{read, read_as}
+use Rattle.pfs_wave.proofs.TailCells.{changed}
 use Rattle.pfs_wave.proofs.SumCells.{step_sums_none, step_sums_more, step_summed}
-use Rattle.pfs_wave.proofs.TailCells.{later_same}
 use Rattle.pfs_wave.proofs.sums.step_sums.Goals as goal
 
 pub loop-k-init : goal.loop-k-init
@@ -18,7 +16,7 @@ loop-k-init g c =
     let inserted = c.from_before-inserted.ensures in
     let sum = c.from_before-sum.ensures in
     let head = c.from_before-head.ensures in
-    step_sums_none lanes g.V.Band.CAP g.row.N (vectors_of (map lanes c.args.times.now))
+    step_sums_none g.V.Band.Holds g.V.Band.itself lanes g.row.N (vectors_of (map lanes c.args.times.now))
     (vectors_of (map lanes c.args.tails.now)) (vectors_of (map lanes c.args.job.now)) some
     (vectors_of (map lanes heads)) (lanes before.inserted) (lanes before.sum) heads
     (lanes (get_or heads (g.row.N - 1) last)) (lanes c.from_before-inserted.result) (lanes c.from_before-sum.result)
@@ -29,8 +27,7 @@ loop-k-init g c =
 pub loop-k-preserved : goal.loop-k-preserved
 loop-k-preserved g c =
     let lanes = g.V.Band.lanes in
-    let cap = g.V.Band.CAP in
-    let eight = g.met.V.Band.eight in
+    let Holds = g.V.Band.Holds in
     let before = c.args.before.now in
     let heads = c.loop-k.heads in
     let k = c.loop-k.k in
@@ -46,27 +43,19 @@ loop-k-preserved g c =
     let inserted = c.next_value-inserted.result in
     let above = read lanes heads k c.index-heads-k.result (omega arith) in
     let tail = read_as lanes tails k c.index-tails-k.result (omega arith) c.index-tails-k.is in
-    step_sums_more lanes cap g.row.N (vectors_of (map lanes times)) (vectors_of (map lanes tails))
+    step_sums_more Holds g.V.Band.itself lanes g.row.N (vectors_of (map lanes times)) (vectors_of (map lanes tails))
     (vectors_of (map lanes job)) c.requires.some (vectors_of (map lanes c.args.heads.now)) (lanes before.inserted)
     (lanes before.sum) heads (lanes c.loop-k.inserted) (lanes c.loop-k.sum) (lanes c.loop-k.head) k
     c.next_value-head.result (lanes inserted) (lanes c.greater-sum.result) so_far inside
-    (λ lane lt. c.next_value-inserted.ensures lane lt
-    ∙ later_same cap refl (ap (λ v. get_or v lane 0) above)
-    (ap (λ v. get_or v lane 0) (read lanes job k c.index-job-k.result (omega arith))))
-    (λ lane lt.
-    combined max (lanes c.loop-k.sum) (lanes c.sum.result) lane c.greater-sum.ensures (eight c.loop-k.sum)
-    (eight c.sum.result) lt
-    ∙ ap (max (get_or (lanes c.loop-k.sum) lane 0)) (combined (capped_add cap) (lanes inserted)
-    (lanes c.index-tails-k.result) lane c.sum.ensures (eight inserted) (eight c.index-tails-k.result) lt
-    ∙ ap (λ v. capped_add cap (get_or (lanes inserted) lane 0) (get_or v lane 0)) tail))
-    (λ lane lt. c.next_value-head.ensures lane lt
-    ∙ later_same cap refl (ap (λ v. get_or v lane 0) above)
-    (ap (λ v. get_or v lane 0) (read_as lanes times k c.index-times-k.result (omega arith) c.index-times-k.is)))
+    (rw (above, read lanes job k c.index-job-k.result (omega arith)) at c.next_value-inserted.ensures)
+    (λ lane a b t lt p q r. c.greater-sum.ensures lane a (b + t) lt p (c.sum.ensures lane b t lt q
+    (changed Holds (ap (λ v. get_or v lane 0) tail) refl r)))
+    (rw (above, read_as lanes times k c.index-times-k.result (omega arith) c.index-times-k.is) at c.next_value-head.ensures)
 
 pub returns-clause-cells : goal.returns-clause-cells
 returns-clause-cells g c t rows step are times_are none tails_are job_is summed =
     let lanes = g.V.Band.lanes in
     let outside = c.loop-k-test.false in
-    step_summed lanes g.row.N rows step t c.loop-k.heads (lanes c.loop-k.inserted) (lanes c.loop-k.sum)
+    step_summed g.V.Band.Holds lanes g.row.N rows step t c.loop-k.heads (lanes c.loop-k.inserted) (lanes c.loop-k.sum)
     (lanes c.loop-k.head) c.loop-k.k (c.loop-k.invariant.cells t rows step are times_are none tails_are job_is summed)
     (omega arith)

@@ -8,11 +8,12 @@ abbrev pub invariant-loop-left : goal.invariant-loop-left
 invariant-loop-left g l =
     let lanes = g.V.Band.lanes in
     let count = g.row.N in
+    let Holds = g.V.Band.Holds in
     record {
       long : length l.tails ≡ length l.fn.tails;
       now_long : length l.now ≡ count;
-      cells : (time tail : Cells) → AreTails g.V.Band.CAP count time tail
+      cells : (time tail : Cells) → AreTails count time tail
           → ((row lane k : ℕ) → lane < 8 → k < count → row + lane ≡ l.steps → tail row (lane * count + k) ≡ 0)
-          → HoldCells count l.steps time (map lanes l.times)
-          → AreTailsFilled lanes count l.steps tail l.tails l.now (lanes l.first) l.left;
+          → HoldCells Holds count l.steps time (map lanes l.times)
+          → AreTailsFilled Holds lanes count l.steps tail l.tails l.now (lanes l.first) l.left;
     }

@@ -1,20 +1,19 @@
-use Rattle.std.proofs.Common.{suc, ◌≡◌, ◌-◌, map, length, get_or, subst, ap, ◌∙◌, refl, arith, inl, inr}
+use Rattle.std.proofs.Common.{suc, ◌≡◌, ◌-◌, map, length, subst, ap, ◌∙◌, refl, arith, inl, inr}
 use Rattle.pfs_wave.specs.Private.Blocks.{IsColumn, IsStep, vectors_of}
 use Rattle.pfs_wave.proofs.StepTables.{read_as}
-use Rattle.pfs_wave.proofs.TailCells.{later_same, step_tails_none, step_tails_more}
+use Rattle.pfs_wave.proofs.TailCells.{step_tails_none, step_tails_more}
 use Rattle.pfs_wave.proofs.tails.step_tails.Goals as goal
 
 pub loop-passed-init : goal.loop-passed-init
 loop-passed-init g c =
     let lanes = g.V.Band.lanes in
-    step_tails_none lanes g.V.Band.CAP g.row.N (vectors_of (map lanes c.args.times.now))
+    step_tails_none g.V.Band.Holds g.V.Band.itself lanes g.row.N (vectors_of (map lanes c.args.times.now))
     (vectors_of (map lanes c.chosen-after.result.now)) (lanes c.args.first) (g.met.V.Band.eight c.args.first) c.args.now.now
     c.args.row.now (lanes c.from_after-tail.result) c.told-now c.requires.row c.from_after-tail.ensures
 
 pub loop-passed-preserved : goal.loop-passed-preserved
 loop-passed-preserved g c =
     let lanes = g.V.Band.lanes in
-    let cap = g.V.Band.CAP in
     let count = g.row.N in
     let after = c.chosen-after.result.now in
     let times = c.args.times.now in
@@ -27,17 +26,16 @@ loop-passed-preserved g c =
     let times_long = c.requires.times in
     let above = read_as lanes after k c.index-after-k.result (omega arith) c.index-after-k.is in
     let time = read_as lanes times k c.index-times-k.result (omega arith) c.index-times-k.is in
-    step_tails_more lanes cap count (vectors_of (map lanes times)) (vectors_of (map lanes after)) (lanes first)
+    step_tails_more g.V.Band.Holds g.V.Band.itself lanes count (vectors_of (map lanes times)) (vectors_of (map lanes after)) (lanes first)
     (g.met.V.Band.eight first) c.loop-passed.now c.loop-passed.row (lanes c.loop-passed.tail) c.loop-passed.passed k
     c.next_tail-tail.result (lanes c.from_after-tail.result) (lanes c.second_tail-second.result) so_far inside refl
     c.from_after-tail.ensures c.second_tail-second.ensures c.next_tail-tail.ensures.second
-    (λ other lane lt. c.next_tail-tail.ensures.next other lane lt
-    ∙ later_same cap refl (ap (λ v. get_or v lane 0) above) (ap (λ v. get_or v lane 0) time))
+    (λ other. rw (above, time) at (c.next_tail-tail.ensures.next other))
 
 pub returns-clause-tails : goal.returns-clause-tails
 returns-clause-tails g c time tail step are times_are after_are now_are first_is =
     let lanes = g.V.Band.lanes in
-    let chosen_are : IsStep g.row.N (suc step) tail (vectors_of (map lanes c.chosen-after.result.now)) =
+    let chosen_are : IsStep g.V.Band.Holds g.row.N (suc step) tail (vectors_of (map lanes c.chosen-after.result.now)) =
     elim c.chosen-after.ensures [ inl is ↦ rw is now_are | inr is ↦ rw is after_are ] in
     let outside = c.loop-passed-test.false in
     let some = c.requires.some in
@@ -45,5 +43,5 @@ returns-clause-tails g c time tail step are times_are after_are now_are first_is
     let here : g.row.N - c.loop-passed.passed ≡ 0 = omega arith in (
       λ k lt. cells.done k lt (omega arith),
       λ k lt. cells.row_done k lt (omega arith),
-      subst (λ j. IsColumn g.row.N step tail j (lanes c.loop-passed.tail)) here cells.last_is,
+      subst (λ j. IsColumn g.V.Band.Holds g.row.N step tail j (lanes c.loop-passed.tail)) here cells.last_is,
     )

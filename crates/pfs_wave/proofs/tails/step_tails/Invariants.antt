@@ -6,5 +6,5 @@ use Rattle.pfs_wave.proofs.tails.step_tails.Given as goal
 abbrev pub invariant-loop-passed : goal.invariant-loop-passed
 invariant-loop-passed g l =
     let lanes = g.V.Band.lanes in
-    AreStepTails lanes g.V.Band.CAP g.row.N (vectors_of (map lanes l.times)) (vectors_of (map lanes l.after))
+    AreStepTails g.V.Band.Holds lanes g.row.N (vectors_of (map lanes l.times)) (vectors_of (map lanes l.after))
     (lanes l.fn.first) l.now l.row (lanes l.tail) l.passed

@@ -7,6 +7,7 @@ use Rattle.pfs_wave.specs.Private.Payment.{IsInsertion, IsPaid}
 use Rattle.pfs_wave.proofs.BestFound.{number_of_part}
 use Rattle.pfs_wave.proofs.HeldLemmas.{holding_times, times_taken}
 use Rattle.pfs_wave.proofs.StepTables.{part_read}
+use Rattle.pfs_wave.proofs.TailCells.{changed}
 use Rattle.pfs_wave.proofs.blocks.Blocks.best_in.Given as given
 use Rattle.pfs_wave.proofs.blocks.Blocks.best_in.Goals as goal
 
@@ -46,7 +47,7 @@ invariant_of-self g c =
 -- what the passes are given, of a shop that the blocks have
 passed : (g : given.Over) (c : goal.After-slice_known-2-1 g) (shop : FlowShop) → HasShop shop c.args.self.now
     → IsPaid c.args.permits.tails c.args.permits.sums (length c.args.sequence.now) shop.machines
-    → IsInsertion shop c.args.sequence.now c.args.job g.row.N c.self.inside.lanes
+    → IsInsertion g.V.Band.Holds shop c.args.sequence.now c.args.job g.row.N c.self.inside.lanes
     (length c.args.sequence.now + c.self.inside.lanes) c.args.permits.tails c.args.permits.sums
     (map g.V.Band.lanes (take ((length c.args.sequence.now + c.self.inside.lanes) * g.row.N) c.hold.new.times))
     (map g.V.Band.lanes (take (c.args.job * g.row.N + g.row.N - c.args.job * g.row.N) (drop (c.args.job * g.row.N) c.self.inside.rows.items)))
@@ -67,14 +68,14 @@ passed g c shop has paid =
     let some = holds.steps in
     let few = holds.some in
     let eight = c.self.invariant.eight in
-    let whole : AreTimes count steps (padded_time shop jobs) (map lanes times) =
-    rw c.hold.ensures.jobs at (holding_times holds shop steps (ap (λ b. b.jobs) view ∙ has.jobs) has_rows (omega arith)) in
+    let whole : AreTimes g.V.Band.Holds count steps (padded_time shop jobs) (map lanes times) =
+    rw c.hold.ensures.jobs at (holding_times holds g.V.Band.Holds g.V.Band.itself shop steps (ap (λ b. b.jobs) view ∙ has.jobs) has_rows (omega arith)) in
     record {
       some = has.some;
       few = rw (← ap (λ b. b.lanes) view, c.requires.count) at has.few;
       all = refl;
       paid = paid;
-      times_are = times_taken lanes count steps (steps * count) (padded_time shop jobs) times (omega arith) whole;
+      times_are = times_taken g.V.Band.Holds lanes count steps (steps * count) (padded_time shop jobs) times (omega arith) whole;
       job_is = λ lane k lt k_lt.
           ap (λ v. get_or v lane 0)
           (part_read lanes count c.args.job (c.args.job * count) n inside.rows.items refl k (omega arith))
@@ -82,7 +83,7 @@ passed g c shop has paid =
     }
 
 pub returns-clause-best : goal.returns-clause-best
-returns-clause-best g c shop has paid other among short =
+returns-clause-best g c shop has paid =
     let inside = c.self.inside in
     let times = c.hold.new.times in
     let times_long : length times ≡ inside.times.len = omega (arith, c.hold.ensures.times, c.deref_mut-2.ensures.len) in
@@ -91,7 +92,7 @@ returns-clause-best g c shop has paid other among short =
       c.deref-3.ensures.value,
       take_at times (drop (length times) inside.times.items) inside.times.len times_long,
     ) at c.best_place-best.ensures.best in
-    found shop c.args.sequence.now c.args.job (passed g c shop has paid) other among short
+    found shop c.args.sequence.now c.args.job (passed g c shop has paid)
 
 pub returns-clause-spans : goal.returns-clause-spans
 returns-clause-spans g c shop has paid place lt =
@@ -114,6 +115,6 @@ returns-clause-spans g c shop has paid place lt =
     ) at c.copy_sums.ensures in
     let long = c.best_place-best.ensures.sums ∙ ap length c.deref_mut-4.ensures.value ∙ c.self.invariant.sums in
     let jobs_are = ap (λ b. b.jobs) c.self.view_is in
-    copied place lt
-    ∙ number_of_part number sums 7 (length sums - 7) place (omega (arith, long, jobs_are, c.requires.few, lt, room))
-    ∙ found shop c.args.sequence.now c.args.job (passed g c shop has paid) place (omega arith)
+    changed g.V.Band.Holds (copied place lt
+    ∙ number_of_part number sums 7 (length sums - 7) place (omega (arith, long, jobs_are, c.requires.few, lt, room)))
+    refl (found shop c.args.sequence.now c.args.job (passed g c shop has paid) place (omega arith))

@@ -1,5 +1,6 @@
 use Rattle.std.proofs.Common.{length, refl, arith, ap}
 use Rattle.pfs_order.proofs.Published.Sequences.{length-lt-size}
+use Rattle.pfs_wave.proofs.BestFound.{found}
 use Rattle.pfs_wave.proofs.narrow.Narrow.best_or_wide.Goals as goal
 use Rattle.pfs_wave.proofs.narrow.Narrow.best_or_wide.Goals.{then-fits, else-fits}
 
@@ -32,7 +33,8 @@ returns-clause-best c serves paid =
       | then-fits w ↦
           let best = rw c.as_slice-jobs.ensures.value at w.best-best.ensures.best in
           let blocks = rw (← ap (λ tables. tables.blocks) c.self.view_is) at c.requires.narrow.blocks in
-          rw w.best-is (best shop blocks paid (length c.args.seq.now.jobs) (omega arith) (omega (arith, w.if-fits.ensures refl)))
+          rw w.best-is (found shop c.args.seq.now.jobs c.args.job 65535 (best shop blocks paid) refl
+          (length c.args.seq.now.jobs) (omega arith) (omega (arith, w.if-fits.ensures refl)))
       | else-fits w ↦
           let best = rw c.as_slice-jobs.ensures.value at w.best-best-else-fits.ensures.best in
           rw w.best-is (best shop serves paid)

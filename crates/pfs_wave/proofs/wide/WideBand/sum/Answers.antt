@@ -1,6 +1,6 @@
-use Rattle.std.proofs.Common.{length, ap, ◌∙◌, arith}
-use Rattle.pfs_wave.specs.Private.Lanes.{capped_add}
+use Rattle.std.proofs.Common.{w64, arith}
 use Rattle.pfs_wave.proofs.Steps.{length-zip}
+use Rattle.pfs_wave.proofs.VectorLemmas.{wrapped_sum}
 use Rattle.pfs_wave.proofs.wide.WideBand.sum.Goals as goal
 
 pub invariant_of-result : goal.invariant_of-result
@@ -8,8 +8,4 @@ invariant_of-result c =
     let a = c.args.self.values in
     let b = c.args.other.values in
     let long = c.args.self.eight in
-    record {
-      eight =
-          ap length c.saturating_sum-values.ensures
-          ∙ length-zip 8 (capped_add 18446744073709551615) a b (omega arith) c.args.other.eight;
-    }
+    record { eight = length-zip 8 (wrapped_sum w64) a b (omega arith) c.args.other.eight }
