@@ -13,6 +13,7 @@ import sys
 from collections.abc import Callable
 from typing import NoReturn
 
+from pfs._optional import optional
 from pfs.experiments import ExperimentError, plain
 
 # Where the program is searched for: on the path, and in the folder of pfs-experiments.
@@ -107,6 +108,8 @@ def main() -> int:
         name += f" {args.command}"
         if args.options and args.command not in ("run", "slurm"):
             parser.error(f"unrecognized arguments: {' '.join(args.options)}")
+        for module in ("matplotlib", "pandas", "scipy") if args.command == "report" else ():
+            optional(module, "a report")
         command: Callable[[argparse.Namespace], int] = vars(
             importlib.import_module(f"pfs.experiments.{args.module}"))[args.command]
         return command(args)
