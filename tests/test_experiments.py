@@ -1,5 +1,6 @@
 """The CSV of an experiment has the results of pfs itself: with GNU parallel, here and over ssh, and on a Slurm cluster
 of one node, also if its runs were killed at various moments and repeated, and if two experiments start at once."""
+import hashlib
 import json
 import os
 import pathlib
@@ -84,26 +85,29 @@ def test_readme_has_the_keys_of_a_plan_with_their_defaults_the_columns_and_the_n
 
 NO_PFS = {"prints nothing": "#!/bin/sh\n", "prints its words": "#!/bin/sh\necho \"$@\"\n",
           "prints without end": "#!/bin/sh\nyes\n", "is a text": "some words\n", "is a binary": "\x7fELF"}
-# The program, if it isn't pfs, the command and its words, and what is said.
 PATHS = ("shops", "plan.toml/out.csv", "x" * 255, "\udcff.csv")
-REFUSED = {
-    **{f"the CSV {path[:20]!r}": ("", f"run plan.toml {path}", "") for path in PATHS},
-    **{f"a program that {what}": (text, "run plan.toml out.csv", "program is not pfs: ")
+# The words, what is said, the text of a program that isn't pfs, and variables.
+REFUSED: dict[str, tuple[str, str, str, dict[str, str]]] = {
+    **{f"the CSV {path[:20]!r}": (f"run plan.toml {path}", "", "", {}) for path in PATHS},
+    **{f"a program that {what}": ("run plan.toml out.csv", "program is not pfs: ", text, {})
        for what, text in NO_PFS.items()},
-    "no GNU parallel": ("", "run plan.toml alone.csv", "parallel is not installed (Debian: parallel)"),
-    "no Slurm": ("", "slurm plan.toml alone.csv", "sbatch is not installed (Debian: slurm-client)"),
-    "no words": ("", "run", "usage: pfs-experiments run "), "another option": ("", "check out.csv --jobs", "--jobs"),
+    **{f"a library that is {path}": ("run timed.toml out.csv", path, "", {"PFS_LIBRARY": path})
+       for path in ("./none.so", "./plan.toml")},
+    "no GNU parallel": ("run plan.toml out.csv", "parallel is not installed (Debian: parallel)", "", {"PATH": "/none"}),
+    "no Slurm": ("slurm plan.toml out.csv", "sbatch is not installed (Debian: slurm-client)", "", {"PATH": "/none"}),
+    "no words": ("run", "usage: pfs-experiments run ", "", {}),
+    "another option": ("check out.csv --jobs", "--jobs", "", {}),
 }
 
 
-@pytest.mark.parametrize(("text", "words", "said"), REFUSED.values(), ids=REFUSED)
-def test_a_start_is_refused_before_anything_is_written(text: str, words: str, said: str,
+@pytest.mark.parametrize(("words", "said", "text", "env"), REFUSED.values(), ids=REFUSED)
+def test_a_start_is_refused_before_anything_is_written(words: str, said: str, text: str, env: dict[str, str],
                                                        experiment: Experiment) -> None:
     """Or is run: the replacement would note it."""
     program = write_script(experiment.folder / "program", text) if text else experiment.replacement()
+    (experiment.folder / "timed.toml").write_text(ALL + "time_factors = [1]\n")
     before = sorted(os.listdir(experiment.folder))
-    env = {"PATH": "/none"} if words.endswith("alone.csv") else None
-    assert_refused(experiment.script(*words.split(), program=program, env=env), said)
+    assert_refused(experiment.script(*words.split(), program=program, env={**os.environ, **env}), said)
     assert sorted(os.listdir(experiment.folder)) == before
 
 
@@ -316,6 +320,8 @@ def test_runs_by_time_take_their_time(experiment: Experiment, with_library: dict
                                     row["seed"], "--cells", row["instance"])
         assert (experiment.folder / row["order"]).read_text() + f"cells {row['cells']}\n" == wanted
     assert experiment.script("check", "out.csv") == Done(0, "out.csv: 12 orders audited, 0 of them wrong\n", "")
+    sums = json.loads((experiment.runs / "provenance.json").read_text())["sha256"]
+    assert sums["libpfs.so.1"] == hashlib.sha256(pathlib.Path(with_library["PFS_LIBRARY"]).read_bytes()).hexdigest()
 
 
 def test_readmes_plans_by_time(experiment: Experiment, with_library: dict[str, str]) -> None:
@@ -376,13 +382,6 @@ def test_a_search_by_time_continues_with_another_seed(search: Callable[..., one.
         other.run_rounds(found.rounds - 8)
         orders.append(other.order[:])
     assert orders[0] == found.order[:] != orders[1], "rounds of two seeds"
-
-
-@pytest.mark.parametrize("path", ["none.so", "plan.toml"], ids=["missing", "no library"])
-def test_an_invalid_library_is_reported(path: str, experiment: Experiment) -> None:
-    plan = experiment.plan(ALL + "time_factors = [1]\n")
-    assert_refused(plan.run(env=dict(os.environ, PFS_LIBRARY=str(experiment.folder / path))), path)
-    assert not experiment.runs.exists()
 
 
 # Other programs
@@ -503,7 +502,8 @@ def test_a_program_that_waits_or_takes_too_long_is_ended_with_all_that_it_has_st
 # Runs that fail
 
 # What pfs does for each seed from 1, and the status of the run.
-FAILING = [("$pfs \"$@\" | sed 's/^makespan .*/makespan 1/'; exit", "check: exit 1, wrong makespan, stated 1, computed"),
+FAILING = [("$pfs \"$@\" | sed 's/^makespan .*/makespan 1/'; exit",
+            "check: exit 1, wrong makespan, stated 1, computed"),
            ("kill -9 $$", "solve: signal 9"),
            ('echo "no memory, perhaps" >&2; exit 4', "solve: exit 4, no memory, perhaps"),
            ('echo "nothing that could be read"; exit', "solve: no cells printed"),
@@ -666,24 +666,29 @@ def test_over_ssh_the_csv_is_the_same(ssh_server: Server, experiment: Experiment
 
 @on_slurm
 def test_on_slurm_the_csv_is_the_same(experiment: Experiment, slurm: Cluster) -> None:
-    """The runs are one array of the requested number of tasks, and each is made by one task. Runs whose results are
-    gone are made again, and no others."""
-    def submit() -> Done:
-        return experiment.script("slurm", "--tasks", "4", "plan.toml", "out.csv", "--time=5", env=slurm.env,
-                                 program=experiment.replacement())
-
-    got = submit()
-    assert (got.status, got.stderr.splitlines()[-1]) == (0, TWELVE.removesuffix("\n"))
-    assert experiment.rows() == experiment.wanted()
+    """The runs are one array of the requested number of tasks, and each is made by one task. What Slurm says of tasks
+    that it ended is in the CSV. The next start makes their runs, and a later one those whose results are gone."""
+    words = ["--tasks", "2", "--time=5"]
+    with experiment.plan(HALF).gate():
+        begun = experiment.start(*words, name="slurm", env=slurm.env)
+        wait_until(lambda: len(experiment.started()) == 2, "two tasks make a run each")
+        number = slurm.tells("squeue", "-h", "-o", "%F").split()[0]
+        assert slurm.tells("scontrol", "-o", "show", "job", number).count(f"ArrayJobId={number} ") == 2
+        slurm.tells("scancel", "--full", number)
+        assert begun.wait(100) == 1
+    said = r"lost: \*\*\* JOB \d+ ON \S+ CANCELLED AT \S+ \*\*\*"
+    assert [bool(re.fullmatch(said, row[-1])) for row in experiment.rows()] == [True] * 2
+    (experiment.folder / "notes").unlink()
+    assert experiment.start(*words, name="slurm", env=slurm.env).wait(100) == 0
+    assert experiment.rows() == experiment.wanted(rounds=(10,))
     assert set(experiment.searches().values()) == {1}, "how often each run was made"
-    number = got.stderr.partition("Submitted batch job ")[2].split()[0]
-    assert slurm.tells("scontrol", "-o", "show", "job", number).count(f"ArrayJobId={number} ") == 4
     results, before = experiment.runs / "results", experiment.written()
-    (results / "5").unlink()
-    (results / "12").write_text("12,1")
-    assert submit().status == 0
-    assert {name for name, _ in experiment.written().items() - before.items()} == {"5", "12"}
-    assert submit() == Done(0, "", TWELVE), "a start where nothing is left to do"
+    (results / "2").unlink()
+    (results / "5").write_text("5,1")
+    assert experiment.start(*words, name="slurm", env=slurm.env).wait(100) == 0
+    assert {name for name, _ in experiment.written().items() - before.items()} == {"2", "5"}
+    got = experiment.script("slurm", *words[:2], "plan.toml", "out.csv", env=slurm.env)
+    assert got == Done(0, "", SIX), "a start where nothing is left to do"
 
 
 @on_slurm
@@ -700,21 +705,6 @@ def test_on_slurm_a_second_start_waits_for_the_array_of_the_first(experiment: Ex
         wait_until(lambda: "Dependency" in slurm.tells("squeue", "-h", "-o", "%r"), "the second array waits")
     assert second.wait(120) == 0
     assert set(experiment.searches().values()) == {1}, "how often each run was made"
-    assert experiment.rows() == experiment.wanted(rounds=(10,))
-
-
-@on_slurm
-def test_what_slurm_says_of_a_task_that_it_ended_is_in_the_csv(experiment: Experiment, slurm: Cluster) -> None:
-    """And the next start makes its runs."""
-    words = ["--tasks", "2", "--time=5"]
-    with experiment.plan(HALF).gate():
-        begun = experiment.start(*words, name="slurm", env=slurm.env)
-        wait_until(lambda: len(experiment.started()) == 2, "two tasks make a run each")
-        slurm.tells("scancel", "--full", slurm.tells("squeue", "-h", "-o", "%F").split()[0])
-        assert begun.wait(100) == 1
-    said = r"lost: \*\*\* JOB \d+ ON \S+ CANCELLED AT \S+ \*\*\*"
-    assert [bool(re.fullmatch(said, row[-1])) for row in experiment.rows()] == [True] * 2
-    assert experiment.start(*words, name="slurm", env=slurm.env).wait(100) == 0
     assert experiment.rows() == experiment.wanted(rounds=(10,))
 
 

@@ -199,8 +199,8 @@ def test_names_stay_in_their_cells_and_are_escaped(report: Reported, folder: pat
 # The reference
 
 def test_the_rpd_is_relative_to_the_reference(top: pathlib.Path, report: Reported, folder: pathlib.Path) -> None:
-    """By an instance's name, or the last part of its path. Else to the column, if any has a reference there. An instance
-    without one has no RPD. It is README's formula."""
+    """By an instance's name, or the last part of its path; else by the column, if any has a reference there. The others
+    have no RPD. It is README's formula."""
     text, best = REPORTED.replace("\na,", "\nsome/folder/a,"), folder / "best.csv"
     with_column = "\n".join(line + (",reference" if at == 0 else ",100" if line[0] in "ab" else ",")
                             for at, line in enumerate(REPORTED.splitlines())) + "\n"
@@ -465,8 +465,8 @@ def test_the_table_of_sizes_has_each_method_and_published_mean(report: Reported,
     assert [line.replace("\\&", "&")[2:-2].split(" | ") for line in lines[:1] + lines[2:5]] == wanted
     tex = sizes.with_suffix(".tex").read_text()
     assert re.findall(r"\\(?:top|mid|bottom)rule", tex) == ["\\toprule", "\\midrule", "\\midrule", "\\bottomrule"]
-    for line in (r"jobs$\times$machines & 5\% \& more & mine\_1 \\", r"mean & 1.750 & 3.500 \\", r"\begin{tabular}{lrr}"):
-        assert line in tex
+    assert r"jobs$\times$machines & 5\% \& more & mine\_1 \\" in tex and r"mean & 1.750 & 3.500 \\" in tex
+    assert r"\begin{tabular}{lrr}" in tex
     published = "jobs,machines,rpd,method\n20,5,0.04,P\n20,5,0.5,Q\n50,5,1.25,Q\n"
     assert report(out="instance,jobs,machines,makespan,reference\na,20,5,100.5,100\nb,50,5,102,100\n",
                   paper=published).status == 0
