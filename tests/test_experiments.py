@@ -10,6 +10,7 @@ import signal
 import subprocess
 import time
 from collections.abc import Callable
+from typing import Any
 
 import pytest
 from pfs.experiments import one, plan, run
@@ -142,9 +143,9 @@ def test_the_csv_is_what_pfs_gives_and_a_second_start_makes_nothing_again(experi
     assert (experiment.folder / "victim").read_text() == "kept\n"
     shutil.copytree(experiment.scripts, experiment.folder / "bin")
     shutil.copy(experiment.pfs.path, experiment.folder / "bin" / "pfs")
-    words = [experiment.folder / "bin" / "pfs-experiments", "check", "out.csv"]
-    assert run_tool(words, experiment.folder, env={"PATH": "/usr/bin"}) \
-        == Done(0, "out.csv: 12 orders audited, 0 of them wrong\n", "")
+    got = run_tool([experiment.folder / "bin" / "pfs-experiments", "check", "out.csv"], experiment.folder,
+                   env={"PATH": "/usr/bin"})
+    assert got == Done(0, "out.csv: 12 orders audited, 0 of them wrong\n", "")
 
 
 def test_layouts_blocks_takes_passes_and_repetitions(experiment: Experiment) -> None:
@@ -195,11 +196,11 @@ def test_each_order_is_kept_and_check_audits_it_again(made: Experiment) -> None:
 
 def test_a_plan_may_grow(experiment: Experiment) -> None:
     """What is done is kept, and the CSV is in the order of the plan that has grown."""
-    program, settings = experiment.replacement(), {"shops": ["a"], "rounds": [10], "seeds": [1], "takes": [3]}
-    before: list[tuple[str, ...]] = []
-    for more in ({}, {"rounds": [10, 30]}, {"seeds": [2, 1]}, {"takes": [1, 3]}, {"repetitions": 2},
-                 {"shops": ["a", "b"]}):
-        settings |= more
+    program, before = experiment.replacement(), list[tuple[str, ...]]()
+    settings: dict[str, Any] = {"shops": ["a"], "rounds": [10], "seeds": [1], "takes": [3]}
+    for key, more in (("seeds", [1]), ("rounds", [10, 30]), ("seeds", [2, 1]), ("takes", [1, 3]), ("repetitions", 2),
+                      ("shops", ["a", "b"])):
+        settings[key] = more
         lines = {**settings, "instances": [f"shops/{name}" for name in settings["shops"]]}
         experiment.plan("".join(f"{key} = {json.dumps(value)}\n" for key, value in lines.items() if key != "shops"))
         assert experiment.run(program=program).status == 0

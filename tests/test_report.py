@@ -139,18 +139,6 @@ def test_words_are_refused_on_one_line(words: str, report: Reported, folder: pat
     assert sorted(os.listdir(folder)) == ["means.csv", "other.csv", "out.csv"]
 
 
-@pytest.mark.parametrize("module", ["matplotlib", "pandas", "scipy"])
-def test_a_missing_module_is_named_with_its_package(module: str, scripts: pathlib.Path, folder: pathlib.Path) -> None:
-    """Before anything is written."""
-    (folder / f"{module}.py").write_text("raise ImportError('none')\n")
-    (folder / "out.csv").write_text(REPORTED)
-    got = run_tool([scripts / "pfs-experiments", "report", "out.csv", "report"], folder,
-                   env=dict(os.environ, PYTHONPATH=str(folder)))
-    assert got == Done(2, "", f"pfs-experiments report: a report needs {module} (Debian: python3-{module}; pip install "
-                              "'pfs[charts]')\n")
-    assert not (folder / "report").exists(), "what is written before the module is missed"
-
-
 def test_a_csv_that_pandas_wrote_and_the_greatest_numbers(report: Reported, folder: pathlib.Path) -> None:
     """Which writes whole numbers with a point in columns where some are missing, and an index before; with a byte order
     mark."""
