@@ -255,6 +255,11 @@ def test_a_damaged_result_is_made_again_and_a_damaged_plan_is_reported(made: Exp
         path.unlink() if data is None else path.write_bytes(data)
         assert made.run() == Done(0, "", SIX), f"{data!r} is taken as it is"
         assert made.rows() == made.wanted(rounds=(10,)), data
+    with open(path, "w") as earlier:  # a run that continues after its start was killed
+        assert made.run() == Done(0, "", SIX)
+        earlier.write("torn")
+    assert made.run() == Done(0, "", SIX)
+    assert made.script("check", "out.csv").status == 0, "an order into which an earlier start has written"
     before, (stage,) = (made.folder / "out.csv").read_text(), made.runs.glob("pfs-experiment-*")
     whole = (made.runs / "plan.json").read_bytes()
     for data in (*PLANS, whole.replace(b'"number": "1"', b'"number": "2"'), whole):
@@ -387,8 +392,10 @@ def test_a_search_by_time_continues_with_another_seed(search: Callable[..., one.
 
 # Other programs
 
-# What a program does for each seed, and the status of its run. $line has the jobs in the order of their numbers.
+# What a program does for each seed, and the status of its run. $line has the jobs in the order of their numbers. The
+# first one changes the copy of the instance that it gets.
 OTHERS = [
+    ("""stat -c '%a %n' "$1" > ../../../copy; chmod 644 "$1"; echo 1 > "$1"; echo "$line" """, "ok"),
     ('echo "$line"', "ok"), (r"printf 'order 20\n%s\nmakespan 1448\n' " '"$line"', "ok"),
     ("kill -SEGV $$", "command: signal 11"),
     ("echo 'Traceback: something' >&2; exit 3", "command: exit 3, Traceback: something"),
@@ -421,16 +428,21 @@ def with_other(experiment: Experiment, plan: str, program: str) -> Experiment:
 
 def test_another_program_is_run_and_audited(experiment: Experiment) -> None:
     """An order file, or the jobs on one line. A run that crashes, prints no order, states a wrong makespan or takes too
-    long has failed, and isn't made again."""
+    long has failed, and isn't made again. Ten kinds of errors are reported. The instance is a copy that is read-only,
+    and that is gone after the run: no program changes the one that audits it."""
     got = with_other(experiment, OTHER, PROGRAM).run()
-    assert (got.status, got.stderr.splitlines()[-1]) == (1, "out.csv: 16 runs, 11 of them failed, 0 still to run")
+    *lines, more, last = got.stderr.splitlines()
+    assert (got.status, last) == (1, "out.csv: 17 runs, 11 of them failed, 0 still to run")
+    assert (len(lines), more) == (10, "1 more kinds of errors")
     rows = experiment.columns("seed", "status", "method", "time_factor", "rounds", "take", "passes", "cells")
-    assert [row[0] for row in rows] == [str(seed) for seed in range(1, 17)]
+    assert [row[0] for row in rows] == [str(seed) for seed in range(1, 18)]
     assert [(row[1], wanted) for row, (_, wanted) in zip(rows, OTHERS) if not re.fullmatch(wanted, row[1])] == []
     assert {row[2:] for row in rows} == {("solve", "10", "", "", "", "")}
-    assert experiment.script("check", "out.csv") == Done(0, "out.csv: 5 orders audited, 0 of them wrong\n", "")
+    assert experiment.script("check", "out.csv") == Done(0, "out.csv: 6 orders audited, 0 of them wrong\n", "")
     makespans = {row for row in experiment.columns("status", "makespan", "bound") if row[0] == "ok"}
     assert makespans == {("ok", "1448", "1232")}, "the makespan of the order by numbers"
+    mode, _, copy = (experiment.folder / "copy").read_text().strip().partition(" ")
+    assert (mode, os.path.exists(copy)) == ("444", False), "the mode of the copy, and whether it stays"
     before = experiment.written()
     assert experiment.run().status == 1
     assert experiment.written() == before, "runs that were made again"
@@ -458,19 +470,6 @@ def test_a_plan_has_several_methods(experiment: Experiment) -> None:
         "instance shops/b, method other, seed 3, repetition 1: ")
     assert_refused(experiment.plan(grown.replace("{seed}", "7")).run(), "was started with another command")
     assert_refused(experiment.plan(first).run(), "was started with another plan, which has block 1, method mine")
-
-
-def test_a_command_cannot_change_the_instance_that_audits_it(experiment: Experiment) -> None:
-    """It gets a copy that is read-only, and that is gone after the run."""
-    with_other(experiment, ONLY_B + 'seeds = [1, 2]\nmethod = "m"\ncommand = "./mine {instance} {seed}"\n',
-               "stat -c '%a %n' \"$1\" >> ../../../copies; chmod 644 \"$1\"\n"
-               "printf '3 2 0 0 0\\n1 1 1\\n1 1 1\\n' > \"$1\"; echo 1 2 3")
-    (experiment.folder / "order").write_text("order 3\n1 2 3\nmakespan 1\n")
-    got = experiment.pfs.run("check --layout taillard shops/b order", experiment.folder).stdout.decode()
-    assert experiment.run().status == 0
-    assert [list(row) for row in experiment.columns("makespan")] == [re.findall("computed (.*)", got)] * 2
-    copies = [line.split(" ", 1) for line in (experiment.folder / "copies").read_text().splitlines()]
-    assert {(mode, os.path.exists(path)) for mode, path in copies} == {("444", False)}, "modes, and whether they stay"
 
 
 # In this many seconds of processor time; what a line prints, and how many processes it leaves, or how it fails.
@@ -528,15 +527,6 @@ def test_the_csv_has_a_failed_run_with_its_status(experiment: Experiment) -> Non
     assert sorted(line.partition("--seed ")[2][0] for line in experiment.started()) == ["2", "2", "5", "5"]
     assert experiment.run("out.csv", "--retry", program=program) == Done(0, "", TWELVE)
     assert experiment.rows() == experiment.wanted(rounds=[10], seeds=range(6))
-
-
-def test_ten_kinds_of_errors_are_reported(experiment: Experiment) -> None:
-    """Of twelve, which differ in a word, that stands for the seed."""
-    program = experiment.replacement(""""solve "*)
-    echo "fault $(echo "$*" | sed 's/.*--seed \\([0-9]*\\).*/\\1/' | tr 0-9 a-j)" >&2; exit 2;;""")
-    got = experiment.plan(ONLY_B + f"rounds = [1]\nseeds = {[*range(12)]}\n").run(program=program)
-    *lines, more, _ = got.stderr.splitlines()
-    assert (len(lines), more) == (10, "2 more kinds of errors") and lines[9].endswith("exit 2, fault j")
 
 
 # Interruptions
@@ -607,16 +597,6 @@ def test_what_gnu_parallel_leaves_has_no_lock(number: signal.Signals, experiment
     assert held == 0, "a process that GNU parallel has left holds the lock"
     assert number == signal.SIGKILL or experiment.left() == [], "processes that GNU parallel has left"
     assert experiment.run() == Done(0, "", TWELVE)
-
-
-def test_an_earlier_start_writes_into_no_file_of_a_later_one(made: Experiment) -> None:
-    """A run that continues after its start was killed has its file open."""
-    (made.runs / "results" / "2").write_text("")
-    with open(made.runs / "results" / "2", "w") as earlier:
-        assert made.run() == Done(0, "", SIX)
-        earlier.write("torn")
-    assert made.run() == Done(0, "", SIX)
-    assert made.script("check", "out.csv").status == 0, "an order into which an earlier start has written"
 
 
 def test_two_starts_at_once_make_each_run_once(experiment: Experiment) -> None:

@@ -54,14 +54,11 @@ BAD = {
     **{f"its first {end} bytes": THREE[:end] for end in range(len(THREE))},
 }
 BAD_WORDS = {
-    "no words": [],
-    "three paths": ["a", "b", "c.svg"],
     "a picture without an ending": ["table", "picture"],
     "a folder's name": ["table", "folder.svg"],
     "a folder that is missing": ["table", "nowhere/picture.svg"],
     "a bound above the makespan": ["--bound", "11", "table", "picture.svg"],
     "a bound that isn't a number": ["--bound", "x", "table", "picture.svg"],
-    "an unknown option": ["--unknown", "table", "picture.svg"],
     "a width that isn't a number": ["--width", "nan", "table", "picture.svg"],
     "a width of a mile": ["--width", "63360", "table", "picture.svg"],
     "no dots": ["--dpi", "0", "table", "picture.svg"],

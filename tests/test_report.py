@@ -127,9 +127,9 @@ def test_an_invalid_csv_is_rejected_and_nothing_is_left(text: str, report: Repor
     assert not (folder / "report").exists()
 
 
-WORDS = ["out.csv", "none.csv report", "--format gif out.csv report", "--width 0 out.csv report",
-         "--dpi x out.csv report", "out.csv out.csv", "out.csv out.csv/report", "--reference none out.csv report",
-         "--reference other.csv out.csv report", "out.csv other.csv report", "means.csv report"]
+WORDS = ["none.csv report", "--width 0 out.csv report", "--dpi x out.csv report", "out.csv out.csv",
+         "out.csv out.csv/report", "--reference none out.csv report", "--reference other.csv out.csv report",
+         "out.csv other.csv report", "means.csv report"]
 
 
 @pytest.mark.parametrize("words", WORDS)
