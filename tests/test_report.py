@@ -196,6 +196,7 @@ def test_the_rpd_is_relative_to_the_reference(top: pathlib.Path, report: Reporte
     for reported, references, means in (
             (text, "\N{BOM}instance,makespan,source\na,100,a paper\nb,50.0,another\n", ["75.000", "56.500"]),
             (text, "instance,makespan\na,7\nsome/folder/a,100\nb,50\n", ["75.000", "56.500"]),
+            (text.replace("/a,", "/A,"), "instance,makespan\na,7\nA,100\nb,50\n", ["75.000", "56.500"]),
             (with_column, "instance,makespan\na,50\na,50\n", ["70.000", "55.500"])):
         best.write_text(references)
         got = report(reported, "--reference", "best.csv")
