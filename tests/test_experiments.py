@@ -9,7 +9,6 @@ import shutil
 import signal
 import subprocess
 import time
-from collections.abc import Callable
 from typing import Any
 
 import pytest
@@ -345,43 +344,30 @@ def test_readmes_plans_by_time(experiment: Experiment, with_library: dict[str, s
         assert {*experiment.columns("method", "passes", csv_name="methods.csv")} == found
 
 
-@pytest.fixture
-def search(libpfs: Library, monkeypatch: pytest.MonkeyPatch) -> Callable[..., one.Search]:
-    """A search with a clock, by which NEH takes 3 s and a round 1 s."""
-    clock = [10.0]
+def test_a_search_by_time_continues_with_another_seed(libpfs: Library, monkeypatch: pytest.MonkeyPatch) -> None:
+    """After the last round of a seed, here the eighth. No part goes beyond it. If NEH takes as long as there is, no
+    round begins. By the clock NEH takes 3 s and a round 1 s."""
+    def search(number: int) -> one.Search:
+        return one.Search([at * at % 97 for at in range(1, 201)], 20, 10, 4, 0, number % 2 ** 64)
+
+    def spent_by(found: one.Search, seconds: float) -> float:
+        monkeypatch.setattr(time, "process_time", lambda: 10.0 + 3 * (found.cells > 0) + found.rounds)
+        return one.search(found, seconds)
+
     monkeypatch.setattr(one, "HERE", str(libpfs.path.parent))
     monkeypatch.setattr(one, "LIBRARY", libpfs.path.name)
-    monkeypatch.setattr(time, "process_time", lambda: clock[0])
-
-    class Search(one.Search):
-        def neh(self) -> None:
-            super().neh()
-            clock[0] += 3
-
-        def run_rounds(self, count: int) -> int:
-            made = super().run_rounds(count)
-            clock[0] += made
-            return made
-
-    return lambda seed: Search([at * at % 97 for at in range(1, 201)], 20, 10, 4, 0, seed)
-
-
-def test_a_search_by_time_continues_with_another_seed(search: Callable[..., one.Search],
-                                                      monkeypatch: pytest.MonkeyPatch) -> None:
-    """After the last round of a seed, here the eighth. No part goes beyond it. If NEH takes as long as there is, no
-    round begins."""
     for seconds, spent, rounds in ((2.5, 3, 0), (5, 4, 1)):
         found = search(1)
-        assert (one.search(found, seconds), found.rounds) == (spent, rounds)
+        assert (spent_by(found, seconds), found.rounds) == (spent, rounds)
     monkeypatch.setattr(one, "PART", 5)
     monkeypatch.setattr(one, "MOST_ROUNDS", 8)
     seed, step = 2 ** 64 - 5, 11400714819323198485
     found = search(seed)
-    assert one.search(found, 18) <= 18 and found.rounds > 12
+    assert spent_by(found, 18) <= 18 and found.rounds > 12
     monkeypatch.setattr(one, "MOST_ROUNDS", 1_000_000)
     orders = []
     for second in (seed + step, seed):
-        again, other = search(seed), search(second % 2 ** 64)
+        again, other = search(seed), search(second)
         again.neh()
         again.run_rounds(8)
         other.order[:] = list(again.order)
