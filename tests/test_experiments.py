@@ -86,7 +86,7 @@ def test_readme_has_the_keys_of_a_plan_with_their_defaults_the_columns_and_the_n
 NO_PFS = {"prints nothing": "#!/bin/sh\n", "prints its words": "#!/bin/sh\necho \"$@\"\n",
           "prints without end": "#!/bin/sh\nyes\n", "is a text": "some words\n", "is a binary": "\x7fELF"}
 PATHS = ("shops", "plan.toml/out.csv", "x" * 255, "\udcff.csv")
-# The words, what is said, the text of a program that isn't pfs, and variables.
+# The arguments, what is said, the text of a program that isn't pfs, and variables.
 REFUSED: dict[str, tuple[str, str, str, dict[str, str]]] = {
     **{f"the CSV {path[:20]!r}": (f"run plan.toml {path}", "", "", {}) for path in PATHS},
     **{f"a program that {what}": ("run plan.toml out.csv", "program is not pfs: ", text, {})
@@ -122,7 +122,7 @@ def test_an_interruption_at_the_start_prints_nothing(experiment: Experiment) -> 
 
 @pytest.mark.quick
 def test_the_csv_is_what_pfs_gives_and_a_second_start_makes_nothing_again(experiment: Experiment) -> None:
-    """No link in the place of the lock is followed. A smaller plan is rejected. The program is found beside the script
+    """No link in the place of the lock is followed. A smaller plan is rejected. The program is found next to the script
     that is not on the path."""
     (experiment.folder / "victim").write_text("kept\n")
     experiment.runs.mkdir()

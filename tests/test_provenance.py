@@ -28,7 +28,7 @@ def mine(experiment: Experiment) -> Experiment:
 
 
 def test_the_file_has_the_version_the_sums_and_each_start(mine: Experiment, top: pathlib.Path) -> None:
-    """What has changed since is told, and the copies are used."""
+    """What has changed since is reported, and the copies are used."""
     inputs = {"pfs": mine.pfs.path, **{name: mine.folder / name for name in ("shops/b", "data", "mine")}}
     wanted = {name: hashlib.sha256(path.read_bytes()).hexdigest() for name, path in inputs.items()}
     assert mine.run() == mine.run() == Done(0, "", "out.csv: 1 runs, 0 of them failed, 0 still to run\n")

@@ -97,7 +97,7 @@ def method_of(path: str, plan: dict[str, Any]) -> dict[str, Any]:
 
 
 def command_of(path: str, plan: dict[str, Any]) -> dict[str, Any]:
-    """Returns the words of a command, and the files that it needs, as paths from the plan's folder, with the program
+    """Returns a command, word by word, and the files that it needs, as paths from the plan's folder, with the program
     if it is one."""
     require(plan.get("command") and "method" in plan, path,
             "command needs method, the name of the program, and files needs command")
