@@ -60,7 +60,7 @@ BAD_WORDS = {
     "a bound above the makespan": ["--bound", "11", "table", "picture.svg"],
     "a bound that isn't a number": ["--bound", "x", "table", "picture.svg"],
     "a width that isn't a number": ["--width", "nan", "table", "picture.svg"],
-    "a width of a mile": ["--width", "63360", "table", "picture.svg"],
+    "a width of 51 inches": ["--width", "51", "table", "picture.svg"],
     "no dots": ["--dpi", "0", "table", "picture.svg"],
     "more pixels than memory has room for": ["--width", "50", "--dpi", "2400", "table", "picture.svg"],
     "a unit with a line end": ["--unit", "a\nb", "table", "picture.svg"],
