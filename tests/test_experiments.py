@@ -1,5 +1,6 @@
 """The CSV of an experiment has the results of pfs itself: with GNU parallel, here and over ssh, and on a Slurm cluster
 of one node, also if its runs were killed at various moments and repeated, and if two experiments start at once."""
+import hashlib
 import json
 import os
 import pathlib
@@ -8,7 +9,6 @@ import shutil
 import signal
 import subprocess
 import time
-from collections.abc import Callable
 from typing import Any
 
 import pytest
@@ -23,10 +23,9 @@ from support.ssh import Server
 from support.terminals import Terminal
 from support.tools import Done, csv_rows, run_tool, wait_until, with_path, write_script
 
-SIX, TWELVE = (f"out.csv: {count} runs, 0 of them failed, 0 still to run\n" for count in (6, 12))
+TWO, FIVE, SIX, TWELVE = (f"out.csv: {count} runs, 0 of them failed, 0 still to run\n" for count in (2, 5, 6, 12))
 README = (pathlib.Path(__file__).resolve().parent.parent / "experiments" / "README.md").read_text()
 on_slurm = pytest.mark.xdist_group("slurm")
-over_ssh = pytest.mark.xdist_group("ssh")
 
 
 def assert_refused(got: Done, *said: str) -> None:
@@ -35,7 +34,7 @@ def assert_refused(got: Done, *said: str) -> None:
     assert [text for text in said if text not in got.stderr] == [], got.stderr[-500:]
 
 
-# Plans
+# Plans and starts
 
 # The instances of a plan, to which other lines may be added.
 ALL, ONLY_B = 'instances = ["shops/*"]\n', 'instances = ["shops/b"]\n'
@@ -80,153 +79,72 @@ def test_readme_has_the_keys_of_a_plan_with_their_defaults_the_columns_and_the_n
         assert got[key] == (f"`{usual}`" if usual is not None else "that of `pfs solve`"), f"the default of {key}"
     assert (got["layout"], got["repetitions"]) == ('`"taillard"`', "`1`")
     columns = re.findall(r"^\| (`.*`) \|", README.partition("## CSV")[2].partition("\n## ")[0], re.MULTILINE)
-    assert ",".join(name for cell in columns for name in re.findall("`([^`]+)`", cell)) == HEAD
-    most = re.search(r"Each of at most ([\d,]+) tasks \(`--tasks`\)", README)
-    assert most and most[1] == f"{MOST_TASKS:,}"
-
-
-# Starts
-
-@pytest.mark.parametrize("command", ["run", "slurm", "check", "report", "taillard"])
-def test_a_command_without_words_prints_its_usage(command: str, scripts: pathlib.Path, folder: pathlib.Path) -> None:
-    assert_refused(run_tool([scripts / "pfs-experiments", command], folder), f"usage: pfs-experiments {command} ")
-    assert_refused(run_tool([scripts / "pfs-experiments", "../gantt"], folder), "invalid choice: '../gantt'")
-    assert_refused(run_tool([scripts / "pfs-experiments", "check", "a", "--jobs"], folder), "--jobs")
-
-
-@pytest.mark.parametrize("script", ["run", "slurm"])
-def test_an_interruption_at_the_start_prints_nothing(script: str, experiment: Experiment) -> None:
-    """While modules are imported."""
-    (experiment.folder / "secrets.py").write_text("import os, signal, time\nos.kill(os.getpid(), signal.SIGINT)\n")
-    got = experiment.script(script, "plan.toml", "out.csv", env=dict(os.environ, PYTHONPATH=str(experiment.folder)))
-    assert got == Done(-signal.SIGINT, "", ""), "what an interruption prints"
+    assert [name for cell in columns for name in re.findall("`([^`]+)`", cell)] == HEAD
+    assert f"Each of at most {MOST_TASKS:,} tasks (`--tasks`)" in README
 
 
 NO_PFS = {"prints nothing": "#!/bin/sh\n", "prints its words": "#!/bin/sh\necho \"$@\"\n",
           "prints without end": "#!/bin/sh\nyes\n", "is a text": "some words\n", "is a binary": "\x7fELF"}
-# The program, if it isn't pfs, the command and the CSV, and what is said.
-REFUSED = {
-    **{f"the CSV {path[:20]!r}": ("", "run", path, "")
-       for path in ("shops", "plan.toml/out.csv", "x" * 255, "\udcff.csv")},
-    **{f"a program that {what}": (text, "run", "out.csv", "program is not pfs: ") for what, text in NO_PFS.items()},
-    "no GNU parallel": ("", "run", "alone.csv", "parallel is not installed (Debian: parallel)"),
-    "no Slurm": ("", "slurm", "alone.csv", "sbatch is not installed (Debian: slurm-client)"),
+PATHS = ("shops", "plan.toml/out.csv", "x" * 255, "\udcff.csv")
+# The arguments, what is said, the text of a program that isn't pfs, and variables.
+REFUSED: dict[str, tuple[str, str, str, dict[str, str]]] = {
+    **{f"the CSV {path[:20]!r}": (f"run plan.toml {path}", "", "", {}) for path in PATHS},
+    **{f"a program that {what}": ("run plan.toml out.csv", "program is not pfs: ", text, {})
+       for what, text in NO_PFS.items()},
+    **{f"a library that is {path}": ("run timed.toml out.csv", path, "", {"PFS_LIBRARY": path})
+       for path in ("./none.so", "./plan.toml")},
+    "no GNU parallel": ("run plan.toml out.csv", "parallel is not installed (Debian: parallel)", "", {"PATH": "/none"}),
+    "no Slurm": ("slurm plan.toml out.csv", "sbatch is not installed (Debian: slurm-client)", "", {"PATH": "/none"}),
+    "no words": ("run", "usage: pfs-experiments run ", "", {}),
+    "another option": ("check out.csv --jobs", "--jobs", "", {}),
 }
 
 
-@pytest.mark.parametrize(("text", "command", "path", "said"), REFUSED.values(), ids=REFUSED)
-def test_a_start_is_refused_before_anything_is_written(text: str, command: str, path: str, said: str,
+@pytest.mark.parametrize(("words", "said", "text", "env"), REFUSED.values(), ids=REFUSED)
+def test_a_start_is_refused_before_anything_is_written(words: str, said: str, text: str, env: dict[str, str],
                                                        experiment: Experiment) -> None:
     """Or is run: the replacement would note it."""
     program = write_script(experiment.folder / "program", text) if text else experiment.replacement()
+    (experiment.folder / "timed.toml").write_text(ALL + "time_factors = [1]\n")
     before = sorted(os.listdir(experiment.folder))
-    env = {"PATH": "/none"} if path == "alone.csv" else None
-    assert_refused(experiment.script(command, "plan.toml", path, program=program, env=env), said)
+    assert_refused(experiment.script(*words.split(), program=program, env={**os.environ, **env}), said)
     assert sorted(os.listdir(experiment.folder)) == before
 
 
-def test_pfs_is_found_beside_the_script_that_is_not_on_the_path(made: Experiment, scripts: pathlib.Path) -> None:
-    shutil.copytree(scripts, made.folder / "bin")
-    shutil.copy(made.pfs.path, made.folder / "bin" / "pfs")
-    got = run_tool([made.folder / "bin" / "pfs-experiments", "check", "out.csv"], made.folder, env={"PATH": "/usr/bin"})
-    assert got == Done(0, "out.csv: 6 orders audited, 0 of them wrong\n", "")
+def test_an_interruption_at_the_start_prints_nothing(experiment: Experiment) -> None:
+    """While modules are imported."""
+    (experiment.folder / "secrets.py").write_text("import os, signal, time\nos.kill(os.getpid(), signal.SIGINT)\n")
+    got = experiment.run(env=dict(os.environ, PYTHONPATH=str(experiment.folder)))
+    assert got == Done(-signal.SIGINT, "", ""), "what an interruption prints"
 
 
-# Folders that are damaged, and small disks
+# Whole experiments
 
-@pytest.mark.parametrize("data", [None, b"{", b"[]", b'{"places": 1}', b"[" * 100_000, b'{"layout": "\xff"}',
-                                  b'{"places": {}, "runs": [{"number": "2"}]}', b'{"places": {}, "runs": []}'])
-def test_a_damaged_folder_is_reported_on_one_line(data: bytes | None, made: Experiment) -> None:
-    """Its plan, or it has no program."""
-    before, (stage,) = (made.folder / "out.csv").read_text(), made.runs.glob("pfs-experiment-*")
-    stage.rename(made.folder / "elsewhere") if data is None else (made.runs / "plan.json").write_bytes(data)
-    said = "no copy of the program" if data is None else "plan.json is damaged"
-    assert_refused(made.plan(PLAN + "repetitions = 2\n").run(), said, "out.csv")
-    assert (made.folder / "out.csv").read_text() == before
-
-
-RESULTS = {
-    "not UTF-8": b"\xff\n", "a quote": b'1,"\n', "a zero byte": b"1,\0\n", "no numbers": b"o\n1,x,y,z,t,ok\n",
-    "no order": b"1,1,1,1,1.000000,ok\n", "a cut line": b"o\n1,1,1,1,1.000000,o",
-    "a cut line of numbers": b"o\n1,1,1,1,1.000000,ok,12", "none": None}
-
-
-@pytest.mark.parametrize("data", RESULTS.values(), ids=RESULTS)
-def test_a_damaged_result_is_made_again(data: bytes | None, made: Experiment) -> None:
-    path = made.runs / "results" / "1"
-    path.unlink() if data is None else path.write_bytes(data)
-    (made.runs / "joblog").write_bytes(b"\xff\n1\t2\n")
-    assert made.run() == Done(0, "", SIX), "a damaged file is taken as it is"
-    assert made.rows() == made.wanted(rounds=(10,))
-
-
-@pytest.mark.parametrize("kib", [4, 24, 48, 160])
-def test_a_full_disk_is_reported(kib: int, experiment: Experiment) -> None:
-    """On one line. Once there is room, the same command completes the work."""
-    if subprocess.run([tool("unshare"), "-m", "true"], capture_output=True).returncode != 0:
-        missing("nobody but root mounts a small disk here")
-    small = experiment.plan(HALF).folder / "small"
-    small.mkdir()
-    line = " ".join(map(str, experiment.words("run", "plan.toml", "small/out.csv", program=experiment.replacement())))
-    script = (f"mount -t tmpfs -o size={kib}k none small && {line} 2> report; echo $? > status; "
-              "find small -name '*.new' > halves; "
-              f"mount -o remount,size=9m small && {line} 2> again; echo $? >> again; cp small/out.csv all.csv")
-    done = subprocess.run(["unshare", "-m", "sh", "-c", script], cwd=experiment.folder, capture_output=True, text=True)
-    assert done.returncode == 0, done.stderr
-    status, got, again, halves = ((experiment.folder / name).read_text() for name in
-                                  ("status", "report", "again", "halves"))
-    refused = re.fullmatch("pfs-experiments run: [^\n]*: No space left on device\n", got)
-    assert (status == "2\n" and refused) or (status == "0\n" and kib > 100), got
-    assert halves == "", "what is left of files that had no room"
-    assert again == f"small/{SIX}0\n"
-    assert experiment.rows("all.csv") == experiment.wanted(rounds=(10,))
-
-
-def test_the_csv_and_the_plan_are_synced_before_they_are_renamed(experiment: Experiment) -> None:
-    """And their folder after that. Nothing opens them for writing."""
-    words = [tool("strace"), "-f", "-y", "-o", "trace", "-e", "trace=open,openat,fsync,rename,renameat,renameat2",
-             *experiment.plan(ONLY_B).words("run", "plan.toml", "out.csv")]
-    assert run_tool(words, experiment.folder).status == 0
-    calls = (experiment.folder / "trace").read_text().splitlines()
-    for name in ("out.csv", "out.csv.d/plan.json"):
-        path = str(experiment.folder / name)
-        assert [call for call in calls if f'"{path}", O_' in call and "O_RDONLY" not in call] == [], name
-        renamed, = (at for at, call in enumerate(calls) if "rename" in call and call.count(f'{path}"') == 1)
-        new = re.findall(r'"([^"]*)"', calls[renamed])[0]
-        assert any("fsync(" in call and f"<{new}>" in call for call in calls[:renamed]), f"{name} is not synced"
-        assert any("fsync(" in call and f"<{os.path.dirname(path)}>" in call for call in calls[renamed:]), \
-            f"the folder of {name} is not synced after the rename"
-
-
-def test_no_link_is_followed(experiment: Experiment) -> None:
-    """In the place of the lock and of new files."""
+@pytest.mark.quick
+def test_the_csv_is_what_pfs_gives_and_a_second_start_makes_nothing_again(experiment: Experiment) -> None:
+    """No link in the place of the lock is followed. A smaller plan is rejected. The program is found next to the script
+    that is not on the path."""
     (experiment.folder / "victim").write_text("kept\n")
     experiment.runs.mkdir()
     (experiment.runs / "lock").symlink_to(experiment.folder / "victim")
     assert_refused(experiment.run())
     (experiment.runs / "lock").unlink()
     assert experiment.run() == Done(0, "", TWELVE)
-    assert (experiment.folder / "victim").read_text() == "kept\n"
-
-
-# Whole experiments
-
-@pytest.mark.quick
-def test_the_csv_is_what_pfs_gives(experiment: Experiment) -> None:
-    assert experiment.run() == Done(0, "", TWELVE)
     assert experiment.rows() == experiment.wanted()
     assert [seconds for seconds, in experiment.columns("seconds") if not 0 < float(seconds) < 60] == []
-
-
-def test_a_second_start_makes_nothing_again_and_a_smaller_plan_is_rejected(made: Experiment) -> None:
-    first = (made.folder / "out.csv").read_text()
-    (made.folder / "out.csv").unlink()
-    assert made.run().status == 0
-    assert (made.folder / "out.csv").read_text() == first
-    for other, said in ((PLAN.replace("[10, 30]", "[30]"), "another plan"), (HALF.replace("*", "a"), "another plan"),
-                        (HALF + "layout = \"orlib\"\n", "another layout")):
-        assert_refused(made.plan(other).run(), said)
-        assert (made.folder / "out.csv").read_text() == first
+    first = (experiment.folder / "out.csv").read_text()
+    (experiment.folder / "out.csv").unlink()
+    assert experiment.run() == Done(0, "", TWELVE)
+    for other, said in ((PLAN.replace("[10, 30]", "[30]"), "another plan"), (PLAN.replace("*", "a"), "another plan"),
+                        (PLAN + "layout = \"orlib\"\n", "another layout")):
+        assert_refused(experiment.plan(other).run(), said)
+        assert (experiment.folder / "out.csv").read_text() == first
+    assert (experiment.folder / "victim").read_text() == "kept\n"
+    shutil.copytree(experiment.scripts, experiment.folder / "bin")
+    shutil.copy(experiment.pfs.path, experiment.folder / "bin" / "pfs")
+    got = run_tool([experiment.folder / "bin" / "pfs-experiments", "check", "out.csv"], experiment.folder,
+                   env={"PATH": "/usr/bin"})
+    assert got == Done(0, "out.csv: 12 orders audited, 0 of them wrong\n", "")
 
 
 def test_layouts_blocks_takes_passes_and_repetitions(experiment: Experiment) -> None:
@@ -234,9 +152,8 @@ def test_layouts_blocks_takes_passes_and_repetitions(experiment: Experiment) -> 
     experiment.plan('layout = "orlib"\ninstances = ["two.or", "bad.or", "zero.or"]\nblocks = [2, 1]\nrounds = [5]\n'
                     "takes = [2, 1]\npasses = [1]\nseeds = [7]\nrepetitions = 2\n")
     shops = [experiment.printed("convert", "--from", "taillard", "--to", "orlib", f"shops/{name}") for name in "ab"]
-    (experiment.folder / "two.or").write_text("".join(shops))
-    (experiment.folder / "bad.or").write_text("3 2\n0 1 1 x\n")
-    (experiment.folder / "zero.or").write_text("2 1\n0 0\n0 0\n" * 2)
+    for name, text in (("two", "".join(shops)), ("bad", "3 2\n0 1 1 x\n"), ("zero", "2 1\n0 0\n0 0\n" * 2)):
+        (experiment.folder / f"{name}.or").write_text(text)
     fault = "solve: exit 2, pfs: mixed line at 10"
     assert experiment.run() == Done(1, "", f"bad.or:2 (rounds 5, take 2, passes 1, seed 7) and 7 more failed: {fault}\n"
                                            "out.csv: 24 runs, 8 of them failed, 0 still to run\n")
@@ -276,29 +193,21 @@ def test_each_order_is_kept_and_check_audits_it_again(made: Experiment) -> None:
     assert_refused(made.script("check", "old.csv"), "pfs-experiments check: old.csv: no column rounds, take")
 
 
-# What each plan begins as and grows to, and the rows of that.
-ONLY_A = HALF.replace("*", "a")
-GROWN: dict[str, tuple[str, str, dict[str, Any]]] = {
-    "rounds": (HALF, PLAN, {}),
-    "seeds": (HALF, HALF.replace("[1, 2, 3]", "[4, 3, 2, 1]"), {"rounds": [10], "seeds": [4, 3, 2, 1]}),
-    "takes": (ONLY_A, ONLY_A + "takes = [1, 3, 4]\n", {"rounds": [10], "takes": [1, 3, 4], "shops": "a"}),
-    "repetitions": (HALF, HALF + "repetitions = 2\n", {"rounds": [10], "repetitions": 2}),
-    "instances": (ONLY_A, HALF, {"rounds": [10]}),
-}
-
-
-@pytest.mark.parametrize(("first", "grown", "wanted"), GROWN.values(), ids=GROWN)
-def test_a_plan_may_grow(first: str, grown: str, wanted: dict[str, Any], experiment: Experiment) -> None:
+def test_a_plan_may_grow(experiment: Experiment) -> None:
     """What is done is kept, and the CSV is in the order of the plan that has grown."""
-    program = experiment.replacement()
-    assert experiment.plan(first).run(program=program).status == 0
-    before, made = experiment.columns(*HEAD.split(",")), len(experiment.started())
-    assert experiment.plan(grown).run(program=program).status == 0
-    after = experiment.columns(*HEAD.split(","))
-    assert len(before) == made == (3 if first == ONLY_A else 6)
-    assert [row for row in before if row not in after] == [], "runs that are gone, or were made again"
-    assert len(experiment.started()) == len(after) > made, "each is made once"
-    assert experiment.rows() == experiment.wanted(**wanted), "the rows of the plan that has grown"
+    program, before = experiment.replacement(), list[tuple[str, ...]]()
+    settings: dict[str, Any] = {"shops": ["a"], "rounds": [10], "seeds": [1], "takes": [3]}
+    for key, more in (("seeds", [1]), ("rounds", [10, 30]), ("seeds", [2, 1]), ("takes", [1, 3]), ("repetitions", 2),
+                      ("shops", ["a", "b"])):
+        settings[key] = more
+        lines = {**settings, "instances": [f"shops/{name}" for name in settings["shops"]]}
+        experiment.plan("".join(f"{key} = {json.dumps(value)}\n" for key, value in lines.items() if key != "shops"))
+        assert experiment.run(program=program).status == 0
+        after = experiment.columns(*HEAD)
+        assert [row for row in before if row not in after] == [], "runs that are gone, or were made again"
+        assert len(experiment.started()) == len(after) > len(before), "each is made once"
+        assert experiment.rows() == experiment.wanted(**settings), "the rows of the plan that has grown"
+        before = after
     assert experiment.script("check", "out.csv").status == 0
 
 
@@ -330,15 +239,82 @@ def test_names_of_instances_are_not_formulas_in_a_spreadsheet(experiment: Experi
     assert_refused(experiment.plan(PLAN).run(), "plan.toml: the name b'shops/\\xff' is not UTF-8")
 
 
+# Folders that are damaged, and small disks
+
+RESULTS = [b"\xff\n", b'1,"\n', b"1,\0\n", b"o\n1,x,y,z,t,ok\n", b"1,1,1,1,1.000000,ok\n",
+           b"o\n1,1,1,1,1.000000,o", b"o\n1,1,1,1,1.000000,ok,12", None]
+PLANS = [b"{", b"[]", b'{"places": 1}', b"[" * 100_000, b'{"layout": "\xff"}', b'{"places": {}, "runs": []}']
+
+
+def test_a_damaged_result_is_made_again_and_a_damaged_plan_is_reported(made: Experiment) -> None:
+    """On one line; so is a folder without a program."""
+    (made.runs / "joblog").write_bytes(b"\xff\n1\t2\n")
+    for data in RESULTS:
+        path = made.runs / "results" / "1"
+        path.unlink() if data is None else path.write_bytes(data)
+        assert made.run() == Done(0, "", SIX), f"{data!r} is taken as it is"
+        assert made.rows() == made.wanted(rounds=(10,)), data
+    with open(path, "w") as earlier:  # a run that continues after its start was killed
+        assert made.run() == Done(0, "", SIX)
+        earlier.write("torn")
+    assert made.run() == Done(0, "", SIX)
+    assert made.script("check", "out.csv").status == 0, "an order into which an earlier start has written"
+    before, (stage,) = (made.folder / "out.csv").read_text(), made.runs.glob("pfs-experiment-*")
+    whole = (made.runs / "plan.json").read_bytes()
+    for data in (*PLANS, whole.replace(b'"number": "1"', b'"number": "2"'), whole):
+        (made.runs / "plan.json").write_bytes(data)
+        if data == whole:
+            stage.rename(made.folder / "elsewhere")
+        said = "no copy of the program" if data == whole else "plan.json is damaged"
+        assert_refused(made.plan(PLAN + "repetitions = 2\n").run(), said, "out.csv")
+        assert (made.folder / "out.csv").read_text() == before
+
+
+@pytest.mark.parametrize("kib", [4, 24, 48, 160])
+def test_a_full_disk_is_reported(kib: int, experiment: Experiment) -> None:
+    """On one line. Once there is room, the same command completes the work."""
+    if subprocess.run([tool("unshare"), "-m", "true"], capture_output=True).returncode != 0:
+        missing("nobody but root mounts a small disk here")
+    small = experiment.plan(HALF).folder / "small"
+    small.mkdir()
+    line = " ".join(map(str, experiment.words("run", "plan.toml", "small/out.csv", program=experiment.replacement())))
+    script = (f"mount -t tmpfs -o size={kib}k none small && {line} 2> report; echo $? > status; "
+              "find small -name '*.new' > halves; "
+              f"mount -o remount,size=9m small && {line} 2> again; echo $? >> again; cp small/out.csv all.csv")
+    done = subprocess.run(["unshare", "-m", "sh", "-c", script], cwd=experiment.folder, capture_output=True, text=True)
+    assert done.returncode == 0, done.stderr
+    status, got, again, halves = ((experiment.folder / name).read_text() for name in
+                                  ("status", "report", "again", "halves"))
+    refused = re.fullmatch("pfs-experiments run: [^\n]*: No space left on device\n", got)
+    assert (status == "2\n" and refused) or (status == "0\n" and kib > 100), got
+    assert halves == "", "what is left of files that had no room"
+    assert again == f"small/{SIX}0\n" and experiment.rows("all.csv") == experiment.wanted(rounds=(10,))
+
+
+def test_the_csv_and_the_plan_are_synced_before_they_are_renamed(experiment: Experiment) -> None:
+    """And their folder after that. Nothing opens them for writing."""
+    words = [tool("strace"), "-f", "-y", "-o", "trace", "-e", "trace=open,openat,fsync,rename,renameat,renameat2",
+             *experiment.plan(ONLY_B).words("run", "plan.toml", "out.csv")]
+    assert run_tool(words, experiment.folder).status == 0
+    calls = (experiment.folder / "trace").read_text().splitlines()
+    for name in ("out.csv", "out.csv.d/plan.json"):
+        path = str(experiment.folder / name)
+        assert [call for call in calls if f'"{path}", O_' in call and "O_RDONLY" not in call] == [], name
+        renamed, = (at for at, call in enumerate(calls) if "rename" in call and call.count(f'{path}"') == 1)
+        for synced, among in ((re.findall(r'"([^"]*)"', calls[renamed])[0], calls[:renamed]),
+                              (os.path.dirname(path), calls[renamed:])):
+            assert any("fsync(" in call and f"<{synced}>" in call for call in among), f"{synced} is not synced"
+
+
 # Runs by time
 
 def test_runs_by_time_take_their_time(experiment: Experiment, with_library: dict[str, str]) -> None:
     """Jobs times half the machines times the factor, in milliseconds. The order is that of the rounds in the CSV."""
-    before = ALL + "takes = [2]\nseeds = [1, 2]\n"
-    assert experiment.plan(before + "rounds = [5]\n").run().status == 0
-    kept = experiment.columns(*HEAD.split(","))
-    assert experiment.plan(before + "rounds = [5]\ntime_factors = [1, 2.5]\n").run(env=with_library).status == 0
-    assert [row for row in experiment.columns(*HEAD.split(",")) if row in kept] == kept, "a plan that grows by times"
+    before = ALL + "takes = [2]\nseeds = [1, 2]\nrounds = [5]\n"
+    assert experiment.plan(before).run().status == 0
+    kept = experiment.columns(*HEAD)
+    assert experiment.plan(before + "time_factors = [1, 2.5]\n").run(env=with_library).status == 0
+    assert [row for row in experiment.columns(*HEAD) if row in kept] == kept, "a plan that grows by times"
     rows = [row for row in csv_rows(experiment.folder / "out.csv") if row["time_factor"]]
     assert [(row["instance"], row["time_factor"], row["seed"]) for row in rows] \
         == [(shop, factor, seed) for shop in ("shops/a", "shops/b") for factor in ("1", "2.5") for seed in "12"]
@@ -349,6 +325,8 @@ def test_runs_by_time_take_their_time(experiment: Experiment, with_library: dict
                                     row["seed"], "--cells", row["instance"])
         assert (experiment.folder / row["order"]).read_text() + f"cells {row['cells']}\n" == wanted
     assert experiment.script("check", "out.csv") == Done(0, "out.csv: 12 orders audited, 0 of them wrong\n", "")
+    sums = json.loads((experiment.runs / "provenance.json").read_text())["sha256"]
+    assert sums["libpfs.so.1"] == hashlib.sha256(pathlib.Path(with_library["PFS_LIBRARY"]).read_bytes()).hexdigest()
 
 
 def test_readmes_plans_by_time(experiment: Experiment, with_library: dict[str, str]) -> None:
@@ -366,119 +344,91 @@ def test_readmes_plans_by_time(experiment: Experiment, with_library: dict[str, s
         assert {*experiment.columns("method", "passes", csv_name="methods.csv")} == found
 
 
-TIMES = [at * at % 97 for at in range(1, 201)]
+def test_a_search_by_time_continues_with_another_seed(libpfs: Library, monkeypatch: pytest.MonkeyPatch) -> None:
+    """After the last round of a seed, here the eighth. No part goes beyond it. If NEH takes as long as there is, no
+    round begins. By the clock NEH takes 3 s and a round 1 s."""
+    def search(number: int) -> one.Search:
+        return one.Search([at * at % 97 for at in range(1, 201)], 20, 10, 4, 0, number % 2 ** 64)
 
+    def spent_by(found: one.Search, seconds: float) -> float:
+        monkeypatch.setattr(time, "process_time", lambda: 10.0 + 3 * (found.cells > 0) + found.rounds)
+        return one.search(found, seconds)
 
-@pytest.fixture
-def search(libpfs: Library, monkeypatch: pytest.MonkeyPatch) -> Callable[..., one.Search]:
-    """A search with a clock, by which NEH takes 3 s and a round 1 s."""
-    clock = [10.0]
     monkeypatch.setattr(one, "HERE", str(libpfs.path.parent))
     monkeypatch.setattr(one, "LIBRARY", libpfs.path.name)
-    monkeypatch.setattr(time, "process_time", lambda: clock[0])
-
-    class Search(one.Search):
-        def neh(self) -> None:
-            super().neh()
-            clock[0] += 3
-
-        def run_rounds(self, count: int) -> int:
-            made = super().run_rounds(count)
-            clock[0] += made
-            return made
-
-    return lambda seed: Search(TIMES, 20, 10, 4, 0, seed)
-
-
-def test_a_search_by_time_continues_with_another_seed(search: Callable[..., one.Search],
-                                                      monkeypatch: pytest.MonkeyPatch) -> None:
-    """After the last round of a seed, here the eighth. No part goes beyond it. If NEH takes as long as there is, no
-    round begins."""
     for seconds, spent, rounds in ((2.5, 3, 0), (5, 4, 1)):
         found = search(1)
-        assert (one.search(found, seconds), found.rounds) == (spent, rounds)
+        assert (spent_by(found, seconds), found.rounds) == (spent, rounds)
     monkeypatch.setattr(one, "PART", 5)
     monkeypatch.setattr(one, "MOST_ROUNDS", 8)
     seed, step = 2 ** 64 - 5, 11400714819323198485
     found = search(seed)
-    assert one.search(found, 18) <= 18 and found.rounds > 12
+    assert spent_by(found, 18) <= 18 and found.rounds > 12
     monkeypatch.setattr(one, "MOST_ROUNDS", 1_000_000)
     orders = []
     for second in (seed + step, seed):
-        again = search(seed)
+        again, other = search(seed), search(second)
         again.neh()
         again.run_rounds(8)
-        other = search(second % 2 ** 64)
         other.order[:] = list(again.order)
         other.run_rounds(found.rounds - 8)
         orders.append(other.order[:])
     assert orders[0] == found.order[:] != orders[1], "rounds of two seeds"
 
 
-@pytest.mark.parametrize("path", ["none.so", "plan.toml"], ids=["missing", "no library"])
-def test_an_invalid_library_is_reported(path: str, experiment: Experiment) -> None:
-    plan = experiment.plan(ALL + "time_factors = [1]\n")
-    assert_refused(plan.run(env=dict(os.environ, PFS_LIBRARY=str(experiment.folder / path))), path)
-    assert not experiment.runs.exists()
-
-
 # Other programs
 
-# It prints the jobs in the order of their numbers, or does what its seed stands for.
-PROGRAM = r"""#!/bin/sh
-line=$(seq -s ' ' 20)
-case $2 in
-1) echo "$line" ;;
-2) printf 'order 20\n%s\nmakespan 1448\n' "$line" ;;
-3) kill -SEGV $$ ;;
-4) echo 'Traceback: something' >&2; exit 3 ;;
-5) echo 'the best order is 3 2 1' ;;
-7) echo '1 1 1' ;;
-8) while :; do :; done & while :; do :; done ;;
-9) yes "$line" ;;
-10) test "$4 $5 $6" = "a 20 5" && echo "$line" | sed 's/ /, /g; s/$/,/' ;;
-11) echo '2 0 1' ;;
-12) printf 'order 20\n%s\nmakespan 1\n' "$line" ;;
-13) echo "π = (J$line)" | sed 's/ \([0-9]\)/ J\1/g' ;;
-14) echo "$line" | tr ' ' - ;;
-15) echo '2 -1 3' ;;
-16) printf '1%900000s\n' 2 ;;
-esac
-"""
-OTHER = """instances = ["shops/a"]
-time_factors = [10]
-seeds = [1, 2, 3, 4, 5, 6, 7, 8, 9, 10, 11, 12, 13, 14, 15, 16]
-method = "solve"
-command = "./mine {instance} {seed} {seconds} {name} {jobs} {machines}"
-"""
-STATUSES = [
-    "ok", "ok", "command: signal 11", "command: exit 3, Traceback: something",
-    "command: no order printed: 'the best order is 3 2 1'", "command: nothing printed",
-    "check: exit 2, pfs: order file job repeated at place 2",
-    r"command: took too long: \d+\.\d\d s of processor time instead of 0.5 s",
-    "command: more than 1,048,576 bytes printed", "ok", "command: job 0: jobs count from 1",
-    "check: exit 1, wrong makespan, stated 1, computed 1448", "ok", "ok", "command: no order printed: '2 -1 3'",
-    "check: exit 1, wrong size, .*",
+# What a program does for each seed, and the status of its run. $line has the jobs in the order of their numbers. The
+# first one changes the copy of the instance that it gets.
+OTHERS = [
+    ("""stat -c '%a %n' "$1" > ../../../copy; chmod 644 "$1"; echo 1 > "$1"; echo "$line" """, "ok"),
+    ('echo "$line"', "ok"), (r"printf 'order 20\n%s\nmakespan 1448\n' " '"$line"', "ok"),
+    ("kill -SEGV $$", "command: signal 11"),
+    ("echo 'Traceback: something' >&2; exit 3", "command: exit 3, Traceback: something"),
+    ("echo 'the best order is 3 2 1'", "command: no order printed: 'the best order is 3 2 1'"),
+    (":", "command: nothing printed"), ("echo '1 1 1'", "check: exit 2, pfs: order file job repeated at place 2"),
+    ("while :; do :; done & while :; do :; done",
+     r"command: took too long: \d+\.\d\d s of processor time instead of 0.5 s"),
+    ('yes "$line"', "command: more than 1,048,576 bytes printed"),
+    ('test "$4 $5 $6" = "a 20 5" && echo "$line" | sed "s/ /, /g; s/$/,/"', "ok"),
+    ("echo '2 0 1'", "command: job 0: jobs count from 1"),
+    (r"printf 'order 20\n%s\nmakespan 1\n' " '"$line"', "check: exit 1, wrong makespan, stated 1, computed 1448"),
+    (r'''echo "π = (J$line)" | sed 's/ \([0-9]\)/ J\1/g' ''', "ok"), ('echo "$line" | tr " " -', "ok"),
+    ("echo '2 -1 3'", "command: no order printed: '2 -1 3'"),
+    (r"printf '1%900000s\n' 2", "check: exit 1, wrong size, .*"),
 ]
+PROGRAM = "line=$(seq -s ' ' 20)\ncase $2 in\n" + "".join(
+    f"{seed}) {line} ;;\n" for seed, (line, _) in enumerate(OTHERS, 1)) + "esac"
+OTHER = f"""instances = ["shops/a"]
+time_factors = [10]
+seeds = {[*range(1, len(OTHERS) + 1)]}
+method = "solve"
+command = "./mine {{instance}} {{seed}} {{seconds}} {{name}} {{jobs}} {{machines}}"
+"""
 
 
-def with_other(experiment: Experiment, plan: str = OTHER, program: str = PROGRAM) -> Experiment:
-    write_script(experiment.folder / "mine", program)
+def with_other(experiment: Experiment, plan: str, program: str) -> Experiment:
+    write_script(experiment.folder / "mine", f"#!/bin/sh\n{program}\n")
     return experiment.plan(plan)
 
 
 def test_another_program_is_run_and_audited(experiment: Experiment) -> None:
     """An order file, or the jobs on one line. A run that crashes, prints no order, states a wrong makespan or takes too
-    long has failed, and isn't made again."""
-    got = with_other(experiment).run()
-    assert (got.status, got.stderr.splitlines()[-1]) == (1, "out.csv: 16 runs, 11 of them failed, 0 still to run")
+    long has failed, and isn't made again. Ten kinds of errors are reported. The instance is a copy that is read-only,
+    and that is gone after the run: no program changes the one that audits it."""
+    got = with_other(experiment, OTHER, PROGRAM).run()
+    *lines, more, last = got.stderr.splitlines()
+    assert (got.status, last) == (1, "out.csv: 17 runs, 11 of them failed, 0 still to run")
+    assert (len(lines), more) == (10, "1 more kinds of errors")
     rows = experiment.columns("seed", "status", "method", "time_factor", "rounds", "take", "passes", "cells")
-    assert [row[0] for row in rows] == [str(seed) for seed in range(1, 17)]
-    assert [(row[1], wanted) for row, wanted in zip(rows, STATUSES) if not re.fullmatch(wanted, row[1])] == []
+    assert [row[0] for row in rows] == [str(seed) for seed in range(1, 18)]
+    assert [(row[1], wanted) for row, (_, wanted) in zip(rows, OTHERS) if not re.fullmatch(wanted, row[1])] == []
     assert {row[2:] for row in rows} == {("solve", "10", "", "", "", "")}
-    assert experiment.script("check", "out.csv") == Done(0, "out.csv: 5 orders audited, 0 of them wrong\n", "")
+    assert experiment.script("check", "out.csv") == Done(0, "out.csv: 6 orders audited, 0 of them wrong\n", "")
     makespans = {row for row in experiment.columns("status", "makespan", "bound") if row[0] == "ok"}
     assert makespans == {("ok", "1448", "1232")}, "the makespan of the order by numbers"
+    mode, _, copy = (experiment.folder / "copy").read_text().strip().partition(" ")
+    assert (mode, os.path.exists(copy)) == ("444", False), "the mode of the copy, and whether it stays"
     before = experiment.written()
     assert experiment.run().status == 1
     assert experiment.written() == before, "runs that were made again"
@@ -491,9 +441,9 @@ def test_a_plan_has_several_methods(experiment: Experiment) -> None:
             for name in ("mine", "other")]
     grown = first + "".join(more)
     write_script(experiment.folder / "other", "#!/bin/sh\necho 2 1 3\n")
-    with_other(experiment, first, "#!/bin/sh\necho 3 2 1\n").run()
+    with_other(experiment, first, "echo 3 2 1").run()
     before = experiment.written()
-    assert experiment.plan(grown).run() == Done(0, "", "out.csv: 5 runs, 0 of them failed, 0 still to run\n")
+    assert experiment.plan(grown).run() == Done(0, "", FIVE)
     assert before.items() <= experiment.written().items(), "runs that were made again"
     assert experiment.columns("method", "rounds", "take", "passes", "seed") == [
         ("'=p", "0", "3", "0", "1"), ("'=p", "5", "3", "0", "1"), ("'=p", "5", "3", "0", "2"),
@@ -506,20 +456,6 @@ def test_a_plan_has_several_methods(experiment: Experiment) -> None:
         "instance shops/b, method other, seed 3, repetition 1: ")
     assert_refused(experiment.plan(grown.replace("{seed}", "7")).run(), "was started with another command")
     assert_refused(experiment.plan(first).run(), "was started with another plan, which has block 1, method mine")
-
-
-def test_a_command_cannot_change_the_instance_that_audits_it(experiment: Experiment) -> None:
-    """It gets a copy that is read-only, and that is gone after the run."""
-    with_other(experiment, ONLY_B + 'seeds = [1, 2]\nmethod = "m"\ncommand = "./mine {instance} {seed}"\n',
-               "#!/bin/sh\nstat -c '%a %n' \"$1\" >> ../../../copies; chmod 644 \"$1\"\n"
-               "printf '3 2 0 0 0\\n1 1 1\\n1 1 1\\n' > \"$1\"; echo 1 2 3\n")
-    (experiment.folder / "order").write_text("order 3\n1 2 3\nmakespan 1\n")
-    got = experiment.pfs.run("check --layout taillard shops/b order", experiment.folder).stdout.decode()
-    assert experiment.run().status == 0
-    assert [list(row) for row in experiment.columns("makespan")] == [re.findall("computed (.*)", got)] * 2
-    copies = [line.split(" ", 1) for line in (experiment.folder / "copies").read_text().splitlines()]
-    assert {mode for mode, _ in copies} == {"444"}, "modes of the copies"
-    assert [path for _, path in copies if os.path.exists(path)] == [], "copies that are left"
 
 
 # In this many seconds of processor time; what a line prints, and how many processes it leaves, or how it fails.
@@ -551,20 +487,21 @@ def test_a_program_that_waits_or_takes_too_long_is_ended_with_all_that_it_has_st
 
 # Runs that fail
 
-FAILING = """"solve "*"--seed 1 "*) $pfs "$@" | sed 's/^makespan .*/makespan 1/'; exit;;
-"solve "*"--seed 2 "*) kill -9 $$;;
-"solve "*"--seed 3 "*) echo "no memory, perhaps" >&2; exit 4;;
-"solve "*"--seed 4 "*) echo "nothing that could be read"; exit;;
-"solve "*"--seed 5 "*) kill -9 $PPID;;"""
+# What pfs does for each seed from 1, and the status of the run.
+FAILING = [("$pfs \"$@\" | sed 's/^makespan .*/makespan 1/'; exit",
+            "check: exit 1, wrong makespan, stated 1, computed"),
+           ("kill -9 $$", "solve: signal 9"),
+           ('echo "no memory, perhaps" >&2; exit 4', "solve: exit 4, no memory, perhaps"),
+           ('echo "nothing that could be read"; exit', "solve: no cells printed"),
+           ("kill -9 $PPID", "lost: exit 137, signal 0")]
 
 
 def test_the_csv_has_a_failed_run_with_its_status(experiment: Experiment) -> None:
     """A run that was killed is made by the next start, and the others are with --retry."""
-    wrong = "check: exit 1, wrong makespan, stated 1, computed"
-    statuses = ["ok", wrong, "solve: signal 9", "solve: exit 4, no memory, perhaps", "solve: no cells printed",
-                "lost: exit 137, signal 0"]
-    program = experiment.replacement(FAILING)
+    program = experiment.replacement("\n".join(f'"solve "*"--seed {seed} "*) {line};;'
+                                               for seed, (line, _) in enumerate(FAILING, 1)))
     got = experiment.plan(HALF.replace("[1, 2, 3]", "[0, 1, 2, 3, 4, 5]")).run(program=program)
+    statuses = ["ok", *(status for _, status in FAILING)]
     assert (got.status, re.sub(r"(?<=computed) \d+", "", got.stderr)) == (1, "".join(
         f"shops/a (rounds 10, take 4, passes 0, seed {seed}) and 1 more failed: {statuses[seed]}\n"
         for seed in (1, 2, 3, 4, 5)) + "out.csv: 12 runs, 10 of them failed, 0 still to run\n")
@@ -576,15 +513,6 @@ def test_the_csv_has_a_failed_run_with_its_status(experiment: Experiment) -> Non
     assert sorted(line.partition("--seed ")[2][0] for line in experiment.started()) == ["2", "2", "5", "5"]
     assert experiment.run("out.csv", "--retry", program=program) == Done(0, "", TWELVE)
     assert experiment.rows() == experiment.wanted(rounds=[10], seeds=range(6))
-
-
-def test_ten_kinds_of_errors_are_reported(experiment: Experiment) -> None:
-    """Of twelve, which differ in a word, that stands for the seed."""
-    program = experiment.replacement(""""solve "*)
-    echo "fault $(echo "$*" | sed 's/.*--seed \\([0-9]*\\).*/\\1/' | tr 0-9 a-j)" >&2; exit 2;;""")
-    got = experiment.plan(ONLY_B + f"rounds = [1]\nseeds = {[*range(12)]}\n").run(program=program)
-    *lines, more, _ = got.stderr.splitlines()
-    assert (len(lines), more) == (10, "2 more kinds of errors") and lines[9].endswith("exit 2, fault j")
 
 
 # Interruptions
@@ -599,15 +527,35 @@ KILLS: dict[str, Kills] = {
 }
 
 
+def interrupted(experiment: Experiment, most: int, whom: str, number: int) -> set[str]:
+    """Starts the plan, lets `most` more runs finish and sends a signal while two wait; returns the runs that are done
+    by then."""
+    before, started_before = len(experiment.done()), len(experiment.started())
+    with experiment.gate() as let_through:
+        begun = experiment.start("--jobs", "2")
+        let_through(most)
+        try:
+            wait_until(lambda: len(experiment.done()) == before + most
+                       and len(experiment.started()) == started_before + most + 2, f"{most} runs are done, two wait")
+            done = experiment.done()
+        finally:
+            os.kill({"all": -begun.pid, "starter": begun.pid}.get(whom) or
+                    int((experiment.folder / "parallel").read_text()), number)
+            begun.wait(60)
+        if (whom, number) != ("all", signal.SIGKILL):
+            wait_until(lambda: experiment.left() == [], "what a start has begun ends with it")
+    wait_until(lambda: experiment.left() == [], "what a start has begun ends")
+    return done
+
+
 @pytest.mark.parametrize("kills", KILLS.values(), ids=KILLS)
 def test_no_run_is_lost_or_made_again(kills: Kills, experiment: Experiment) -> None:
     """Each run is in the CSV once, and none that was done before a kill is made again."""
-    experiment.plan(HALF)
-    wanted, made = experiment.wanted(rounds=(10,)), {}
+    wanted, made = experiment.plan(HALF).wanted(rounds=(10,)), {}
     # as a start leaves it that was killed while it made copies
     (experiment.runs / "pfs-experiment-begun" / "instances").mkdir(parents=True)
     for most, whom, number in kills:
-        done = experiment.interrupted(most, whom, number)
+        done = interrupted(experiment, most, whom, number)
         counts = experiment.searches()
         made.update({number: counts[number] for number in done})
         if number in (signal.SIGINT, signal.SIGTERM):
@@ -627,10 +575,7 @@ def test_no_run_is_lost_or_made_again(kills: Kills, experiment: Experiment) -> N
 @pytest.mark.parametrize("number", [signal.SIGTERM, signal.SIGKILL])
 def test_what_gnu_parallel_leaves_has_no_lock(number: signal.Signals, experiment: Experiment) -> None:
     """If it is ended at its start, processes by which it counts how many there may be are left."""
-    write_script(experiment.folder / "bin" / "parallel", "#!/bin/sh\nsleep 60 &\necho > started\nwait\n")
-    words = experiment.words("run", "plan.toml", "out.csv")
-    process = subprocess.Popen(words, cwd=experiment.folder, env=with_path(experiment.folder / "bin"),
-                               stdout=subprocess.DEVNULL, stderr=subprocess.DEVNULL)
+    process = experiment.start(env=experiment.parallel("sleep 60 &\necho > started\nwait"))
     wait_until((experiment.runs / "started").exists, "GNU parallel has started")
     process.send_signal(number)
     process.wait(60)
@@ -640,22 +585,12 @@ def test_what_gnu_parallel_leaves_has_no_lock(number: signal.Signals, experiment
     assert experiment.run() == Done(0, "", TWELVE)
 
 
-def test_an_earlier_start_writes_into_no_file_of_a_later_one(made: Experiment) -> None:
-    """A run that continues after its start was killed has its file open."""
-    (made.runs / "results" / "2").write_text("")
-    with open(made.runs / "results" / "2", "w") as earlier:
-        assert made.run() == Done(0, "", SIX)
-        earlier.write("torn")
-    assert made.run() == Done(0, "", SIX)
-    assert made.script("check", "out.csv").status == 0, "an order into which an earlier start has written"
-
-
 def test_two_starts_at_once_make_each_run_once(experiment: Experiment) -> None:
     experiment.plan(HALF)
     with experiment.gate(), open(experiment.folder / "report", "wb") as got:
-        first = experiment.start("plan.toml", "out.csv", "--jobs", "1")
+        first = experiment.start("--jobs", "1")
         wait_until(lambda: len(experiment.started()) == 1, "the first start makes a run")
-        second = experiment.start("plan.toml", "out.csv", "--jobs", "1", stderr=got)
+        second = experiment.start("--jobs", "1", stderr=got)
         waits = (experiment.folder / "report").read_text
         wait_until(lambda: len(experiment.started()) > 1 or "\n" in waits(), "the second start waits, or makes a run")
         started, line = experiment.started(), waits()
@@ -676,82 +611,67 @@ def test_on_a_terminal_the_share_that_is_done_is_shown(experiment: Experiment) -
         assert b"citation" not in terminal.seen.lower()
 
 
-@over_ssh
+@pytest.mark.xdist_group("ssh")
 def test_over_ssh_the_csv_is_the_same(ssh_server: Server, experiment: Experiment) -> None:
-    """Of pfs and of another program. All runs are made on the other machine, and nothing is left there."""
+    """Of pfs and of another program. All runs are made on the other machine, and nothing is left there, once none is
+    left to run: before that, a replacement of GNU parallel, which makes no run, isn't asked to remove anything."""
     (experiment.folder / "machines").write_text(ssh_server.line)
     with_other(experiment, ALL + 'seeds = [1, 2, 3]\n[[methods]]\nrounds = [10]\n[[methods]]\nmethod = "m"\n'
-               'command = "./mine {instance} {jobs}"\n', "#!/bin/sh\nseq -s ' ' $2\n")
-    assert experiment.run("out.csv", "--sshloginfile", "machines") == Done(0, "", TWELVE)
+               'command = "./mine {instance} {jobs}"\n', "seq -s ' ' $2")
+    words = ["out.csv", "--sshloginfile", "machines"]
+    got = experiment.run(*words, env=experiment.parallel(f'echo "$*" >> {experiment.folder}/calls'))
+    assert got == Done(1, "", "out.csv: 0 runs, 0 of them failed, 12 still to run\n")
+    assert "--nonall" not in (experiment.folder / "calls").read_text()
+    assert experiment.run(*words) == Done(0, "", TWELVE)
     assert [*experiment.rows()[:3], *experiment.rows()[6:9]] == experiment.wanted(rounds=(10,))
     lines = (experiment.runs / "joblog").read_text().splitlines()[1:]
     assert {line.split("\t")[1].split()[-1] for line in lines} == {"127.0.0.1"}
     assert [path.name for path in ssh_server.home.iterdir() if path.name != ".parallel"] == []
 
 
-def test_the_copies_on_other_machines_stay_while_runs_are_left(experiment: Experiment) -> None:
-    """With a replacement of GNU parallel that makes no run."""
-    write_script(experiment.folder / "bin" / "parallel", f"#!/bin/sh\necho \"$*\" >> {experiment.folder}/calls\n")
-    got = experiment.run("out.csv", "--sshloginfile", "machines", env=with_path(experiment.folder / "bin"))
-    assert got == Done(1, "", "out.csv: 0 runs, 0 of them failed, 12 still to run\n")
-    assert "--nonall" not in (experiment.folder / "calls").read_text()
-
-
 # Slurm
-
-def submit(experiment: Experiment, slurm: Cluster) -> Done:
-    return experiment.script("slurm", "--tasks", "4", "plan.toml", "out.csv", "--time=5", env=slurm.env,
-                             program=experiment.replacement())
-
 
 @on_slurm
 def test_on_slurm_the_csv_is_the_same(experiment: Experiment, slurm: Cluster) -> None:
-    """The runs are one array of the requested number of tasks, and each is made by one task. Runs whose results are
-    gone are made again, and no others."""
-    got = submit(experiment, slurm)
-    assert (got.status, got.stderr.splitlines()[-1]) == (0, TWELVE.removesuffix("\n"))
-    assert experiment.rows() == experiment.wanted()
+    """The runs are one array of the requested number of tasks, and each is made by one task. What Slurm says of tasks
+    that it ended is in the CSV. The next start makes their runs, and a later one those whose results are gone."""
+    words = ["--tasks", "2", "--time=5"]
+    with experiment.plan(HALF).gate():
+        begun = experiment.start(*words, name="slurm", env=slurm.env)
+        wait_until(lambda: len(experiment.started()) == 2, "two tasks make a run each")
+        number = slurm.tells("squeue", "-h", "-o", "%F").split()[0]
+        assert slurm.tells("scontrol", "-o", "show", "job", number).count(f"ArrayJobId={number} ") == 2
+        slurm.tells("scancel", "--full", number)
+        assert begun.wait(100) == 1
+    said = r"lost: \*\*\* JOB \d+ ON \S+ CANCELLED AT \S+ \*\*\*"
+    assert [bool(re.fullmatch(said, row[-1])) for row in experiment.rows()] == [True] * 2
+    (experiment.folder / "notes").unlink()
+    assert experiment.start(*words, name="slurm", env=slurm.env).wait(100) == 0
+    assert experiment.rows() == experiment.wanted(rounds=(10,))
     assert set(experiment.searches().values()) == {1}, "how often each run was made"
-    number = got.stderr.partition("Submitted batch job ")[2].split()[0]
-    assert slurm.tells("scontrol", "-o", "show", "job", number).count(f"ArrayJobId={number} ") == 4
     results, before = experiment.runs / "results", experiment.written()
-    (results / "5").unlink()
-    (results / "12").write_text("12,1")
-    assert submit(experiment, slurm).status == 0
-    assert {name for name, _ in experiment.written().items() - before.items()} == {"5", "12"}
-    assert submit(experiment, slurm) == Done(0, "", TWELVE), "a start where nothing is left to do"
+    (results / "2").unlink()
+    (results / "5").write_text("5,1")
+    assert experiment.start(*words, name="slurm", env=slurm.env).wait(100) == 0
+    assert {name for name, _ in experiment.written().items() - before.items()} == {"2", "5"}
+    got = experiment.script("slurm", *words[:2], "plan.toml", "out.csv", env=slurm.env)
+    assert got == Done(0, "", SIX), "a start where nothing is left to do"
 
 
 @on_slurm
 def test_on_slurm_a_second_start_waits_for_the_array_of_the_first(experiment: Experiment, slurm: Cluster) -> None:
     """Also if the first start was killed while it waited for its array. A result exists only once it is complete."""
     experiment.plan(HALF)
-    words = ["--tasks", "1", "plan.toml", "out.csv", "--time=5"]
     with experiment.gate():
-        first = experiment.start(*words, name="slurm", env=slurm.env)
+        first = experiment.start("--tasks", "1", "--time=5", name="slurm", env=slurm.env)
         wait_until(lambda: len(experiment.started()) == 1, "the array makes a run")
         os.killpg(first.pid, signal.SIGKILL)
         first.wait(60)
         assert experiment.done() == set(), "results of runs that have not ended"
-        second = experiment.start(*words, name="slurm", env=slurm.env)
+        second = experiment.start("--tasks", "1", "--time=5", name="slurm", env=slurm.env)
         wait_until(lambda: "Dependency" in slurm.tells("squeue", "-h", "-o", "%r"), "the second array waits")
     assert second.wait(120) == 0
     assert set(experiment.searches().values()) == {1}, "how often each run was made"
-    assert experiment.rows() == experiment.wanted(rounds=(10,))
-
-
-@on_slurm
-def test_what_slurm_says_of_a_task_that_it_ended_is_in_the_csv(experiment: Experiment, slurm: Cluster) -> None:
-    """And the next start makes its runs."""
-    words = ["--tasks", "2", "plan.toml", "out.csv", "--time=5"]
-    with experiment.plan(HALF).gate():
-        begun = experiment.start(*words, name="slurm", env=slurm.env)
-        wait_until(lambda: len(experiment.started()) == 2, "two tasks make a run each")
-        slurm.tells("scancel", "--full", slurm.tells("squeue", "-h", "-o", "%F").split()[0])
-        assert begun.wait(100) == 1
-    said = r"lost: \*\*\* JOB \d+ ON \S+ CANCELLED AT \S+ \*\*\*"
-    assert [bool(re.fullmatch(said, row[-1])) for row in experiment.rows()] == [True] * 2
-    assert experiment.script("slurm", *words, env=slurm.env, program=experiment.replacement()).status == 0
     assert experiment.rows() == experiment.wanted(rounds=(10,))
 
 
@@ -766,17 +686,18 @@ def test_the_last_array_says_how_a_run_ended(folder: pathlib.Path) -> None:
 
 # A run of the first shop takes minutes with as many passes as there may be, and one of the second less than a second.
 LONG = 'instances = ["shops/a"]\nrounds = [1000000]\npasses = [100]\nseeds = {}\n'
-SHORT = ONLY_B + f"rounds = [1]\nseeds = {[*range(1100)]}\n"
-COMMAND = MINE + 'seeds = [1, 2]\ncommand = "m {instance} {seed}"\n'
-# Of 100 runs of 1.5 seconds and 100 of 0.09.
-TIMED = MINE + f'time_factors = [30]\nseeds = {[*range(100)]}\ncommand = "m {{instance}} {{seed}}"\n'
+ARRAYS = {
+    "long runs": (LONG.format([1, 2, 3]), [], "1-3"), "many": (LONG.format(list(range(1100))), [], "1-1000"),
+    "short runs share a task": (ONLY_B + f"rounds = [1]\nseeds = {[*range(1100)]}\n", [], "1-1"),
+    "fewer tasks": (PLAN, ["--tasks", "5"], "1-5"), "as many tasks as runs": (PLAN, ["--tasks", "50"], "1-12"),
+    "a command without a time": (MINE + 'seeds = [1, 2]\ncommand = "m {instance} {seed}"\n', [], "1-4"),
+    # 100 runs of 1.5 seconds and 100 of 0.09
+    "a command with a time": (MINE + f'time_factors = [30]\nseeds = {[*range(100)]}\n'
+                              'command = "m {instance} {seed}"\n', [], "1-3"),
+}
 
 
-@pytest.mark.parametrize(("plan", "words", "array"), [
-    (LONG.format([1, 2, 3]), [], "1-3"), (LONG.format(list(range(1100))), [], "1-1000"), (SHORT, [], "1-1"),
-    (PLAN, ["--tasks", "5"], "1-5"), (PLAN, ["--tasks", "50"], "1-12"), (COMMAND, [], "1-4"), (TIMED, [], "1-3"),
-], ids=["long runs", "many long runs", "short runs share a task", "fewer tasks", "as many tasks as runs",
-        "a command without a time", "a command with a time"])
+@pytest.mark.parametrize(("plan", "words", "array"), ARRAYS.values(), ids=ARRAYS)
 def test_slurm_is_asked_for_an_array_of(plan: str, words: list[str], array: str, experiment: Experiment) -> None:
     """A dry run prints the line, which makes the runs, and submits nothing."""
     write_script(experiment.folder / "bin" / "sbatch", "#!/bin/sh\necho \"$@\" > submitted\n")
@@ -786,20 +707,18 @@ def test_slurm_is_asked_for_an_array_of(plan: str, words: list[str], array: str,
     assert not (experiment.folder / "out.csv").exists()
     assert run_tool(["sh", "-c", got.stdout], experiment.folder, env=env).status == 0
     submitted = (experiment.runs / "submitted").read_text().split()
-    assert f"--array={array}" in submitted, "the number of tasks"
-    assert {"--wait", "--dependency=singleton", "--time=5"} <= {*submitted}
+    assert {f"--array={array}", "--wait", "--dependency=singleton", "--time=5"} <= {*submitted}
     assert submitted[-2:] == [str(pathlib.Path(one.__file__).with_name("task")),
                               *(path.name for path in experiment.runs.glob("pfs-experiment-*"))]
 
 
 # The pages
 
-
 @pytest.mark.seconds(20)
 def test_the_lines_of_the_way_lead_to_a_report(top: pathlib.Path, pfs: Program, folder: pathlib.Path,
                                                scripts: pathlib.Path, scipy: None) -> None:
-    """Of README, in a copy that has the built program, which is taken as it is, and of the manual page. The plan has
-    fewer runs."""
+    """Of README, in a copy that has the built program, which is taken as it is, and of the manual page, whose exit
+    statuses these are. The plan has fewer runs."""
     tool("parallel")
     for name in ("experiments", "python/src"):
         shutil.copytree(top / name, folder / name, ignore=shutil.ignore_patterns("out", "__pycache__"))
@@ -813,14 +732,13 @@ def test_the_lines_of_the_way_lead_to_a_report(top: pathlib.Path, pfs: Program, 
     plan.write_text(plan.read_text().replace("[1-3]", "1").replace(", 100, 1000]", ", 20]"))
     block, = re.findall(r"```\n(sudo apt-get install parallel .*?)```", README, re.DOTALL)
     page = (top / "python" / "pfs-experiments.1").read_text()
-    manual = re.findall(r"^\$ (.*)$", page.partition(".Sh EXAMPLES")[2].partition(".Sh ")[0], re.MULTILINE)
+    sections = {name: page.partition(f".Sh {name}")[2].partition(".Sh ")[0] for name in ("EXAMPLES", "EXIT STATUS")}
+    manual = re.findall(r"^\$ (.*)$", sections["EXAMPLES"], re.MULTILINE)
     lines = [line.partition("#")[0].strip() for line in block.splitlines()[1:]]
     assert len(lines) == 5 and len(manual) == 4 and manual[0].startswith("cp ")
     for line in (*lines, "cp experiments/example.toml .", "rm -r example.csv example.csv.d report", *manual[1:]):
         assert run_tool(line.split(" "), folder, env=with_path(folder / "bin")).status == 0, line
     assert sum(int(row["runs"]) for row in csv_rows(folder / "report" / "table.csv")) == 3 * (1 + 2 * 3)
-    page = (top / "python" / "pfs-experiments.1").read_text()
-    got = dict(re.findall(r"^\.It (\d)\n([^.]*\.)", page.partition(".Sh EXIT STATUS")[2].partition(".Sh ")[0],
-                          re.MULTILINE))
+    got = dict(re.findall(r"^\.It (\d)\n([^.]*\.)", sections["EXIT STATUS"], re.MULTILINE))
     assert list(got) == ["0", "1", "2"] and got["0"] == "Done." and "rejected" in got["2"]
     assert "failed" in got["1"] and "wrong" in got["1"]

@@ -54,16 +54,13 @@ BAD = {
     **{f"its first {end} bytes": THREE[:end] for end in range(len(THREE))},
 }
 BAD_WORDS = {
-    "no words": [],
-    "three paths": ["a", "b", "c.svg"],
     "a picture without an ending": ["table", "picture"],
     "a folder's name": ["table", "folder.svg"],
     "a folder that is missing": ["table", "nowhere/picture.svg"],
     "a bound above the makespan": ["--bound", "11", "table", "picture.svg"],
     "a bound that isn't a number": ["--bound", "x", "table", "picture.svg"],
-    "an unknown option": ["--unknown", "table", "picture.svg"],
     "a width that isn't a number": ["--width", "nan", "table", "picture.svg"],
-    "a width of a mile": ["--width", "63360", "table", "picture.svg"],
+    "a width of 51 inches": ["--width", "51", "table", "picture.svg"],
     "no dots": ["--dpi", "0", "table", "picture.svg"],
     "more pixels than memory has room for": ["--width", "50", "--dpi", "2400", "table", "picture.svg"],
     "a unit with a line end": ["--unit", "a\nb", "table", "picture.svg"],
@@ -518,17 +515,21 @@ def test_a_full_disk_keeps_the_old_picture(scripts: pathlib.Path, folder: pathli
     assert sorted(os.listdir(folder)) == [f"picture.{ending}", "table"]
 
 
-@pytest.mark.parametrize("module", ["numpy", "matplotlib"])
-def test_a_missing_module_is_named_with_its_package(scripts: pathlib.Path, folder: pathlib.Path, matplotlib: None,
-                                                    module: str) -> None:
+@pytest.mark.parametrize(("line", "what", "module"), [
+    *(("pfs-gantt table made.svg", "pfs-gantt: a picture", module) for module in ("numpy", "matplotlib")),
+    *(("pfs-experiments report runs made.svg", "pfs-experiments report: a report", module)
+      for module in ("matplotlib", "pandas", "scipy"))])
+def test_a_missing_module_is_named_with_its_package(line: str, what: str, module: str, scripts: pathlib.Path,
+                                                    folder: pathlib.Path, matplotlib: None) -> None:
+    """Before anything is written, here or by the report of an experiment."""
     (folder / "without").mkdir()
-    (folder / "without" / f"{module}.py").write_text(f"raise ModuleNotFoundError(\"No module named '{module}'\")\n")
+    (folder / "without" / f"{module}.py").write_text("raise ImportError('none')\n")
     (folder / "table").write_text(THREE)
-    got = run_tool([scripts / "pfs-gantt", "table", "picture.svg"], folder,
+    (folder / "runs").write_text("instance,makespan\na,1\n")
+    got = run_tool([scripts / line.split()[0], *line.split()[1:]], folder,
                    env=dict(os.environ, PYTHONPATH=str(folder / "without"), PYTHONDONTWRITEBYTECODE="1"))
-    assert got == Done(2, "", f"pfs-gantt: a picture needs {module} (Debian: python3-{module}; "
-                              "pip install 'pfs[charts]')\n")
-    assert not (folder / "picture.svg").exists()
+    assert got == Done(2, "", f"{what} needs {module} (Debian: python3-{module}; pip install 'pfs[charts]')\n")
+    assert not (folder / "made.svg").exists()
 
 
 @pytest.mark.parametrize("path", ["/dev/zero", "long"])

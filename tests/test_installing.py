@@ -114,28 +114,22 @@ def prefix(request: pytest.FixtureRequest, copy: Copy, tmp_path_factory: pytest.
     return place
 
 
-@pytest.fixture
-def caller(folder: pathlib.Path) -> pathlib.Path:
-    """A folder with the source of a program that calls the library."""
-    (folder / "caller.c").write_text(CALLER)
-    return folder
-
-
-def test_a_program_is_built_by_pkg_config_and_by_cmake(prefix: pathlib.Path, caller: pathlib.Path) -> None:
+def test_a_program_is_built_by_pkg_config_and_by_cmake(prefix: pathlib.Path, folder: pathlib.Path) -> None:
     [library] = prefix.rglob("libpfs.so")
+    (folder / "caller.c").write_text(CALLER)
     env = dict(os.environ, PKG_CONFIG_PATH=str(library.with_name("pkgconfig")), LD_LIBRARY_PATH=str(library.parent))
-    flags = output_of([tool("pkg-config"), "--cflags", "--libs", "pfs"], caller, env=env)
+    flags = output_of([tool("pkg-config"), "--cflags", "--libs", "pfs"], folder, env=env)
     for each in (flags, flags.replace("-lpfs", "-l:libpfs.a")):
-        output_of(["cc", "caller.c", "-o", "caller", *each.split()], caller)
-        assert output_of(["./caller"], caller, env=env) == f"{VERSION} {VERSION}\n"
+        output_of(["cc", "caller.c", "-o", "caller", *each.split()], folder)
+        assert output_of(["./caller"], folder, env=env) == f"{VERSION} {VERSION}\n"
     words = [tool("cmake"), "-S", ".", "-B", "made", f"-DCMAKE_PREFIX_PATH={prefix}"]
-    (caller / "CMakeLists.txt").write_text(CMAKE.format(wanted="99.0"))
-    assert f"version: {VERSION}" in run_tool(words, caller).stderr
-    (caller / "CMakeLists.txt").write_text(CMAKE.format(wanted=VERSION))
-    output_of(words, caller)
-    output_of(["cmake", "--build", "made"], caller)
+    (folder / "CMakeLists.txt").write_text(CMAKE.format(wanted="99.0"))
+    assert f"version: {VERSION}" in run_tool(words, folder).stderr
+    (folder / "CMakeLists.txt").write_text(CMAKE.format(wanted=VERSION))
+    output_of(words, folder)
+    output_of(["cmake", "--build", "made"], folder)
     for target in ("pfs", "pfs_static"):
-        assert output_of([f"made/{target}_caller"], caller) == f"{VERSION} {VERSION}\n"
+        assert output_of([f"made/{target}_caller"], folder) == f"{VERSION} {VERSION}\n"
 
 
 # Building before that
@@ -183,14 +177,12 @@ STATED |= dict.fromkeys(("share/pfs.1", "share/pfs.3", "python/pfs-experiments.1
                          "python/pfs-plan.1"), r"^\.Os pfs (.*)$")
 
 
-@pytest.mark.parametrize("name", STATED)
-def test_all_that_states_a_version_states_the_same(name: str, top: pathlib.Path) -> None:
-    assert re.findall(STATED[name], (top / name).read_text(), re.MULTILINE)[:1] == [VERSION]
-
-
-def test_the_release_has_one_date(top: pathlib.Path) -> None:
-    """That of the changelog and of the citation."""
+def test_all_that_states_the_version_or_the_date_states_the_same(top: pathlib.Path) -> None:
+    """The date is in the changelog and in the citation."""
+    texts = {name: (top / name).read_text() for name in STATED}
+    found = {name: re.findall(pattern, texts[name], re.MULTILINE)[:1] for name, pattern in STATED.items()}
+    assert found == dict.fromkeys(STATED, [VERSION])
     pattern = rf"^## \[{re.escape(VERSION)}\] - (\d{{4}}-\d\d-\d\d)$"
-    dates = re.findall(pattern, (top / "CHANGELOG.md").read_text(), re.MULTILINE)
+    dates = re.findall(pattern, texts["CHANGELOG.md"], re.MULTILINE)
     assert len(dates) == 1
-    assert re.findall(r'^date-released: "(.*)"$', (top / "CITATION.cff").read_text(), re.MULTILINE) == dates
+    assert re.findall(r'^date-released: "(.*)"$', texts["CITATION.cff"], re.MULTILINE) == dates

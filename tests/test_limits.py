@@ -57,8 +57,9 @@ TOLD = {
     "lib/pfs_text.c": ["the seed isn't from 1 to {MOST_GENERATOR_SEED}"],
     "python/src/pfs/_commands.py": ["else {MOST_ROUNDS}, and", "0 to {MOST_PASSES}, else 0"],
     "python/src/pfs/_gantt.py": ["MOST_MACHINES, LONGEST = {MOST_JOBS}, {MOST_MACHINES}"],
-    "python/src/pfs/experiments/plan.py": ['"blocks": (1, {MOST_BLOCKS})', '"rounds": (0, {MOST_ROUNDS})',
-                                           '"takes": (1, {MOST_JOBS})', '"passes": (0, {MOST_PASSES})'],
+    "python/src/pfs/experiments/plan.py": [
+        '"blocks": list_of(1, {MOST_BLOCKS}', '"rounds": list_of(0, {MOST_ROUNDS}', '"takes": list_of(1, {MOST_JOBS}',
+        '"passes": list_of(0, {MOST_PASSES}'],
     "python/src/pfs/_files.py": ["and {MOST_BLOCKS} at most", "seed : int 1 to {MOST_GENERATOR_SEED}."],
     "python/src/pfs/_instance.py": ["``first + rounds`` is at most {MOST_ROUNDS}.", "passes, 0 to {MOST_PASSES}.",
                                     "a row for each of 1 to {MOST_JOBS} jobs",

@@ -19,10 +19,6 @@ files = ["data"]
 """
 
 
-def sum_of(data: bytes) -> str:
-    return hashlib.sha256(data).hexdigest()
-
-
 @pytest.fixture
 def mine(experiment: Experiment) -> Experiment:
     """An experiment with a command and a file."""
@@ -31,8 +27,17 @@ def mine(experiment: Experiment) -> Experiment:
     return experiment.plan(PLAN.format(seeds="1"))
 
 
-def test_what_has_changed_is_told_and_the_copies_are_used(mine: Experiment) -> None:
+def test_the_file_has_the_version_the_sums_and_each_start(mine: Experiment, top: pathlib.Path) -> None:
+    """What has changed since is reported, and the copies are used."""
+    inputs = {"pfs": mine.pfs.path, **{name: mine.folder / name for name in ("shops/b", "data", "mine")}}
+    wanted = {name: hashlib.sha256(path.read_bytes()).hexdigest() for name, path in inputs.items()}
     assert mine.run() == mine.run() == Done(0, "", "out.csv: 1 runs, 0 of them failed, 0 still to run\n")
+    stored = json.loads((mine.runs / "provenance.json").read_text())
+    assert stored["version"] == (top / "VERSION").read_text().strip() and stored["sha256"] == wanted
+    method, = stored["plan"]["methods"]
+    assert (method["seeds"], method["method"]) == ([1], "mine")
+    assert [start["host"] for start in stored["starts"]] == [os.uname().nodename] * 2
+    assert stored["starts"][0]["at"] <= stored["starts"][1]["at"]
     before = mine.columns("makespan")
     write_script(mine.folder / "mine", ORDER.format(order="1 3 2"))
     for name in ("data", "shops/b"):
@@ -45,34 +50,13 @@ def test_what_has_changed_is_told_and_the_copies_are_used(mine: Experiment) -> N
     assert mine.columns("makespan") == before * 2
     assert mine.run("new.csv").stderr == "new.csv: 2 runs, 0 of them failed, 0 still to run\n"
     assert mine.columns("makespan", csv_name="new.csv") != before * 2
-    for name in ("mine", "data"):
-        (mine.folder / name).rename(mine.folder / f"{name}.gone")
-    assert "no file matches data" in mine.run().stderr
-
-
-def test_the_file_has_the_version_the_sums_and_each_start(mine: Experiment, top: pathlib.Path) -> None:
-    mine.run()
-    (mine.folder / "shops" / "b").write_bytes(shop := (mine.folder / "shops" / "b").read_bytes())
-    mine.run()
-    stored = json.loads((mine.runs / "provenance.json").read_text())
-    assert stored["version"] == (top / "VERSION").read_text().strip()
-    method, = stored["plan"]["methods"]
-    assert (method["seeds"], method["method"]) == ([1], "mine")
-    wanted = {"pfs": mine.pfs.path.read_bytes(), "shops/b": shop, "data": b"1\n",
-              "mine": (mine.folder / "mine").read_bytes()}
-    assert stored["sha256"] == {name: sum_of(data) for name, data in wanted.items()}
-    assert [start["host"] for start in stored["starts"]] == [os.uname().nodename] * 2
-    assert all(start["at"] <= other["at"] for start, other in zip(stored["starts"], stored["starts"][1:]))
     for damaged in (b"", b"{", b"[1]", b'{"starts": 3}', b"\xff"):
         (mine.runs / "provenance.json").write_bytes(damaged)
         assert mine.run().status == 0
         assert len(json.loads((mine.runs / "provenance.json").read_text())["starts"]) == 1
-
-
-def test_a_search_by_time_has_the_sum_of_the_library(experiment: Experiment, with_library: dict[str, str]) -> None:
-    experiment.plan('instances = ["shops/b"]\ntime_factors = [1]\n').run(env=with_library)
-    stored = json.loads((experiment.runs / "provenance.json").read_text())
-    assert stored["sha256"]["libpfs.so.1"] == sum_of(pathlib.Path(with_library["PFS_LIBRARY"]).read_bytes())
+    for name in ("mine", "data"):
+        (mine.folder / name).rename(mine.folder / f"{name}.gone")
+    assert "no file matches data" in mine.run().stderr
 
 
 # The reference of a plan
@@ -118,13 +102,10 @@ def test_a_report_audits_the_runs_with_the_instances_next_to_the_csv(mine: Exper
 
 # Before the end
 
-def status(experiment: Experiment) -> Done:
-    return run_tool([experiment.scripts / "pfs-experiments", "status", "out.csv"], experiment.folder)
-
-
 def test_status_writes_what_there_is(mine: Experiment) -> None:
     """The CSV has the order of the plan, and its reference."""
-    assert status(mine) == Done(2, "", "pfs-experiments status: out.csv was not started: out.csv.d is missing\n")
+    status = functools.partial(run_tool, [mine.scripts / "pfs-experiments", "status", "out.csv"], mine.folder)
+    assert status() == Done(2, "", "pfs-experiments status: out.csv was not started: out.csv.d is missing\n")
     os.mkfifo(mine.folder / "gate")
     write_script(mine.folder / "mine", f"#!/bin/sh\nread -r line < {mine.folder}/gate\necho 1 2 3\n")
     (mine.folder / "best.csv").write_text("instance,makespan\nb,9\n")
@@ -135,7 +116,7 @@ def test_status_writes_what_there_is(mine: Experiment) -> None:
     try:
         os.write(gate, b"\n")
         one_of_two = Done(1, "", "out.csv: 1 runs, 0 of them failed, 1 still to run\n")
-        wait_until(lambda: (mine.runs / "plan.json").exists() and status(mine) == one_of_two, "a run has ended")
+        wait_until(lambda: (mine.runs / "plan.json").exists() and status() == one_of_two, "a run has ended")
         assert mine.columns("instance", "seed", "reference") == [("shops/b", "2", "9")]
         os.write(gate, b"\n")
         assert process.wait(60) == 0
@@ -143,5 +124,5 @@ def test_status_writes_what_there_is(mine: Experiment) -> None:
         process.kill()
         os.close(gate)
     before = (mine.folder / "out.csv").read_bytes()
-    assert status(mine) == Done(0, "", "out.csv: 2 runs, 0 of them failed, 0 still to run\n")
+    assert status() == Done(0, "", "out.csv: 2 runs, 0 of them failed, 0 still to run\n")
     assert (mine.folder / "out.csv").read_bytes() == before and before.count(b"\n") == 3

@@ -20,11 +20,12 @@ from support.tools import Done, csv_rows, run_tool
 for _name in ("matplotlib", "pandas", "scipy"):
     pytest.importorskip(_name)
 import matplotlib as mpl
+import pandas
 from matplotlib.colors import to_hex
 from pfs.experiments import __main__ as experiments
 from pfs.experiments import plots as typed
 from pfs.experiments import report as reports
-from pfs.experiments.statistics import holm
+from pfs.experiments.statistics import common, holm
 
 HEAD = "instance,jobs,machines,rounds,take,passes,seed,repetition,makespan,bound,gap_percent,cells,seconds,status"
 # By hand: the best makespans are 101 of a, 103 of b and 200 of c, from which the RPD of a's first run is 900 / 101.
@@ -91,6 +92,10 @@ def column(folder: pathlib.Path, name: str, table: str = "table") -> list[str]:
     return [row[name] for row in csv_rows(folder / "report" / f"{table}.csv")]
 
 
+def cells_of(path: pathlib.Path) -> list[list[str]]:
+    return list(csv.reader(io.StringIO(path.read_text())))
+
+
 @pytest.mark.parametrize(("ending", "begin"), [("png", b"\x89PNG"), ("svg", b"<?xml"), ("pdf", b"%PDF")])
 def test_a_report_has_its_table_and_its_plots(ending: str, begin: bytes, report: Reported,
                                               folder: pathlib.Path) -> None:
@@ -122,9 +127,9 @@ def test_an_invalid_csv_is_rejected_and_nothing_is_left(text: str, report: Repor
     assert not (folder / "report").exists()
 
 
-WORDS = ["out.csv", "none.csv report", "--format gif out.csv report", "--width 0 out.csv report",
-         "--dpi x out.csv report", "out.csv out.csv", "out.csv out.csv/report", "--reference none out.csv report",
-         "--reference other.csv out.csv report", "out.csv other.csv report", "means.csv report"]
+WORDS = ["none.csv report", "--width 0 out.csv report", "--dpi x out.csv report", "out.csv out.csv",
+         "out.csv out.csv/report", "--reference none out.csv report", "--reference other.csv out.csv report",
+         "out.csv other.csv report", "means.csv report"]
 
 
 @pytest.mark.parametrize("words", WORDS)
@@ -134,29 +139,11 @@ def test_words_are_refused_on_one_line(words: str, report: Reported, folder: pat
     assert sorted(os.listdir(folder)) == ["means.csv", "other.csv", "out.csv"]
 
 
-@pytest.mark.parametrize("module", ["matplotlib", "pandas", "scipy"])
-def test_a_missing_module_is_named_with_its_package(module: str, scripts: pathlib.Path, folder: pathlib.Path) -> None:
-    """Before anything is written."""
-    (folder / f"{module}.py").write_text("raise ImportError('none')\n")
-    (folder / "out.csv").write_text(REPORTED)
-    got = run_tool([scripts / "pfs-experiments", "report", "out.csv", "report"], folder,
-                   env=dict(os.environ, PYTHONPATH=str(folder)))
-    assert (got.status, got.stdout) == (2, "")
-    assert f"(Debian: python3-{module}; pip install 'pfs[charts]')" in got.stderr and got.stderr.count("\n") == 1
-    assert not (folder / "report").exists(), "what is written before the module is missed"
-
-
 def test_a_csv_that_pandas_wrote_and_the_greatest_numbers(report: Reported, folder: pathlib.Path) -> None:
     """Which writes whole numbers with a point in columns where some are missing, and an index before; with a byte order
     mark."""
-    written, rows = io.StringIO(), list(csv.DictReader(io.StringIO(REPORTED)))
-    writer = csv.DictWriter(written, ["", *rows[0]])
-    writer.writeheader()
-    for at, row in enumerate(rows):
-        points = {name: f"{row[name]}.0" for name in ("jobs", "machines", "take", "makespan", "cells") if row[name]}
-        writer.writerow({"": str(at), **row, **points})
-    assert ",20.0,5.0," in written.getvalue()
-    assert report("\N{BOM}" + written.getvalue()).status == 0
+    written = pandas.read_csv(io.StringIO(REPORTED)).to_csv()
+    assert ",20.0,5.0," in written and report("\N{BOM}" + written).status == 0
     assert (folder / "report" / "table.csv").read_text() == TABLE
     lines = [f"a,5000,200,{rounds},5000,100,18446744073709551615,1,{makespan},1,{gap},{cells},{seconds},ok\n"
              for rounds, makespan, gap, cells, seconds in (
@@ -166,7 +153,7 @@ def test_a_csv_that_pandas_wrote_and_the_greatest_numbers(report: Reported, fold
     assert [float(each) for each in column(folder, "greatest_rpd_percent")] == pytest.approx([1e20] * 2)
 
 
-# Names of methods from a CSV of somebody else.
+# Names of methods from a CSV of somebody else, and how LaTeX has some.
 NAMES = ["a|b", "<img src=x>", "two\nlines", "_x_", "[l](http://x)", "\x1b[31mred", "=1+1", "-1+1", "@SUM(1)", "$x^^$",
          "a&amp;b", "x" * 500, "`code`", "*bold*", "~~gone~~", "back\\slash"]
 ESCAPED = {"{x}": r"\{x\}", "50%": r"50\%", "a_b": r"a\_b", "#1": r"\#1", "$": r"\$", "a&b": r"a\&b",
@@ -177,25 +164,22 @@ ESCAPED = {"{x}": r"\{x\}", "50%": r"50\%", "a_b": r"a\_b", "#1": r"\#1", "$": r
 
 def test_names_stay_in_their_cells_and_are_escaped(report: Reported, folder: pathlib.Path) -> None:
     """They aren't read as marks in Markdown, formulas in a spreadsheet, or codes on a terminal or in a picture."""
-    with open(folder / "out.csv", "w", newline="") as file:
-        csv.writer(file).writerows([
-            ["instance", "makespan", "method", "seconds", "jobs", "machines", "rounds", "take", "passes"],
-            *(["a|b/=i", at, name, "0.5", 3, 2, at // 4, 1, 0] for at, name in enumerate(NAMES, 10))])
-    got = report(words="--format svg out.csv report")
+    rows = {"instance": "a|b/=i", "makespan": range(10, 26), "method": NAMES, "seconds": 0.5, "jobs": 3, "machines": 2,
+            "rounds": [at // 4 for at in range(10, 26)], "take": 1, "passes": 0}
+    got = report(pandas.DataFrame(rows).to_csv(index=False), "--format", "svg")
     assert got.status == 0 and "\x1b" not in got.stdout + got.stderr, got.stderr
     for path in (folder / "report").glob("*.md"):
         lines = path.read_text().partition("\n\n")[0].splitlines()
         assert {len(re.findall(r"(?<!\\)\|", line)) for line in lines} == {lines[1].count("|")}, f"cells in {path.name}"
         assert re.findall(r"(?<!\\)[<`*\[~&]|(?<![\\A-Za-z0-9])_", "\n".join(lines)) == [], f"marks in {path.name}"
-    for path in (folder / "report").glob("*.csv"):
-        cells = [cell for row in csv.reader(io.StringIO(path.read_text())) for cell in row]
-        assert [cell for cell in cells if re.match(r"[=+@\t\r]|-[^0-9]|-1\+", cell)] == [], f"formulas in {path.name}"
+    formulas = [cell for path in (folder / "report").glob("*.csv") for row in cells_of(path) for cell in row
+                if re.match(r"[=+@\t\r]|-[^0-9]|-1\+", cell)]
+    assert formulas == []
     shown = (folder / "report" / "seconds.svg").read_text()
     for text in ("a|b", "&lt;img src=x&gt;", r"two\nlines", r"\x1b[31mred", "$x^^$", "\u200b_x_"):
         assert text in shown, f"{text} is in no picture"
-    names = (name.replace('"', '""') for name in ESCAPED)
-    assert report("instance,makespan,method\n" + "".join(f'a,{at},"{name}"\n' for at, name in enumerate(names, 10))
-                  ).status == 0
+    frame = pandas.DataFrame({"instance": "a", "makespan": range(10, 10 + len(ESCAPED)), "method": ESCAPED.keys()})
+    assert report(frame.to_csv(index=False)).status == 0
     head = (folder / "report" / "sizes.tex").read_text().splitlines()[3]
     assert sorted(head.removesuffix(r" \\").split(" & ")[1:]) == sorted(ESCAPED.values()), "names in sizes.tex"
 
@@ -203,30 +187,29 @@ def test_names_stay_in_their_cells_and_are_escaped(report: Reported, folder: pat
 # The reference
 
 def test_the_rpd_is_relative_to_the_reference(top: pathlib.Path, report: Reported, folder: pathlib.Path) -> None:
-    """By the last part of an instance's path. Else to the column, if any has a reference there. An instance without one
-    has no RPD."""
-    text = REPORTED.replace("\na,", "\nsome/folder/a,")
-    (folder / "best.csv").write_text("\N{BOM}instance,makespan,source\na,100,a paper\nb,50.0,another\n")
-    got = report(text, "--reference", "best.csv")
-    # (10 + 140) / 2 at 0 rounds; 1, 106, 5 and 114 at 100 rounds
-    assert column(folder, "mean_rpd_percent") == ["", "75.000", "56.500", "", ""]
-    assert column(folder, "greatest_rpd_percent") == ["", "140.000", "114.000", "", ""]
-    assert got.stdout.endswith("\n\nRPD: relative to the makespan in best.csv.\n"
-                               "1 runs of 1 instances have no reference, and no RPD: c.\n")
-    (folder / "best.csv").write_text("instance,makespan\na,7\nsome/folder/a,100\nb,50\n")
-    assert report(text, "--reference", "best.csv").status == 0
-    assert column(folder, "mean_rpd_percent") == ["", "75.000", "56.500", "", ""], "a path goes before its last part"
-    lines = [line + (",reference" if at == 0 else ",100" if line[0] in "ab" else ",")
-             for at, line in enumerate(REPORTED.splitlines())]
-    (folder / "best.csv").write_text("instance,makespan\na,50\na,50\n")
-    assert report("\n".join(lines) + "\n", "--reference", "best.csv").status == 0
-    # of a 120 at 0 rounds, and 102 and 110 at 100; of b 20, and 3 and 7, by the column
-    assert column(folder, "mean_rpd_percent") == ["", "70.000", "55.500", "", ""], "by --reference, else the column"
-    (folder / "best.csv").write_text("instance,makespan\na,50\na,51\n")
+    """By an instance's name, or the last part of its path; else by the column, if any has a reference there. The others
+    have no RPD. It is README's formula."""
+    text, best = REPORTED.replace("\na,", "\nsome/folder/a,"), folder / "best.csv"
+    with_column = "\n".join(line + (",reference" if at == 0 else ",100" if line[0] in "ab" else ",")
+                            for at, line in enumerate(REPORTED.splitlines())) + "\n"
+    # (10 + 140) / 2 at 0 rounds; 1, 106, 5 and 114 at 100. By the column b has 20, and 3 and 7, and a 120, 102 and 110.
+    for reported, references, means in (
+            (text, "\N{BOM}instance,makespan,source\na,100,a paper\nb,50.0,another\n", ["75.000", "56.500"]),
+            (text, "instance,makespan\na,7\nsome/folder/a,100\nb,50\n", ["75.000", "56.500"]),
+            (text.replace("/a,", "/A,"), "instance,makespan\na,7\nA,100\nb,50\n", ["75.000", "56.500"]),
+            (with_column, "instance,makespan\na,50\na,50\n", ["70.000", "55.500"])):
+        best.write_text(references)
+        got = report(reported, "--reference", "best.csv")
+        assert column(folder, "mean_rpd_percent") == ["", *means, "", ""], references
+        assert reported != text or column(folder, "greatest_rpd_percent") == ["", "140.000", "114.000", "", ""]
+        assert reported != text or got.stdout.endswith(
+            "\n\nRPD: relative to the makespan in best.csv.\n"
+            "1 runs of 1 instances have no reference, and no RPD: c.\n")
+    best.write_text("instance,makespan\na,50\na,51\n")
     got = report(REPORTED, "--reference", "best.csv")
-    assert (got.status, got.stderr) == (2, "pfs-experiments report: best.csv: a has two makespans\n")
-    text = (top / "experiments" / "README.md").read_text()
-    formula = re.search(r"RPD is the relative percentage deviation from the reference, ([^.]*)\.", text)
+    assert got == Done(2, "", "pfs-experiments report: best.csv: a has two makespans\n")
+    formula = re.search(r"RPD is the relative percentage deviation from the reference, ([^.]*)\.",
+                        (top / "experiments" / "README.md").read_text())
     assert formula, "no formula in experiments/README.md"
     plain = formula[1].replace("·", "*").replace("\N{MINUS SIGN}", "-")
     assert re.fullmatch(r"[\s()*/+0-9-]*", re.sub("makespan|reference", "", plain)), plain
@@ -240,13 +223,14 @@ def test_the_best_known_makespans_are_references(report: Reported, folder: pathl
     """By their names and sizes, unless a reference is given. The best known ones of these are 1278 and 26040."""
     text = ("instance,jobs,machines,makespan\nout/ta001,20,5,1291\nta111,500,20,26301\nta002,50,5,2724\n"
             "mine,20,5,1000\n")
+    (folder / "other.csv").write_text("instance,makespan\nta001,1000\n")
     got = report(text)
-    assert column(folder, "mean_rpd_percent") == [f"{100 * 13 / 1278:.3f}", "", f"{100 * 261 / 26040:.3f}"]
     assert "RPD: relative to the best known makespan of Taillard's instance.\n" \
         "2 runs of 2 instances have no reference, and no RPD: ta002, mine.\n" in got.stdout
-    (folder / "other.csv").write_text("instance,makespan\nta001,1000\n")
+    large = f"{100 * 261 / 26040:.3f}"
+    assert column(folder, "mean_rpd_percent") == [f"{100 * 13 / 1278:.3f}", "", large]
     assert report(text, "--reference", "other.csv").status == 0
-    assert column(folder, "mean_rpd_percent") == ["29.100", "", f"{100 * 261 / 26040:.3f}"]
+    assert column(folder, "mean_rpd_percent") == ["29.100", "", large]
     got = report("instance,makespan,reference\na,100,\nta001,1232,\nta002,1400,\nb,100,101\nb,99,101\n")
     assert "\nBelow the reference: b 99 (101), ta001 1232 (1278).\n" in got.stdout
 
@@ -289,6 +273,30 @@ def test_orders_are_audited_where_the_instance_is_at_hand(scripts: pathlib.Path,
 
 
 # Several methods
+
+# Runs in words: setting, instance and seed, if it has one. What the others keep of those of `a` and of themselves, and
+# which setting lacks which instances.
+OF_A = "ai1 ai2 aj1 aj2"
+COMMON = [
+    ("", OF_A, {}), ("bi1 bi2 bj1 bj2", f"{OF_A} bi1 bi2 bj1 bj2", {}), ("bi1 bj1", "ai1 aj1 bi1 bj1", {"b": "ij"}),
+    ("bi1 bi2", "ai1 ai2 bi1 bi2", {"b": "j"}),
+    ("bi1 bi2 bj1 bj2 bk1 bk2", f"{OF_A} bi1 bi2 bj1 bj2", {"a": "k"}),
+    ("bi2 bj1", "ai2 aj1 bi2 bj1", {"b": "ij"}), ("ni nj", f"{OF_A} ni nj", {}), ("ni", "ai1 ai2 ni", {"n": "j"}),
+    ("nk ni", "ai1 ai2 ni", {"a": "k", "n": "j"}), ("bi3 bj3", "", {"a": "ij", "b": "ij"}),
+    ("bk1 bk2", "", {"a": "k", "b": "ij"}),
+]
+
+
+@pytest.mark.parametrize(("others", "kept", "lacking"), COMMON, ids=[others for others, *_ in COMMON])
+def test_compared_is_what_all_settings_have(others: str, kept: str, lacking: dict[str, str]) -> None:
+    """A run without a seed is for all of them, and so is one of 0 rounds."""
+    words = [*OF_A.split(), *others.split()]
+    for rounds, seed in ((5, ""), (0, "7")):
+        runs = pandas.DataFrame({"method": word[0], "instance": word[1], "seed": word[2:] or seed, "take": 4,
+                                 "rounds": 5 if word[2:] else rounds, "passes": 0, "time_factor": -1} for word in words)
+        found, without = common(runs)
+        assert [words[at] for at in found.index] == kept.split()
+        assert {setting[0]: "".join(instances) for setting, instances in without.items()} == lacking
 
 
 def test_methods_without_a_common_instance_are_reported(report: Reported, folder: pathlib.Path) -> None:
@@ -413,7 +421,6 @@ def test_many_pairs_and_holms_correction_for_them(report: Reported, folder: path
         middle, deviation = count * (count + 1) / 4, math.sqrt(count * (count + 1) * (2 * count + 1) / 24)
         normal = math.erfc(middle / deviation / math.sqrt(2))
         assert p == pytest.approx(2 / 2 ** 50 if count == 50 else normal, rel=1e-3)
-    pandas = pytest.importorskip("pandas")
     cases: list[tuple[list[float | None], list[float | None]]] = [
         ([0.04, None, 0.03, 0.05], [0.09, None, 0.09, 0.09]), ([0.9, 0.5], [1, 1]), ([0.01, 0.04], [0.02, 0.04])]
     for given, wanted in cases:
@@ -429,34 +436,32 @@ PAPER = "instance,jobs,machines,makespan,method,reference\n" + "".join(
 
 def test_the_table_of_sizes_has_each_method_and_published_mean(report: Reported, folder: pathlib.Path) -> None:
     """And a row of means. With a method that lacks instances, only the others are in it, which a note says."""
+    sizes = folder / "report" / "sizes.csv"
     assert report(PAPER + "20-1,20,5,101,part,100\n").status == 0
-    assert list(csv.reader(io.StringIO((folder / "report" / "sizes.csv").read_text()))) == [
-        ["jobs×machines", "5% & more", "mine_1", "part"], ["20×5", "0.500", "1.500", "5.000"],
-        ["mean", "0.500", "1.500", "5.000"]]
+    assert cells_of(sizes) == [["jobs×machines", "5% & more", "mine_1", "part"], ["20×5", "0.500", "1.500", "5.000"],
+                               ["mean", "0.500", "1.500", "5.000"]]
     note = ("Mean RPD, {percent}. Compared are the instances and seeds that all have: part lacks runs of 20-2, 50-0, "
             "50-1. Not audited, only stated: 5{percent} {and} more, mine{under}1, part.")
-    assert (folder / "report" / "sizes.md").read_text().endswith(
+    assert sizes.with_suffix(".md").read_text().endswith(
         "\n" + note.format(percent="%", under="_", **{"and": r"\&"}) + "\n")
     assert "{\\par\\footnotesize " + note.format(percent=r"\%", under=r"\_", **{"and": r"\&"}) + "\\par}" in (
-        folder / "report" / "sizes.tex").read_text()
+        sizes.with_suffix(".tex").read_text())
     assert report("".join(line for line in PAPER.splitlines(keepends=True) if "part" not in line)).status == 0
     wanted = [["jobs×machines", "5% & more", "mine_1"], ["20×5", "2.000", "2.000"], ["50×5", "1.500", "5.000"],
               ["mean", "1.750", "3.500"]]
-    assert list(csv.reader(io.StringIO((folder / "report" / "sizes.csv").read_text()))) == wanted
-    lines = (folder / "report" / "sizes.md").read_text().splitlines()
-    cells = [line.replace("\\&", "&")[2:-2].split(" | ") for line in lines[:1] + lines[2:5]]
-    assert [[cell.strip() for cell in row] for row in cells] == wanted
-    tex = (folder / "report" / "sizes.tex").read_text()
+    assert cells_of(sizes) == wanted
+    lines = sizes.with_suffix(".md").read_text().splitlines()
+    assert [line.replace("\\&", "&")[2:-2].split(" | ") for line in lines[:1] + lines[2:5]] == wanted
+    tex = sizes.with_suffix(".tex").read_text()
     assert re.findall(r"\\(?:top|mid|bottom)rule", tex) == ["\\toprule", "\\midrule", "\\midrule", "\\bottomrule"]
-    assert r"jobs$\times$machines & 5\% \& more & mine\_1 \\" in tex
-    assert r"mean & 1.750 & 3.500 \\" in tex and r"\begin{tabular}{lrr}" in tex
+    assert r"jobs$\times$machines & 5\% \& more & mine\_1 \\" in tex and r"mean & 1.750 & 3.500 \\" in tex
+    assert r"\begin{tabular}{lrr}" in tex
     published = "jobs,machines,rpd,method\n20,5,0.04,P\n20,5,0.5,Q\n50,5,1.25,Q\n"
     assert report(out="instance,jobs,machines,makespan,reference\na,20,5,100.5,100\nb,50,5,102,100\n",
                   paper=published).status == 0
-    assert list(csv.reader(io.StringIO((folder / "report" / "sizes.csv").read_text()))) == [
-        ["jobs×machines", "out", "P", "Q"], ["20×5", "0.500", "0.040", "0.500"], ["50×5", "2.000", "", "1.250"],
-        ["mean", "1.250", "", "0.875"]]
-    assert "Not audited, only stated: P, Q, out." in (folder / "report" / "sizes.tex").read_text()
+    assert cells_of(sizes) == [["jobs×machines", "out", "P", "Q"], ["20×5", "0.500", "0.040", "0.500"],
+                               ["50×5", "2.000", "", "1.250"], ["mean", "1.250", "", "0.875"]]
+    assert "Not audited, only stated: P, Q, out." in sizes.with_suffix(".tex").read_text()
     assert column(folder, "best", "instances") == ["100.5", "102"]
 
 

@@ -47,7 +47,6 @@ def test_the_list_has_ten_instances_of_each_size(listed: Listed, best_known: dic
     assert [name for name, span in best_known.items() if span < int(listed[name]["lower_bound"])] == []
 
 
-
 @pytest.mark.parametrize("name", NAMES)
 def test_the_bound_is_the_published_one(name: str, listed: Listed, shops: pathlib.Path, pfs: Program,
                                         folder: pathlib.Path) -> None:

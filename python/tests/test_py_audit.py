@@ -87,7 +87,6 @@ def test_a_table_with_errors(table: list[tuple[Any, ...]], capsys: pytest.Captur
                                                           for each in found)]
 
 
-
 # Other tables
 
 SMALL = pfs.Instance([[3, 2], [2, 5], [4, 1]], name="small.txt")
@@ -211,11 +210,6 @@ def test_the_command(tmp_path: pathlib.Path, monkeypatch: pytest.MonkeyPatch,
     assert pathlib.Path("out.csv").read_text().splitlines()[1] == "2,ta001,'=IG,1448,1448,1232,True,valid,"
     assert run("one.csv --first 1") == 1
     assert capsys.readouterr().out.startswith("line 2, ta001 =IG: counted from 0: others count from 1; counted from ")
-    for words, said in (("", "required: TABLE"), ("one.csv --layout x", "argument --layout"),
-                        ("one.csv --first 2", "argument --first")):
-        with pytest.raises(SystemExit):
-            run(words)
-        assert said in capsys.readouterr().err
     with pytest.raises(ExperimentError, match="none is not a folder"):
         run("one.csv --instances none")
     with pytest.raises(ExperimentError, match="one.csv is the table: name another file"):

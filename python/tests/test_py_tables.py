@@ -203,7 +203,6 @@ def test_tables(tmp_path: pathlib.Path, text: str) -> None:
     assert (shop.name, shop.unit, shop.decimals) == ("plan.csv", "", 0)
 
 
-
 @pytest.mark.parametrize("case", RIGHT_TABLES)
 def test_tables_that_look_wrong_and_are_right(tmp_path: pathlib.Path, case: str) -> None:
     text, times = RIGHT_TABLES[case]
@@ -281,7 +280,6 @@ def test_tables_that_are_rejected(tmp_path: pathlib.Path, case: str) -> None:
     place = f"cell {'ABCDE'[column - 1]}{line}{f', column {fault.value.head!r}' if fault.value.head else ''}: "
     assert str(fault.value).split("\n")[0] == f"{tmp_path / 'file'}: {place if column else f'line {line}, '}{why}"
     assert pickle.loads(pickle.dumps(fault.value)).text == why
-
 
 
 @pytest.mark.parametrize(("cell", "time", "decimals"), [

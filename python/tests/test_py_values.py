@@ -116,7 +116,6 @@ def test_a_schedule_has_the_names_that_there_are(names: dict[str, Any], tmp_path
         made.to_frame()
 
 
-
 @pytest.mark.parametrize("delimiter", [",", ";", "\t"])
 @pytest.mark.parametrize("name", ["car\rriage", "two\nlines", "both\r\n", '"quoted"', "a,b;c\td", " ", "", "=1", " =1",
                                   "-1", "+a", "@a", "\t", "\r"])
@@ -169,7 +168,6 @@ REJECTED: list[tuple[Callable[..., Any], tuple[Any, ...], type[Exception], str]]
 def test_what_is_rejected(call: Callable[..., Any], words: tuple[Any, ...], kind: type[Exception], why: str) -> None:
     with pytest.raises(kind, match=why):
         call(*words)
-
 
 
 def test_returned_arrays_are_read_only() -> None:
@@ -264,7 +262,6 @@ def test_a_copy_has_each_attribute(how: str) -> None:
         if type(one) in COMPARED:
             assert other == one and hash(other) == hash(one) and one != 1
     assert pfs.taillard(1).solve(200, history=True) == pfs.taillard(1).solve(200), "the history is compared"
-
 
 
 def test_instances_and_solutions_are_shown() -> None:

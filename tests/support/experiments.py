@@ -2,9 +2,8 @@
 import itertools
 import os
 import pathlib
-import signal
 import subprocess
-from collections.abc import Callable, Iterable, Iterator, Sequence
+from collections.abc import Callable, Iterable, Iterator
 from contextlib import contextmanager, suppress
 from typing import IO, Any, NamedTuple
 
@@ -12,19 +11,16 @@ import pytest
 from support.library import Library
 from support.needs import tool
 from support.program import Program
-from support.tools import Done, csv_rows, run_tool, wait_until, with_path, write_script
+from support.tools import Done, csv_rows, run_tool, with_path, write_script
 
-PLAN = """instances = ["shops/*"]
-rounds = [10, 30]
-seeds = [1, 2, 3]
-"""
+PLAN = 'instances = ["shops/*"]\nrounds = [10, 30]\nseeds = [1, 2, 3]\n'
 # A shorter one.
 HALF = PLAN.replace("[10, 30]", "[10]")
 SHOPS = {"a": (20, 5, 873654221), "b": (3, 2, 7)}
 HEAD = ("instance,jobs,machines,rounds,take,passes,seed,repetition,makespan,bound,gap_percent,cells,seconds,status,"
-        "order,reference,source")
+        "order,reference,source").split(",")
 # The columns that two starts of a run have in common.
-SAME = [column for column in HEAD.split(",")[:14] if column != "seconds"]
+SAME = [column for column in HEAD[:14] if column != "seconds"]
 
 # A replacement of pfs: it notes its arguments, then waits at the gate, a pipe, as long as there is one, and in these
 # cases does something else, unless the file `fixed` exists.
@@ -68,11 +64,11 @@ class Experiment(NamedTuple):
         assert ran.status == 0, ran
         return ran.stdout.decode()
 
-    def wanted(self, rounds: Sequence[int] = (10, 30), seeds: Sequence[int] = (1, 2, 3), takes: Sequence[int] = (4,),
+    def wanted(self, rounds: Iterable[int] = (10, 30), seeds: Iterable[int] = (1, 2, 3), takes: Iterable[int] = (4,),
                repetitions: int = 1, shops: Iterable[str] = SHOPS) -> list[Row]:
         """The rows of the plan, each by its own search and audit."""
-        each = itertools.product(shops, rounds, takes, seeds, range(1, repetitions + 1))
-        return [self.wanted_row(*values) for values in each]
+        return [self.wanted_row(*values)
+                for values in itertools.product(shops, rounds, takes, seeds, range(1, repetitions + 1))]
 
     def wanted_row(self, name: str, rounds: int, take: int, seed: int, repetition: int) -> Row:
         shop, (jobs, machines, _) = f"shops/{name}", SHOPS[name]
@@ -103,6 +99,10 @@ class Experiment(NamedTuple):
         return write_script(self.folder / "program", REPLACEMENT.format(pfs=self.pfs.path, folder=self.folder,
                                                                         cases=cases))
 
+    def parallel(self, text: str) -> dict[str, str]:
+        """An environment with a script of this text in the place of GNU parallel."""
+        return with_path(write_script(self.folder / "bin" / "parallel", f"#!/bin/sh\n{text}\n").parent)
+
     @contextmanager
     def gate(self) -> Iterator[Callable[[int], object]]:
         """The gate, which is shut until the block ends, but for as many searches as the function is called with."""
@@ -118,31 +118,10 @@ class Experiment(NamedTuple):
     def start(self, *words: str, name: str = "run", env: dict[str, str] | None = None,
               stderr: int | IO[bytes] = subprocess.DEVNULL) -> subprocess.Popen[Any]:
         """Starts the plan with the program that waits. A script before GNU parallel notes its process."""
-        first = write_script(self.folder / "bin" / "parallel", f"#!/bin/sh\necho $$ > {self.folder}/parallel\n"
-                             f"exec {tool('parallel')} \"$@\"\n")
-        return subprocess.Popen(self.words(name, *words, program=self.replacement()), cwd=self.folder,
-                                env=env or with_path(first.parent), stdin=subprocess.DEVNULL, stdout=subprocess.DEVNULL,
+        env = env or self.parallel(f"echo $$ > {self.folder}/parallel\nexec {tool('parallel')} \"$@\"")
+        return subprocess.Popen(self.words(name, "plan.toml", "out.csv", *words, program=self.replacement()),
+                                cwd=self.folder, env=env, stdin=subprocess.DEVNULL, stdout=subprocess.DEVNULL,
                                 stderr=stderr, start_new_session=True)
-
-    def interrupted(self, most: int, whom: str, number: int) -> set[str]:
-        """Starts the plan, lets `most` more runs finish and sends a signal while two wait; returns the runs that are
-        done by then."""
-        before, started_before = len(self.done()), len(self.started())
-        with self.gate() as let_through:
-            begun = self.start("plan.toml", "out.csv", "--jobs", "2")
-            let_through(most)
-            try:
-                wait_until(lambda: len(self.done()) == before + most
-                           and len(self.started()) == started_before + most + 2, f"{most} runs are done, two wait")
-                done = self.done()
-            finally:
-                os.kill({"all": -begun.pid, "starter": begun.pid}.get(whom) or
-                        int((self.folder / "parallel").read_text()), number)
-                begun.wait(60)
-            if (whom, number) != ("all", signal.SIGKILL):
-                wait_until(lambda: self.left() == [], "what a start has begun ends with it")
-        wait_until(lambda: self.left() == [], "what a start has begun ends")
-        return done
 
     def started(self) -> list[str]:
         """The searches that were started, by their words."""

@@ -18,19 +18,8 @@ def text_cell(text: str) -> str:
 
 
 def atomic_write(path: str | os.PathLike[str], data: bytes, temporary: str | None = None) -> None:
-    """Replace the content of a file.
-
-    The data is written to a temporary file in the same folder, which is then renamed. A symbolic link to the file
-    remains a link. Pipes and devices are written to directly.
-
-    Parameters
-    ----------
-    path : str or os.PathLike
-        The file.
-    data : bytes
-        Its new content.
-    temporary : str, optional
-        The temporary file (default: a new name)."""
+    """Replace the content of a file. The data is written to a temporary file in the same folder, by default of a new
+    name, which is then renamed. A link to the file remains a link. Pipes and devices are written to directly."""
     target = os.path.realpath(path)
     mode = mode_of(target)
     try:

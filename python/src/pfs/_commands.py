@@ -29,6 +29,7 @@ from pfs._solution import Solution
 from pfs._state import State, StateFault
 from pfs._tables import described, table_of
 from pfs._version import VERSION
+from pfs._words import number
 
 # Exit statuses, the same as those of the program.
 REFUSED, USAGE, SYSTEM = 2, 3, 4
@@ -58,15 +59,15 @@ class Stop:
         self.signal = 0
 
     def __enter__(self) -> Stop:
-        self.before = [signal.signal(number, self.note) for number in SIGNALS]
+        self.before = [signal.signal(each, self.note) for each in SIGNALS]
         return self
 
     def __exit__(self, *_: object) -> None:
-        for number, before in zip(SIGNALS, self.before):
-            signal.signal(number, before)
+        for each, before in zip(SIGNALS, self.before):
+            signal.signal(each, before)
 
-    def note(self, number: int, _: object) -> None:
-        self.signal = self.signal or number
+    def note(self, caught: int, _: object) -> None:
+        self.signal = self.signal or caught
 
     def status(self) -> int:
         """Return the exit status that a shell reports for a program that the signal killed."""
@@ -311,17 +312,6 @@ def seconds_of(text: str) -> float:
         raise argparse.ArgumentTypeError(f"{text!r} is not a number of seconds") from None
     assert seconds is not None
     return seconds
-
-
-def number(least: int, most: int) -> Callable[[str], int]:
-    """Return a parser of integers from `least` to `most`."""
-
-    def read_number(text: str) -> int:
-        if not (text.isascii() and text.isdigit() and len(text) <= 30 and least <= int(text) <= most):
-            raise argparse.ArgumentTypeError(f"{text!r} is not a number from {least:,} to {most:,}")
-        return int(text)
-
-    return read_number
 
 
 def checked(reader: Callable[[str], object]) -> Callable[[str], str]:

@@ -16,6 +16,7 @@ from pfs import _drawing as chart
 from pfs._atomic import atomic_write
 from pfs._names import printable
 from pfs._optional import optional
+from pfs._words import inches, number
 
 # The most pixels of a PNG, so that it fits into memory.
 MOST_PIXELS = 100_000_000
@@ -82,24 +83,6 @@ class CommandLine(argparse.ArgumentParser):
         raise GanttError(message)
 
 
-def number(text: str) -> int:
-    if not re.fullmatch("[0-9]{1,18}", text, re.ASCII):
-        raise argparse.ArgumentTypeError(f"{text!r} isn't a number")
-    return int(text)
-
-
-def inches(text: str) -> float:
-    if not re.fullmatch(r"[0-9]{1,2}(?:\.[0-9]{1,4})?", text, re.ASCII) or not 2 <= float(text) <= 50:
-        raise argparse.ArgumentTypeError(f"{text!r} isn't a number of inches from 2 to 50")
-    return float(text)
-
-
-def dots(text: str) -> int:
-    if not 20 <= number(text) <= 2400:
-        raise argparse.ArgumentTypeError(f"{text!r} isn't a number from 20 to 2400")
-    return number(text)
-
-
 def on_one_line(text: str) -> str:
     if not text.isprintable():
         raise argparse.ArgumentTypeError(f"{text!r} has characters that can't be printed")
@@ -110,10 +93,11 @@ def parse_args() -> argparse.Namespace:
     defaults = chart.Look()
     parser = CommandLine(usage=(__doc__ or "").partition("usage: ")[2])
     parser.add_argument("--critical", action="store_true", help="outline a critical path")
-    parser.add_argument("--bound", type=number, help="draw a dashed line at this lower bound")
+    parser.add_argument("--bound", type=number(0, 10 ** 18 - 1), help="draw a dashed line at this lower bound")
     parser.add_argument("--unit", type=on_one_line, default=defaults.unit, help="the unit of the times")
     parser.add_argument("--width", type=inches, default=defaults.width, help="the width of the picture, in inches")
-    parser.add_argument("--dpi", type=dots, default=defaults.dpi, help="dots per inch of a PNG or an image of rows")
+    parser.add_argument("--dpi", type=number(20, 2400), default=defaults.dpi,
+                        help="dots per inch of a PNG or an image of rows")
     parser.add_argument("--title", type=on_one_line, default=True, help="the title; none if it is empty")
     parser.add_argument("--no-title", dest="title", action="store_false", help=argparse.SUPPRESS)
     parser.add_argument("table", nargs="?", metavar="TABLE")

@@ -6,13 +6,14 @@ import importlib
 import io
 import os
 import pathlib
-import re
 import shutil
 import signal
 import sys
 from collections.abc import Callable
 from typing import NoReturn
 
+from pfs._optional import optional
+from pfs._words import inches, number
 from pfs.experiments import ExperimentError, plain
 
 # Where the program is searched for: on the path, and in the folder of pfs-experiments.
@@ -24,15 +25,6 @@ class CommandLine(argparse.ArgumentParser):
 
     def error(self, message: str) -> NoReturn:
         self.exit(2, f"{self.prog}: {plain(message)} ({' '.join(self.format_usage().split())})\n")
-
-
-def number(form: str, least: float, most: float, what: str) -> Callable[[str], float]:
-    """Returns a parser of numbers of this form and in this range."""
-    def read(text: str) -> float:
-        if not re.fullmatch(form, text, re.ASCII) or not least <= float(text) <= most:
-            raise argparse.ArgumentTypeError(f"{text!r} is not {what}")
-        return float(text)
-    return read
 
 
 def command_line() -> CommandLine:
@@ -58,8 +50,7 @@ def command_line() -> CommandLine:
         starter.add_argument("plan", metavar="PLAN")
         starter.add_argument("csv", metavar="CSV")
     run.add_argument("--sshloginfile", metavar="FILE", help="a file with the machines for GNU parallel")
-    slurm.add_argument("--tasks", metavar="N", type=number("[0-9]{1,9}", 1, 10 ** 9, "a whole number from 1"),
-                       help="the most tasks of the array")
+    slurm.add_argument("--tasks", metavar="N", type=number(1, 10 ** 9), help="the most tasks of the array")
     slurm.add_argument("--dry-run", action="store_true", help="print the call of sbatch")
     status = add("status", "Writes the CSV of the runs that have ended so far, while the others continue.", "run")
     status.add_argument("csv", metavar="CSV")
@@ -74,10 +65,8 @@ def command_line() -> CommandLine:
     report = add("report", "Writes tables and plots of CSVs into a folder. Each CSV is a method.")
     report.add_argument("--format", choices=("png", "svg", "pdf"), default="png", help="the format of the plots")
     report.add_argument("--reference", metavar="CSV", help="a CSV with instance, makespan and source")
-    report.add_argument("--width", metavar="INCHES", help="the width of the plots, in inches",
-                        type=number(r"[0-9]{1,2}(?:\.[0-9]{1,4})?", 2, 50, "a number of inches from 2 to 50"))
-    report.add_argument("--dpi", metavar="DPI", help="dots per inch", default=130,
-                        type=number("[0-9]{2,4}", 20, 1200, "a number from 20 to 1200"))
+    report.add_argument("--width", metavar="INCHES", type=inches, help="the width of the plots, in inches")
+    report.add_argument("--dpi", metavar="DPI", type=number(20, 1200), default=130, help="dots per inch")
     report.add_argument("--no-title", action="store_true", help="draw no titles")
     report.add_argument("csv", metavar="CSV", nargs="+")
     report.add_argument("folder", metavar="FOLDER", type=pathlib.Path)
@@ -107,6 +96,8 @@ def main() -> int:
         name += f" {args.command}"
         if args.options and args.command not in ("run", "slurm"):
             parser.error(f"unrecognized arguments: {' '.join(args.options)}")
+        for module in ("matplotlib", "pandas", "scipy") if args.command == "report" else ():
+            optional(module, "a report")
         command: Callable[[argparse.Namespace], int] = vars(
             importlib.import_module(f"pfs.experiments.{args.module}"))[args.command]
         return command(args)

@@ -1,5 +1,4 @@
-"""Plans of experiments: TOML files that list the instances and the settings of the search. And the CSVs of references
-and of runs, as they are read without pandas."""
+"""Plans of experiments, which are TOML files, and the CSVs of references and of runs, read without pandas."""
 from __future__ import annotations
 
 import csv
@@ -9,27 +8,42 @@ import os
 import re
 import shlex
 import sys
-from collections.abc import Iterable
+from collections.abc import Callable, Iterable
 from typing import Any, cast
 
 from pfs._benchmarks import canonical
 from pfs.experiments import ExperimentError
 
-# Lists of numbers: their defaults, and what pfs accepts.
-NUMBERS = {"blocks": [1], "rounds": [0], "takes": None, "passes": [0], "seeds": [0]}
-LIMITS = {"blocks": (1, 1000), "rounds": (0, 1_000_000), "takes": (1, 5000), "passes": (0, 100),
-          "seeds": (0, 2 ** 64 - 1)}
-TEXTS = {"reference": "the path of a CSV", "command": "a command", "method": "a name"}
-# What a method may have that a plan lists in `methods`, and what is for the whole plan.
-OF_METHOD = {"rounds", "takes", "passes", "seeds", "repetitions", "time_factors", "command", "method", "files"}
-KEYS = {*OF_METHOD, "methods", "layout", "instances", "blocks", "reference"}
-# Keys that a command can't have.
-OF_PFS = ("rounds", "takes", "passes")
-# What a command may have in braces.
-OF_COMMAND = {"instance", "name", "jobs", "machines", "block", "seed", "seconds"}
-LEAST_FACTOR, MOST_FACTOR = 0.001, 10_000
 # The greatest makespan that an order file can state.
 MOST_MAKESPAN = 10 ** 18 - 1
+
+
+def list_of(least: float, most: float, *types: type[Any]) -> tuple[str, Callable[[Any], bool]]:
+    """Returns what a list of numbers of these types must be, and the test of it."""
+    what = "whole numbers" if types == (int,) else "numbers"
+    return f"a list of {what} from {least} to {most:,}", lambda given: isinstance(given, list) and given != [] and all(
+        type(each) in types and least <= each <= most for each in given)
+
+
+# What the value of each key must be, and the test of it.
+VALUES: dict[str, tuple[str, Callable[[Any], bool]]] = {
+    "blocks": list_of(1, 1000, int), "rounds": list_of(0, 1_000_000, int), "takes": list_of(1, 5000, int),
+    "passes": list_of(0, 100, int), "seeds": list_of(0, 2 ** 64 - 1, int),
+    "time_factors": list_of(0.001, 10_000, int, float),
+    "repetitions": ("a whole number from 1", lambda given: type(given) is int and 1 <= given <= MOST_MAKESPAN),
+    "layout": ('"taillard" or "orlib"', lambda given: given in ("taillard", "orlib")),
+    "reference": ("the path of a CSV", lambda given: isinstance(given, str) and "\0" not in given),
+    "command": ("a command", lambda given: isinstance(given, str) and "\0" not in given),
+    "method": ("a name without control characters",
+               lambda given: isinstance(given, str) and given != "" and given.isprintable())}
+# The defaults of lists of numbers.
+NUMBERS = {"blocks": [1], "rounds": [0], "takes": None, "passes": [0], "seeds": [0]}
+# What a method may have that a plan lists in `methods`, and what is for the whole plan.
+OF_METHOD = {"rounds", "takes", "passes", "seeds", "repetitions", "time_factors", "command", "method", "files"}
+KEYS = {*VALUES, "files", "instances", "methods"}
+# Keys that a command can't have, and what it may have in braces.
+OF_PFS = ("rounds", "takes", "passes")
+OF_COMMAND = {"instance", "name", "jobs", "machines", "block", "seed", "seconds"}
 
 Row = dict[str, str]
 
@@ -39,12 +53,10 @@ def parse_toml(path: str) -> dict[str, Any]:
     toml: Any = importlib.import_module("tomllib" if sys.version_info >= (3, 11) else "tomli")
     try:
         with open(path, "rb") as file:
-            plan: dict[str, Any] = toml.load(file)
-    except ValueError as error:
-        raise ExperimentError(f"{path}: {error}") from None
-    except RecursionError:
-        raise ExperimentError(f"{path}: the values are nested too deeply") from None
-    return plan
+            return cast("dict[str, Any]", toml.load(file))
+    except (ValueError, RecursionError) as error:
+        what = error if isinstance(error, ValueError) else "the values are nested too deeply"
+        raise ExperimentError(f"{path}: {what}") from None
 
 
 def require(is_right: object, path: str, message: str) -> None:
@@ -63,46 +75,30 @@ def read_plan(path: str) -> dict[str, Any]:
     require(plan.keys() <= KEYS, path, f"unknown key {min(plan.keys() - KEYS, default='')!r}")
     for each in listed:
         require(each.keys() <= OF_METHOD, path, f"unknown key {min(each.keys() - OF_METHOD, default='')!r} of methods")
-    methods = [method_of(path, {**plan, **each}) for each in listed]
-    names = [method["method"] for method in methods]
-    require(len({*names}) == len(names), path, "each of methods needs method, a name that no other one has")
-    full = {"layout": "taillard", "blocks": [1], "reference": None, **plan}
-    require(full["layout"] in ("taillard", "orlib"), path, 'layout must be "taillard" or "orlib"')
-    instances = matches(path, "instances", plan.get("instances"))
-    return {**{key: full[key] for key in ("layout", "blocks", "reference")}, "instances": instances, "methods": methods}
+    methods = [method_of(path, plan | each) for each in listed]
+    require(len({method["method"] for method in methods}) == len(methods), path,
+            "each of methods needs method, a name that no other one has")
+    return {"layout": plan.get("layout", "taillard"), "blocks": plan.get("blocks", [1]),
+            "reference": plan.get("reference"), "instances": matches(path, "instances", plan.get("instances")),
+            "methods": methods}
 
 
 def method_of(path: str, plan: dict[str, Any]) -> dict[str, Any]:
     """Returns the settings of a method, whose keys and those of the plan these are. `time_factors`, `command` and
     `files` have no defaults."""
-    for key, what in TEXTS.items():
-        require(isinstance(plan.get(key, ""), str) and "\0" not in plan.get(key, ""), path, f"{key} must be {what}")
+    for key, (what, is_right) in VALUES.items():
+        require(key not in plan or is_right(plan[key]), path, f"{key} must be {what}")
     full: dict[str, Any] = {"repetitions": 1, "method": "", **NUMBERS, **plan}
-    for key, (least, most) in LIMITS.items():
-        require(key not in plan or are_numbers(plan[key], (int,), least, most), path,
-                f"{key} must be a list of whole numbers from {least} to {most:,}")
-    require(are_numbers([full["repetitions"]], (int,), 1, MOST_MAKESPAN), path,
-            "repetitions must be a whole number from 1")
     if "time_factors" in plan:
-        require(are_numbers(plan["time_factors"], (int, float), LEAST_FACTOR, MOST_FACTOR), path,
-                f"time_factors must be a list of numbers from {LEAST_FACTOR} to {MOST_FACTOR:,}")
         full["rounds"] = plan.get("rounds", [])
-    require(plan.get("method", "m") and full["method"].isprintable(), path,
-            "method must be a name without control characters")
     if "command" in plan or "files" in plan:
         full |= command_of(path, plan)
     return {key: full[key] for key in full.keys() & OF_METHOD}
 
 
-def are_numbers(numbers: object, types: tuple[type, ...], least: float, most: float) -> bool:
-    """Whether this is a list of numbers of these types, in this range, with at least one."""
-    return isinstance(numbers, list) and numbers != [] and all(
-        type(each) in types and least <= each <= most for each in numbers)
-
-
 def command_of(path: str, plan: dict[str, Any]) -> dict[str, Any]:
-    """Returns the command line of another program, and the files that it needs, as paths from the plan's folder. The
-    program itself is one of them if it is a path from there."""
+    """Returns a command, word by word, and the files that it needs, as paths from the plan's folder, with the program
+    if it is one."""
     require(plan.get("command") and "method" in plan, path,
             "command needs method, the name of the program, and files needs command")
     for key in OF_PFS:
@@ -164,7 +160,7 @@ def rows_of(path: str | os.PathLike[str], needed: Iterable[str]) -> list[Row]:
 
 
 def reference_of(path: str | os.PathLike[str]) -> dict[str, tuple[int, str]]:
-    """Returns the reference makespan of each instance in a CSV, and its source, by its name and, if that is clear, by
+    """Returns the reference of each instance in a CSV, a makespan and its source, by its name and, if that is clear, by
     its canonical name."""
     found: dict[str, tuple[int, str]] = {}
     for row in rows_of(path, ["instance", "makespan"]):
@@ -181,7 +177,6 @@ def reference_of(path: str | os.PathLike[str]) -> dict[str, tuple[int, str]]:
 
 
 def reference_for(reference: dict[str, tuple[int, str]], instance: str) -> tuple[int, str] | None:
-    """Returns the reference of an instance, by its full name, by the last part of its path, or by its canonical
-    name."""
+    """Returns the reference of an instance, by its name, the last part of its path, or its canonical name."""
     return (reference.get(instance) or reference.get(instance.rpartition("/")[2])
             or reference.get(canonical(instance)))

@@ -15,8 +15,7 @@ from matplotlib.ticker import NullLocator
 
 from pfs._atomic import atomic_write
 from pfs.experiments import plain
-from pfs.experiments.fair import SETTING
-from pfs.experiments.report import setting_names, size_name
+from pfs.experiments.statistics import SETTING, setting_names
 
 # The same runs give the same bytes on every machine. The fonts of a PDF are TrueType. No name is shown as a formula.
 SETTINGS = {"svg.fonttype": "none", "svg.hashsalt": "pfs", "pdf.fonttype": 42, "axes.grid": True, "grid.alpha": 0.3,
@@ -30,6 +29,10 @@ KIND = ["method", "take", "passes"]
 
 # Figures, axes and colours of matplotlib, which has no types.
 Axis = Any
+
+
+def size_name(size: tuple[float, ...]) -> str:
+    return "unknown" if -1 in size else "{:.0f}×{:.0f}".format(*size)
 
 
 def plot(done: pd.DataFrame, shared: pd.DataFrame, folder: pathlib.Path, ending: str, width: float | None, dpi: float,

@@ -1,5 +1,5 @@
-"""The report of CSVs of experiments or of other programs: its tables, and the relative percentage deviations (RPD) that
-it is of. Runs that failed are only counted."""
+"""The report of CSVs of experiments or of other programs: its tables, most of them of relative percentage deviations
+(RPD). Runs that failed are only counted."""
 from __future__ import annotations
 
 import argparse
@@ -7,18 +7,17 @@ import logging
 import pathlib
 import re
 import sys
-from typing import TYPE_CHECKING, Any
+from typing import Any
+
+import pandas as pd
 
 from pfs._atomic import text_cell
 from pfs._benchmarks import canonical, taillard_rows
-from pfs._optional import optional
-from pfs.experiments import ExperimentError, csv_text, listed, plain
-from pfs.experiments.fair import SETTING, common, made_of
+from pfs.experiments import ExperimentError, csv_text, listed, plain, plots, statistics
 from pfs.experiments.plan import MOST_MAKESPAN, reference_for, reference_of, rows_of
+from pfs.experiments.plots import size_name
 from pfs.experiments.stage import write_text
-
-if TYPE_CHECKING:
-    import pandas as pd
+from pfs.experiments.statistics import SETTING, setting_names
 
 SIZE = ["jobs", "machines"]
 GROUP = ["method", *SIZE, "rounds", "take", "passes", "time_factor"]
@@ -28,9 +27,6 @@ WHOLE = {"jobs": 10 ** 6, "machines": 10 ** 6, "rounds": 10 ** 9, "take": 10 ** 
 RANGES = {"gap_percent": (-100, 1e20), "seconds": (0, 1e12), "time_factor": (0, 1e12), "makespan": (0, MOST_MAKESPAN),
           **{column: (0, most) for column, most in WHOLE.items()}}
 NUMBER = r" *-?[0-9]+(?:\.[0-9]*)?(?:[eE][+-]?[0-9]{1,3})? *"
-# How the values of a setting are named, where a method's settings differ in them.
-FORMS = {"rounds": "{:,.0f} rounds", "take": "take {:,.0f}", "passes": "passes {:.0f}",
-         "time_factor": "time factor {:g}"}
 # The decimals of the columns of tables.
 DECIMALS = {"mean_seconds": "{:.4f}", "mean_rank": "{:.2f}", "time_factor": "{:g}", "p": "{:.4g}", "p_holm": "{:.4g}",
             **dict.fromkeys(("makespan", "best", "mean", "deviation"), "{:.15g}")}
@@ -42,9 +38,6 @@ LATEX = {"\\": r"\textbackslash{}", "~": r"\textasciitilde{}", "^": r"\textascii
 def report(args: argparse.Namespace) -> int:
     """Writes the tables and the plots."""
     logging.getLogger("matplotlib").setLevel(logging.ERROR)
-    for name in ("matplotlib", "pandas", "scipy"):
-        optional(name, "a report")
-    from pfs.experiments import plots, statistics
     means = [path for path in args.csv if "rpd" in (columns := rows_of(path, [])[0]) and "instance" not in columns]
     if len(means) == len(args.csv):
         raise ExperimentError("published means are columns beside the runs of another CSV")
@@ -80,7 +73,6 @@ def report(args: argparse.Namespace) -> int:
 def read(paths: list[str], reference_path: str | None) -> tuple[pd.DataFrame, str]:
     """Returns the runs of all CSVs with their RPD, and a note on their reference. Unknown values of a setting are -1,
     other ones NaN. The size of an instance may come from any of the CSVs."""
-    import pandas as pd
     stems = [pathlib.Path(path).stem for path in paths]
     runs = pd.concat([read_one(path, path if stems.count(stem) > 1 else stem) for path, stem in zip(paths, stems)],
                      ignore_index=True)
@@ -119,7 +111,6 @@ def orders_of(paths: list[str]) -> list[str] | str:
 
 def published(path: str) -> pd.DataFrame:
     """Returns published means of the RPD, with a row for each size and a column for each method."""
-    import pandas as pd
     read = pd.DataFrame({"method": "", **row} for row in rows_of(path, ["jobs", "machines", "rpd"]))
     means = read.assign(method=read["method"].replace("", pathlib.Path(path).stem),
                         **{name: numbers_in(read[name], name, path) for name in ("jobs", "machines", "rpd")})
@@ -128,7 +119,6 @@ def published(path: str) -> pd.DataFrame:
 
 def read_one(path: str, name: str) -> pd.DataFrame:
     """Reads the runs of a CSV. The results of a run that failed are unknown."""
-    import pandas as pd
     usual = {"method": "", "seed": "", "status": "ok", **dict.fromkeys(RANGES, "")}
     read = pd.DataFrame(usual | row for row in rows_of(path, ["instance", "makespan"]))
     read.loc[read["status"].ne("ok") | read["makespan"].eq(""), ["makespan", "cells", "gap_percent", "seconds"]] = ""
@@ -152,7 +142,6 @@ def numbers_in(texts: pd.Series, column: str, path: str) -> pd.Series:
 
 def taillards_of(runs: pd.DataFrame) -> pd.DataFrame:
     """Returns what is known of each run's instance if it is one of Taillard's, by its name and its size."""
-    import pandas as pd
     table = pd.DataFrame(taillard_rows(), columns=["name", *SIZE, "seed", "bound", "best"])
     own = table.set_index("name").reindex(runs["instance"].map(canonical)).set_index(runs.index)
     return own.where((runs[SIZE].isna() | (runs[SIZE] == own[SIZE])).all(axis=1))
@@ -169,17 +158,16 @@ def check_bounds(runs: pd.DataFrame, taillards: pd.Series) -> None:
 
 def in_common(done: pd.DataFrame) -> tuple[pd.DataFrame, str]:
     """Returns the runs of the instances and seeds that all settings have, and a sentence on what settings lack."""
-    kept, lacking = common(made_of(done))
-    settings = list(dict.fromkeys(made.setting for made in made_of(done)))
-    names = dict(zip(settings, setting_names(settings)))
-    parts = [f"{names[setting]} lacks runs of {listed(found)}" for setting, found in lacking.items()]
-    return done[kept], f"Compared are the instances and seeds that all have: {'; '.join(parts)}." if parts else ""
+    shared, lacking = statistics.common(done)
+    settings = list(dict.fromkeys(done[SETTING].itertuples(index=False, name=None)))
+    parts = [f"{name} lacks runs of {listed(lacking[setting])}"
+             for setting, name in zip(settings, setting_names(settings)) if setting in lacking]
+    return shared, f"Compared are the instances and seeds that all have: {'; '.join(parts)}." if parts else ""
 
 
 def references(runs: pd.DataFrame, taillards: pd.Series, path: str | None) -> tuple[pd.Series, str]:
-    """Returns the reference of each run, and a sentence that says which it is. If no instance has a reference, the best
-    makespan of its runs is the reference. If any has one, the others have none: the best of few runs would make these
-    look good."""
+    """Returns the reference of each run, and a sentence that says which it is. If no instance has one, it is the best
+    makespan of the runs; else the others have none, as the best of few runs would make these look good."""
     done = runs[runs["makespan"].notna()]
     stated = reference_of(path) if path else {}
     kinds = {
@@ -217,8 +205,8 @@ def by_instance(done: pd.DataFrame) -> pd.DataFrame:
 
 
 def write_sizes(shared: pd.DataFrame, published: list[pd.DataFrame], folder: pathlib.Path, lacking: str) -> None:
-    """Writes the mean RPD with a row for each size and a column for each setting, and the means of the columns. A
-    published column has a mean if it has all sizes."""
+    """Writes the mean RPD, a row for each size and a column for each setting, and means of the columns that have all
+    sizes."""
     means = shared.pivot_table(index=SIZE, columns=SETTING, values="rpd")
     means = means.set_axis(setting_names(list(means.columns)), axis=1)
     for each in published:
@@ -291,18 +279,3 @@ def latex(text: str) -> str:
 def stacked(head: str) -> str:
     """Returns the head of a column for LaTeX, with the parts of a name one below the other."""
     return rf"\shortstack[r]{{{latex(head)}}}".replace(", ", r"\\") if ", " in head else latex(head)
-
-
-def size_name(size: tuple[float, ...]) -> str:
-    return "unknown" if -1 in size else "{:.0f}×{:.0f}".format(*size)
-
-
-def setting_names(settings: list[tuple[Any, ...]]) -> list[str]:
-    """Returns a short name of each setting: the method, and the values in which the method's settings differ."""
-    names = []
-    for method, *values in settings:
-        others = [other[1:] for other in settings if other[0] == method]
-        parts = [form.format(value) for at, (value, form) in enumerate(zip(values, FORMS.values()))
-                 if value != -1 and len({other[at] for other in others}) > 1]
-        names.append(", ".join([method, *parts]))
-    return names

@@ -36,8 +36,7 @@ PATIENCE = 20
 
 
 class Experiment(NamedTuple):
-    """A plan, the folder of its runs, the runs in the order of the CSV, and the reference."""
-    plan: dict[str, Any]
+    """The folder of a plan's runs, the runs in the order of the CSV, and the reference."""
     folder: pathlib.Path
     runs: list[Row]
     reference: dict[str, tuple[int, str]]
@@ -105,7 +104,7 @@ def prepare(plan_path: str, csv_path: str, program: str | None) -> Experiment:
             what = "command" if stored["layout"] == plan["layout"] else "layout"
             raise ExperimentError(f"{csv_path} was started with another {what}: use another CSV")
         inputs = copied_inputs(plan, stored["places"], top, folder / stage_of(folder))
-        experiment = Experiment(plan, folder, add_runs(plan, stored, top, folder, csv_path), reference)
+        experiment = Experiment(folder, add_runs(plan, stored, top, folder, csv_path), reference)
         provenance.note_start(folder, plan, inputs)
         if changed := provenance.changed(inputs):
             text = (f"{csv_path}: changed since they were copied for its runs: {', '.join(changed)}. The copies are "
@@ -235,7 +234,7 @@ def started(csv_path: str) -> Experiment:
     if not plan:
         raise ExperimentError(f"{csv_path} was not started: {folder.name} is missing")
     reference = reference_of(os.path.join(plan["top"], plan["reference"])) if plan["reference"] else {}
-    return Experiment(plan, folder, plan["order"], reference)
+    return Experiment(folder, plan["order"], reference)
 
 
 def table_of(runs: list[Row]) -> str:

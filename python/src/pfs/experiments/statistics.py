@@ -1,4 +1,4 @@
-"""The comparison of methods and of settings in a report."""
+"""The comparison of methods and of settings in a report, on the instances and seeds that all of them have."""
 from __future__ import annotations
 
 import itertools
@@ -8,8 +8,9 @@ import numpy as np
 import pandas as pd
 import scipy.stats
 
-from pfs.experiments.fair import SETTING, common, made_of
-
+SETTING = ["method", "rounds", "take", "passes", "time_factor"]
+# How the values of a setting are named, where a method's settings differ in them.
+FORMS = ("{:,.0f} rounds", "take {:,.0f}", "passes {:.0f}", "time factor {:g}")
 # The exact test is for at most this number of pairs; for more, SciPy's normal approximation is used.
 MOST_EXACT = 50
 # The rounds and the time factor of a setting that tells neither.
@@ -25,16 +26,43 @@ RANKS = ("Average ranks of the settings of the same rounds or time factor, which
          "all have: the shortest mean makespan has rank 1, and equal ones the mean of their ranks. p: Friedman's test.")
 
 
+def common(runs: pd.DataFrame) -> tuple[pd.DataFrame, dict[Any, list[str]]]:
+    """Returns the runs of the instances and seeds that all settings have, and by setting the instances of which it
+    lacks a run that another one has. A run without a seed, such as NEH's, is for all seeds."""
+    settings = list(runs[SETTING].itertuples(index=False, name=None))
+    pairs = [(instance, seed if seed and setting[1] != 0 else None)
+             for setting, instance, seed in zip(settings, runs["instance"], runs["seed"])]
+    made: dict[Any, set[tuple[str, str | None]]] = {}
+    for setting, pair in zip(settings, pairs):
+        made.setdefault(setting, set()).add(pair)
+    due = set(pairs) - {(instance, None) for instance, seed in pairs if seed is not None}
+    lacking = {setting: {(instance, seed) for instance, seed in due if not own & {(instance, seed), (instance, None)}}
+               for setting, own in made.items()}
+    shared = due.difference(*lacking.values())
+    instances = {instance for instance, _ in shared}
+    kept = [pair in shared or (pair[1] is None and pair[0] in instances) for pair in pairs]
+    return runs[kept], {setting: sorted({instance for instance, _ in own}) for setting, own in lacking.items() if own}
+
+
+def setting_names(settings: list[tuple[Any, ...]]) -> list[str]:
+    """Returns a short name of each setting: the method, and the values in which the method's settings differ."""
+    names = []
+    for method, *values in settings:
+        others = [other[1:] for other in settings if other[0] == method]
+        parts = [form.format(value) for at, (value, form) in enumerate(zip(values, FORMS))
+                 if value != -1 and len({other[at] for other in others}) > 1]
+        names.append(", ".join([method, *parts]))
+    return names
+
+
 def compared(done: pd.DataFrame) -> pd.DataFrame:
-    """Returns a row for each pair of settings that can be compared and have a common instance and seed. They are
-    compared by the means of each instance, and equal means may differ by a rounding."""
+    """Returns a row for each pair of settings that can be compared and have a common instance and seed."""
     rows = []
     for (one, first), (other, second) in itertools.combinations(done.groupby(SETTING), 2):
         # Of the same rounds or time factor, or of two methods of which one has neither.
         budgets = [budget_of(one), budget_of(other)]
         if budgets[0] == budgets[1] or (one[0] != other[0] and UNKNOWN in budgets):
-            runs = pd.concat([first, second])
-            runs = runs[common(made_of(runs))[0]]
+            runs, _ = common(pd.concat([first, second]))
             both = by_instance(runs, one).join(by_instance(runs, other), rsuffix="_other")
             names = [*SETTING, *(f"other_{column}" for column in SETTING)]
             rows += [dict(zip(names, one + other)) | comparison_of(both)] if len(both) else []
@@ -45,8 +73,8 @@ def compared(done: pd.DataFrame) -> pd.DataFrame:
 
 
 def ranked(shared: pd.DataFrame) -> pd.DataFrame:
-    """Returns the average rank of each of three or more settings that can be compared, by their mean makespans of each
-    instance, and the p-value of Friedman's test. A setting without rounds and time factor is in every group."""
+    """Returns the average rank of each of three or more settings that can be compared, by their mean makespans, and the
+    p-value of Friedman's test. A setting without rounds and time factor is in every group."""
     table = shared.pivot_table(index="instance", columns=SETTING, values="makespan").round(9)
     budgets = sorted({*map(budget_of, table)} - {UNKNOWN}) or [UNKNOWN]
     groups = [table[[setting for setting in table if budget_of(setting) in (budget, UNKNOWN)]] for budget in budgets]
@@ -65,7 +93,7 @@ def budget_of(setting: tuple[Any, ...]) -> tuple[float, float]:
 
 
 def by_instance(runs: pd.DataFrame, setting: tuple[Any, ...]) -> pd.DataFrame:
-    """Returns the means of a setting and its makespans by instance."""
+    """Returns the means of a setting and its makespans by instance. Equal means may differ by a rounding."""
     own = runs[(runs[SETTING] == setting).all(axis=1)].groupby("instance")
     return own.agg(makespan=("makespan", "mean"), rpd=("rpd", "mean"), spans=("makespan", list)).round(9)
 
@@ -91,8 +119,7 @@ def superiority(ones: list[float], others: list[float]) -> float:
 
 def probability(differences: pd.Series) -> float:
     """Returns the p-value of Wilcoxon's signed-rank test of differences that are not 0. The exact one is the share of
-    all choices of signs whose sum of ranks is at least as far from the middle as that of these differences. Equal
-    differences have the mean of their ranks, so twice a rank is a whole number."""
+    all choices of signs whose sum of ranks is as far from the middle. Twice a rank is whole, also of equal ones."""
     if len(differences) > MOST_EXACT:
         return float(scipy.stats.wilcoxon(differences, method="approx").pvalue)
     ranks = (2 * differences.abs().rank()).astype(int)
