@@ -1,6 +1,6 @@
-/* Compares pfs_insert with pfs_insertions, which computes by rows: on random instances of many sizes, in each order of
- * a random walk, and after faults. All instances are prepared in the same struct, most of them while it holds the one
- * before.
+/* Compares pfs_insert with pfs_insertions, which computes by rows, and a round of pfs_rounds with the same on a new
+ * instance: on random instances of many sizes, in the orders of a random walk, and after faults. All instances are
+ * prepared in the same struct, most of them while it holds the one before.
  *
  * usage: prepared_calls COUNT SEED     COUNT instances; prints the number of calls
  *        prepared_calls threads COUNT  the same in four threads at once, with a struct for each */
@@ -80,6 +80,32 @@ static void spoilt_step(struct walk *walk) {
     compare(walk, sequence, length, draw(walk, jobs + 1), &place);
 }
 
+static int prepare(struct walk *walk, struct pfs_instance *instance) {
+    return pfs_prepare(walk->times, walk->jobs * walk->machines, walk->jobs, walk->machines, instance);
+}
+
+/* Makes a round from the order, which the round before may have left, and the same round on a new instance. */
+static void search_step(struct walk *walk) {
+    uint32_t order[MOST];
+    uint64_t due_makespan, due_cells, makespan = 77, cells = 77;
+    struct pfs_instance fresh = {NULL};
+    struct pfs_rounds_options options = {.seed = draw(walk, 9), .take = 1, .first = draw(walk, 9), .count = 1};
+    memcpy(order, walk->order, sizeof order);
+    if (prepare(walk, &fresh) != PFS_OK
+        || pfs_rounds(&fresh, &options, order, walk->jobs, &due_makespan, &due_cells) != PFS_OK)
+        exit(2);
+    pfs_release(&fresh);
+    int number = pfs_rounds(&walk->instance, &options, walk->order, walk->jobs, &makespan, &cells);
+    ++walk->calls;
+    ++walk->done;
+    if (number != PFS_OK || makespan != due_makespan || cells != due_cells
+        || memcmp(walk->order, order, walk->jobs * sizeof *order) != 0) {
+        ++walk->wrong;
+        printf("%zu jobs, %zu machines: %d with makespan %" PRIu64 ", not %" PRIu64 "\n", walk->jobs, walk->machines,
+               number, makespan, due_makespan);
+    }
+}
+
 static void on_instance(struct walk *walk) {
     size_t size;
     uint32_t longest = ONE_OF(walk, LONGEST);
@@ -93,13 +119,14 @@ static void on_instance(struct walk *walk) {
         walk->times[at] = draw(walk, longest + 1);
     for (uint32_t job = 0; job < walk->jobs; ++job)
         walk->order[job] = job;
-    if (pfs_prepare(walk->times, size, walk->jobs, walk->machines, &walk->instance) != PFS_OK)
+    if (prepare(walk, &walk->instance) != PFS_OK)
         exit(2);
     for (int made = 0; made < STEPS; ++made)
-        if (draw(walk, 5) == 0)
-            spoilt_step(walk);
-        else
-            step(walk);
+        switch (draw(walk, 5)) {
+        case 0: spoilt_step(walk); break;
+        case 1: search_step(walk); break;
+        default: step(walk);
+        }
     free(walk->times);
 }
 

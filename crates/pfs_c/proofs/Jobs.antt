@@ -98,41 +98,12 @@ job_absent size job others h among =
     let twice = job_twice size job others (job_small size job others h) found in
     absurd (cc)
 
--- ---- the jobs before a place were validated and marked
+-- ---- the jobs before a place were marked
 
 -- the marked jobs are those before the place
 abbrev pub AreMarked : List ℕ → List Bool → ℕ → Type 0
 AreMarked jobs marks place =
     (job : ℕ) (d : Bool) → job < length marks → get_or marks job d ≡ list_any (nat_eq job) (take place jobs)
-
-pub record AreValid (size : ℕ) (jobs : List ℕ) (marks : List Bool) (place : ℕ) : Type 0 where
-  pub enough : size ≤ length marks
-  pub right : (k : ℕ) → k < place → place_fault size jobs k ≡ None
-  pub marked : AreMarked jobs marks place
-
-pub valid_start : (size : ℕ) (jobs : List ℕ) (marks : List Bool) → size ≤ length marks
-    → All (λ mark. mark ≡ false) marks → AreValid size jobs marks 0
-valid_start size jobs marks enough none = record {
-  enough = enough;
-  right = λ k h. absurd (omega arith);
-  marked = λ job d within. none job d within;
-}
-
-pub valid_out : (size : ℕ) (jobs : List ℕ) (marks : List Bool) (place : ℕ) → AreValid size jobs marks place
-    → place < length jobs → size ≤ get_or jobs place 0 → jobs_fault size jobs ≡ Some Job
-valid_out size jobs marks place h within great =
-    first_below (place_fault size jobs) (length jobs) place Job within h.right
-    (job_out size (get_or jobs place 0) (take place jobs) great)
-
-pub valid_twice : (size : ℕ) (jobs : List ℕ) (marks : List Bool) (place : ℕ) (d : Bool)
-    → AreValid size jobs marks place → place < length jobs → get_or jobs place 0 < size
-    → get_or marks (get_or jobs place 0) d ≡ true
-    → jobs_fault size jobs ≡ Some Repeated
-valid_twice size jobs marks place d h within small mark =
-    let enough = h.enough in
-    let is = h.marked (get_or jobs place 0) d (omega arith) in
-    first_below (place_fault size jobs) (length jobs) place Repeated within h.right
-    (job_twice size (get_or jobs place 0) (take place jobs) small (sym is ∙ mark))
 
 or_true : (b : Bool) → (b || true) ≡ true
 or_true true = refl
@@ -158,30 +129,6 @@ marked_more jobs marks place h within small =
       | inr apart ↦ rw (more other, apart, or_false (list_any (nat_eq other) (take place jobs)))
           (get_or-set_other marks job other true e (eqb-false other job apart) ∙ h other e (omega (arith, long)))
     ]
-
-pub valid_more : (size : ℕ) (jobs : List ℕ) (marks : List Bool) (place : ℕ) (d : Bool)
-    → AreValid size jobs marks place → place < length jobs → get_or jobs place 0 < size
-    → get_or marks (get_or jobs place 0) d ≡ false
-    → AreValid size jobs (set marks (get_or jobs place 0) true) (place + 1)
-valid_more size jobs marks place d h within small mark =
-    let job = get_or jobs place 0 in
-    let enough = h.enough in
-    let long : length (set marks job true) ≡ length marks = length-set marks job true in
-    let is = h.marked job d (omega arith) in
-    let right = job_right size job (take place jobs) small (sym is ∙ mark) in
-    record {
-      enough = rw long enough;
-      right = λ k lt. elim (cases_Bool (nat_eq k place)) [
-        | inl same ↦ rw (eqb-true k place same) right
-        | inr other ↦ h.right k (let apart = eqb-false k place other in omega arith)
-      ];
-      marked = marked_more jobs marks place h.marked within (omega arith);
-    }
-
-pub valid_all : (size : ℕ) (jobs : List ℕ) (marks : List Bool) (place : ℕ) → AreValid size jobs marks place
-    → length jobs ≤ place → jobs_fault size jobs ≡ None
-valid_all size jobs marks place h all =
-    none_below (place_fault size jobs) (length jobs) (λ j lt. h.right j (omega arith))
 
 -- ---- a list has no fault exactly if it is a sequence
 

@@ -10,6 +10,11 @@ pub rejected : (A : Type 0) (why : CallFault) (found : Option CallFault) (number
 rejected A why None number h is = inr (is ∙ ap fault_number h)
 rejected A why (Some other) number h is = let same : why ≡ other = cc in is ∙ ap fault_number same
 
+-- a check that succeeds has found no fault
+pub passed : (A : Type 0) (value : A) (found : Option CallFault) → Validates {A = A} (Ok value) found → found ≡ None
+passed A value None h = refl
+passed A value (Some why) h = absurd cc
+
 -- an allocation fails after a check has found no fault
 pub allocated : (A B : Type 0) (value : B) (found : Option CallFault) → Validates {A = B} (Ok value) found
     → Rejects {A = A} (Err Memory) found

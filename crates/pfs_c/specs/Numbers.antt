@@ -2,7 +2,6 @@
 use Rattle.std.specs.Prelude.{◌≡◌, ◌⊎◌, ℤ, pos, Option, Some, None}
 use Rattle.pfs_c.specs.declared.numbers.CallFault.{CallFault}
 use Rattle.pfs_c.specs.declared.numbers.CallFault.TheVariants as faults
-use Rattle.pfs_c.specs.declared.numbers.TheConstants.{PFS_OK}
 
 -- the number that C receives for a fault
 abbrev pub fault_number : CallFault → ℤ
@@ -35,13 +34,13 @@ fault_number faults.JobRange = pos 31
 fault_number faults.JobTwice = pos 32
 fault_number faults.FileTooLong = pos 33
 
--- a call returns the number of the first fault in its arguments; if there is none, it returns PFS_OK or, if an
--- allocation failed, PFS_MEMORY
+-- a call returns the number of the first fault in its arguments; if there is none, it returns 0, which is PFS_OK, or,
+-- if an allocation failed, PFS_MEMORY
 abbrev pub Returns : ℤ → Option CallFault → Type 0
 Returns result (Some why) = result ≡ fault_number why
-Returns result None = (result ≡ PFS_OK) ⊎ (result ≡ fault_number faults.Memory)
+Returns result None = (result ≡ pos 0) ⊎ (result ≡ fault_number faults.Memory)
 
 -- the same of a call that allocates nothing
 abbrev pub number_returned : Option CallFault → ℤ
-number_returned None = PFS_OK
+number_returned None = pos 0
 number_returned (Some why) = fault_number why

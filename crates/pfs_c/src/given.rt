@@ -1,5 +1,5 @@
 //! Arguments from C: they are validated and copied into the types of the crates below.
-ghost use Rattle.std.specs.Prelude.{◌≡◌, ℕ, ◌≤◌, ◌<◌, ◌*◌, ◌↔◌, [], ◌∷◌, length, false, All, Contains};
+ghost use Rattle.std.specs.Prelude.{◌≡◌, ℕ, ◌≤◌, ◌<◌, ◌*◌, ◌↔◌, [], ◌∷◌, ◌++◌, length, false, All, Contains};
 ghost use Rattle.std.specs.Prelude.{IsOk, IsTrue, IfOk, IfErr, nat_eq, slice_index_or};
 ghost use Rattle.std.specs.List.{IsDistinct};
 ghost use Rattle.pfs_base.specs.FlowShop.{AreSizes, IsWithin};
@@ -9,11 +9,11 @@ ghost use Rattle.pfs_order.specs.Sequence.{IsSequence};
 ghost use Rattle.pfs_c.specs.Validation.{shop_of, sizes_fault, length_fault, times_fault, shop_fault};
 ghost use Rattle.pfs_c.specs.Validation.{jobs_fault, job_fault};
 ghost use Rattle.pfs_c.specs.Private.Outcomes.{Validates};
-ghost use Rattle.pfs_c.specs.Searching.{passes_fault};
+ghost use Rattle.pfs_c.specs.Searching.{count_fault, passes_fault, take_fault};
 ghost use Rattle.pfs_c.specs.Texts.{put_in_front};
 
 use crate::numbers::CallFault;
-use pfs_base::{Instance, LONGEST_TIME, MOST_JOBS, MOST_MACHINES, MOST_PASSES, Notes};
+use pfs_base::{Instance, LONGEST_TIME, MOST_JOBS, MOST_MACHINES, MOST_PASSES, MOST_ROUNDS, Notes};
 use pfs_order::{Order, Seq};
 use std::alloc::Global;
 
@@ -98,50 +98,42 @@ pub(crate) fn validate_jobs(size: usize, jobs: &[u32]) -> Result<(), CallFault>
     ensures validated { Validates result (jobs_fault size jobs.now) }
     ensures sequence { IsOk result ↔ IsSequence size jobs.now }
 {
-    if size <= FEW_JOBS {
-        validate_few_jobs(size, jobs)
-    } else {
-        validate_many_jobs(size, jobs)
-    }
-}
-
-// `validate_jobs` with few marks and with many, each in a separate stack frame.
-#[inline(never)]
-fn validate_few_jobs(size: usize, jobs: &[u32]) -> Result<(), CallFault>
-    requires { size ≤ FEW_JOBS }
-    ensures { Validates result (jobs_fault size jobs.now) }
-{
     // Only a list that has a fault is searched for the first one.
-    if is_sequence(size, jobs, &mut [false; FEW_JOBS]) {
+    if size <= FEW_JOBS && is_sequence(size as u32, jobs, &mut [false; FEW_JOBS]) {
         return Ok(());
     }
-    validate_with_marks(size, jobs, &mut [false; FEW_JOBS])
+    if size > FEW_JOBS && is_long_sequence(size as u32, jobs) {
+        return Ok(());
+    }
+    validate_more(size, &[], jobs)
 }
 
+// Whether the jobs are distinct and below the size, in a stack frame for many marks.
 #[inline(never)]
-fn validate_many_jobs(size: usize, jobs: &[u32]) -> Result<(), CallFault>
+fn is_long_sequence(size: u32, jobs: &[u32]) -> bool
     requires { size ≤ MOST_JOBS }
-    ensures { Validates result (jobs_fault size jobs.now) }
+    ensures { IsTrue result ↔ IsSequence size jobs.now }
 {
-    validate_with_marks(size, jobs, &mut [false; MOST_JOBS])
+    is_sequence(size, jobs, &mut [false; MOST_JOBS])
 }
 
-// `validate_jobs` with a mark for each job below the size, of which none is set yet.
-#[inline(always)]
-fn validate_with_marks(size: usize, jobs: &[u32], marks: &mut [bool]) -> Result<(), CallFault>
-    requires enough { size ≤ length marks.old }
-    requires none { All (λ mark. mark ≡ false) marks.old }
-    ensures { Validates result (jobs_fault size jobs.now) }
+/// Validates more jobs after those of a sequence that is valid: `Job` if one is not below the size, `Repeated` if it is
+/// in the sequence or at an earlier place of the list, whichever comes first.
+pub(crate) fn validate_more(size: usize, sequence: &[u32], more: &[u32]) -> Result<(), CallFault>
+    requires { IsSequence size sequence.now }
+    ensures validated { Validates result (jobs_fault size (sequence.now ++ more.now)) }
+    ensures together { IfOk result (λ done. IsSequence size (sequence.now ++ more.now)) }
 {
-    for job in jobs {
-        let job = *job as usize;
-        if job >= size {
+    for (place, job) in more.iter().enumerate() {
+        if *job as usize >= size {
             return Err(CallFault::Job);
         }
-        if marks[job] {
+        if sequence.contains(job) {
             return Err(CallFault::Repeated);
         }
-        marks[job] = true;
+        if more[..place].contains(job) {
+            return Err(CallFault::Repeated);
+        }
     }
     Ok(())
 }
@@ -170,18 +162,18 @@ fn is_insertion(size: usize, sequence: &[u32], job: u32) -> bool
     ensures { IsTrue result ↔ IsSequence size (job ∷ sequence.now) }
 {
     let mut marks = [false; FEW_JOBS];
-    (job as usize) < size && is_sequence(size, sequence, &mut marks) && !marks[job as usize]
+    (job as usize) < size && is_sequence(size as u32, sequence, &mut marks) && !marks[job as usize]
 }
 
-// Whether the jobs are distinct and below the size, which is at most `FEW_JOBS`. If so, they are marked. No job is
-// marked before.
-fn is_sequence(size: usize, jobs: &[u32], marks: &mut [bool; FEW_JOBS]) -> bool
-    requires few { size ≤ FEW_JOBS }
+// Whether the jobs are distinct and below the size. If so, they are marked. No job is marked before.
+#[inline(always)]
+fn is_sequence(size: u32, jobs: &[u32], marks: &mut [bool]) -> bool
+    requires enough { size ≤ length marks.old }
     requires none { All (λ mark. mark ≡ false) marks.old }
     ensures sequence { IsTrue result ↔ IsSequence size jobs.now }
     ensures marked { IsTrue result → (job : ℕ) → IsTrue (slice_index_or marks.new job false) ↔ Contains jobs.now job }
 {
-    are_below(size as u32, jobs) && are_distinct(jobs, marks)
+    are_below(size, jobs) && are_distinct(jobs, marks)
 }
 
 // Whether each job is below the size. All are compared, since a loop that may end early is not vectorized.
@@ -199,8 +191,8 @@ fn are_below(size: u32, jobs: &[u32]) -> bool
 // Whether the jobs are distinct. They are marked; no job is marked before. A repeated job does not end the loop, so each
 // job is marked without a branch.
 #[tactic(auto, using(crate::proofs::Marks::one_mark))]
-fn are_distinct(jobs: &[u32], marks: &mut [bool; FEW_JOBS]) -> bool
-    requires small { All (λ job. job < FEW_JOBS) jobs.now }
+fn are_distinct(jobs: &[u32], marks: &mut [bool]) -> bool
+    requires small { All (λ job. job < length marks.old) jobs.now }
     requires none { All (λ mark. mark ≡ false) marks.old }
     ensures distinct { IsTrue result ↔ IsDistinct nat_eq jobs.now }
     ensures marked { (job : ℕ) → IsTrue (slice_index_or marks.new job false) ↔ Contains jobs.now job }
@@ -237,6 +229,28 @@ pub(crate) fn validate_passes(passes: u32) -> Result<(), CallFault>
         Ok(())
     } else {
         Err(CallFault::Passes)
+    }
+}
+
+/// Validates a destruction size: `Take` if it is not from 1 to the number of jobs.
+pub(crate) fn validate_take(take: usize, jobs: usize) -> Result<(), CallFault>
+    ensures { Validates result (take_fault take jobs) }
+{
+    if take >= 1 && take <= jobs {
+        Ok(())
+    } else {
+        Err(CallFault::Take)
+    }
+}
+
+/// Validates rounds by the first and their number: `Rounds` if the last is above the limit.
+pub(crate) fn validate_count(first: u32, count: u32) -> Result<(), CallFault>
+    ensures { Validates result (count_fault first count) }
+{
+    if first as u64 + count as u64 <= MOST_ROUNDS as u64 {
+        Ok(())
+    } else {
+        Err(CallFault::Rounds)
     }
 }
 
@@ -280,4 +294,19 @@ pub(crate) fn copy_sequence(seq: &Seq, out: &mut [u32])
     for place in 0..seq.len() {
         out[place] = seq.at(place) as u32;
     }
+}
+
+/// Whether a sequence consists of these jobs.
+pub(crate) fn has_jobs(seq: &Seq, jobs: &[u32]) -> bool
+    ensures { IsTrue result ↔ seq.now.jobs ≡ jobs.now }
+{
+    if seq.len() != jobs.len() {
+        return false;
+    }
+    for (place, job) in jobs.iter().enumerate() {
+        if seq.at(place) != *job as usize {
+            return false;
+        }
+    }
+    true
 }

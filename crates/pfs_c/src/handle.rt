@@ -1,5 +1,5 @@
 //! An instance that is prepared and released, and the handle by which C holds it.
-ghost use Rattle.std.specs.Prelude.{◌≡◌, ◌≢◌, IfOk, MatchOption, MatchResult, Option};
+ghost use Rattle.std.specs.Prelude.{◌≡◌, ◌≢◌, IfOk, MatchOption, Option};
 ghost use Rattle.std.specs.declared.option.Option.TheVariants.{None, Some};
 ghost use Rattle.pfs_base.specs.FlowShop.{FlowShop};
 ghost use Rattle.pfs_c.specs.Validation.{shop_of, shop_fault};
@@ -60,7 +60,7 @@ fn kept_of(
 pub extern "C" fn pfs_release(alloc: Global, instance: &mut Prepared)
     ensures { instance.new.shop ≡ None }
 {
-    if let Ok(kept) = instance.take(alloc) {
+    if let Some(kept) = instance.take(alloc) {
         drop(kept);
     }
 }
@@ -119,16 +119,13 @@ impl Prepared {
         }
     }
 
-    /// Takes the instance out, after which the handle holds none.
-    pub(crate) fn take(&mut self, alloc: Global) -> Result<Box<Kept>, CallFault>
+    /// Takes the instance out, after which the handle holds none. Returns `None` if it holds none before.
+    pub(crate) fn take(&mut self, alloc: Global) -> Option<Box<Kept>>
         ensures none { self.new.shop ≡ None }
-        ensures taken { MatchResult result (λ kept. self.old.shop ≡ Some kept.value)
-            (λ why. (self.old.shop ≡ None) × (why ≡ CallFault.NotPrepared)) }
+        ensures taken { MatchOption result (self.old.shop ≡ None) (λ kept. self.old.shop ≡ Some kept.value) }
     {
-        match replace(self, Prepared::none(alloc)).into_kept() {
-            Some(kept) => Ok(kept.into_box()),
-            None => Err(CallFault::NotPrepared),
-        }
+        let kept = replace(self, Prepared::none(alloc)).into_kept()?;
+        Some(kept.into_box())
     }
 
     /// Puts an instance in. One that the handle holds is released.

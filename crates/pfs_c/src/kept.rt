@@ -1,20 +1,26 @@
 //! What is prepared: an instance, and the memory of the calls on it.
-ghost use Rattle.std.specs.Prelude.{◌≡◌, ◌+◌, ◌<◌, ◌≤◌, length, take, filter, not, nat_eq, Contains, IfOk, IfErr};
+ghost use Rattle.std.specs.Prelude.{◌≡◌, ◌<◌, ◌≤◌, length, take, filter, not, nat_eq, Contains, IfOk, IfErr};
 ghost use Rattle.std.specs.List.{All};
 ghost use Rattle.pfs_base.specs.FlowShop.{IsWithin};
 ghost use Rattle.pfs_base.specs.Limits.{limits};
 ghost use Rattle.pfs_base.specs.Paths.{makespan};
 ghost use Rattle.pfs_insert.specs.Inserter.{IsBestPlace};
 ghost use Rattle.pfs_order.specs.Sequence.{IsSequence};
-ghost use Rattle.pfs_search.specs.Greedy.{moved};
 ghost use Rattle.pfs_search.specs.Search.{IsSearchOf};
-ghost use Rattle.pfs_search.specs.Solution.{InLimits, IsImproved, IsNeh};
+ghost use Rattle.pfs_search.specs.Solution.{IsImproved, IsNeh};
 ghost use Rattle.pfs_c.specs.Building.{after_visits, visited};
-ghost use Rattle.pfs_c.specs.Inserting.{AreInsertions};
+ghost use Rattle.pfs_c.specs.Inserting.{AreInsertions, insertions_fault};
+ghost use Rattle.pfs_c.specs.Searching.{rounds_fault};
+ghost use Rattle.pfs_c.specs.Validation.{insertion_fault};
+ghost use Rattle.pfs_c.specs.Private.Outcomes.{Validates};
 
-use crate::given::copy_sequence;
+use crate::given::{
+    copy_sequence, has_jobs, validate_count, validate_insertion, validate_jobs, validate_length,
+    validate_passes, validate_take,
+};
 use crate::numbers::CallFault;
 use crate::rows::span_of;
+use crate::searching::RoundsOptions;
 use pfs_base::{Bench, Instance};
 use pfs_order::Seq;
 use pfs_search::{Rounds, Search};
@@ -26,13 +32,16 @@ use std::marker::Model;
 pub(crate) struct Kept {
     instance: Instance,
     search: Search,
+    // Whether the makespan that the search keeps is that of its order.
+    is_span_known: bool,
     sequence: Seq,
 }
 
 impl Model for Kept {
-    ghost use Rattle.std.specs.Prelude.{◌≡◌};
+    ghost use Rattle.std.specs.Prelude.{◌≡◌, IsTrue};
     ghost use Rattle.pfs_base.specs.FlowShop.{FlowShop, IsWithin};
     ghost use Rattle.pfs_base.specs.Limits.{limits};
+    ghost use Rattle.pfs_base.specs.Paths.{makespan};
     ghost use Rattle.pfs_search.specs.Search.{IsSearchOf};
 
     ghost Value = { FlowShop };
@@ -42,6 +51,7 @@ impl Model for Kept {
     ghost invariant = { λ a. record {
       within : IsWithin limits a.instance.shop;
       search : IsSearchOf a.instance.shop a.search;
+      span : IsTrue a.is_span_known → a.search.kept.span ≡ makespan a.instance.shop a.search.kept.order;
       size : a.sequence.size ≡ a.instance.shop.jobs;
     } };
 }
@@ -61,6 +71,7 @@ impl Kept {
         Ok(Kept {
             instance,
             search,
+            is_span_known: false,
             sequence,
         })
     }
@@ -80,60 +91,109 @@ impl Kept {
         ensures shop { self.new ≡ self.old }
     {
         *cells = self.search.neh(alloc, &self.instance);
+        self.is_span_known = true;
         copy_sequence(self.search.kept.order.seq(), order);
         self.instance.metered().reveal(self.search.kept.span)
     }
 
-    /// Makes rounds from an order, and overwrites it with the result. Writes the number of cells, and returns the
-    /// makespan of the result.
+    /// Makes rounds from an order, and overwrites it with the result. Writes the makespan of the result and the number
+    /// of cells.
     pub(crate) fn rounds(
         &mut self,
         alloc: Global,
-        first: u32,
-        rounds: Rounds,
+        options: &RoundsOptions,
         order: &mut [u32],
+        span: &mut u64,
         cells: &mut u64,
-    ) -> u64
-        requires full { length order.old ≡ self.old.jobs }
-        requires sequence { IsSequence self.old.jobs order.old }
-        requires limits { InLimits self.old first rounds }
-        ensures found { IsImproved self.old order.old first rounds.count rounds.take rounds.passes rounds.seed
-            order.new result cells.new }
+    ) -> Result<(), CallFault>
+        ensures validated { Validates result (rounds_fault self.old order.old options.now) }
+        ensures found { IfOk result (λ _. IsImproved self.old order.old options.now.first options.now.count
+            options.now.take options.now.passes options.now.seed order.new span.new cells.new) }
         ensures shop { self.new ≡ self.old }
+        ensures kept_order { IfErr result (λ _. order.new ≡ order.old) }
+        ensures kept_span { IfErr result (λ _. span.new ≡ span.old) }
+        ensures kept_cells { IfErr result (λ _. cells.new ≡ cells.old) }
     {
-        let span = span_of(&self.instance, order);
-        self.search.start(&self.instance, order, span);
-        *cells = self.search.rounds(alloc, &self.instance, first, rounds);
+        let jobs = self.instance.jobs();
+        validate_length(order.len(), jobs)?;
+        validate_jobs(jobs, order)?;
+        validate_take(options.take, jobs)?;
+        validate_passes(options.passes)?;
+        validate_count(options.first, options.count)?;
+        let rounds = Rounds {
+            count: options.count,
+            take: options.take,
+            passes: options.passes,
+            seed: options.seed,
+        };
+        let start_span = self.span_of(order);
+        self.search.start(&self.instance, order, start_span);
+        *cells = self
+            .search
+            .rounds(alloc, &self.instance, options.first, rounds);
+        self.is_span_known = true;
         copy_sequence(self.search.kept.order.seq(), order);
-        self.instance.metered().reveal(self.search.kept.span)
+        *span = self.instance.metered().reveal(self.search.kept.span);
+        Ok(())
     }
 
-    /// Writes the best place for a job in a sequence, and returns the makespan with the job there.
-    pub(crate) fn best(&mut self, sequence: &[u32], job: usize, place: &mut usize) -> u64
-        requires sequence { IsSequence self.old.jobs sequence.now }
-        requires job { job < self.old.jobs }
-        requires absent { Contains sequence.now job → ⊥ }
-        ensures best { IsBestPlace self.old sequence.now job place.new result }
-        ensures shop { self.new ≡ self.old }
+    // The makespan of a sequence, which is known if the search has just found this sequence.
+    fn span_of(&self, sequence: &[u32]) -> u64
+        requires { IsSequence self.now.jobs sequence.now }
+        ensures { result ≡ makespan self.now sequence.now }
     {
+        if self.is_span_known && has_jobs(self.search.kept.order.seq(), sequence) {
+            self.instance.metered().reveal(self.search.kept.span)
+        } else {
+            span_of(&self.instance, sequence)
+        }
+    }
+
+    /// Writes the best place for a job in a sequence, and the makespan with the job there.
+    pub(crate) fn insert(
+        &mut self,
+        sequence: &[u32],
+        job: u32,
+        place: &mut usize,
+        span: &mut u64,
+    ) -> Result<(), CallFault>
+        ensures validated { Validates result (insertion_fault self.old sequence.now job) }
+        ensures best { IfOk result (λ _. IsBestPlace self.old sequence.now job place.new span.new) }
+        ensures shop { self.new ≡ self.old }
+        ensures kept_place { IfErr result (λ _. place.new ≡ place.old) }
+        ensures kept_span { IfErr result (λ _. span.new ≡ span.old) }
+    {
+        validate_insertion(self.instance.jobs(), sequence, job)?;
+        self.is_span_known = false;
         self.sequence.set(sequence);
-        let best = self.search.best(&self.instance, &self.sequence, job);
+        let best = self
+            .search
+            .best(&self.instance, &self.sequence, job as usize);
         *place = best.place;
-        best.span
+        *span = best.span;
+        Ok(())
     }
 
     /// Writes the makespan with a job at each place of a sequence.
-    pub(crate) fn insertions(&mut self, sequence: &[u32], job: usize, spans: &mut [u64])
-        requires sequence { IsSequence self.old.jobs sequence.now }
-        requires job { job < self.old.jobs }
-        requires absent { Contains sequence.now job → ⊥ }
-        requires room { length spans.old ≡ length sequence.now + 1 }
-        ensures done { AreInsertions self.old sequence.now job spans.new }
+    pub(crate) fn insertions(
+        &mut self,
+        sequence: &[u32],
+        job: u32,
+        makespans: &mut [u64],
+    ) -> Result<(), CallFault>
+        ensures validated { Validates result
+            (insertions_fault self.old sequence.now job (length makespans.old)) }
+        ensures done { IfOk result (λ _. AreInsertions self.old sequence.now job makespans.new) }
         ensures shop { self.new ≡ self.old }
+        ensures kept { IfErr result (λ _. makespans.new ≡ makespans.old) }
     {
+        validate_length(makespans.len(), sequence.len() + 1)?;
+        validate_insertion(self.instance.jobs(), sequence, job)?;
+        self.is_span_known = false;
         self.sequence.set(sequence);
         self.search
-            .insertions(&self.instance, &self.sequence, job, spans);
+            .insertions(&self.instance, &self.sequence, job as usize, makespans);
+        Ok(())
     }
 
     /// Makes passes over a list of jobs, from the sequence of the first `count` jobs of `order`, and overwrites `order`
@@ -153,6 +213,7 @@ impl Kept {
         ensures span { result ≡ makespan self.old order.new }
         ensures shop { self.new ≡ self.old }
     {
+        self.is_span_known = false;
         let seq = &mut self.sequence;
         seq.set(&order[..count]);
         make_visits(&self.instance, &mut self.search, seq, list, passes);
@@ -163,7 +224,7 @@ impl Kept {
     }
 }
 
-// Makes passes over a list of jobs: each job leaves its place in a sequence, if it has one, for its first best one.
+// Makes passes over a list of jobs.
 fn make_visits(instance: &Instance, search: &mut Search, seq: &mut Seq, list: &[u32], passes: u32)
     requires search { IsSearchOf instance.now.shop search.old }
     requires size { seq.old.size ≡ instance.now.shop.jobs }
@@ -176,7 +237,7 @@ fn make_visits(instance: &Instance, search: &mut Search, seq: &mut Seq, list: &[
     }
 }
 
-// One pass.
+// One pass: each job leaves its place, if it has one, for its first best one.
 fn visit_once(instance: &Instance, search: &mut Search, seq: &mut Seq, list: &[u32])
     requires search { IsSearchOf instance.now.shop search.old }
     requires size { seq.old.size ≡ instance.now.shop.jobs }
@@ -185,21 +246,11 @@ fn visit_once(instance: &Instance, search: &mut Search, seq: &mut Seq, list: &[u
     ensures search { IsSearchOf instance.now.shop search.new }
 {
     for job in list {
-        move_job(instance, search, seq, *job as usize);
+        let job = *job as usize;
+        take_out(seq, job);
+        let best = search.best(instance, seq, job);
+        seq.insert_at(best.place, job);
     }
-}
-
-// A job leaves its place, if it has one, for its first best one.
-fn move_job(instance: &Instance, search: &mut Search, seq: &mut Seq, job: usize)
-    requires search { IsSearchOf instance.now.shop search.old }
-    requires size { seq.old.size ≡ instance.now.shop.jobs }
-    requires small { job < instance.now.shop.jobs }
-    ensures jobs { seq.new ≡ record seq.old { jobs = moved instance.now.shop seq.old.jobs job } }
-    ensures search { IsSearchOf instance.now.shop search.new }
-{
-    take_out(seq, job);
-    let best = search.best(instance, seq, job);
-    seq.insert_at(best.place, job);
 }
 
 // Removes a job from a sequence that may contain it.

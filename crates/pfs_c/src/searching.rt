@@ -5,16 +5,15 @@ ghost use Rattle.pfs_search.specs.Solution.{IsImproved, IsNeh};
 ghost use Rattle.pfs_c.specs.Building.{IsConstructed, IsLocalSearch};
 ghost use Rattle.pfs_c.specs.Building.{construct_fault, local_search_fault, members_fault};
 ghost use Rattle.pfs_c.specs.Numbers.{number_returned};
-ghost use Rattle.pfs_c.specs.Searching.{count_fault, rounds_fault, take_fault};
+ghost use Rattle.pfs_c.specs.Searching.{rounds_fault};
 ghost use Rattle.pfs_c.specs.Validation.{jobs_fault, length_fault, on_shop};
 ghost use Rattle.pfs_c.specs.Private.Outcomes.{Validates};
 
-use crate::given::{validate_jobs, validate_length, validate_passes};
+use crate::given::{validate_jobs, validate_length, validate_more, validate_passes};
 use crate::handle::Prepared;
 use crate::kept::Kept;
 use crate::numbers::{CallFault, PFS_OK, number_of};
-use pfs_base::{MOST_JOBS, MOST_ROUNDS};
-use pfs_search::Rounds;
+use pfs_base::MOST_JOBS;
 use std::alloc::Global;
 
 /// Computes the order of NEH (Nawaz, Enscore and Ham 1983) by heads and tails (Taillard 1990), its makespan, and the
@@ -35,9 +34,8 @@ pub extern "C" fn pfs_neh(
     ensures kept_span { result ≢ PFS_OK → span.new ≡ span.old }
     ensures kept_cells { result ≢ PFS_OK → cells.new ≡ cells.old }
 {
-    let mut kept = match instance.take(alloc) {
-        Ok(kept) => kept,
-        Err(why) => return why.number(),
+    let Some(mut kept) = instance.take(alloc) else {
+        return CallFault::NotPrepared.number();
     };
     let valid = validate_length(order.len(), kept.instance().jobs());
     if valid.is_ok() {
@@ -84,65 +82,12 @@ pub extern "C" fn pfs_rounds(
     ensures kept_span { result ≢ PFS_OK → span.new ≡ span.old }
     ensures kept_cells { result ≢ PFS_OK → cells.new ≡ cells.old }
 {
-    let mut kept = match instance.take(alloc) {
-        Ok(kept) => kept,
-        Err(why) => return why.number(),
+    let Some(mut kept) = instance.take(alloc) else {
+        return CallFault::NotPrepared.number();
     };
-    let done = rounds_in(alloc, &mut kept, options, order, span, cells);
+    let done = kept.rounds(alloc, options, order, span, cells);
     instance.put(kept);
     number_of(done)
-}
-
-fn rounds_in(
-    alloc: Global,
-    kept: &mut Kept,
-    options: &RoundsOptions,
-    order: &mut [u32],
-    span: &mut u64,
-    cells: &mut u64,
-) -> Result<(), CallFault>
-    ensures validated { Validates result (rounds_fault kept.old order.old options.now) }
-    ensures done { IfOk result (λ _. IsImproved kept.old order.old options.now.first options.now.count
-        options.now.take options.now.passes options.now.seed order.new span.new cells.new) }
-    ensures shop { kept.new ≡ kept.old }
-    ensures kept_order { IfErr result (λ _. order.new ≡ order.old) }
-    ensures kept_span { IfErr result (λ _. span.new ≡ span.old) }
-    ensures kept_cells { IfErr result (λ _. cells.new ≡ cells.old) }
-{
-    let jobs = kept.instance().jobs();
-    validate_length(order.len(), jobs)?;
-    validate_jobs(jobs, order)?;
-    validate_take(options.take, jobs)?;
-    validate_passes(options.passes)?;
-    validate_count(options.first, options.count)?;
-    let rounds = Rounds {
-        count: options.count,
-        take: options.take,
-        passes: options.passes,
-        seed: options.seed,
-    };
-    *span = kept.rounds(alloc, options.first, rounds, order, cells);
-    Ok(())
-}
-
-fn validate_take(take: usize, jobs: usize) -> Result<(), CallFault>
-    ensures { Validates result (take_fault take jobs) }
-{
-    if take >= 1 && take <= jobs {
-        Ok(())
-    } else {
-        Err(CallFault::Take)
-    }
-}
-
-fn validate_count(first: u32, count: u32) -> Result<(), CallFault>
-    ensures { Validates result (count_fault first count) }
-{
-    if first as u64 + count as u64 <= MOST_ROUNDS as u64 {
-        Ok(())
-    } else {
-        Err(CallFault::Rounds)
-    }
 }
 
 /// Inserts jobs into a sequence one after the other, each at its first best place, as NEH does with its ranking. The
@@ -164,9 +109,8 @@ pub extern "C" fn pfs_construct(
     ensures kept_order { result ≢ PFS_OK → order.new ≡ order.old }
     ensures kept_span { result ≢ PFS_OK → span.new ≡ span.old }
 {
-    let mut kept = match instance.take(alloc) {
-        Ok(kept) => kept,
-        Err(why) => return why.number(),
+    let Some(mut kept) = instance.take(alloc) else {
+        return CallFault::NotPrepared.number();
     };
     let done = construct_in(&mut kept, sequence, more, order, span);
     instance.put(kept);
@@ -195,28 +139,6 @@ fn construct_in(
     Ok(())
 }
 
-// Validates the jobs to insert into a sequence that is valid: `Job` if one is not below the size, `Repeated` if it is
-// in the sequence or at an earlier place of the list, whichever comes first.
-fn validate_more(jobs: usize, sequence: &[u32], more: &[u32]) -> Result<(), CallFault>
-    requires few { jobs ≤ MOST_JOBS }
-    requires sequence { IsSequence jobs sequence.now }
-    ensures validated { Validates result (jobs_fault jobs (sequence.now ++ more.now)) }
-    ensures together { IfOk result (λ done. IsSequence jobs (sequence.now ++ more.now)) }
-{
-    for (place, job) in more.iter().enumerate() {
-        if *job as usize >= jobs {
-            return Err(CallFault::Job);
-        }
-        if sequence.contains(job) {
-            return Err(CallFault::Repeated);
-        }
-        if more[..place].contains(job) {
-            return Err(CallFault::Repeated);
-        }
-    }
-    Ok(())
-}
-
 /// Makes passes over a list of jobs of a sequence: in the order of the list, each job leaves its place for its first
 /// best one. `sequence` is overwritten with the result, which is no longer than before, and `span` with its makespan.
 #[unsafe(no_mangle)]
@@ -236,9 +158,8 @@ pub extern "C" fn pfs_local_search(
     ensures kept_sequence { result ≢ PFS_OK → sequence.new ≡ sequence.old }
     ensures kept_span { result ≢ PFS_OK → span.new ≡ span.old }
 {
-    let mut kept = match instance.take(alloc) {
-        Ok(kept) => kept,
-        Err(why) => return why.number(),
+    let Some(mut kept) = instance.take(alloc) else {
+        return CallFault::NotPrepared.number();
     };
     let done = local_search_in(&mut kept, list, passes, sequence, span);
     instance.put(kept);

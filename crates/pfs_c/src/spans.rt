@@ -15,11 +15,8 @@ ghost use Rattle.pfs_c.specs.Tables.{EndAfterTimes, table_entry, table_fault};
 ghost use Rattle.pfs_c.specs.Validation.{insertion_fault, jobs_fault, length_fault, on_shop};
 ghost use Rattle.pfs_c.specs.Private.Outcomes.{Rejects, Validates};
 
-use crate::given::{
-    order_of, validate_insertion, validate_jobs, validate_length, validate_product,
-};
+use crate::given::{order_of, validate_jobs, validate_length, validate_product};
 use crate::handle::Prepared;
-use crate::kept::Kept;
 use crate::numbers::{CallFault, PFS_OK, number_of};
 use crate::rows::{fill_heads, fill_tails, span_of};
 use pfs_audit::{TimeTable, bound, table};
@@ -40,9 +37,8 @@ pub extern "C" fn pfs_makespan(
     ensures shop { instance.new.shop ≡ instance.old.shop }
     ensures kept { result ≢ PFS_OK → span.new ≡ span.old }
 {
-    let kept = match instance.take(alloc) {
-        Ok(kept) => kept,
-        Err(why) => return why.number(),
+    let Some(kept) = instance.take(alloc) else {
+        return CallFault::NotPrepared.number();
     };
     let valid = validate_jobs(kept.instance().jobs(), sequence);
     if valid.is_ok() {
@@ -60,14 +56,12 @@ pub extern "C" fn pfs_bound(alloc: Global, instance: &mut Prepared, least: &mut 
     ensures shop { instance.new.shop ≡ instance.old.shop }
     ensures kept { result ≢ PFS_OK → least.new ≡ least.old }
 {
-    match instance.take(alloc) {
-        Ok(kept) => {
-            *least = bound(kept.instance());
-            instance.put(kept);
-            PFS_OK
-        }
-        Err(why) => why.number(),
-    }
+    let Some(kept) = instance.take(alloc) else {
+        return CallFault::NotPrepared.number();
+    };
+    *least = bound(kept.instance());
+    instance.put(kept);
+    PFS_OK
 }
 
 /// Computes the makespans of many sequences, which are stored one after the other. Each has `len` distinct jobs, which
@@ -87,9 +81,8 @@ pub extern "C" fn pfs_makespans(
     ensures shop { instance.new.shop ≡ instance.old.shop }
     ensures kept { result ≢ PFS_OK → makespans.new ≡ makespans.old }
 {
-    let kept = match instance.take(alloc) {
-        Ok(kept) => kept,
-        Err(why) => return why.number(),
+    let Some(kept) = instance.take(alloc) else {
+        return CallFault::NotPrepared.number();
     };
     let valid = validate_many(kept.instance().jobs(), sequences, len, makespans.len());
     if valid.is_ok() {
@@ -109,22 +102,6 @@ fn validate_many(jobs: usize, sequences: &[u32], long: usize, count: usize) -> R
         → IsSequence jobs (sequence_at long sequences.now index)) }
 {
     validate_product(sequences.len(), count, long)?;
-    validate_sequences(jobs, sequences, long, count)
-}
-
-// Validates the sequences one after the other, each from the left.
-fn validate_sequences(
-    jobs: usize,
-    sequences: &[u32],
-    long: usize,
-    count: usize,
-) -> Result<(), CallFault>
-    requires few { jobs ≤ MOST_JOBS }
-    requires room { length sequences.now ≡ count * long }
-    ensures validated { Validates result (sequences_fault jobs count long sequences.now) }
-    ensures each { IfOk result (λ done. (index : ℕ) → index < count
-        → IsSequence jobs (sequence_at long sequences.now index)) }
-{
     for index in 0..count {
         let first = index * long;
         validate_jobs(jobs, &sequences[first..first + long])?;
@@ -163,31 +140,12 @@ pub extern "C" fn pfs_insert(
     ensures kept_place { result ≢ PFS_OK → place.new ≡ place.old }
     ensures kept_span { result ≢ PFS_OK → span.new ≡ span.old }
 {
-    let mut kept = match instance.take(alloc) {
-        Ok(kept) => kept,
-        Err(why) => return why.number(),
+    let Some(mut kept) = instance.take(alloc) else {
+        return CallFault::NotPrepared.number();
     };
-    let done = insert_in(&mut kept, sequence, job, place, span);
+    let done = kept.insert(sequence, job, place, span);
     instance.put(kept);
     number_of(done)
-}
-
-fn insert_in(
-    kept: &mut Kept,
-    sequence: &[u32],
-    job: u32,
-    place: &mut usize,
-    span: &mut u64,
-) -> Result<(), CallFault>
-    ensures validated { Validates result (insertion_fault kept.old sequence.now job) }
-    ensures done { IfOk result (λ _. IsBestPlace kept.old sequence.now job place.new span.new) }
-    ensures shop { kept.new ≡ kept.old }
-    ensures kept_place { IfErr result (λ _. place.new ≡ place.old) }
-    ensures kept_span { IfErr result (λ _. span.new ≡ span.old) }
-{
-    validate_insertion(kept.instance().jobs(), sequence, job)?;
-    *span = kept.best(sequence, job as usize, place);
-    Ok(())
 }
 
 /// Computes the makespan with a job at each place of a sequence of others. `makespans[place]` is that with the job
@@ -207,30 +165,12 @@ pub extern "C" fn pfs_insertions(
     ensures shop { instance.new.shop ≡ instance.old.shop }
     ensures kept { result ≢ PFS_OK → makespans.new ≡ makespans.old }
 {
-    let mut kept = match instance.take(alloc) {
-        Ok(kept) => kept,
-        Err(why) => return why.number(),
+    let Some(mut kept) = instance.take(alloc) else {
+        return CallFault::NotPrepared.number();
     };
-    let done = insertions_in(&mut kept, sequence, job, makespans);
+    let done = kept.insertions(sequence, job, makespans);
     instance.put(kept);
     number_of(done)
-}
-
-fn insertions_in(
-    kept: &mut Kept,
-    sequence: &[u32],
-    job: u32,
-    makespans: &mut [u64],
-) -> Result<(), CallFault>
-    ensures validated { Validates result (insertions_fault kept.old sequence.now job (length makespans.old)) }
-    ensures done { IfOk result (λ _. AreInsertions kept.old sequence.now job makespans.new) }
-    ensures shop { kept.new ≡ kept.old }
-    ensures kept { IfErr result (λ _. makespans.new ≡ makespans.old) }
-{
-    validate_length(makespans.len(), sequence.len() + 1)?;
-    validate_insertion(kept.instance().jobs(), sequence, job)?;
-    kept.insertions(sequence, job as usize, makespans);
-    Ok(())
 }
 
 /// Computes when each operation of an order of all jobs starts and ends, each as early as possible. Both tables are
@@ -254,9 +194,8 @@ pub extern "C" fn pfs_table(
     ensures kept_starts { result ≢ PFS_OK → starts.new ≡ starts.old }
     ensures kept_ends { result ≢ PFS_OK → ends.new ≡ ends.old }
 {
-    let kept = match instance.take(alloc) {
-        Ok(kept) => kept,
-        Err(why) => return why.number(),
+    let Some(kept) = instance.take(alloc) else {
+        return CallFault::NotPrepared.number();
     };
     let table = table_in(alloc, kept.instance(), order, starts.len(), ends.len());
     instance.put(kept);
@@ -313,9 +252,8 @@ pub extern "C" fn pfs_heads_tails(
     ensures kept_heads { result ≢ PFS_OK → heads.new ≡ heads.old }
     ensures kept_tails { result ≢ PFS_OK → tails.new ≡ tails.old }
 {
-    let kept = match instance.take(alloc) {
-        Ok(kept) => kept,
-        Err(why) => return why.number(),
+    let Some(kept) = instance.take(alloc) else {
+        return CallFault::NotPrepared.number();
     };
     let done = heads_tails_in(kept.instance(), sequence, heads, tails);
     instance.put(kept);

@@ -42,9 +42,8 @@ pub extern "C" fn pfs_write(
     ensures text_kept { result ≢ PFS_OK → text.new ≡ text.old }
     ensures len_kept { result ≢ PFS_OK → result ≢ PFS_ROOM → len.new ≡ len.old }
 {
-    let kept = match instance.take(alloc) {
-        Ok(kept) => kept,
-        Err(why) => return why.number(),
+    let Some(kept) = instance.take(alloc) else {
+        return CallFault::NotPrepared.number();
     };
     let file = file_in(alloc, kept.instance(), notes, layout);
     instance.put(kept);

@@ -1,10 +1,21 @@
-use Rattle.pfs_c.proofs.Jobs.{valid_is}
+use Rattle.std.proofs.Common.{refl}
+use Rattle.pfs_order.proofs.Published.Sequences.{IsSequence-nil}
+use Rattle.pfs_c.proofs.Jobs.{right_of_sequence, valid_is}
 use Rattle.pfs_c.proofs.given.validate_jobs.Goals as goal
 
-pub returns-then-size-le-FEW_JOBS-clause-sequence : goal.returns-then-size-le-FEW_JOBS-clause-sequence
-returns-then-size-le-FEW_JOBS-clause-sequence c =
-    valid_is c.validate_few_jobs.result c.args.size c.args.jobs.now c.validate_few_jobs.ensures
+pub returns-then-is_sequence-clause-validated : goal.returns-then-is_sequence-clause-validated
+returns-then-is_sequence-clause-validated c =
+    let right = right_of_sequence c.args.size c.args.jobs.now (c.is_sequence.ensures.sequence.0 c.if-is_sequence.true) in
+    rw right refl
 
-pub returns-else-size-le-FEW_JOBS-clause-sequence : goal.returns-else-size-le-FEW_JOBS-clause-sequence
-returns-else-size-le-FEW_JOBS-clause-sequence c =
-    valid_is c.validate_many_jobs.result c.args.size c.args.jobs.now c.validate_many_jobs.ensures
+pub returns-then-is_long_sequence-clause-validated : goal.returns-then-is_long_sequence-clause-validated
+returns-then-is_long_sequence-clause-validated c =
+    let right = right_of_sequence c.args.size c.args.jobs.now (c.is_long_sequence.ensures.0 c.if-is_long_sequence.true) in
+    rw right refl
+
+pub validate_more-requires : goal.validate_more-requires
+validate_more-requires c = IsSequence-nil c.args.size
+
+pub returns-clause-sequence : goal.returns-clause-sequence
+returns-clause-sequence c =
+    valid_is c.validate_more.result c.args.size c.args.jobs.now c.validate_more.ensures.validated

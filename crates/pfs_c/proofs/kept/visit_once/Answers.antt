@@ -1,4 +1,5 @@
-use Rattle.std.proofs.Common.{ap, get_or, sym, ◌∙◌}
+use Rattle.std.proofs.Common.{◌≡◌, ap, get_or, insert, sym, ◌∙◌}
+use Rattle.pfs_insert.specs.Insertion.{with_job}
 use Rattle.pfs_order.specs.Sequence.{Sequence}
 use Rattle.pfs_search.specs.Greedy.{moved}
 use Rattle.pfs_c.proofs.Visits.{visited_more}
@@ -10,10 +11,16 @@ loop-job-preserved c =
     let seq = c.args.seq.now in
     let list = c.args.list.now in
     let done = c.loop-job.job-index in
+    let old = c.loop-job.seq in
+    let left = c.take_out.new.seq in
+    let job = get_or list done 0 in
+    let step : c.insert_at.new.self ≡ record old { jobs = moved shop old.jobs job } =
+    c.insert_at.ensures
+    ∙ ap (λ place. record left { jobs = insert left.jobs place job }) c.best-best.ensures.best.place_is
+    ∙ ap (λ (s : Sequence). record s { jobs = with_job shop s.jobs job }) c.take_out.ensures.jobs in
     record {
-      search = c.move_job.ensures.search;
-      size = ap (λ (s : Sequence). s.size) c.move_job.ensures.jobs ∙ c.loop-job.invariant.size;
-      order = c.move_job.ensures.jobs
-          ∙ ap (λ (s : Sequence). record s { jobs = moved shop s.jobs (get_or list done 0) }) c.loop-job.invariant.order
+      search = c.best-best.ensures.still;
+      size = ap (λ (s : Sequence). s.size) step ∙ c.loop-job.invariant.size;
+      order = step ∙ ap (λ (s : Sequence). record s { jobs = moved shop s.jobs job }) c.loop-job.invariant.order
           ∙ ap (λ jobs. record seq { jobs = jobs }) (sym (visited_more shop list seq.jobs done c.loop-job-test.true));
     }

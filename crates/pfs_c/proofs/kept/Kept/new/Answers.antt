@@ -1,0 +1,10 @@
+use Rattle.std.proofs.Common.{rules}
+use Rattle.pfs_c.proofs.kept.Kept.new.Goals as goal
+
+pub invariant_of-result : goal.invariant_of-result
+invariant_of-result c = record {
+  within = search rules;
+  search = search rules;
+  span = λ known. absurd cc;
+  size = search rules;
+}
