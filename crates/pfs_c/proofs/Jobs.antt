@@ -1,6 +1,6 @@
 -- Lists of jobs that are validated from the left.
 use Rattle.std.proofs.Common.{◌≡◌, ◌↔◌, ℕ, zero, suc, ◌+◌, ◌<◌, ◌≤◌, refl, Bool, true, false, List, [], ◌∷◌}
-use Rattle.std.proofs.Common.{length, take, map, get_or, set, nat_eq, nat_lt, All, Contains, sym, ◌∙◌, inl, inr}
+use Rattle.std.proofs.Common.{length, take, map, get_or, set, nat_eq, nat_lt, Contains, ◌∙◌, inl, inr}
 use Rattle.std.proofs.Common.{arith, Option, Some, None, add-zero, add-one, zero-add, ◌||◌, length-set, Result, IsOk}
 use Rattle.std.specs.List.{list_any, range_with_len}
 use Rattle.std.specs.Cmp.{nat_eq_equiv}

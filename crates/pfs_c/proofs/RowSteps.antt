@@ -1,18 +1,15 @@
 -- Rows of heads and tails, as loops over the machines fill them, and bounds of their entries.
-use Rattle.std.proofs.Common.{◌≡◌, ◌≢◌, ℕ, zero, suc, ◌+◌, ◌-◌, ◌*◌, ◌<◌, ◌≤◌, max, List, [], ◌∷◌, length, map, get_or}
-use Rattle.std.proofs.Common.{set, insert, replicate, refl, sym, ap, ◌∙◌, inl, inr, add-one, arith}
-use Rattle.std.specs.List.{range_with_len}
+use Rattle.std.proofs.Common.{◌≡◌, ◌≢◌, ℕ, zero, suc, ◌+◌, ◌-◌, ◌*◌, ◌<◌, ◌≤◌, max, List, length, get_or}
+use Rattle.std.proofs.Common.{set, replicate, refl, sym, ap, ◌∙◌, inl, inr, add-one, arith}
 use Rattle.std.proofs.lemmas.Bool.{cases_lt, cases_eq}
 use Rattle.std.proofs.lemmas.List.{get_or-set_same, get_or-set_other, get_or-replicate}
-use Rattle.std.proofs.lemmas.List.FromFn.{map-range_with_len_more}
-use Rattle.pfs_base.specs.declared.bench.TheConstants.{SPAN_MAX}
 use Rattle.pfs_base.specs.declared.limits.TheConstants.{MOST_JOBS, MOST_MACHINES, LONGEST_TIME}
 use Rattle.pfs_base.specs.FlowShop.{FlowShop, IsWithin}
 use Rattle.pfs_base.specs.Limits.{limits}
 use Rattle.pfs_base.specs.Paths.{operation, makespan}
-use Rattle.pfs_base.proofs.Published.Heads.{head, head_before, head_le, head_before_le, head_more, head_before_more}
+use Rattle.pfs_base.proofs.Published.Heads.{head, head_before, head_le, head_before_le, head_more}
 use Rattle.pfs_base.proofs.Published.Heads.{heaviest_is, makespan_is, time_of-le}
-use Rattle.pfs_insert.specs.Exchange.{heaviest_front, heaviest_back}
+use Rattle.pfs_insert.specs.Exchange.{heaviest_back}
 use Rattle.pfs_insert.proofs.Published.TableRows.{back_none, back_last, back_more}
 use Rattle.pfs_c.specs.Private.Rows.{done_before, HeadsAt, TailsAt}
 

@@ -1,5 +1,5 @@
 -- Lanes of vectors that are combined, and the values that they hold.
-use Rattle.std.proofs.Common.{ℕ, ◌≡◌, ◌+◌, ◌<◌, List, max, length, arith}
+use Rattle.std.proofs.Common.{ℕ, ◌≡◌, ◌+◌, List, max, length, arith}
 use Rattle.std.specs.Simd.Lanes.{zip2}
 use Rattle.pfs_wave.specs.Private.Lanes.{Holding, HoldsBelow, IsEach, capped_add}
 use Rattle.pfs_wave.specs.Wavefront.{HoldsCapped}

@@ -1,12 +1,10 @@
 -- Lanes up to a cap.
-use Rattle.std.proofs.Common.{ℕ, zero, suc, ◌+◌, ◌*◌, ◌≤◌, max, List, [], ◌∷◌, ◌++◌, length, get_or, arith}
+use Rattle.std.proofs.Common.{ℕ, zero, suc, ◌+◌, ◌*◌, ◌≤◌, List, [], ◌∷◌, length, arith}
 use Rattle.std.proofs.Common.{inl, inr}
 use Rattle.std.proofs.lemmas.Bool.{cases_lt}
 use Rattle.std.proofs.lemmas.List.{get_or_past}
 use Rattle.std.specs.List.{All}
-use Rattle.std.specs.Simd.Lanes.{zip2}
 use Rattle.pfs_base.specs.FlowShop.{FlowShop, time_of}
-use Rattle.pfs_wave.specs.Private.Lanes.{capped_add}
 use Rattle.pfs_wave.specs.Private.Padded.{on_machine}
 use Rattle.pfs_wave.proofs.PaddedTables.{on_inside, on_padding}
 

@@ -1,6 +1,6 @@
 -- Lanes of 16, 32 and 64 bits, as a processor computes them.
-use Rattle.std.proofs.Common.{◌≡◌, ℕ, zero, suc, ◌+◌, ◌-◌, ◌<◌, ◌≤◌, ◌^◌, max, min, cond, List, [], ◌∷◌}
-use Rattle.std.proofs.Common.{length, map, arith, refl, ap, ◌∙◌}
+use Rattle.std.proofs.Common.{◌≡◌, ℕ, zero, suc, ◌-◌, ◌<◌, ◌^◌, max, cond, List, [], ◌∷◌}
+use Rattle.std.proofs.Common.{length, map, arith, refl}
 use Rattle.std.proofs.lemmas.Int.{ints}
 use Rattle.std.proofs.lemmas.Bool.Decides.{nat_tests}
 use Rattle.pfs_wave.specs.Private.Lanes.{capped_add}

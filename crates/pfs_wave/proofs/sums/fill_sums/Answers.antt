@@ -1,11 +1,9 @@
-use Rattle.std.proofs.Common.{ℕ, suc, ◌≡◌, ◌+◌, ◌-◌, ◌*◌, ◌<◌, ◌≤◌, length, map, take, drop, get_or, ap, ◌∙◌, refl}
+use Rattle.std.proofs.Common.{ℕ, suc, ◌≡◌, ◌+◌, ◌-◌, ◌*◌, ◌<◌, length, map, take, drop, get_or, ap, ◌∙◌, refl}
 use Rattle.std.proofs.Common.{min, arith, inl, inr}
 use Rattle.std.proofs.lemmas.Bool.{cases_lt}
 use Rattle.std.proofs.lemmas.List.{length-drop, length-take-le}
 use Rattle.std.proofs.lemmas.List.{get_or-map, get_or-replicate, length-map, length-replicate, length-set, map-set}
-use borrow.Rule.Slice.PartMut.{put_mid}
-use Rattle.pfs_wave.specs.Private.Blocks.{AreTimes, HoldCells, IsRow, vectors_of}
-use Rattle.pfs_wave.specs.Private.Recurrences.{AreTables, TablesOfCells}
+use Rattle.pfs_wave.specs.Private.Blocks.{vectors_of}
 use Rattle.pfs_wave.proofs.PutParts.{put_before, put_inside}
 use Rattle.pfs_wave.proofs.Steps.{zeros-get_or}
 use Rattle.pfs_wave.proofs.StepTables.{part_read}

@@ -1,8 +1,8 @@
-use Rattle.std.proofs.Common.{ℕ, ◌≡◌, ◌+◌, ◌-◌, ◌*◌, length, map, take, drop, get_or, ap, ◌∙◌, refl, arith}
+use Rattle.std.proofs.Common.{◌≡◌, ◌+◌, ◌-◌, ◌*◌, length, map, take, drop, get_or, ap, ◌∙◌, refl, arith}
 use Rattle.std.proofs.lemmas.List.{take_at}
-use Rattle.pfs_base.specs.FlowShop.{FlowShop, time_of}
-use Rattle.pfs_wave.specs.Private.Blocks.{AreTimes, HasShop, IsRow, vectors_in, vectors_of}
-use Rattle.pfs_wave.specs.Private.Padded.{on_machine, padded_time}
+use Rattle.pfs_base.specs.FlowShop.{FlowShop}
+use Rattle.pfs_wave.specs.Private.Blocks.{AreTimes, HasShop, vectors_in}
+use Rattle.pfs_wave.specs.Private.Padded.{padded_time}
 use Rattle.pfs_wave.specs.Private.Payment.{IsInsertion, IsPaid}
 use Rattle.pfs_wave.proofs.BestFound.{number_of_part}
 use Rattle.pfs_wave.proofs.HeldLemmas.{holding_times, times_taken}
