@@ -1,6 +1,6 @@
-/* Compares pfs_insert with pfs_insertions, which computes by rows, and a round of pfs_rounds with the same on a new
- * instance: on random instances of many sizes, in the orders of a random walk, and after faults. All instances are
- * prepared in the same struct, most of them while it holds the one before.
+/* Compares pfs_insert with pfs_insertions, and a round of pfs_rounds with the same on a new instance: on random
+ * instances of many sizes, in the orders of a random walk, and after faults. All instances are prepared in the same
+ * struct, most of them while it holds the one before.
  *
  * usage: prepared_calls COUNT SEED     COUNT instances; prints the number of calls
  *        prepared_calls threads COUNT  the same in four threads at once, with a struct for each */
