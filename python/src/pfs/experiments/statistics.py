@@ -119,7 +119,8 @@ def superiority(ones: list[float], others: list[float]) -> float:
 
 def probability(differences: pd.Series) -> float:
     """Returns the p-value of Wilcoxon's signed-rank test of differences that are not 0. The exact one is the share of
-    all choices of signs whose sum of ranks is as far from the middle. Twice a rank is whole, also of equal ones."""
+    all choices of signs whose sum of ranks is at least as far from the middle. Twice a rank is a whole number, also
+    where equal differences have the mean of their ranks."""
     if len(differences) > MOST_EXACT:
         return float(scipy.stats.wilcoxon(differences, method="approx").pvalue)
     ranks = (2 * differences.abs().rank()).astype(int)
