@@ -194,8 +194,9 @@ def test_each_order_is_kept_and_check_audits_it_again(made: Experiment) -> None:
 
 
 def test_a_plan_may_grow(experiment: Experiment) -> None:
-    """What is done is kept, and the CSV is in the order of the plan that has grown."""
-    program, before = experiment.replacement(), list[tuple[str, ...]]()
+    """What is done is kept, and the CSV is in the order of the plan that has grown. No file is written in place: a link
+    to the old one has the old text."""
+    program, before, old = experiment.replacement(), list[tuple[str, ...]](), dict[pathlib.Path, bytes]()
     settings: dict[str, Any] = {"shops": ["a"], "rounds": [10], "seeds": [1], "takes": [3]}
     for key, more in (("seeds", [1]), ("rounds", [10, 30]), ("seeds", [2, 1]), ("takes", [1, 3]), ("repetitions", 2),
                       ("shops", ["a", "b"])):
@@ -203,6 +204,11 @@ def test_a_plan_may_grow(experiment: Experiment) -> None:
         lines = {**settings, "instances": [f"shops/{name}" for name in settings["shops"]]}
         experiment.plan("".join(f"{key} = {json.dumps(value)}\n" for key, value in lines.items() if key != "shops"))
         assert experiment.run(program=program).status == 0
+        assert [link for link, text in old.items() if link.read_bytes() != text] == [], "written in place"
+        for path in (experiment.folder / "out.csv", experiment.runs / "plan.json"):
+            link = path.with_name(f"{len(old)}.old")
+            link.hardlink_to(path)
+            old[link] = path.read_bytes()
         after = experiment.columns(*HEAD)
         assert [row for row in before if row not in after] == [], "runs that are gone, or were made again"
         assert len(experiment.started()) == len(after) > len(before), "each is made once"
@@ -289,21 +295,6 @@ def test_a_full_disk_is_reported(kib: int, experiment: Experiment) -> None:
     assert (status == "2\n" and refused) or (status == "0\n" and kib > 100), got
     assert halves == "", "what is left of files that had no room"
     assert again == f"small/{SIX}0\n" and experiment.rows("all.csv") == experiment.wanted(rounds=(10,))
-
-
-def test_the_csv_and_the_plan_are_synced_before_they_are_renamed(experiment: Experiment) -> None:
-    """And their folder after that. Nothing opens them for writing."""
-    words = [tool("strace"), "-f", "-y", "-o", "trace", "-e", "trace=open,openat,fsync,rename,renameat,renameat2",
-             *experiment.plan(ONLY_B).words("run", "plan.toml", "out.csv")]
-    assert run_tool(words, experiment.folder).status == 0
-    calls = (experiment.folder / "trace").read_text().splitlines()
-    for name in ("out.csv", "out.csv.d/plan.json"):
-        path = str(experiment.folder / name)
-        assert [call for call in calls if f'"{path}", O_' in call and "O_RDONLY" not in call] == [], name
-        renamed, = (at for at, call in enumerate(calls) if "rename" in call and call.count(f'{path}"') == 1)
-        for synced, among in ((re.findall(r'"([^"]*)"', calls[renamed])[0], calls[:renamed]),
-                              (os.path.dirname(path), calls[renamed:])):
-            assert any("fsync(" in call and f"<{synced}>" in call for call in among), f"{synced} is not synced"
 
 
 # Runs by time

@@ -4,7 +4,6 @@ import hashlib
 import json
 import os
 import pathlib
-import subprocess
 
 import pytest
 from support.experiments import Experiment
@@ -102,27 +101,20 @@ def test_a_report_audits_the_runs_with_the_instances_next_to_the_csv(mine: Exper
 
 # Before the end
 
-def test_status_writes_what_there_is(mine: Experiment) -> None:
+def test_status_writes_what_there_is(experiment: Experiment) -> None:
     """The CSV has the order of the plan, and its reference."""
-    status = functools.partial(run_tool, [mine.scripts / "pfs-experiments", "status", "out.csv"], mine.folder)
+    words = [experiment.scripts / "pfs-experiments", "status", "out.csv"]
+    status = functools.partial(run_tool, words, experiment.folder)
     assert status() == Done(2, "", "pfs-experiments status: out.csv was not started: out.csv.d is missing\n")
-    os.mkfifo(mine.folder / "gate")
-    write_script(mine.folder / "mine", f"#!/bin/sh\nread -r line < {mine.folder}/gate\necho 1 2 3\n")
-    (mine.folder / "best.csv").write_text("instance,makespan\nb,9\n")
-    mine.plan(PLAN.format(seeds="2, 1") + 'reference = "best.csv"\n')
-    process = subprocess.Popen(mine.words("run", "plan.toml", "out.csv", "--jobs", "1"), cwd=mine.folder,
-                               stderr=subprocess.DEVNULL)
-    gate = os.open(mine.folder / "gate", os.O_RDWR)
-    try:
-        os.write(gate, b"\n")
+    (experiment.folder / "best.csv").write_text("instance,makespan\nb,9\n")
+    experiment.plan('instances = ["shops/b"]\nseeds = [2, 1]\nrounds = [1]\nreference = "best.csv"\n')
+    with experiment.gate() as let_through:
+        begun = experiment.start("--jobs", "1")
+        let_through(1)
         one_of_two = Done(1, "", "out.csv: 1 runs, 0 of them failed, 1 still to run\n")
-        wait_until(lambda: (mine.runs / "plan.json").exists() and status() == one_of_two, "a run has ended")
-        assert mine.columns("instance", "seed", "reference") == [("shops/b", "2", "9")]
-        os.write(gate, b"\n")
-        assert process.wait(60) == 0
-    finally:
-        process.kill()
-        os.close(gate)
-    before = (mine.folder / "out.csv").read_bytes()
+        wait_until(lambda: (experiment.runs / "plan.json").exists() and status() == one_of_two, "a run has ended")
+        assert experiment.columns("instance", "seed", "reference") == [("shops/b", "2", "9")]
+    assert begun.wait(60) == 0
+    before = (experiment.folder / "out.csv").read_bytes()
     assert status() == Done(0, "", "out.csv: 2 runs, 0 of them failed, 0 still to run\n")
-    assert (mine.folder / "out.csv").read_bytes() == before and before.count(b"\n") == 3
+    assert (experiment.folder / "out.csv").read_bytes() == before and before.count(b"\n") == 3

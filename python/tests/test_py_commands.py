@@ -1,10 +1,8 @@
 """`python3 -m pfs search` and `python3 -m pfs plan`."""
-import contextlib
 import csv
 import datetime
 import fcntl
 import hashlib
-import io
 import itertools
 import json
 import os
@@ -28,7 +26,7 @@ import pytest
 from pfs import _commands, _library, _search, _state
 from plainly import environment
 from support.terminals import Terminal
-from support.tools import wait_until
+from support.tools import run_main, wait_until
 
 # A search that would take minutes.
 LONG = ["search", "shop", "--layout", "taillard"]
@@ -51,15 +49,10 @@ def start(words: list[str], folder: pathlib.Path, env: dict[str, str] | None = N
                             stdin=subprocess.DEVNULL, stdout=subprocess.PIPE, stderr=stderr)
 
 
-def ended(words: list[str], folder: pathlib.Path) -> tuple[int | str | None, str, str]:
-    """The status, the output and the errors of a command in this process, which is faster than a new one."""
-    out, got = io.StringIO(), io.StringIO()
-    with contextlib.chdir(folder), contextlib.redirect_stdout(out), contextlib.redirect_stderr(got):
-        try:
-            status: int | str | None = _commands.main(words)
-        except SystemExit as end:
-            status = end.code
-    return status, out.getvalue(), without_summary(got.getvalue())
+def ended(words: list[str], folder: pathlib.Path) -> tuple[int, str, str]:
+    """The status, the output and the errors of a command."""
+    done = run_main(lambda: _commands.main(words), ["pfs"], folder)
+    return done.status, done.stdout, without_summary(done.stderr)
 
 
 def run(words: list[str], folder: pathlib.Path, status: int = 0, error: str = "") -> str:
@@ -117,7 +110,10 @@ def test_search_from_an_order_of_ones_own(folder: pathlib.Path, program: str) ->
 
 @pytest.mark.parametrize("number", [signal.SIGINT, signal.SIGTERM])
 def test_a_signal_ends_it_with_the_best_order(folder: pathlib.Path, program: str, number: signal.Signals) -> None:
-    child = start([*LONG, "--state", "state"], folder)
+    """Also one that is ignored at first, as in the background of a shell."""
+    words = ["sh", "-c", 'trap "" INT TERM; exec "$@"', "sh", sys.executable, "-m", "pfs", *LONG, "--state", "state"]
+    child = subprocess.Popen(words, cwd=folder, env=environment(), stdin=subprocess.DEVNULL, stdout=subprocess.PIPE,
+                             stderr=subprocess.PIPE)
     wait_until(lambda: rounds_in(folder) > 20, "rounds are made")
     child.send_signal(number)
     printed, got = child.communicate(timeout=30)
@@ -146,16 +142,6 @@ def test_the_status_is_that_of_the_first_signal(numbers: tuple[signal.Signals, .
         assert stop.status() == 128 + numbers[0], "the status isn't that of the first signal"
     assert signal.getsignal(signal.SIGINT) is signal.default_int_handler
     assert signal.getsignal(signal.SIGTERM) == signal.SIG_DFL
-
-
-def test_a_search_that_ignores_signals_at_first_is_ended_by_them(folder: pathlib.Path) -> None:
-    """As one in the background of a shell."""
-    words = [sys.executable, "-m", "pfs", *LONG, "--state", "state"]
-    child = subprocess.Popen(["sh", "-c", 'trap "" INT; exec "$@"', "sh", *words], cwd=folder, env=environment(),
-                             stdin=subprocess.DEVNULL, stdout=subprocess.PIPE, stderr=subprocess.PIPE)
-    wait_until(lambda: rounds_in(folder) > 0, "rounds are made")
-    child.send_signal(signal.SIGINT)
-    assert child.communicate(timeout=60)[1] == b"" and child.returncode == 128 + signal.SIGINT
 
 
 @pytest.mark.seconds(10)

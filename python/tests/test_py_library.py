@@ -47,23 +47,16 @@ def test_a_library_of_another_version_is_rejected(tmp_path: pathlib.Path, versio
         (f"{library} {pfs.__version__}\n", []) if fits else ("", [got])), f"a library of version {version}"
 
 
-@pytest.mark.parametrize("name", _library.PROTOTYPES)
-def test_a_library_without_a_function_is_rejected(tmp_path: pathlib.Path, name: str) -> None:
+@pytest.mark.parametrize("what", [*_library.PROTOTYPES, None, b"", b"no library"])
+def test_a_library_without_a_function_and_a_file_that_is_none_are_rejected(tmp_path: pathlib.Path,
+                                                                           what: str | bytes | None) -> None:
     """When it is loaded, and not when the function is called."""
-    library = library_of(pfs.__version__, tmp_path, without=name)
+    library = library_of(pfs.__version__, tmp_path, what) if isinstance(what, str) else tmp_path / "libpfs.so.1"
+    if isinstance(what, bytes):
+        library.write_bytes(what)
     got = loaded(library, tmp_path).stderr.splitlines()[-1]
     assert got.startswith(f"ImportError: pfs can't load its library {library} (")
-    assert f"undefined symbol: {name}" in got
-    assert got.endswith("): set PFS_LIBRARY to the path of libpfs.so.1")
-
-
-@pytest.mark.parametrize("content", [None, b"", b"no library"])
-def test_a_file_that_is_not_a_library_is_reported(tmp_path: pathlib.Path, content: bytes | None) -> None:
-    library = tmp_path / "libpfs.so.1"
-    if content is not None:
-        library.write_bytes(content)
-    got = loaded(library, tmp_path).stderr.splitlines()[-1]
-    assert got.startswith(f"ImportError: pfs can't load its library {library} (")
+    assert not isinstance(what, str) or f"undefined symbol: {what}" in got
     assert got.endswith("): set PFS_LIBRARY to the path of libpfs.so.1")
 
 

@@ -5,12 +5,8 @@ from typing import Any
 import numpy as np
 import pfs
 import plainly
-import pytest
 from hypothesis import given
 from hypothesis import strategies as st
-
-SHOP = pfs.Instance([[3, 2], [2, 5], [4, 1]])
-
 
 @st.composite
 def parts(draw: st.DrawFn) -> tuple[plainly.Table, list[int], list[int]]:
@@ -26,7 +22,6 @@ def test_heads_and_tails_are_those_of_schedules(case: tuple[plainly.Table, list[
     ends = [[end for _, end in row] for row in plainly.schedule(times, sequence)]
     heads = pfs.Instance(times).heads(sequence)
     assert heads.tolist() == ends and heads.shape == (len(sequence), len(times[0])) and heads.dtype == np.int64
-    times, sequence = case
     backwards = [row[::-1] for row in times]
     ends = [[end for _, end in row][::-1] for row in plainly.schedule(backwards, sequence[::-1])][::-1]
     assert pfs.Instance(times).tails(sequence).tolist() == ends
@@ -89,34 +84,3 @@ def test_the_greatest_number_of_jobs() -> None:
     found = shop.insert_all(range(2500), range(2500, 5000))
     assert sorted(found.jobs.tolist()) == [*range(5000)] and found.makespan == shop.makespan(found.jobs)
     assert shop.heads(range(5000))[-1, -1] == found.makespan
-
-
-WRONG: dict[str, tuple[Callable[[], object], type[Exception], str]] = {
-    "heads, twice": (lambda: SHOP.heads([0, 0]), ValueError, "sequence: job 0 occurs twice, at places 0 and 1"),
-    "tails, no job": (lambda: SHOP.tails([3]), ValueError, "sequence: 3 at place 0 isn't a job: jobs are 0 to 2"),
-    "heads, many": (lambda: SHOP.heads([0, 1, 2, 0]), ValueError, "sequence: job 0 occurs twice, at places 0 and 3"),
-    "heads, text": (lambda: SHOP.heads("0"), ValueError, "sequence must be a list of jobs"),
-    "insert, twice": (lambda: SHOP.insert_all([0, 0], [1]), ValueError, "sequence: job 0 occurs twice"),
-    "insert, twice to insert": (lambda: SHOP.insert_all([0], [1, 1]), ValueError, "jobs: job 1 occurs twice"),
-    "insert, no job": (lambda: SHOP.insert_all([0], [1, 7]), ValueError, "jobs: 7 at place 1 isn't a job"),
-    "insert, there already": (lambda: SHOP.insert_all([2, 0], [1, 0]), ValueError,
-                              "jobs: job 0 is already in the sequence"),
-    "insert, many": (lambda: SHOP.insert_all([0, 1, 2], range(9000)), ValueError, "jobs: 3 at place 3 isn't a job"),
-    "insert, more jobs than there are": (lambda: SHOP.insert_all([0, 1, 2], [*range(3), *[0] * 20_000]), ValueError,
-                                         "jobs: job 0 occurs twice, at places 0 and 3"),
-    "insert, a fraction": (lambda: SHOP.insert_all([0], [1.5]), ValueError, "jobs: 1.5"),
-    "search, elsewhere": (lambda: SHOP.local_search([0, 1], [2]), ValueError, "jobs: job 2 is not in the sequence"),
-    "search, twice": (lambda: SHOP.local_search([0, 1], [1, 1]), ValueError, "jobs: job 1 occurs twice"),
-    "search, no job": (lambda: SHOP.local_search([0, 4]), ValueError, "sequence: 4 at place 1 isn't a job"),
-    "search, many passes": (lambda: SHOP.local_search([0], passes=101), ValueError, "passes must be from 0 to 100"),
-    "search, passes by place": (lambda: SHOP.local_search([0], [0], 1), TypeError, "positional"),  # type: ignore[misc]
-    "search, a truth": (lambda: SHOP.local_search([0], passes=True), TypeError, "passes must be an integer"),
-}
-
-
-@pytest.mark.parametrize("case", WRONG)
-def test_wrong_arguments(case: str) -> None:
-    call, kind, text = WRONG[case]
-    with pytest.raises(kind) as error:
-        call()
-    assert text in str(error.value)

@@ -114,7 +114,6 @@ def audit(table: Table, shops: Shops = (), *, layout: str | None = None, first: 
 
     Examples
     --------
-    >>> import pfs
     >>> shop = pfs.Instance([[3, 2], [2, 5], [4, 1]], name="small")
     >>> table = [{"Instance": "Small", "Cmax": 10, "Sequence": "2 1 3"},
     ...          {"Instance": "small", "Cmax": 9, "Sequence": "2,3,1"}]

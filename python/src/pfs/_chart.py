@@ -57,8 +57,7 @@ def svg_of(schedule: Schedule) -> str | None:
         figure = plot(schedule, None, True, True, None)
     except ImportError:
         return None
-    picture: bytes = _drawing.picture_of(figure, "svg", _drawing.Look())
-    return picture.decode("utf-8")
+    return _drawing.picture_of(figure, "svg", _drawing.Look().dpi).decode("utf-8")
 
 
 def plot(schedule: Schedule, path: str | os.PathLike[str] | None, critical: bool, bound: bool, unit: str | None,
@@ -121,7 +120,7 @@ def drawn(table: _drawing.Table, look: _drawing.Look, path: str | os.PathLike[st
                 look = look._replace(width=frame.ax.get_window_extent().width / figure.dpi + look.beside)
             _drawing.draw(figure, table, look, frame.ax)
             if path is not None:
-                atomic_write(path, _drawing.picture_of(figure, str(ending), look))
+                atomic_write(path, _drawing.picture_of(figure, str(ending), look.dpi))
             return figure
     finally:
         logger.setLevel(level)

@@ -162,7 +162,7 @@ def read(source: Source, layout: str, block: int = 1) -> Instance:
 
     Examples
     --------
-    >>> import io, pfs
+    >>> import io
     >>> shop = pfs.read(io.BytesIO(b"3 2\\n0 3 1 2\\n0 2 1 5\\n0 4 1 1\\n"), "orlib")
     >>> shop.times
     array([[3, 2],
@@ -202,7 +202,7 @@ def read_all(source: Source, layout: str) -> list[Instance]:
 
     Examples
     --------
-    >>> import io, pfs
+    >>> import io
     >>> pfs.read_all(io.BytesIO(b"1 1\\n0 7\\n2 1\\n0 3 0 4\\n"), "orlib")
     [<Instance 1: 1 jobs, 1 machines>, <Instance 2: 2 jobs, 1 machines>]
     """
@@ -234,7 +234,7 @@ def read_order(source: Source) -> Solution:
 
     Examples
     --------
-    >>> import io, pfs
+    >>> import io
     >>> pfs.read_order(io.BytesIO(b"order2 3 2\\n2 1 3\\nmakespan 10\\n"))
     Solution(order=[1, 0, 2], makespan=10)
     """
@@ -279,7 +279,6 @@ def parse_order(text: str, first: int = 0) -> Order:
 
     Examples
     --------
-    >>> import pfs
     >>> order = pfs.parse_order("2, 1, 3", first=1)
     >>> order.tolist()
     [1, 0, 2]
@@ -329,7 +328,7 @@ def from_frame(frame: Any, *, unit: str = "", decimals: int = 0) -> Instance:
 
     Examples
     --------
-    >>> import pandas, pfs
+    >>> import pandas
     >>> frame = pandas.DataFrame({"saw": [3, 2], "drill": [2.5, 5]}, index=["table", "chair"])
     >>> shop = pfs.from_frame(frame, unit="h", decimals=1)
     >>> shop.times.tolist(), shop.job_names, shop.machine_names
@@ -374,7 +373,6 @@ def generate(jobs: int, machines: int, seed: int) -> Instance:
 
     Examples
     --------
-    >>> import pfs
     >>> pfs.generate(5, 1, 873654221).times.ravel().tolist()
     [54, 83, 15, 71, 77]
     """
@@ -402,7 +400,6 @@ def taillard(number: int) -> Instance:
 
     Examples
     --------
-    >>> import pfs
     >>> shop = pfs.taillard(1)
     >>> shop, shop.lower, shop.upper
     (<Instance ta001: 20 jobs, 5 machines>, 1232, 1278)

@@ -39,7 +39,7 @@ class Place(NamedTuple):
 
 
 class Sequence(NamedTuple):
-    """A sequence of jobs, and its makespan."""
+    """A sequence of jobs, an array of int64, and its makespan."""
 
     jobs: Order
     makespan: int
@@ -104,7 +104,6 @@ class Instance:
     --------
     Jobs, machines and places count from 0.
 
-    >>> import pfs
     >>> shop = pfs.Instance([[3, 2], [2, 5], [4, 1]])
     >>> shop.makespan([0, 1, 2])
     11
@@ -210,14 +209,8 @@ class Instance:
         return str(machine) if self.machine_names is None else self.machine_names[machine]
 
     def makespan(self, order: Jobs) -> int:
-        """Return the time at which the last job of an order leaves the last machine.
-
-        Parameters
-        ----------
-        order : array_like or Solution
-            Distinct jobs, by number from 0 or by name: an order of all jobs, or a partial sequence. The makespan of an
-            empty sequence is 0.
-        """
+        """Return the time at which the last job of an order of all jobs, or of a partial sequence, leaves the last
+        machine. The distinct jobs are given by number from 0 or by name. The makespan of an empty sequence is 0."""
         jobs, count = as_uint32_bytes(order, "order", self.job_names)
         prepared = self._taken()
         number = _pfs_makespan(prepared.address, jobs, LENGTHS[count] if count < SHORT else c_size_t(count),
@@ -241,7 +234,6 @@ class Instance:
 
         Examples
         --------
-        >>> import pfs
         >>> shop = pfs.Instance([[3, 2], [2, 5], [4, 1]])
         >>> shop.check([1, 0, 2], 10)
         Check(valid=True, makespan=10, bound=10, fault='')
@@ -275,7 +267,6 @@ class Instance:
 
         Examples
         --------
-        >>> import pfs
         >>> shop = pfs.taillard(51)
         >>> shop.bound(), shop.bound("pairs")
         (3480, 3527)
@@ -302,7 +293,6 @@ class Instance:
 
         Examples
         --------
-        >>> import pfs
         >>> shop = pfs.taillard(1)
         >>> round(shop.rpd(shop.neh()), 2)
         0.63
@@ -334,7 +324,6 @@ class Instance:
 
         Examples
         --------
-        >>> import pfs
         >>> pfs.Instance([[3, 2], [2, 5], [4, 1]]).best_place([0, 2], 1)
         Place(place=0, makespan=10)
         """
@@ -351,21 +340,16 @@ class Instance:
         return best
 
     def places(self, sequence: Jobs, job: int) -> Order:
-        """Return the makespans for all places of a job in a partial sequence.
+        """Return the makespans for all places of a job in a partial sequence, as an array of int64. Element ``p`` is
+        the makespan after ``sequence.insert(p, job)``.
 
         Parameters
         ----------
         sequence, job : array_like, int
             As for :meth:`best_place`, which returns the first minimum.
 
-        Returns
-        -------
-        numpy.ndarray
-            An array of int64: element ``p`` is the makespan after ``sequence.insert(p, job)``.
-
         Examples
         --------
-        >>> import pfs
         >>> pfs.Instance([[3, 2], [2, 5], [4, 1]]).places([0, 2], 1)
         array([10, 11, 14])
         """
@@ -393,21 +377,16 @@ class Instance:
         return fault
 
     def heads(self, sequence: Jobs) -> Order:
-        """Return the earliest end of each operation of a sequence of jobs.
+        """Return the earliest end of each operation of a sequence of jobs, as an array of int64 with a row for each job
+        of the sequence, in its order, and a column for each machine.
 
         Parameters
         ----------
         sequence : array_like
             Distinct jobs, counted from 0.
 
-        Returns
-        -------
-        numpy.ndarray
-            An array of int64 with a row for each job of the sequence, in its order, and a column for each machine.
-
         Examples
         --------
-        >>> import pfs
         >>> pfs.Instance([[3, 2], [2, 5], [4, 1]]).heads([1, 0])
         array([[2, 7],
                [5, 9]])
@@ -427,7 +406,6 @@ class Instance:
 
         Examples
         --------
-        >>> import pfs
         >>> pfs.Instance([[3, 2], [2, 5], [4, 1]]).tails([1, 0])
         array([[9, 7],
                [5, 2]])
@@ -445,7 +423,7 @@ class Instance:
         return heads, tails
 
     def insert_all(self, sequence: Jobs, jobs: Jobs) -> Sequence:
-        """Insert jobs into a partial sequence one after the other, each at its best place.
+        """Insert jobs into a partial sequence one after the other, each at its best place. Return the longer sequence.
 
         From an empty sequence and all jobs by decreasing total processing time, it finds the order of :meth:`neh`.
 
@@ -456,14 +434,8 @@ class Instance:
         jobs : array_like
             The jobs to insert, in this order; they are distinct, and none is in the sequence.
 
-        Returns
-        -------
-        Sequence
-            The ``jobs`` of the longer sequence, an array of int64, and its ``makespan``.
-
         Examples
         --------
-        >>> import pfs
         >>> pfs.Instance([[3, 2], [2, 5], [4, 1]]).insert_all([2], [0, 1])
         Sequence(jobs=array([1, 0, 2]), makespan=10)
         """
@@ -477,9 +449,8 @@ class Instance:
         return Sequence(found.astype(np.int64), makespan.value)
 
     def local_search(self, sequence: Jobs, jobs: Jobs | None = None, *, passes: int = 1) -> Sequence:
-        """Improve a sequence of jobs: in a pass, each of some jobs is removed and inserted at its best place.
-
-        The result is never longer than the sequence.
+        """Improve a sequence of jobs: in a pass, each of some jobs is removed and inserted at its best place. Return
+        the new sequence, which is never longer.
 
         Parameters
         ----------
@@ -491,14 +462,8 @@ class Instance:
         passes : int
             The number of passes, 0 to 100.
 
-        Returns
-        -------
-        Sequence
-            The ``jobs`` of the new sequence, an array of int64, and its ``makespan``.
-
         Examples
         --------
-        >>> import pfs
         >>> pfs.Instance([[3, 2], [2, 5], [4, 1]]).local_search([2, 1, 0])
         Sequence(jobs=array([1, 0, 2]), makespan=10)
         """
@@ -539,7 +504,6 @@ class Instance:
 
         Examples
         --------
-        >>> import pfs
         >>> pfs.Instance([[3, 2], [2, 5], [4, 1]]).makespans([[0, 1, 2], [1, 0, 2]])
         array([11, 10])
         """
@@ -617,9 +581,6 @@ class Instance:
 
         Raises
         ------
-        TypeError, ValueError
-            If an option is of the wrong type or out of range, or ``start`` isn't an order of all jobs or is a solution
-            for another number of machines.
         Interrupted
             After Ctrl-C. Its ``solution`` is the best so far. To continue, call ``solve(.., start=stop.solution,
             first=stop.solution.rounds)`` with the rounds that are left, to the same result.
@@ -628,7 +589,6 @@ class Instance:
 
         Examples
         --------
-        >>> import pfs
         >>> shop = pfs.taillard(1)
         >>> shop.solve(1000).makespan
         1278
@@ -655,13 +615,8 @@ class Instance:
             raise Interrupted(search.solution()) from None
 
     def schedule(self, order: Jobs) -> Schedule:
-        """Return the schedule of an order, in which each operation starts as early as possible.
-
-        Parameters
-        ----------
-        order : array_like or Solution
-            An order of all jobs, by number from 0 or by name.
-        """
+        """Return the schedule of an order of all jobs, by number from 0 or by name. Each operation starts as early as
+        possible."""
         jobs = checked_order(as_order(order, self), self.jobs, "order", self.job_names)
         starts = np.empty((self.jobs, self.machines), dtype=np.int64)
         ends = np.empty_like(starts)
@@ -683,13 +638,11 @@ class Instance:
         return text.raw[:length.value].decode("ascii")
 
     def write(self, path: str | os.PathLike[str], layout: str = "taillard") -> None:
-        """Write an instance file with one block.
+        """Write an instance file with one block. An existing file is replaced atomically.
 
         Parameters
         ----------
-        path : str or os.PathLike
-            The file. An existing file is replaced atomically.
-        layout : str
-            As for :meth:`to_text`.
+        path, layout : str or os.PathLike, str
+            The file, and the layout as for :meth:`to_text`.
         """
         atomic_write(path, self.to_text(layout).encode("ascii"))

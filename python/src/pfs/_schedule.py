@@ -48,7 +48,6 @@ class Schedule:
 
     Examples
     --------
-    >>> import pfs
     >>> schedule = pfs.Instance([[3, 2], [2, 5], [4, 1]]).schedule([1, 0, 2])
     >>> schedule.makespan
     10
@@ -97,7 +96,6 @@ class Schedule:
 
         Examples
         --------
-        >>> import pfs
         >>> schedule = pfs.Instance([[3, 2], [2, 5], [4, 1]]).schedule([1, 0, 2])
         >>> schedule.critical_path()
         [(0, 0), (0, 1), (1, 1), (2, 1)]
@@ -112,7 +110,6 @@ class Schedule:
 
         Examples
         --------
-        >>> import pfs
         >>> pfs.Instance([[3, 2], [2, 5], [4, 1]]).schedule([1, 0, 2]).idle()
         array([[0, 2],
                [0, 0],
@@ -130,7 +127,6 @@ class Schedule:
 
         Examples
         --------
-        >>> import pfs
         >>> frame = pfs.Instance([[3, 2], [2, 5]]).schedule([1, 0]).to_frame()
         >>> print(frame.to_string(index=False))
          job  machine  start  end
@@ -153,23 +149,19 @@ class Schedule:
 
     def to_csv(self, path: str | os.PathLike[str] | None = None, delimiter: str = ",", *,
                mark: bool = False, calendar: Calendar | None = None) -> str | None:
-        """Write the operations as CSV. A name that a spreadsheet would interpret as a formula gets an apostrophe.
+        """Write the operations as CSV, or return them as a text if there is no path. A name that a spreadsheet would
+        interpret as a formula gets an apostrophe.
 
         Parameters
         ----------
         path : str or os.PathLike, optional
-            The file. An existing file is replaced atomically. By default the text is returned.
+            The file. An existing file is replaced atomically.
         delimiter : str
             The separator of the columns. With ``;`` decimals have a comma.
         mark : bool
             Begin the file with a byte order mark. Excel needs it to read letters such as ``ä`` correctly.
         calendar : Calendar, optional
             Write dates and times of day, such as ``2026-11-30 06:00``, instead of times.
-
-        Returns
-        -------
-        str or None
-            The text, if there is no path.
 
         Raises
         ------
