@@ -359,7 +359,7 @@ def test_a_search_by_time_continues_with_another_seed(libpfs: Library, monkeypat
     orders = []
     for second in (seed + step, seed):
         again, other = search(seed), search(second)
-        again.neh()
+        again.call("pfs_neh")
         again.run_rounds(8)
         other.order[:] = list(again.order)
         other.run_rounds(found.rounds - 8)

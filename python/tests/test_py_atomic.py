@@ -10,6 +10,7 @@ from collections.abc import Callable, Iterator
 
 import pfs
 import pytest
+from pfs import _search, _state
 
 SHOP = pfs.Instance([[30, 25], [20, 50], [40, 10]], job_names=["table", "chair", "shelf"], machine_names=["a", "b"])
 MADE = SHOP.schedule([1, 0, 2])
@@ -19,6 +20,7 @@ WRITERS: dict[str, Callable[[pathlib.Path], object]] = {
     "a schedule": lambda path: MADE.to_csv(path),
     "a picture": lambda path: MADE.plot(path.with_suffix(".svg")),
     "a page": lambda path: MADE.plot(path.with_suffix(".html")),
+    "a state": lambda path: _state.State(str(path), SHOP, _search.Search(SHOP, None, 0, None, 0, 0)).write(SHOP.neh()),
 }
 PATHS = {"a picture": "file.svg", "a page": "file.html"}
 
@@ -61,17 +63,20 @@ def test_a_link_to_a_file_stays_and_no_other_one_is_followed(tmp_path: pathlib.P
     path = path_for(kind, tmp_path)
     (tmp_path / "folder").mkdir()
     target = tmp_path / "folder" / "target"
+    path.symlink_to("folder/target")
+    monkeypatch.setattr(secrets, "token_hex", lambda _: "0123")
+    new = ".new" if kind == "a state" else ".0123.new"
+    path.with_name(path.name + new).mkdir()  # beside the link, perhaps on another disk, nothing is written
+    WRITERS[kind](path)
     target.write_text("the old one")
     target.chmod(0o600)
-    path.symlink_to("folder/target")
     WRITERS[kind](path)
     assert path.is_symlink() and target.read_text() != "the old one"
     assert stat.S_IMODE(target.stat().st_mode) == 0o600, "the permissions have changed"
     path = path_for(kind, tmp_path / "folder")
-    monkeypatch.setattr(secrets, "token_hex", lambda _: "0123")
     precious = path.with_name("precious")
     precious.write_text("kept")
-    path.with_name(f"{path.name}.0123.new").symlink_to(precious)
+    path.with_name(path.name + new).symlink_to(precious)
     WRITERS[kind](path)
     assert precious.read_text() == "kept", f"{kind} was written through a link"
     assert not path.is_symlink() and {*os.listdir(path.parent)} == {path.name, "precious", "target"}

@@ -36,23 +36,9 @@ def test_each_ending(tmp_path: pathlib.Path, named: pfs.Schedule, ending: str) -
     assert (len(again), hash(again)) == (len(first), hash(first)), "a chart that is drawn again has other bytes"
 
 
-def bars_of(figure: Any) -> dict[str, list[tuple[float, float]]]:
-    """The bars of each row, by the row's name."""
-    bars = {}
-    for collection in figure.axes[0].collections:
-        boxes = [path.get_extents() for path in collection.get_paths()]
-        bars[collection.get_gid()] = [(box.x0, box.x1) for box in boxes]
-    return bars
-
-
-def test_the_picture_has_each_operation_and_the_names(named: pfs.Schedule) -> None:
-    figure = named.plot(critical=True, bound=True)
-    bars = bars_of(figure)
-    for machine in range(3):
-        spans = [(start, end) for start, end in zip(named.starts[:, machine], named.ends[:, machine]) if end > start]
-        assert bars[f"machine-{machine + 1}"] == spans
-        assert bars[f"strip-{machine + 1}"] == [(0, named.makespan)]
-    axis = figure.axes[0]
+def test_the_picture_has_the_names(named: pfs.Schedule) -> None:
+    """Its bars are those of the page, by another test, and drawn as by pfs-gantt."""
+    axis = named.plot(critical=True, bound=True).axes[0]
     assert [label.get_text() for label in axis.get_yticklabels()] == ["saw", "drill $y$", "<paint>"]
     assert {"table $x$", "</script><b>", 'box & "lid"'} <= {text.get_text() for text in axis.texts}
     lengths = f"makespan {named.makespan / 10}, bound {named.instance.bound() / 10} (dashed)"

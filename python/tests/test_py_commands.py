@@ -290,32 +290,13 @@ def test_a_lock_whose_file_another_search_removes_is_taken_again(folder: pathlib
     os.close(got)
 
 
-@pytest.mark.parametrize("name", ["state.new", "state.lock"])
-def test_links_in_the_place_of_other_files_are_not_followed(folder: pathlib.Path, name: str) -> None:
+def test_a_link_in_the_place_of_the_lock_is_not_followed(folder: pathlib.Path) -> None:
     (folder / "precious").write_text("kept")
-    (folder / name).symlink_to("precious")
-    child = start([*LONG, "--rounds", "3", "--state", "state"], folder)
-    printed, got = child.communicate(timeout=60)
-    assert (folder / "precious").read_text() == "kept", f"{name} was written through a link"
-    if name == "state.new":
-        assert (child.returncode, got, rounds_in(folder)) == (0, b"", 3)
-    else:
-        assert child.returncode == 4 and got.startswith(b"pfs: state: Too many levels of symbolic links")
-        assert printed.decode() == shop_in(folder).neh().to_text()
-
-
-def test_a_state_stays_where_a_link_leads(folder: pathlib.Path) -> None:
-    (folder / "folder").mkdir()
-    (folder / "state").symlink_to("folder/kept")
-    run([*LONG, "--rounds", "3", "--state", "state"], folder)
-    os.chmod(folder / "folder" / "kept", 0o640)
-    run([*LONG, "--rounds", "4", "--state", "state"], folder)
-    assert (folder / "state").is_symlink() and rounds_in(folder) == 4
-    assert (folder / "folder" / "kept").stat().st_mode & 0o777 == 0o640, "the permissions have changed"
-    assert [path.name for path in (folder / "folder").iterdir()] == ["kept"]
-    (folder / "state.new").mkdir()
-    run([*LONG, "--rounds", "5", "--state", "state"], folder)
-    assert rounds_in(folder) == 5, "the new state is written beside the link, perhaps on another disk"
+    (folder / "state.lock").symlink_to("precious")
+    status, printed, got = ended([*LONG, "--rounds", "3", "--state", "state"], folder)
+    assert (folder / "precious").read_text() == "kept", "written through a link"
+    assert status == 4 and got.startswith("pfs: state: Too many levels of symbolic links")
+    assert printed == shop_in(folder).neh().to_text()
 
 
 def test_a_state_is_on_the_disk_before_it_replaces_the_old_one(folder: pathlib.Path) -> None:

@@ -166,11 +166,11 @@ REJECTED: dict[Callable[[Any], object], list[tuple[Any, type[Exception], str]]] 
         (([0, 0], [1]), ValueError, "sequence: job 0 occurs twice"),
         (([0], [1, 1]), ValueError, "jobs: job 1 occurs twice"),
         (([0], [1, 7]), ValueError, "jobs: 7 at place 1 isn't a job"), (([0], [1.5]), ValueError, "jobs: 1.5"),
-        (([2, 0], [1, 0]), ValueError, "jobs: job 0 is already in the sequence"),
+        (([2, 0], [1, 0]), ValueError, "^job 0 is already in the sequence"),
         (([0, 1, 2], range(9000)), ValueError, "jobs: 3 at place 3 isn't a job"),
         (([0, 1, 2], [*range(3), *[0] * 20_000]), ValueError, "jobs: job 0 occurs twice, at places 0 and 3")],
     lambda given: SHOP.local_search([0, 1], *given[:-1], **given[-1]): [
-        (([2], {}), ValueError, "jobs: job 2 is not in the sequence"),
+        (([2], {}), ValueError, "^job 2 is not in the sequence"),
         (([1, 1], {}), ValueError, "jobs: job 1 occurs twice"),
         (({"passes": 101},), ValueError, "passes must be from 0 to 100"), (([0], 1, {}), TypeError, "positional"),
         (({"passes": True},), TypeError, "passes must be an integer")],

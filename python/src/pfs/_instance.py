@@ -336,7 +336,7 @@ class Instance:
         best = _new_tuple(Place, (prepared.place.value, prepared.makespan.value))
         self._prepared.append(prepared)
         if number:
-            raise self._insertion_error(number, jobs, job)
+            raise self._insertion_error(number, jobs, np.uint32(job).tobytes())
         return best
 
     def places(self, sequence: Jobs, job: int) -> Order:
@@ -366,15 +366,8 @@ class Instance:
         spans = prepared.spans[:count + 1].copy()
         self._prepared.append(prepared)
         if number:
-            raise self._insertion_error(number, jobs, job)
+            raise self._insertion_error(number, jobs, np.uint32(job).tobytes())
         return spans
-
-    def _insertion_error(self, number: int, jobs: bytes, job: int) -> Exception:
-        """Return the exception for a sequence and another job that the library rejects with this number."""
-        fault = jobs_error(number, self.jobs, jobs, "sequence")
-        if number == c.REPEATED and fault.args == (c.message(number),):
-            return ValueError(f"job {job} is already in the sequence")
-        return fault
 
     def heads(self, sequence: Jobs) -> Order:
         """Return the earliest end of each operation of a sequence of jobs, as an array of int64 with a row for each job
@@ -445,7 +438,7 @@ class Instance:
         makespan = c_uint64()
         number = self._call("pfs_construct", given, count, more, many, found.ctypes.data, found.size, byref(makespan))
         if number:
-            raise self._reinsertion_error(number, given, more, is_in=True)
+            raise self._insertion_error(number, given, more)
         return Sequence(found.astype(np.int64), makespan.value)
 
     def local_search(self, sequence: Jobs, jobs: Jobs | None = None, *, passes: int = 1) -> Sequence:
@@ -476,12 +469,12 @@ class Instance:
         makespan = c_uint64()
         number = self._call("pfs_local_search", moved, many, passes, found.ctypes.data, found.size, byref(makespan))
         if number:
-            raise self._reinsertion_error(number, given, moved, is_in=False)
+            raise self._insertion_error(number, given, moved, is_in=False)
         return Sequence(found.astype(np.int64), makespan.value)
 
-    def _reinsertion_error(self, number: int, given: bytes, moved: bytes, *, is_in: bool) -> Exception:
-        """Return the exception for a number that such a function returned. With `is_in` a job of the list is wrong if
-        it is in the sequence, otherwise if it isn't."""
+    def _insertion_error(self, number: int, given: bytes, moved: bytes, *, is_in: bool = True) -> Exception:
+        """Return the exception for a sequence and jobs to insert or, without `is_in`, to move that the library rejects
+        with this number. With `is_in` a job is wrong if it is in the sequence, otherwise if it isn't."""
         generic = (c.message(number),)
         fault = jobs_error(number, self.jobs, given, "sequence")
         if fault.args != generic:
@@ -491,7 +484,7 @@ class Instance:
         wrong = [job for job in np.frombuffer(moved, dtype=np.uint32).tolist() if (job in sequence) == is_in]
         if fault.args != generic or not wrong:
             return fault
-        return ValueError(f"jobs: job {wrong[0]} {'is already' if is_in else 'is not'} in the sequence")
+        return ValueError(f"job {wrong[0]} {'is already' if is_in else 'is not'} in the sequence")
 
     def makespans(self, orders: npt.ArrayLike) -> Order:
         """Return the makespans of many sequences of equal length, as an array of int64.
@@ -513,8 +506,6 @@ class Instance:
         own = array_copy(rows, "orders")
         if own.ndim != 2:
             raise ValueError(f"orders must have a row for each sequence of jobs, not the shape {own.shape}")
-        if own.dtype.kind == "b":
-            raise TypeError("orders must be whole numbers, not of dtype bool")
         jobs = as_uint32(own, MOST_UINT32, "orders", "row {}, place {}", "isn't a job: jobs count from 0")
         spans = np.empty(len(jobs), dtype=np.int64)
         number = self._call("pfs_makespans", jobs.ctypes.data, jobs.size, jobs.shape[1], spans.ctypes.data, spans.size)
