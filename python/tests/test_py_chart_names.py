@@ -8,7 +8,7 @@ from typing import Any
 import pfs
 import pytest
 from browser import PEN, looked_at, printed, with_script
-from test_py_chart_hands import pages_of
+from test_py_chart_pages import pages_of
 
 pytest.importorskip("matplotlib")
 

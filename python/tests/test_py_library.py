@@ -99,7 +99,7 @@ def test_the_numbers_limits_and_functions_are_those_of_the_header() -> None:
 def test_modules_that_need_no_library_are_imported_without_one(tmp_path: pathlib.Path) -> None:
     """Those that draw a time table, and those of experiments. A name of the package says what is missing."""
     code = ("import pfs, pfs._gantt, pfs.experiments.__main__\n"
-            "from pfs.experiments import plan, run, slurm\nprint(pfs.__version__)\npfs.Instance\n")
+            "from pfs.experiments import plan, run\nprint(pfs.__version__)\npfs.Instance\n")
     done = plainly.python("-c", code, cwd=tmp_path, PFS_LIBRARY="/none")
     assert done.stdout == f"{pfs.__version__}\n", done.stderr
     assert done.stderr.splitlines()[-1].startswith("ImportError: pfs can't load its library /none")

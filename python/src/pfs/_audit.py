@@ -81,7 +81,7 @@ class Row(NamedTuple):
 
 
 def audit(table: Table, shops: Shops = (), *, layout: str | None = None, first: int | None = None) -> list[Audited]:
-    """Audit each order of a published table.
+    """Audit each order of a published table. ``pandas.DataFrame`` makes a table of the verdicts.
 
     A verdict comes from the library, whose results are proved. What is unclear in the table is an error.
 
@@ -100,11 +100,6 @@ def audit(table: Table, shops: Shops = (), *, layout: str | None = None, first: 
         The layout of all files: ``"taillard"``, ``"orlib"`` or ``"matrix"``.
     first : int, optional
         The number of the first job, 0 or 1. By default it is that of most orders of a method.
-
-    Returns
-    -------
-    list of Audited
-        One for each row. ``pandas.DataFrame`` makes a table of it.
 
     Raises
     ------

@@ -15,11 +15,10 @@ from pfs import _search
 from pfs._atomic import atomic_write
 from pfs._bounds import bound_by_pairs
 from pfs._faults import Interrupted
-from pfs._held import HeldSearch
 from pfs._library import LENGTHS, SHORT, Prepared
 from pfs._names import frame_names, is_frame, names_of
 from pfs._schedule import Schedule
-from pfs._search import Progress, Search, Stop
+from pfs._search import HeldSearch, Progress, Search, Stop
 from pfs._solution import Solution, as_order
 from pfs._validate import (BOOLS, MOST_UINT32, Jobs, Order, array_copy, as_uint32, as_uint32_bytes, checked_int,
                            checked_jobs, checked_order, checked_times, jobs_error, layout_number)
@@ -524,7 +523,9 @@ class Instance:
 
         A round removes ``take`` jobs, inserts each at its best place, and makes ``passes`` passes. In a pass each job
         in turn is removed and inserted at its best place. The new order is kept unless its makespan is greater. The
-        same options give the same order on every machine, which is also the order that ``pfs solve`` prints.
+        same options give the same order on every machine, which is also the order that ``pfs solve`` prints. Of the
+        solution that is returned, ``cells`` counts the cells of this call, and ``rounds`` is the number of the next
+        round.
 
         Parameters
         ----------
@@ -564,11 +565,6 @@ class Instance:
         move : array_like, optional
             The only jobs, by numbers or names, that rounds and passes move. The others keep their order. With ``hold``
             or ``move`` the rounds are run in Python, and take ten times as long or more; ``cells`` is then 0.
-
-        Returns
-        -------
-        Solution
-            The best order. ``cells`` counts the cells of this call, and ``rounds`` is the number of the next round.
 
         Raises
         ------

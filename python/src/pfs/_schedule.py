@@ -185,19 +185,12 @@ class Schedule:
         return None
 
     def to_xlsx(self, path: str | os.PathLike[str], *, calendar: Calendar | None = None) -> None:
-        """Write the operations as a workbook, with numbers, or with dates and times of day.
+        """Write the operations as a workbook, with numbers, or with dates and times of day. This needs openpyxl.
 
         Parameters
         ----------
-        path : str or os.PathLike
-            The file. An existing file is replaced atomically.
-        calendar : Calendar, optional
-            Write dates and times of day instead of times.
-
-        Raises
-        ------
-        ImportError, ValueError
-            If openpyxl isn't installed, or as by :meth:`to_csv`.
+        path, calendar : str or os.PathLike, Calendar
+            As for :meth:`to_csv`, which raises the same errors.
         """
         shop = self.instance
         clock = None if calendar is None else Clock(calendar, shop)
