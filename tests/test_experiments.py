@@ -510,10 +510,8 @@ def test_the_csv_has_a_failed_run_with_its_status(experiment: Experiment) -> Non
 # After how many runs which process gets which signal.
 Kills = list[tuple[int, str, int]]
 KILLS: dict[str, Kills] = {
-    "killed at once": [(0, "all", signal.SIGKILL)], "interrupted": [(2, "all", signal.SIGINT)],
-    "its starter killed": [(1, "starter", signal.SIGKILL)], "GNU parallel killed": [(2, "parallel", signal.SIGKILL)],
-    "terminated": [(1, "starter", signal.SIGTERM)],
-    "killed three times": [(1, "starter", signal.SIGKILL), (0, "parallel", signal.SIGKILL), (1, "all", signal.SIGKILL)],
+    "interrupted": [(2, "all", signal.SIGINT)], "terminated": [(1, "starter", signal.SIGTERM)],
+    "killed three times": [(0, "starter", signal.SIGKILL), (2, "parallel", signal.SIGKILL), (1, "all", signal.SIGKILL)],
 }
 
 
