@@ -555,7 +555,7 @@ def test_no_run_is_lost_or_made_again(kills: Kills, experiment: Experiment) -> N
         if whom == "starter":
             assert len(experiment.started()) <= most + 2, "runs that GNU parallel begins without its starter"
     assert experiment.run(program=experiment.replacement()).status == 0
-    assert experiment.rows() == wanted
+    assert experiment.rows() == wanted and len([*experiment.runs.glob("pfs-experiment-*")]) == 1
     counts = experiment.searches()
     assert [number for number, count in counts.items() if count == 0] == [], "runs that were never made"
     assert {number: counts[number] for number in made if counts[number] != made[number]} == {}, "runs made again"
