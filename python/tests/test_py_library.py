@@ -1,6 +1,6 @@
-"""Which library is loaded, and the error for one that can't be used. An instance is prepared by the library once, on its
-first call, and released with the object. Copies, pickled ones, forked processes and calls at the same time in several
-threads prepare their own."""
+"""Which library is loaded, and the error for one that can't be used. An instance is prepared by the library once, on
+its first call, and released with the object. Copies, pickled ones, forked processes and calls at the same time in
+several threads prepare their own."""
 import copy
 import gc
 import os
