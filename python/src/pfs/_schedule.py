@@ -11,7 +11,7 @@ import numpy as np
 
 from pfs._atomic import atomic_write, text_cell
 from pfs._calendar import Calendar, Clock, text_of
-from pfs._drawing import critical_path
+from pfs._drawing import Look, critical_path
 from pfs._names import CLOCK, amount
 from pfs._optional import optional
 from pfs._validate import Order
@@ -254,9 +254,8 @@ class Schedule:
             If matplotlib isn't installed, an argument is of the wrong type, the name has another ending, a number is
             out of range, ``ax`` is given for a page, or a calendar for times whose unit is not a unit of time.
         """
-        from pfs._chart import Frame, plot
-        return plot(self, path, critical=critical, bound=bound, unit=unit, frame=Frame(width, dpi, title, ax),
-                    calendar=calendar)
+        from pfs._chart import plot
+        return plot(self, path, Look(width, dpi, title, critical), bound, unit, ax, calendar)
 
     def _repr_svg_(self) -> str | None:
         """Return the chart for Jupyter, or None without matplotlib or if the chart would be very large."""
