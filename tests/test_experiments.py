@@ -214,8 +214,8 @@ def test_a_plan_may_grow(experiment: Experiment) -> None:
         assert experiment.rows() == experiment.wanted(**settings), "the rows of the plan that has grown"
         before = after
     assert experiment.script("check", "out.csv").status == 0
-    words = [experiment.scripts / "pfs-experiments", "status", "out.csv"]
-    assert run_tool(words, experiment.folder).status == 0 and experiment.columns(*HEAD) == before
+    assert run_tool([experiment.scripts / "pfs-experiments", "status", "out.csv"], experiment.folder).status == 0
+    assert experiment.columns(*HEAD) == before
 
 
 def test_a_search_of_0_rounds_is_made_once(experiment: Experiment) -> None:
