@@ -420,6 +420,8 @@ def test_pictures_without_a_key_and_with_names_that_are_cut_in_it() -> None:
     axes = matplotlib.figure.Figure(figsize=(12, 3)).subplots()
     bars, key, figure = texts_of(plan(), ax=axes)
     assert key == [] and set(bars) <= set(NAMES), "no place without a key"
+    narrow = matplotlib.figure.Figure(figsize=(4, 3)).subplots()
+    assert texts_of(plan(["a table of oak for twelve", *NAMES[1:]]), ax=narrow)[0] == [], "wider than their bars"
     names = ["x" * 300, *NAMES[1:]]
     _, key, figure = texts_of(plan(names), width=4)
     cut = key[0]
