@@ -181,19 +181,14 @@ def made_of(kind: type[Any], changed: str = "") -> Any:
     return kind(**{name: values[name == changed] for name, values in COMPARED[kind].items()})
 
 
-def fields_of(thing: Any) -> dict[str, Any]:
-    """What the object is made of, as lists, texts and numbers."""
-    found = {name: getattr(thing, name) for name in COMPARED[type(thing)]}
-    return {name: value.tolist() if isinstance(value, np.ndarray) else value for name, value in found.items()}
-
-
 @pytest.mark.parametrize("kind", COMPARED)
 def test_each_parameter_is_compared(kind: type[Any]) -> None:
     """Objects of which one attribute is another are unequal."""
     assert set(inspect.signature(kind).parameters) == COMPARED[kind].keys()
-    assert fields_of(made_of(kind)) == {name: values[0] for name, values in COMPARED[kind].items()}
+    kept = kept_by(made_of(kind))
+    assert {name: kept[name] for name in COMPARED[kind]} == {name: one for name, (one, _) in COMPARED[kind].items()}
     defaults = {name: parameter.default for name, parameter in inspect.signature(kind).parameters.items()}
-    assert not [name for name, value in fields_of(made_of(kind)).items() if value == defaults[name]], "a default"
+    assert not [name for name in COMPARED[kind] if kept[name] == defaults[name]], "a default"
     for name in COMPARED[kind]:
         one, other = made_of(kind), made_of(kind, name)
         assert not one == other and one != other, f"two of another {name} are equal"
