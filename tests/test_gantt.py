@@ -313,7 +313,6 @@ def test_numbers_are_in_the_middle_of_bars_and_at_the_scales(case: Case, picture
 
 # Axes
 
-
 def test_what_is_drawn_is_named_in_letters_that_can_be_read(folder: pathlib.Path) -> None:
     """The title is above the rows, and names the bound and the path where they are drawn."""
     plain, whole = drawn(folder), drawn(folder, "--critical", "--bound", "9", "--unit", "min")
@@ -361,7 +360,6 @@ def test_the_critical_path_leads_from_0_to_the_makespan_without_idle_time(case: 
 
 
 # Papers
-
 
 @pytest.mark.parametrize(("words", "due"), [(["--no-title"], ""), (["--title", ""], ""),
                                             (["--title", "jobs of $48$"], "jobs of $48$")])
