@@ -13,7 +13,7 @@ from support.library import Library
 from support.needs import missing, prepare_process
 from support.program import Program
 
-pytest_plugins = ["support.needs", "support.folders", "support.tools", "support.ssh", "support.slurm",
+pytest_plugins = ["support.needs", "support.folders", "support.tools", "support.servers",
                   "support.experiments", "support.growths", "support.installed"]
 
 TOP = pathlib.Path(__file__).resolve().parent.parent

@@ -1,5 +1,6 @@
 """The CSV of an experiment has the results of pfs itself: with GNU parallel, here and over ssh, and on a Slurm cluster
 of one node, also if its runs were killed at various moments and repeated, and if two experiments start at once."""
+import functools
 import hashlib
 import json
 import os
@@ -13,13 +14,11 @@ from typing import Any
 
 import pytest
 from pfs.experiments import one, plan, run
-from pfs.experiments.slurm import MOST_TASKS
 from support.experiments import HALF, HEAD, PLAN, Experiment
 from support.library import Library
 from support.needs import missing, tool
 from support.program import Program
-from support.slurm import Cluster
-from support.ssh import Server
+from support.servers import Cluster, Server
 from support.terminals import Terminal
 from support.tools import Done, csv_rows, run_tool, wait_until, with_path, write_script
 
@@ -80,7 +79,7 @@ def test_readme_has_the_keys_of_a_plan_with_their_defaults_the_columns_and_the_n
     assert (got["layout"], got["repetitions"]) == ('`"taillard"`', "`1`")
     columns = re.findall(r"^\| (`.*`) \|", README.partition("## CSV")[2].partition("\n## ")[0], re.MULTILINE)
     assert [name for cell in columns for name in re.findall("`([^`]+)`", cell)] == HEAD
-    assert f"Each of at most {MOST_TASKS:,} tasks (`--tasks`)" in README
+    assert f"Each of at most {run.MOST_TASKS:,} tasks (`--tasks`)" in README
 
 
 NO_PFS = {"prints nothing": "#!/bin/sh\n", "prints its words": "#!/bin/sh\necho \"$@\"\n",
@@ -194,8 +193,9 @@ def test_each_order_is_kept_and_check_audits_it_again(made: Experiment) -> None:
 
 
 def test_a_plan_may_grow(experiment: Experiment) -> None:
-    """What is done is kept, and the CSV is in the order of the plan that has grown."""
-    program, before = experiment.replacement(), list[tuple[str, ...]]()
+    """What is done is kept, and the CSV is in the order of the plan that has grown. No file is written in place: a link
+    to the old one has the old text."""
+    program, before, old = experiment.replacement(), list[tuple[str, ...]](), dict[pathlib.Path, bytes]()
     settings: dict[str, Any] = {"shops": ["a"], "rounds": [10], "seeds": [1], "takes": [3]}
     for key, more in (("seeds", [1]), ("rounds", [10, 30]), ("seeds", [2, 1]), ("takes", [1, 3]), ("repetitions", 2),
                       ("shops", ["a", "b"])):
@@ -203,12 +203,19 @@ def test_a_plan_may_grow(experiment: Experiment) -> None:
         lines = {**settings, "instances": [f"shops/{name}" for name in settings["shops"]]}
         experiment.plan("".join(f"{key} = {json.dumps(value)}\n" for key, value in lines.items() if key != "shops"))
         assert experiment.run(program=program).status == 0
+        assert [link for link, text in old.items() if link.read_bytes() != text] == [], "written in place"
+        for path in (experiment.folder / "out.csv", experiment.runs / "plan.json"):
+            link = path.with_name(f"{len(old)}.old")
+            link.hardlink_to(path)
+            old[link] = path.read_bytes()
         after = experiment.columns(*HEAD)
         assert [row for row in before if row not in after] == [], "runs that are gone, or were made again"
         assert len(experiment.started()) == len(after) > len(before), "each is made once"
         assert experiment.rows() == experiment.wanted(**settings), "the rows of the plan that has grown"
         before = after
     assert experiment.script("check", "out.csv").status == 0
+    assert run_tool([experiment.scripts / "pfs-experiments", "status", "out.csv"], experiment.folder).status == 0
+    assert experiment.columns(*HEAD) == before
 
 
 def test_a_search_of_0_rounds_is_made_once(experiment: Experiment) -> None:
@@ -291,21 +298,6 @@ def test_a_full_disk_is_reported(kib: int, experiment: Experiment) -> None:
     assert again == f"small/{SIX}0\n" and experiment.rows("all.csv") == experiment.wanted(rounds=(10,))
 
 
-def test_the_csv_and_the_plan_are_synced_before_they_are_renamed(experiment: Experiment) -> None:
-    """And their folder after that. Nothing opens them for writing."""
-    words = [tool("strace"), "-f", "-y", "-o", "trace", "-e", "trace=open,openat,fsync,rename,renameat,renameat2",
-             *experiment.plan(ONLY_B).words("run", "plan.toml", "out.csv")]
-    assert run_tool(words, experiment.folder).status == 0
-    calls = (experiment.folder / "trace").read_text().splitlines()
-    for name in ("out.csv", "out.csv.d/plan.json"):
-        path = str(experiment.folder / name)
-        assert [call for call in calls if f'"{path}", O_' in call and "O_RDONLY" not in call] == [], name
-        renamed, = (at for at, call in enumerate(calls) if "rename" in call and call.count(f'{path}"') == 1)
-        for synced, among in ((re.findall(r'"([^"]*)"', calls[renamed])[0], calls[:renamed]),
-                              (os.path.dirname(path), calls[renamed:])):
-            assert any("fsync(" in call and f"<{synced}>" in call for call in among), f"{synced} is not synced"
-
-
 # Runs by time
 
 def test_runs_by_time_take_their_time(experiment: Experiment, with_library: dict[str, str]) -> None:
@@ -368,7 +360,7 @@ def test_a_search_by_time_continues_with_another_seed(libpfs: Library, monkeypat
     orders = []
     for second in (seed + step, seed):
         again, other = search(seed), search(second)
-        again.neh()
+        again.call("pfs_neh")
         again.run_rounds(8)
         other.order[:] = list(again.order)
         other.run_rounds(found.rounds - 8)
@@ -520,10 +512,8 @@ def test_the_csv_has_a_failed_run_with_its_status(experiment: Experiment) -> Non
 # After how many runs which process gets which signal.
 Kills = list[tuple[int, str, int]]
 KILLS: dict[str, Kills] = {
-    "killed at once": [(0, "all", signal.SIGKILL)], "interrupted": [(2, "all", signal.SIGINT)],
-    "its starter killed": [(1, "starter", signal.SIGKILL)], "GNU parallel killed": [(2, "parallel", signal.SIGKILL)],
-    "terminated": [(1, "starter", signal.SIGTERM)],
-    "killed three times": [(1, "starter", signal.SIGKILL), (0, "parallel", signal.SIGKILL), (1, "all", signal.SIGKILL)],
+    "interrupted": [(2, "all", signal.SIGINT)], "terminated": [(1, "starter", signal.SIGTERM)],
+    "killed three times": [(0, "starter", signal.SIGKILL), (2, "parallel", signal.SIGKILL), (1, "all", signal.SIGKILL)],
 }
 
 
@@ -565,7 +555,7 @@ def test_no_run_is_lost_or_made_again(kills: Kills, experiment: Experiment) -> N
         if whom == "starter":
             assert len(experiment.started()) <= most + 2, "runs that GNU parallel begins without its starter"
     assert experiment.run(program=experiment.replacement()).status == 0
-    assert experiment.rows() == wanted
+    assert experiment.rows() == wanted and len([*experiment.runs.glob("pfs-experiment-*")]) == 1
     counts = experiment.searches()
     assert [number for number, count in counts.items() if count == 0] == [], "runs that were never made"
     assert {number: counts[number] for number in made if counts[number] != made[number]} == {}, "runs made again"
@@ -710,6 +700,113 @@ def test_slurm_is_asked_for_an_array_of(plan: str, words: list[str], array: str,
     assert {f"--array={array}", "--wait", "--dependency=singleton", "--time=5"} <= {*submitted}
     assert submitted[-2:] == [str(pathlib.Path(one.__file__).with_name("task")),
                               *(path.name for path in experiment.runs.glob("pfs-experiment-*"))]
+
+
+# What the runs were made with, their reference, and what there is before the end
+
+ORDER = "#!/bin/sh\necho {order}\n"
+WITH_FILE = """instances = ["shops/b"]
+seeds = [{seeds}]
+method = "mine"
+command = "./mine {{instance}}"
+files = ["data"]
+"""
+
+
+@pytest.fixture
+def mine(experiment: Experiment) -> Experiment:
+    """An experiment with a command and a file."""
+    write_script(experiment.folder / "mine", ORDER.format(order="1 2 3"))
+    (experiment.folder / "data").write_text("1\n")
+    return experiment.plan(WITH_FILE.format(seeds="1"))
+
+
+def test_the_file_has_the_version_the_sums_and_each_start(mine: Experiment, top: pathlib.Path) -> None:
+    """What has changed since is reported, and the copies are used."""
+    inputs = {"pfs": mine.pfs.path, **{name: mine.folder / name for name in ("shops/b", "data", "mine")}}
+    wanted = {name: hashlib.sha256(path.read_bytes()).hexdigest() for name, path in inputs.items()}
+    assert mine.run() == mine.run() == Done(0, "", "out.csv: 1 runs, 0 of them failed, 0 still to run\n")
+    stored = json.loads((mine.runs / "provenance.json").read_text())
+    assert stored["version"] == (top / "VERSION").read_text().strip() and stored["sha256"] == wanted
+    method, = stored["plan"]["methods"]
+    assert (method["seeds"], method["method"]) == ([1], "mine")
+    assert [start["host"] for start in stored["starts"]] == [os.uname().nodename] * 2
+    assert stored["starts"][0]["at"] <= stored["starts"][1]["at"]
+    before = mine.columns("makespan")
+    write_script(mine.folder / "mine", ORDER.format(order="1 3 2"))
+    for name in ("data", "shops/b"):
+        with open(mine.folder / name, "a") as file:
+            file.write("# changed\n")
+    got = mine.plan(WITH_FILE.format(seeds="1, 2")).run()
+    assert got == Done(0, "", "out.csv: changed since they were copied for its runs: data, mine, shops/b. The copies "
+                              "are used: to begin anew, name another CSV or delete out.csv.d\n"
+                              "out.csv: 2 runs, 0 of them failed, 0 still to run\n")
+    assert mine.columns("makespan") == before * 2
+    assert mine.run("new.csv").stderr == "new.csv: 2 runs, 0 of them failed, 0 still to run\n"
+    assert mine.columns("makespan", csv_name="new.csv") != before * 2
+    for damaged in (b"", b"{", b"[1]", b'{"starts": 3}', b"\xff"):
+        (mine.runs / "provenance.json").write_bytes(damaged)
+        assert mine.run().status == 0
+        assert len(json.loads((mine.runs / "provenance.json").read_text())["starts"]) == 1
+    for name in ("mine", "data"):
+        (mine.folder / name).rename(mine.folder / f"{name}.gone")
+    assert "no file matches data" in mine.run().stderr
+
+
+def test_a_reference_must_name_an_instance(experiment: Experiment) -> None:
+    """By its name in the plan, or without folder, ending and in lower case. What it lacks is reported. It may begin
+    with a byte order mark, and be named once all runs are made."""
+    plan = 'instances = ["shops/*"]\nreference = "best.csv"\n'
+    (experiment.folder / "best.csv").write_text("instance,makespan\nc,9\n")
+    assert experiment.plan(plan).run() == Done(2, "", (
+        "pfs-experiments run: plan.toml: the reference best.csv names none of the instances: it has c, and the plan "
+        "shops/a\n"))
+    assert not experiment.runs.exists()
+    assert experiment.plan(plan.splitlines()[0]).run().status == 0
+    (experiment.folder / "best.csv").write_text("\N{BOM}instance,makespan,source\nc,9,no paper\nB.txt,7.0,a paper\n")
+    assert experiment.plan(plan).run() == Done(0, "", "best.csv lacks 1 of 2 instances: shops/a\n"
+                                                      "out.csv: 2 runs, 0 of them failed, 0 still to run\n")
+    assert experiment.columns("reference", "source") == [("", ""), ("7", "a paper")]
+
+
+def test_a_report_audits_the_runs_with_the_instances_next_to_the_csv(mine: Experiment,
+                                                                     with_library: dict[str, str]) -> None:
+    """As long as they are there and whole. An order that isn't that of the makespan is an error."""
+    words = [mine.scripts / "pfs-experiments", "report", "out.csv", "report"]
+    report = functools.partial(run_tool, words, mine.folder, env=with_library)
+
+    mine.run()
+    assert (report().status, csv_rows(mine.folder / "report" / "table.csv")[0]["audited"]) == (0, "1")
+    text = (mine.folder / "out.csv").read_text()
+    (name, makespan), = mine.columns("order", "makespan")
+    (mine.folder / "out.csv").write_text(text.replace(f",{makespan},", f",{int(makespan) + 1},"))
+    assert report() == Done(2, "", f"pfs-experiments report: out.csv: line 2, shops/b: wrong makespan: states "
+                                   f"{int(makespan) + 1}, takes {makespan}\n")
+    (mine.folder / "out.csv").write_text(text)
+    (mine.folder / name).write_text("order 3\n1 1 2\nmakespan 9\n")
+    assert report().stderr == f"pfs-experiments report: out.csv: {name}: order file job repeated at place 2\n"
+    (mine.runs / "plan.json").write_text("{")
+    (mine.folder / name).unlink()
+    assert (report().status, csv_rows(mine.folder / "report" / "table.csv")[0]["audited"]) == (0, "0")
+
+
+def test_status_writes_what_there_is(experiment: Experiment) -> None:
+    """The CSV has the order of the plan, and its reference."""
+    words = [experiment.scripts / "pfs-experiments", "status", "out.csv"]
+    status = functools.partial(run_tool, words, experiment.folder)
+    assert status() == Done(2, "", "pfs-experiments status: out.csv was not started: out.csv.d is missing\n")
+    (experiment.folder / "best.csv").write_text("instance,makespan\nb,9\n")
+    experiment.plan('instances = ["shops/b"]\nseeds = [2, 1]\nrounds = [1]\nreference = "best.csv"\n')
+    with experiment.gate() as let_through:
+        begun = experiment.start("--jobs", "1")
+        let_through(1)
+        one_of_two = Done(1, "", "out.csv: 1 runs, 0 of them failed, 1 still to run\n")
+        wait_until(lambda: (experiment.runs / "plan.json").exists() and status() == one_of_two, "a run has ended")
+        assert experiment.columns("instance", "seed", "reference") == [("shops/b", "2", "9")]
+    assert begun.wait(60) == 0
+    before = (experiment.folder / "out.csv").read_bytes()
+    assert status() == Done(0, "", "out.csv: 2 runs, 0 of them failed, 0 still to run\n")
+    assert (experiment.folder / "out.csv").read_bytes() == before and before.count(b"\n") == 3
 
 
 # The pages

@@ -1,8 +1,6 @@
 """pfs-gantt draws each operation that takes time at its time, on its machine's row and in its job's colour, with the
 job's number if that fits. The tests look at the figure that matplotlib saves. An invalid time table is rejected, and no
 file is left."""
-import contextlib
-import io
 import itertools
 import os
 import pathlib
@@ -20,7 +18,7 @@ from support.files import generated
 from support.large import run_limited
 from support.needs import tool
 from support.program import Program
-from support.tools import Done, run_tool, with_path
+from support.tools import Done, run_main, run_tool, with_path
 
 pytestmark = pytest.mark.long
 TOP = pathlib.Path(__file__).resolve().parent.parent
@@ -75,10 +73,8 @@ BAD_WORDS = {
 def gantt(folder: pathlib.Path, *words: str, text: str = THREE) -> Done:
     """Runs pfs-gantt in this process and in a folder whose file `table` has this text."""
     (folder / "table").write_text(text)
-    out, got = io.StringIO(), io.StringIO()
-    with (mock.patch("sys.argv", ["pfs-gantt", *words]), contextlib.chdir(folder), contextlib.redirect_stdout(out),
-          contextlib.redirect_stderr(got), pytest.importorskip("matplotlib").rc_context()):
-        return Done(_gantt.main(), out.getvalue(), got.getvalue())
+    with pytest.importorskip("matplotlib").rc_context():
+        return run_main(_gantt.main, ["pfs-gantt", *words], folder)
 
 
 class Bar(NamedTuple):
@@ -317,7 +313,6 @@ def test_numbers_are_in_the_middle_of_bars_and_at_the_scales(case: Case, picture
 
 # Axes
 
-
 def test_what_is_drawn_is_named_in_letters_that_can_be_read(folder: pathlib.Path) -> None:
     """The title is above the rows, and names the bound and the path where they are drawn."""
     plain, whole = drawn(folder), drawn(folder, "--critical", "--bound", "9", "--unit", "min")
@@ -365,7 +360,6 @@ def test_the_critical_path_leads_from_0_to_the_makespan_without_idle_time(case: 
 
 
 # Papers
-
 
 @pytest.mark.parametrize(("words", "due"), [(["--no-title"], ""), (["--title", ""], ""),
                                             (["--title", "jobs of $48$"], "jobs of $48$")])

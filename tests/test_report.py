@@ -1,5 +1,4 @@
 """The report of experiments: its tables, its statistics by plain definitions, and what its plots show."""
-import contextlib
 import csv
 import io
 import itertools
@@ -15,7 +14,7 @@ from unittest import mock
 
 import pytest
 from support.colours import least_difference
-from support.tools import Done, csv_rows, run_tool
+from support.tools import Done, csv_rows, run_main, run_tool
 
 for _name in ("matplotlib", "pandas", "scipy"):
     pytest.importorskip(_name)
@@ -76,15 +75,8 @@ def report(folder: pathlib.Path) -> Reported:
         for name, each in texts.items():
             (folder / f"{name}.csv").write_text(each)
         given = words.split() or [*options, *(f"{name}.csv" for name in texts), "report"]
-        out, got = io.StringIO(), io.StringIO()
-        with (mock.patch("sys.argv", ["pfs-experiments", "report", *given]), mock.patch("signal.signal"),
-              contextlib.chdir(folder), contextlib.redirect_stdout(out), contextlib.redirect_stderr(got),
-              mpl.rc_context()):
-            try:
-                status = experiments.main()
-            except SystemExit as end:
-                status = int(end.code or 0)
-        return Done(status, out.getvalue(), got.getvalue())
+        with mock.patch("signal.signal"), mpl.rc_context():
+            return run_main(experiments.main, ["pfs-experiments", "report", *given], folder)
     return run
 
 
@@ -119,23 +111,21 @@ def test_of_runs_that_all_failed_there_is_only_the_table(report: Reported, folde
     assert sorted(os.listdir(folder / "report")) == ["table.csv", "table.md"]
 
 
-@pytest.mark.parametrize("text", BAD.values(), ids=BAD)
-def test_an_invalid_csv_is_rejected_and_nothing_is_left(text: str, report: Reported, folder: pathlib.Path) -> None:
-    got = report(text)
+WORDS = {"none.csv report": "none.csv: ", "--width 0 out.csv report": "'0' is not a number of inches",
+         "--dpi 25.5 out.csv report": "'25.5' is not a whole number from 20 to 1,200", "out.csv out.csv": "out.csv: ",
+         "out.csv out.csv/report": "out.csv/report: ", "--reference none out.csv report": "none: ",
+         "--reference other.csv out.csv report": "other.csv: no column makespan",
+         "out.csv other.csv report": "other.csv: no column makespan", "means.csv report": "published means are columns"}
+
+
+@pytest.mark.parametrize(("text", "words", "said"), [*((text, "out.csv report", "out.csv: ") for text in BAD.values()),
+                                                     *((REPORTED, *pair) for pair in WORDS.items())],
+                         ids=[*BAD, *WORDS])
+def test_what_is_refused_is_said_on_one_line_and_nothing_is_left(text: str, words: str, said: str, report: Reported,
+                                                                 folder: pathlib.Path) -> None:
+    got = report(words=words, out=text, other="instance,length\na,1\n", means="jobs,machines,rpd\n2,2,1\n")
     assert (got.status, got.stdout) == (2, "")
-    assert re.fullmatch("pfs-experiments report: out.csv: [^\n]+\n", got.stderr), got.stderr
-    assert not (folder / "report").exists()
-
-
-WORDS = ["none.csv report", "--width 0 out.csv report", "--dpi x out.csv report", "out.csv out.csv",
-         "out.csv out.csv/report", "--reference none out.csv report", "--reference other.csv out.csv report",
-         "out.csv other.csv report", "means.csv report"]
-
-
-@pytest.mark.parametrize("words", WORDS)
-def test_words_are_refused_on_one_line(words: str, report: Reported, folder: pathlib.Path) -> None:
-    got = report(words=words, out=REPORTED, other="instance,length\na,1\n", means="jobs,machines,rpd\n2,2,1\n")
-    assert (got.status, got.stdout, got.stderr.count("\n")) == (2, "", 1), got.stderr
+    assert re.fullmatch(f"pfs-experiments report: [^\n]*{re.escape(said)}[^\n]*\n", got.stderr), got.stderr
     assert sorted(os.listdir(folder)) == ["means.csv", "other.csv", "out.csv"]
 
 

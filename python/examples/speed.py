@@ -1,6 +1,6 @@
 #!/usr/bin/env python3
-"""Measures the time of calls. Each line is the least of several runs. Searches are measured in processor time, since
-they are long enough for other programs to run in between.
+"""Measures the times of calls that python/README.md states, in microseconds. Each line is the least of several runs.
+Searches are measured in processor time, since they are long enough for other programs to run in between.
 
 usage: speed.py [PROGRAM], where PROGRAM is the built program pfs"""
 import pathlib
@@ -18,10 +18,9 @@ import numpy.typing as npt
 import pfs
 
 Order = npt.NDArray[np.int64]
-Times = npt.NDArray[np.int64]
 
 
-def numpy_place(times: Times, sequence: Order, job: int) -> tuple[int, int]:
+def numpy_place(times: Order, sequence: Order, job: int) -> tuple[int, int]:
     """Return the best place, with NumPy: all places at once, job by job and machine by machine."""
     count = len(sequence) + 1
     orders = np.array([np.insert(sequence, place, job) for place in range(count)])
@@ -35,75 +34,38 @@ def numpy_place(times: Times, sequence: Order, job: int) -> tuple[int, int]:
     return place, int(free[place, -1])
 
 
-def seconds(call: Callable[[], Any], number: int, repeat: int = 7) -> float:
-    """Return the least time of a call."""
-    return min(timeit.repeat(call, number=number, repeat=repeat)) / number
+def report(what: str, number: int, call: Callable[[], Any]) -> None:
+    """Print the least time of a call, of which each run has this number."""
+    print(f"| {what} | {1e6 * min(timeit.repeat(call, number=number, repeat=20)) / number:,.1f} |")
 
 
-def spent_by(whom: int) -> float:
-    """Return the processor time so far."""
-    usage = resource.getrusage(whom)
-    return usage.ru_utime + usage.ru_stime
+def report_search(what: str, whom: int, call: Callable[[], Any]) -> None:
+    """Print the least processor time of a search, by this process or by a child."""
+    def spent() -> float:
+        usage = resource.getrusage(whom)
+        return usage.ru_utime + usage.ru_stime
 
-
-def report(what: str, time: float, other: float | None = None) -> None:
-    """Print a row of the table."""
-    ratio = "" if other is None else f"{time / other:,.2f}"
-    print(f"| {what} | {1e6 * time:,.1f} | {ratio} |")
-
-
-def makespans(program: str, folder: pathlib.Path) -> None:
-    """Measure the makespan of an order of 20 jobs on 5 machines."""
-    shop = pfs.taillard(1)
-    best = shop.neh()
-    shop.write(folder / "shop")
-    best.write(folder / "order")
-    words = [program, "check", "--layout", "taillard", str(folder / "shop"), str(folder / "order")]
-    call = seconds(lambda: shop.makespan(best.order), 1000, 20)
-    report("`makespan`, 20 jobs on 5 machines", call)
-    process = seconds(lambda: subprocess.run(words, capture_output=True), 20)
-    report("a process of `pfs check` for the same", process, call)
-
-
-def places() -> None:
-    """Measure the best place of a job among 99 others, and of one among 19, in a list and in an array."""
-    small, few = pfs.taillard(1), list(range(19))
-    report("`best_place`, list of 19 jobs, 5 machines", seconds(lambda: small.best_place(few, 19), 1000, 20))
-    short = np.arange(19, dtype=np.uint32)
-    report("the same with an array of uint32", seconds(lambda: small.best_place(short, 19), 1000, 20))
-    shop = pfs.taillard(81)
-    times, sequence = shop.times, np.arange(99)
-    call = seconds(lambda: shop.best_place(sequence, 99), 200)
-    report("`best_place`, array of 99 jobs, 20 machines", call)
-    assert shop.best_place(sequence, 99) == numpy_place(times, sequence, 99)
-    report("NumPy, all places at once", seconds(lambda: numpy_place(times, sequence, 99), 3), call)
-
-
-def searches(program: str, folder: pathlib.Path) -> None:
-    """Measure the processor time of 2,000 rounds on 500 jobs and 20 machines, in turns."""
-    shop = pfs.taillard(111)
-    shop.write(folder / "shop")
-    words = [program, "solve", "--layout", "taillard", "--rounds", "2000", str(folder / "shop")]
-    ours, theirs = [], []
-    for _ in range(9):
-        begun = spent_by(resource.RUSAGE_CHILDREN)
-        subprocess.run(words, capture_output=True, check=True)
-        theirs.append(spent_by(resource.RUSAGE_CHILDREN) - begun)
-        begun = spent_by(resource.RUSAGE_SELF)
-        shop.solve(2000)
-        ours.append(spent_by(resource.RUSAGE_SELF) - begun)
-    report("`pfs solve`, 2,000 rounds, 500 jobs on 20 machines", min(theirs))
-    report("`solve` for the same", min(ours), min(theirs))
+    print(f"| {what} | {1e6 * min(timeit.repeat(call, number=1, repeat=9, timer=spent)):,.1f} |")
 
 
 def main() -> None:
     """Print the table."""
     program = sys.argv[1] if len(sys.argv) > 1 else "pfs"
-    print("| What | Microseconds | Ratio to the call compared |\n|---|---|---|")
+    print("| What | Microseconds |\n|---|---|")
+    small, large, huge = map(pfs.taillard, (1, 81, 111))
+    array, sequence = small.neh().order.astype(np.uint32), np.arange(99)
+    order = array.tolist()
+    report("`makespan`, 20 jobs on 5 machines, array of uint32", 1000, lambda: small.makespan(array))
+    report("the same with a list", 1000, lambda: small.makespan(order))
+    assert large.best_place(sequence, 99) == numpy_place(large.times, sequence, 99)
+    report("`best_place`, 99 jobs on 20 machines", 200, lambda: large.best_place(sequence, 99))
+    report("the same with NumPy, all places at once", 3, lambda: numpy_place(large.times, sequence, 99))
     with tempfile.TemporaryDirectory() as folder:
-        makespans(program, pathlib.Path(folder))
-        places()
-        searches(program, pathlib.Path(folder))
+        huge.write(pathlib.Path(folder) / "shop")
+        words = [program, "solve", "--layout", "taillard", "--rounds", "2000", f"{folder}/shop"]
+        report_search("`pfs solve`, 2,000 rounds, 500 jobs on 20 machines", resource.RUSAGE_CHILDREN,
+                      lambda: subprocess.run(words, capture_output=True, check=True))
+    report_search("`solve` for the same", resource.RUSAGE_SELF, lambda: huge.solve(2000))
 
 
 if __name__ == "__main__":

@@ -173,7 +173,6 @@ def test_dates_increase_and_lead_back_to_the_times(drawn: Drawn, times: list[int
 
 @pytest.mark.parametrize(("words", "kind", "why"), [
     ({"begin": "2026-11-30"}, ValueError, "'2026-11-30' is not a local date and time such as 2026-11-30T06:00"),
-    ({"begin": "30.11.2026 06:00"}, ValueError, "is not a local date and time"),
     ({"begin": "2026-11-31T06:00"}, ValueError, "is not a local date and time"),
     ({"begin": "2026-11-30T24:00"}, ValueError, "is not a local date and time"),
     ({"begin": "2026-11-30T06:00+01:00"}, ValueError, "is not a local date and time"),
@@ -188,7 +187,6 @@ def test_dates_increase_and_lead_back_to_the_times(drawn: Drawn, times: list[int
     ({"shifts": "06:00-06:00"}, ValueError, "'06:00-06:00' has no length: a whole day is 00:00-24:00"),
     ({"shifts": "24:00-06:00"}, ValueError, "'24:00-06:00' starts at 24:00: write 00:00"),
     ({"shifts": "06:00-14:00,13:00-20:00"}, ValueError, "shifts overlap on Mon 2026-11-30 at 13:00"),
-    ({"shifts": ["06:00-14:00", "06:00-14:00"]}, ValueError, "shifts overlap on Mon 2026-11-30 at 06:00"),
     ({"shifts": ["22:00-06:00", "05:00-13:00"]}, ValueError, "shifts overlap on Tue 2026-12-01 at 05:00"),
     ({"shifts": ["00:00-24:00", "05:00-13:00"]}, ValueError, "shifts overlap on Mon 2026-11-30 at 06:00"),
     ({"shifts": ["sun:22:00-06:00", "mon:05:00-13:00"]}, ValueError, "shifts overlap on Mon 2026-12-07 at 05:00"),

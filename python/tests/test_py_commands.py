@@ -1,10 +1,8 @@
 """`python3 -m pfs search` and `python3 -m pfs plan`."""
-import contextlib
 import csv
 import datetime
 import fcntl
 import hashlib
-import io
 import itertools
 import json
 import os
@@ -28,7 +26,7 @@ import pytest
 from pfs import _commands, _library, _search, _state
 from plainly import environment
 from support.terminals import Terminal
-from support.tools import wait_until
+from support.tools import run_main, wait_until
 
 # A search that would take minutes.
 LONG = ["search", "shop", "--layout", "taillard"]
@@ -51,15 +49,10 @@ def start(words: list[str], folder: pathlib.Path, env: dict[str, str] | None = N
                             stdin=subprocess.DEVNULL, stdout=subprocess.PIPE, stderr=stderr)
 
 
-def ended(words: list[str], folder: pathlib.Path) -> tuple[int | str | None, str, str]:
-    """The status, the output and the errors of a command in this process, which is faster than a new one."""
-    out, got = io.StringIO(), io.StringIO()
-    with contextlib.chdir(folder), contextlib.redirect_stdout(out), contextlib.redirect_stderr(got):
-        try:
-            status: int | str | None = _commands.main(words)
-        except SystemExit as end:
-            status = end.code
-    return status, out.getvalue(), without_summary(got.getvalue())
+def ended(words: list[str], folder: pathlib.Path) -> tuple[int, str, str]:
+    """The status, the output and the errors of a command."""
+    done = run_main(lambda: _commands.main(words), ["pfs"], folder)
+    return done.status, done.stdout, without_summary(done.stderr)
 
 
 def run(words: list[str], folder: pathlib.Path, status: int = 0, error: str = "") -> str:
@@ -117,7 +110,10 @@ def test_search_from_an_order_of_ones_own(folder: pathlib.Path, program: str) ->
 
 @pytest.mark.parametrize("number", [signal.SIGINT, signal.SIGTERM])
 def test_a_signal_ends_it_with_the_best_order(folder: pathlib.Path, program: str, number: signal.Signals) -> None:
-    child = start([*LONG, "--state", "state"], folder)
+    """Also one that is ignored at first, as in the background of a shell."""
+    words = ["sh", "-c", 'trap "" INT TERM; exec "$@"', "sh", sys.executable, "-m", "pfs", *LONG, "--state", "state"]
+    child = subprocess.Popen(words, cwd=folder, env=environment(), stdin=subprocess.DEVNULL, stdout=subprocess.PIPE,
+                             stderr=subprocess.PIPE)
     wait_until(lambda: rounds_in(folder) > 20, "rounds are made")
     child.send_signal(number)
     printed, got = child.communicate(timeout=30)
@@ -146,16 +142,6 @@ def test_the_status_is_that_of_the_first_signal(numbers: tuple[signal.Signals, .
         assert stop.status() == 128 + numbers[0], "the status isn't that of the first signal"
     assert signal.getsignal(signal.SIGINT) is signal.default_int_handler
     assert signal.getsignal(signal.SIGTERM) == signal.SIG_DFL
-
-
-def test_a_search_that_ignores_signals_at_first_is_ended_by_them(folder: pathlib.Path) -> None:
-    """As one in the background of a shell."""
-    words = [sys.executable, "-m", "pfs", *LONG, "--state", "state"]
-    child = subprocess.Popen(["sh", "-c", 'trap "" INT; exec "$@"', "sh", *words], cwd=folder, env=environment(),
-                             stdin=subprocess.DEVNULL, stdout=subprocess.PIPE, stderr=subprocess.PIPE)
-    wait_until(lambda: rounds_in(folder) > 0, "rounds are made")
-    child.send_signal(signal.SIGINT)
-    assert child.communicate(timeout=60)[1] == b"" and child.returncode == 128 + signal.SIGINT
 
 
 @pytest.mark.seconds(10)
@@ -304,32 +290,13 @@ def test_a_lock_whose_file_another_search_removes_is_taken_again(folder: pathlib
     os.close(got)
 
 
-@pytest.mark.parametrize("name", ["state.new", "state.lock"])
-def test_links_in_the_place_of_other_files_are_not_followed(folder: pathlib.Path, name: str) -> None:
+def test_a_link_in_the_place_of_the_lock_is_not_followed(folder: pathlib.Path) -> None:
     (folder / "precious").write_text("kept")
-    (folder / name).symlink_to("precious")
-    child = start([*LONG, "--rounds", "3", "--state", "state"], folder)
-    printed, got = child.communicate(timeout=60)
-    assert (folder / "precious").read_text() == "kept", f"{name} was written through a link"
-    if name == "state.new":
-        assert (child.returncode, got, rounds_in(folder)) == (0, b"", 3)
-    else:
-        assert child.returncode == 4 and got.startswith(b"pfs: state: Too many levels of symbolic links")
-        assert printed.decode() == shop_in(folder).neh().to_text()
-
-
-def test_a_state_stays_where_a_link_leads(folder: pathlib.Path) -> None:
-    (folder / "folder").mkdir()
-    (folder / "state").symlink_to("folder/kept")
-    run([*LONG, "--rounds", "3", "--state", "state"], folder)
-    os.chmod(folder / "folder" / "kept", 0o640)
-    run([*LONG, "--rounds", "4", "--state", "state"], folder)
-    assert (folder / "state").is_symlink() and rounds_in(folder) == 4
-    assert (folder / "folder" / "kept").stat().st_mode & 0o777 == 0o640, "the permissions have changed"
-    assert [path.name for path in (folder / "folder").iterdir()] == ["kept"]
-    (folder / "state.new").mkdir()
-    run([*LONG, "--rounds", "5", "--state", "state"], folder)
-    assert rounds_in(folder) == 5, "the new state is written beside the link, perhaps on another disk"
+    (folder / "state.lock").symlink_to("precious")
+    status, printed, got = ended([*LONG, "--rounds", "3", "--state", "state"], folder)
+    assert (folder / "precious").read_text() == "kept", "written through a link"
+    assert status == 4 and got.startswith("pfs: state: Too many levels of symbolic links")
+    assert printed == shop_in(folder).neh().to_text()
 
 
 def test_a_state_is_on_the_disk_before_it_replaces_the_old_one(folder: pathlib.Path) -> None:
@@ -536,6 +503,8 @@ def test_a_plan(folder: pathlib.Path) -> None:
     assert f"makespan {best / 10}, {drawn}" in (folder / "out.svg").read_text()
     assert f"makespan {best / 10} h, {drawn}" in (folder / "out.html").read_text()
     assert run(["plan", "times.csv", "--unit", "Stunden", "--rounds", "0"], folder).startswith("makespan ")
+    run(["plan", "times.csv", "--chart", "out.html", "--title", "Week 48"], folder)
+    assert "<title>Week 48</title>" in (folder / "out.html").read_text()
 
 
 def test_an_order_that_was_changed_by_hand(folder: pathlib.Path) -> None:
@@ -866,3 +835,94 @@ def test_a_plan_that_is_interrupted(folder: pathlib.Path) -> None:
     assert sorted(order) == list(range(60))
     assert printed.decode().startswith(f"makespan {pfs.generate(60, 10, 4).makespan(order)}\n")
     assert len((folder / "out.csv").read_text().splitlines()) == 601
+
+
+# The console program pfs-plan
+
+# As the wheel's and the package's scripts call it.
+CALL = "import sys; sys.argv[0] = 'pfs-plan'; from pfs._commands import plan_program; sys.exit(plan_program())"
+CHAIRS = "job [min],saw,drill\nchair,3,2\ntable,2,5\n"
+TOP = pathlib.Path(__file__).resolve().parents[2]
+VERSION = (TOP / "VERSION").read_text().strip()
+
+
+def pfs_plan(folder: pathlib.Path, *words: str) -> subprocess.CompletedProcess[str]:
+    (folder / "times.csv").write_text(CHAIRS)
+    return plainly.python("-c", CALL, *words, cwd=folder, COLUMNS="200")
+
+
+def test_the_manual_page_has_the_programs_options(folder: pathlib.Path) -> None:
+    usage = pfs_plan(folder, "--help").stdout.partition("\n\n")[0]
+    assert usage.startswith("usage: pfs-plan ")
+    due = dict(re.findall(r"\[--([\w-]+)(?: ([A-Za-z.-]+|\{point,comma\}))?\]", usage))
+    assert len(due) > 10 and due["version"] == ""
+    page = (TOP / "python" / "pfs-plan.1").read_text()
+    assert dict(re.findall(r"^\.It Fl -([\w-]+)(?: Ar (\S+))?$", page, re.MULTILINE)) == due | {"decimal": "SIGN"}
+
+
+@pytest.mark.parametrize("words", [["-m", "pfs", "plan"], ["-c", CALL]], ids=["python3 -m pfs plan", "pfs-plan"])
+def test_no_module_is_imported_from_the_current_folder(words: list[str], tmp_path: pathlib.Path) -> None:
+    """`python3 -m pfs` takes the package itself from there, if it is there; pfs-plan doesn't."""
+    for name in ("csv", "numpy", "argparse", *(["pfs"] if "-m" not in words else [])):
+        (tmp_path / f"{name}.py").write_text("raise SystemExit('another module')\n")
+    (tmp_path / "times.csv").write_text(CHAIRS)
+    own = [] if "-m" in words else ["-P"]
+    done = plainly.python(*own, *words, "times.csv", cwd=tmp_path)
+    assert (done.returncode, done.stdout.splitlines()[:1]) == (0, ["makespan 9 min"]), done.stderr
+
+
+@pytest.mark.parametrize(("words", "status", "out", "got"), [
+    (["times.csv"], 0, "makespan 9 min\nbound 9 min\noptimal\n1 table\n2 chair\n",
+     "2 jobs, 2 machines (saw, drill), times in min\n"),
+    (["--nothing", "times.csv"], 3, "",
+     "pfs: unrecognized arguments: --nothing (pfs-plan --help lists what there is)\n"),
+    (["--version"], 0, f"pfs {VERSION}\n", ""), (["times.csv", "--version"], 0, f"pfs {VERSION}\n", "")])
+def test_what_the_program_prints(folder: pathlib.Path, words: list[str], status: int, out: str, got: str) -> None:
+    done = pfs_plan(folder, *words)
+    assert (done.returncode, done.stdout, done.stderr) == (status, out, got)
+
+
+@pytest.mark.parametrize("words", [["-m", "pfs", "plan", "times.csv", "--chart", "made.png"],
+                                   ["-m", "pfs._gantt", "table", "made.png"]])
+def test_settings_of_matplotlib_in_the_current_folder_change_no_picture(tmp_path: pathlib.Path,
+                                                                        words: list[str]) -> None:
+    pytest.importorskip("matplotlib")
+    (tmp_path / "times.csv").write_text(CHAIRS)
+    (tmp_path / "table").write_text("table 1 1\n1 0 5\nmakespan 5\n")
+    made = set()
+    for text in ("", "figure.facecolor: red\n"):
+        (tmp_path / "matplotlibrc").write_text(text)
+        assert plainly.python(*words, cwd=tmp_path).returncode == 0
+        made.add((tmp_path / "made.png").read_bytes())
+    assert len(made) == 1
+
+
+# A table that is rejected, options, and what is said of it: with options, where the package for Python has arguments.
+MESSAGES = [
+    ("job;saw\na;1.000\n", [], "cell B2, column 'saw': '1.000' may be 1000, or have decimals: leave out thousands "
+     "separators, or say which decimal sign the table has (--decimal point or --decimal comma)"),
+    ("job [min];saw\na;1\n", ["--unit", "h"], "cell A1: the times are in min, and --unit is h: use one unit"),
+    ("job [min];saw\na;1:30\n", [], "cell A1: times such as 1:30 may be hours and minutes, or minutes and "
+     "seconds: write [h:mm] instead of min, or numbers"),
+    ("job;saw;eta\na;1;soon\n", [], "cell C2, column 'eta': 'soon' isn't a time: leave the column out if it is no "
+     "machine, or say which columns are machines (--machines)"),
+    ("job;saw;drill;all\na;1;2;3\nb;3;4;7\n", [], "cell D1: the column 'all' has the sums of the columns "
+     "before: leave it out, or allow totals (--allow-totals)"),
+]
+
+
+@pytest.mark.parametrize(("table", "words", "error"), MESSAGES)
+def test_messages_name_options(folder: pathlib.Path, table: str, words: list[str], error: str) -> None:
+    (folder / "times.csv").write_text(table)
+    assert run(["plan", "times.csv", *words], folder, 2, f"pfs: times.csv: {error}\n") == ""
+
+
+def test_what_the_messages_propose_is_taken(folder: pathlib.Path) -> None:
+    proposed: dict[str, list[str]] = {
+        "job;saw\na;1.000\n": ["--decimal", "comma"], "job [min];saw\na;1\n": ["--unit", "minutes"],
+        "job;saw;drill\na;1;2\nb;3;4\nc;4;6\n": ["--allow-totals"], "job [h:mm];saw\na;1:30\n": [],
+        "job;1;2\nb;20;5\n": [], "job;saw;eta\na;1;soon\n": ["--machines", "saw"],
+    }
+    for table, words in proposed.items():
+        (folder / "times.csv").write_text(table)
+        run(["plan", "times.csv", "--rounds", "0", *words], folder)

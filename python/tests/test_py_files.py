@@ -1,10 +1,15 @@
 """Files: instances, order files and Taillard's benchmark, against the program and byte for byte."""
+import contextlib
 import io
 import os
 import pathlib
+import resource
+import secrets
+import signal
+import stat
 import tempfile
 import time
-from collections.abc import Callable
+from collections.abc import Callable, Iterator
 from typing import Any
 
 import pfs
@@ -12,6 +17,7 @@ import plainly
 import pytest
 from hypothesis import given
 from hypothesis import strategies as st
+from pfs import _search, _state
 from plainly import written
 
 TITLE = "number of jobs, number of machines, initial seed, upper bound and lower bound :\n"
@@ -373,3 +379,162 @@ def test_taillards_instances_are_the_programs(program: str, number: int) -> None
     shop = pfs.taillard(number)
     shop.lower = shop.upper = 0
     assert shop.to_text() == plainly.run([program, "generate", str(shop.jobs), str(shop.machines), str(shop.seed)])
+
+
+# The layout "matrix": the sizes on one line, and then a line of times for each job
+
+SMALL = pfs.Instance([[3, 2], [2, 5], [4, 1]])
+
+
+def matrix_of(text: str) -> pfs.Instance:
+    return pfs.read(io.BytesIO(text.encode("latin-1")), "matrix")
+
+
+@given(plainly.shops())
+def test_a_matrix_is_read_as_it_is(times: plainly.Table) -> None:
+    lines = [f"{len(times)} {len(times[0])}", *(" ".join(map(str, row)) for row in times)]
+    assert matrix_of("\n".join(lines)) == pfs.Instance(times)
+
+
+@pytest.mark.parametrize("text", ["3 2\n3 2\n2 5\n4 1\n", "3 2\r\n3 2\r\n2 5\r\n4 1\r\n", "3 2\n3 2\n2 5\n4 1",
+                                  "\n\n  3\t2 \n\n003 2\n2   5\n\n4 1 \n\n"])
+def test_blanks_and_empty_lines_are_free(text: str) -> None:
+    assert matrix_of(text) == SMALL
+
+
+def test_the_name_is_that_of_the_file(tmp_path: pathlib.Path) -> None:
+    (tmp_path / "mine.txt").write_text("1 1\n7\n")
+    assert pfs.read(tmp_path / "mine.txt", layout="matrix") == pfs.Instance([[7]], name="mine.txt")
+
+
+@pytest.mark.parametrize(("text", "line", "column", "why"), [
+    ("", 1, 0, "0 numbers on the size line"),
+    ("\n3 2 0\n3 2\n2 5\n4 1\n", 2, 0, "3 numbers on the size line"),
+    ("0 2\n", 1, 1, "'0' is not a whole number from 1 to 5,000"),
+    ("3 201\n", 1, 2, "'201' is not a whole number from 1 to 200"),
+    ("3 x\n", 1, 2, "'x' is not a whole number from 1 to 200"),
+    ("3 2\n3 2\n2 5\n", 3, 0, "2 lines of times for 3 jobs"),
+    ("3 2\n", 1, 0, "0 lines of times for 3 jobs"),
+    ("3 2\n3 2\n2 5\n4 1\n7 7\n7 7\n", 5, 0, "more than 3 lines of times for 3 jobs"),
+    ("3 2\n3 2\n2\n4 1\n", 3, 0, "1 times for 2 machines"),
+    ("3 2\n3 2\n2 5 1\n4 1\n", 3, 0, "3 times for 2 machines"),
+    ("3 2\n3 2 4\n2 5 1\n", 2, 0, "3 times for 2 machines: the layout has a line for each job, not for each machine"),
+    ("3 2\n3 2\n2 -5\n4 1\n", 3, 2, "'-5' is not a whole number from 0 to 1,000,000,000"),
+    ("3 2\n3 2\n2 5\n4.5 1\n", 4, 1, "'4.5' is not a whole number"),
+    ("3 2\n3 2\n2 5\n4 1000000001\n", 4, 2, "'1000000001' is not a whole number"),
+    ("3 2\n3 2\n2 5\n4 \xb2\n", 4, 2, "'\xb2' is not a whole number"),
+    ("1 1\n" + "9" * 5000 + "\n", 2, 1, f"'{'9' * 20}' is not a whole number"),
+])
+def test_a_fault_has_its_line_and_column(text: str, line: int, column: int, why: str) -> None:
+    with pytest.raises(pfs.TableFault) as fault:
+        matrix_of(text)
+    assert (fault.value.line, fault.value.column) == (line, column) and fault.value.text.startswith(why)
+
+
+def test_there_is_one_block_and_a_limit_of_bytes(monkeypatch: pytest.MonkeyPatch) -> None:
+    with pytest.raises(ValueError, match="block must be from 1 to 1, not 2"):
+        pfs.read(io.BytesIO(b"1 1\n7\n"), "matrix", 2)
+    with pytest.raises(ValueError, match="layout must be 'taillard' or 'orlib', not 'matrix'"):
+        pfs.read_all(io.BytesIO(b"1 1\n7\n"), "matrix")
+    with pytest.raises(ValueError, match="layout must be 'taillard', 'orlib' or 'matrix', not 'matrices'"):
+        pfs.read(io.BytesIO(b"1 1\n7\n"), "matrices")
+    monkeypatch.setattr("pfs._library.LONGEST_INPUT", 8)
+    assert matrix_of("1 1\n700\n") == pfs.Instance([[700]])
+    with pytest.raises(pfs.TableFault, match="the file has more than 8 bytes"):
+        matrix_of("1 1\n7000\n")
+
+
+# Each file that the package writes is whole, the old one or the new one, and never written through a planted link
+
+SHOP = pfs.Instance([[30, 25], [20, 50], [40, 10]], job_names=["table", "chair", "shelf"], machine_names=["a", "b"])
+MADE = SHOP.schedule([1, 0, 2])
+WRITERS: dict[str, Callable[[pathlib.Path], object]] = {
+    "an instance": lambda path: SHOP.write(path),
+    "an order": lambda path: SHOP.solve(3).write(path),
+    "a schedule": lambda path: MADE.to_csv(path),
+    "a picture": lambda path: MADE.plot(path.with_suffix(".svg")),
+    "a page": lambda path: MADE.plot(path.with_suffix(".html")),
+    "a state": lambda path: _state.State(str(path), SHOP, _search.Search(SHOP, None, 0, None, 0, 0)).write(SHOP.neh()),
+}
+PATHS = {"a picture": "file.svg", "a page": "file.html"}
+
+
+@contextlib.contextmanager
+def files_of_at_most(size: int) -> Iterator[None]:
+    """No file gets longer meanwhile: a write ends in an error then, as on a full disk."""
+    soft, hard = resource.getrlimit(resource.RLIMIT_FSIZE)
+    resource.setrlimit(resource.RLIMIT_FSIZE, (size, hard))
+    try:
+        yield
+    finally:
+        resource.setrlimit(resource.RLIMIT_FSIZE, (soft, hard))
+
+
+def path_for(kind: str, folder: pathlib.Path) -> pathlib.Path:
+    return folder / PATHS.get(kind, "file")
+
+
+@pytest.mark.parametrize("kind", WRITERS)
+def test_a_full_disk_and_ctrl_c_leave_the_old_file(tmp_path: pathlib.Path, kind: str,
+                                                   monkeypatch: pytest.MonkeyPatch) -> None:
+    path = path_for(kind, tmp_path)
+    path.write_text("the old one")
+    with files_of_at_most(16), pytest.raises(OSError, match="File too large") as fault:
+        WRITERS[kind](path)
+    assert fault.value.filename == str(path)
+    with monkeypatch.context() as patch, pytest.raises(KeyboardInterrupt):
+        patch.setattr(os, "fsync", lambda _: signal.raise_signal(signal.SIGINT))
+        WRITERS[kind](path)
+    assert path.read_text() == "the old one", f"{kind} was written in place"
+    assert os.listdir(tmp_path) == [path.name], "half a file is left"
+    WRITERS[kind](path)
+    assert path.read_text() != "the old one" and os.listdir(tmp_path) == [path.name]
+
+
+@pytest.mark.parametrize("kind", WRITERS)
+def test_a_link_to_a_file_stays_and_no_other_one_is_followed(tmp_path: pathlib.Path, kind: str,
+                                                             monkeypatch: pytest.MonkeyPatch) -> None:
+    path = path_for(kind, tmp_path)
+    (tmp_path / "folder").mkdir()
+    target = tmp_path / "folder" / "target"
+    path.symlink_to("folder/target")
+    monkeypatch.setattr(secrets, "token_hex", lambda _: "0123")
+    new = ".new" if kind == "a state" else ".0123.new"
+    path.with_name(path.name + new).mkdir()  # beside the link, perhaps on another disk, nothing is written
+    WRITERS[kind](path)
+    target.write_text("the old one")
+    target.chmod(0o600)
+    WRITERS[kind](path)
+    assert path.is_symlink() and target.read_text() != "the old one"
+    assert stat.S_IMODE(target.stat().st_mode) == 0o600, "the permissions have changed"
+    path = path_for(kind, tmp_path / "folder")
+    precious = path.with_name("precious")
+    precious.write_text("kept")
+    path.with_name(path.name + new).symlink_to(precious)
+    WRITERS[kind](path)
+    assert precious.read_text() == "kept", f"{kind} was written through a link"
+    assert not path.is_symlink() and {*os.listdir(path.parent)} == {path.name, "precious", "target"}
+
+
+@pytest.mark.parametrize("mask", [0o022, 0o077])
+def test_a_new_file_has_the_permissions_of_the_mask(tmp_path: pathlib.Path, mask: int) -> None:
+    before = os.umask(mask)
+    try:
+        SHOP.write(tmp_path / "shop")
+    finally:
+        os.umask(before)
+    assert stat.S_IMODE((tmp_path / "shop").stat().st_mode) == 0o666 & ~mask
+
+
+def test_a_pipe_is_written_to_and_names_that_no_file_holds_are_not(tmp_path: pathlib.Path) -> None:
+    os.mkfifo(tmp_path / "pipe")
+    reader = os.open(tmp_path / "pipe", os.O_RDONLY | os.O_NONBLOCK)
+    SHOP.write(tmp_path / "pipe")
+    assert os.read(reader, 4096).decode() == SHOP.to_text()
+    os.close(reader)
+    assert os.listdir(tmp_path) == ["pipe"]
+    (tmp_path / "out.csv").write_text("the old one")
+    shop = pfs.Instance([[1]], job_names=["\udce4"])
+    with pytest.raises(UnicodeEncodeError):
+        shop.schedule([0]).to_csv(tmp_path / "out.csv")
+    assert (tmp_path / "out.csv").read_text() == "the old one"

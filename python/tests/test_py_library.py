@@ -1,9 +1,22 @@
-"""Which library is loaded, and the error for one that can't be used."""
+"""Which library is loaded, and the error for one that can't be used. An instance is prepared by the library once, on
+its first call, and released with the object. Copies, pickled ones, forked processes and calls at the same time in
+several threads prepare their own."""
+import copy
+import gc
+import os
 import pathlib
+import pickle
 import re
 import shutil
 import subprocess
+import threading
+import time
+import timeit
+from collections.abc import Callable
+from concurrent.futures import ThreadPoolExecutor
+from typing import Any
 
+import numpy as np
 import pfs
 import plainly
 import pytest
@@ -47,23 +60,16 @@ def test_a_library_of_another_version_is_rejected(tmp_path: pathlib.Path, versio
         (f"{library} {pfs.__version__}\n", []) if fits else ("", [got])), f"a library of version {version}"
 
 
-@pytest.mark.parametrize("name", _library.PROTOTYPES)
-def test_a_library_without_a_function_is_rejected(tmp_path: pathlib.Path, name: str) -> None:
+@pytest.mark.parametrize("what", [*_library.PROTOTYPES, None, b"", b"no library"])
+def test_a_library_without_a_function_and_a_file_that_is_none_are_rejected(tmp_path: pathlib.Path,
+                                                                           what: str | bytes | None) -> None:
     """When it is loaded, and not when the function is called."""
-    library = library_of(pfs.__version__, tmp_path, without=name)
+    library = library_of(pfs.__version__, tmp_path, what) if isinstance(what, str) else tmp_path / "libpfs.so.1"
+    if isinstance(what, bytes):
+        library.write_bytes(what)
     got = loaded(library, tmp_path).stderr.splitlines()[-1]
     assert got.startswith(f"ImportError: pfs can't load its library {library} (")
-    assert f"undefined symbol: {name}" in got
-    assert got.endswith("): set PFS_LIBRARY to the path of libpfs.so.1")
-
-
-@pytest.mark.parametrize("content", [None, b"", b"no library"])
-def test_a_file_that_is_not_a_library_is_reported(tmp_path: pathlib.Path, content: bytes | None) -> None:
-    library = tmp_path / "libpfs.so.1"
-    if content is not None:
-        library.write_bytes(content)
-    got = loaded(library, tmp_path).stderr.splitlines()[-1]
-    assert got.startswith(f"ImportError: pfs can't load its library {library} (")
+    assert not isinstance(what, str) or f"undefined symbol: {what}" in got
     assert got.endswith("): set PFS_LIBRARY to the path of libpfs.so.1")
 
 
@@ -106,7 +112,152 @@ def test_the_numbers_limits_and_functions_are_those_of_the_header() -> None:
 def test_modules_that_need_no_library_are_imported_without_one(tmp_path: pathlib.Path) -> None:
     """Those that draw a time table, and those of experiments. A name of the package says what is missing."""
     code = ("import pfs, pfs._gantt, pfs.experiments.__main__\n"
-            "from pfs.experiments import plan, run, slurm\nprint(pfs.__version__)\npfs.Instance\n")
+            "from pfs.experiments import plan, run\nprint(pfs.__version__)\npfs.Instance\n")
     done = plainly.python("-c", code, cwd=tmp_path, PFS_LIBRARY="/none")
     assert done.stdout == f"{pfs.__version__}\n", done.stderr
     assert done.stderr.splitlines()[-1].startswith("ImportError: pfs can't load its library /none")
+
+
+# Instances that the library has prepared
+
+@pytest.fixture
+def counted(monkeypatch: pytest.MonkeyPatch) -> dict[str, int]:
+    """The number of calls of these functions. Instances of earlier tests are released before."""
+    gc.collect()
+    counts = {"pfs_prepare": 0, "pfs_release": 0}
+
+    def counting(name: str, real: Callable[..., Any]) -> Callable[..., Any]:
+        def call(*given: Any) -> Any:
+            counts[name] += 1
+            return real(*given)
+        return call
+
+    for name in counts:
+        monkeypatch.setattr(_library.library, name, counting(name, getattr(_library.library, name)))
+    return counts
+
+
+def test_an_instance_is_prepared_once_and_released_with_it(counted: dict[str, int]) -> None:
+    shop = pfs.generate(12, 4, 1)
+    assert counted == {"pfs_prepare": 0, "pfs_release": 0}, "before the first call"
+    order = shop.neh()
+    shop.makespan(order), shop.best_place(range(11), 11), shop.bound(), shop.schedule(order), shop.to_text()
+    shop.places([0, 1], 2), shop.makespans([[0, 1]]), shop.insert_all([0], [1]), shop.local_search([1, 0])
+    shop.solve(50)
+    assert counted == {"pfs_prepare": 1, "pfs_release": 0}
+    del shop
+    gc.collect()
+    assert counted == {"pfs_prepare": 1, "pfs_release": 1}
+
+
+@pytest.mark.parametrize("again", [copy.copy, copy.deepcopy, lambda shop: pickle.loads(pickle.dumps(shop))])
+def test_a_copy_prepares_its_own(counted: dict[str, int], again: Callable[[pfs.Instance], pfs.Instance]) -> None:
+    shop = pfs.generate(12, 4, 1)
+    due = shop.makespan(range(12))
+    other = again(shop)
+    assert counted["pfs_prepare"] == 1
+    del shop
+    gc.collect()
+    assert other.makespan(range(12)) == due and counted == {"pfs_prepare": 2, "pfs_release": 1}
+
+
+def test_threads_share_no_result() -> None:
+    """Each has orders of its own for one instance, also in its first call."""
+    shop, other = pfs.generate(30, 5, 1), pfs.generate(30, 5, 1)
+    orders = [[*range(at, 30), *range(at)] for at in range(8)]
+    due = [(other.makespan(order), other.best_place(order[1:], order[0]), other.solve(20, start=order))
+           for order in orders]
+
+    def many(at: int) -> bool:
+        order, (makespan, place, found) = orders[at], due[at]
+        return all(shop.makespan(order) == makespan and shop.best_place(order[1:], order[0]) == place
+                   and (turn % 50 or shop.solve(20, start=order) == found) for turn in range(400))
+
+    with ThreadPoolExecutor(8) as threads:
+        assert all(threads.map(many, range(8)))
+
+
+def test_threads_on_one_instance_do_not_wait_for_each_other(counted: dict[str, int],
+                                                            monkeypatch: pytest.MonkeyPatch) -> None:
+    """A call returns while another one is made, for which it prepares the instance once more."""
+    shop, begun, ended = pfs.generate(12, 4, 1), threading.Event(), threading.Event()
+    due, real = shop.makespan(range(12)), _library.library.pfs_rounds
+
+    def waiting(*given: Any) -> int:
+        begun.set()
+        assert ended.wait(30)
+        return int(real(*given))
+
+    monkeypatch.setattr(_library.library, "pfs_rounds", waiting)
+    with ThreadPoolExecutor(1) as threads:
+        found = threads.submit(shop.solve, 1)
+        assert begun.wait(30)
+        assert [shop.makespan(range(12)) for _ in range(3)] == [due] * 3 and counted["pfs_prepare"] == 2
+        ended.set()
+        assert found.result().rounds == 1
+    assert shop.makespan(range(12)) == due and counted["pfs_prepare"] == 2
+
+
+@pytest.mark.skipif(not hasattr(os, "fork"), reason="needs fork")
+@pytest.mark.filterwarnings("ignore:This process.*multi-threaded:DeprecationWarning")
+def test_a_forked_process_prepares_its_own_instance() -> None:
+    """Also while another thread makes a call."""
+    shop, stop = pfs.generate(200, 20, 1), threading.Event()
+    due = shop.makespan(range(200))
+    search = threading.Thread(target=lambda: shop.solve(100_000, stop=stop))
+    search.start()
+    time.sleep(0.3)
+    assert shop.makespan(range(200)) == due
+    kept = list(shop._prepared)
+    child = os.fork()
+    if child == 0:
+        is_right = shop.makespan(range(200)) == due and shop.solve(1).rounds == 1
+        os._exit(0 if is_right and not any(one is other for one in kept for other in shop._prepared) else 1)
+    deadline = time.monotonic() + 30
+    while (ended := os.waitpid(child, os.WNOHANG))[0] == 0 and time.monotonic() < deadline:
+        time.sleep(0.01)
+    stop.set()
+    search.join()
+    assert ended == (child, 0), "the child waits, or has another result"
+
+
+def test_nothing_is_printed_when_python_ends_with_an_instance(tmp_path: pathlib.Path) -> None:
+    """Also where the names of the module are gone before."""
+    script = "import pfs; shop = pfs.taillard(1); pfs.kept = [shop, shop.solve(1)]; print(shop.bound()); " \
+             "pfs._library.Prepared = pfs._library.library = None"
+    done = plainly.python("-c", script, cwd=tmp_path)
+    assert (done.stdout, done.stderr, done.returncode) == ("1232\n", "", 0)
+
+
+# A call from Python costs little more than what it computes
+
+def microseconds(call: Callable[[], object]) -> float:
+    """The best of many short runs, since other programs run too."""
+    return min(timeit.repeat(call, number=50, repeat=100)) / 50 * 1e6
+
+
+@pytest.mark.parametrize("kind", ["list", "int64", "uint32"])
+def test_a_call_for_20_jobs_on_5_machines(kind: str) -> None:
+    """3 microseconds on a machine that does nothing else."""
+    shop = pfs.taillard(1)
+    order = shop.neh().order
+    given = order.tolist() if kind == "list" else np.array(order, dtype=kind)
+    others, job = given[1:], int(order[0])
+    calls: dict[str, Callable[[], object]] = {
+        "makespan": lambda: shop.makespan(given), "best_place": lambda: shop.best_place(others, job)}
+    for name, call in calls.items():
+        assert (took := microseconds(call)) < 8, f"{name}: {took:.1f} microseconds"
+
+
+def test_many_orders_and_places_cost_little_more_than_the_library() -> None:
+    """Of 1,000 orders most of the time is the library's; all places take little longer than the best one."""
+    shop, orders = pfs.taillard(1), np.array([np.roll(range(20), at) for at in range(1000)], dtype=np.uint32)
+    spans, others = np.empty(1000, dtype=np.int64), orders[0][1:]
+    words = orders.ctypes.data, orders.size, 20, spans.ctypes.data, spans.size
+    calls: list[tuple[float, int, Callable[[], object], Callable[[], object]]] = [
+        (1.25, 1, lambda: shop.makespans(orders), lambda: shop._call("pfs_makespans", *words)),
+        (1.5, 50, lambda: shop.places(others, 0), lambda: shop.best_place(others, 0))]
+    for most, number, *both in calls:
+        # The least of ten ratios, since other programs run too.
+        turns = ([min(timeit.repeat(call, number=number, repeat=50)) for call in both] for _ in range(10))
+        assert (ratio := min(took / base for took, base in turns)) < most, f"{ratio:.2f} times as long"

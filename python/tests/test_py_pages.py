@@ -23,7 +23,7 @@ MODULES = sorted(module.name for module in pkgutil.iter_modules(pfs.__path__) if
 
 @pytest.mark.parametrize("name", ["pfs", *(f"pfs.{module}" for module in MODULES)])
 def test_docstrings(name: str) -> None:
-    assert doctest.testmod(importlib.import_module(name)).failed == 0
+    assert doctest.testmod(importlib.import_module(name), extraglobs={"pfs": pfs}).failed == 0
 
 
 def public() -> dict[str, object]:
@@ -41,14 +41,14 @@ def public() -> dict[str, object]:
 
 @pytest.mark.parametrize("name", public())
 def test_each_public_name_is_described(name: str) -> None:
-    """Each parameter on a separate line, where there is more than one of them, and each attribute."""
+    """Each parameter on a separate line, unless there is one and a paragraph, and each attribute."""
     thing = public()[name]
     text = inspect.getdoc(thing) or ""
     assert re.match(r"[A-Z][^\n]+", text), f"{name} has no docstring"
     parameters = [each for each in inspect.signature(thing).parameters if each != "self"]  # type: ignore[arg-type]
     described = {each for line in re.findall(r"^([\w, ]+) : ", text, re.MULTILINE) for each in line.split(", ")}
     if inspect.isfunction(thing):
-        assert len(parameters) + ("\n" in text) < 2 or set(parameters) <= described, f"parameters of {name}"
+        assert len(parameters) + ("\n\n" in text) < 2 or set(parameters) <= described, f"parameters of {name}"
     kept = [each for each in getattr(thing, "__slots__", ()) if not each.startswith("_")]
     assert set(kept) <= described, f"attributes of {name}"
 

@@ -93,9 +93,8 @@ def test_any_cutting_ends_where_one_part_does(cut: Callable[[list[int]], None], 
     spans = [span for _, span in got]
     assert spans == sorted(spans, reverse=True) and (not got or spans[-1] == whole.makespan)
     # In several calls.
-    stop = chance.randint(0, rounds)
-    half = shop.solve(stop, take=take, passes=passes, seed=seed)
-    rest = shop.solve(rounds - stop, take=take, passes=passes, seed=seed, start=half.order, first=half.rounds)
+    half = shop.solve(chance.randint(0, rounds), take=take, passes=passes, seed=seed)
+    rest = shop.solve(rounds - half.rounds, take=take, passes=passes, seed=seed, start=half.order, first=half.rounds)
     assert rest.to_text() == whole.to_text() and rest.rounds == rounds
     assert half.cells + rest.cells == whole.cells
 
@@ -172,32 +171,26 @@ def test_tqdm() -> None:
 
 @pytest.mark.parametrize("kind", [KeyError, OSError, SystemExit, MemoryError])
 def test_what_progress_raises_has_the_solution(cut: Callable[[list[int]], None], kind: type[BaseException]) -> None:
+    """By a function, or by `close` of a bar."""
     cut([10])
-    shop = pfs.taillard(1)
-    raised = kind("enough")
+    shop, raised = pfs.taillard(1), kind("enough")
 
     def refuse(made: int, makespan: int) -> None:
         if made == 20:
             raise raised
 
-    with pytest.raises(kind, match="enough") as stop:
-        shop.solve(50, progress=refuse)
-    best = getattr(stop.value, "solution", None)
-    assert stop.value is raised and best == shop.solve(20), "the exception of `progress` has no solution"
-    assert shop.solve(30, start=best, first=best.rounds).to_text() == shop.solve(50).to_text()
-
-
-def test_what_a_bar_raises_has_the_solution(cut: Callable[[list[int]], None]) -> None:
-    cut([10])
-    shop = pfs.taillard(1)
-
     class Bar(Closing):
         def close(self) -> None:
-            raise RuntimeError("can't close")
+            raise raised
 
-    with pytest.raises(RuntimeError, match="can't close") as stop:
-        shop.solve(50, progress=Bar)
-    assert getattr(stop.value, "solution", None) == shop.solve(50), "an error of `close` has no solution"
+    cases: list[tuple[Any, int]] = [(refuse, 20), (Bar, 50)]
+    for progress, rounds in cases:
+        with pytest.raises(kind, match="enough") as stop:
+            shop.solve(50, progress=progress)
+        best = getattr(stop.value, "solution", None)
+        assert stop.value is raised and best == shop.solve(rounds), "the exception has no solution"
+        assert shop.solve(50 - rounds, start=best, first=best.rounds).to_text() == shop.solve(50).to_text()
+        del raised.solution  # type: ignore[attr-defined]
 
 
 def test_memory_that_runs_out_loses_nothing(cut: Callable[[list[int]], None],
@@ -428,10 +421,17 @@ def test_a_call_frees_the_lock() -> None:
     ({"target": 1278.0}, TypeError, "target must be an integer, not 1278.0"),
     ({"stop": True}, TypeError, "stop must be an event with `is_set`, such as threading.Event, not True"),
     ({"history": 1}, TypeError, "history must be True or False, not 1"),
+    ({"hold": [1, 1]}, ValueError, "hold: job 1 occurs twice, at places 0 and 1"),
+    ({"hold": [20]}, ValueError, "hold: 20 at place 0 isn't a job: jobs are 0 to 19"),
+    ({"move": [20]}, ValueError, "move: 20 at place 0 isn't a job: jobs are 0 to 19"),
+    ({"hold": ["d"]}, ValueError, "hold: 'd' at place 0 isn't the name of a job"),
+    ({"hold": 1}, ValueError, r"hold must be a list of jobs, not of the shape \(\)"),
+    ({"move": [0.5]}, ValueError, "move: 0.5 at place 0 isn't a whole number"),
 ])
 def test_options_that_are_rejected(words: dict[str, Any], kind: type[Exception], why: str) -> None:
-    with pytest.raises(kind, match=why):
-        pfs.taillard(1).solve(**words)
+    shop = pfs.Instance(pfs.taillard(1).times, job_names=map(str, range(20)))
+    with pytest.raises(kind, match=f"^{why}"):
+        shop.solve(**words)
 
 
 # Ends before the rounds are made, improvements, and seeds that follow each other
@@ -514,8 +514,6 @@ def test_progress_that_returns_true_and_an_event_end_the_search(cut: Callable[[l
             return True
 
     assert shop.solve(50, progress=Shown).rounds == 50, "a bar that says that it was shown ends the search"
-    cut([10])
-    shop = pfs.taillard(1)
     stop = threading.Event()
 
     def set_at(made: int, makespan: int) -> None:
@@ -619,19 +617,5 @@ def test_a_search_that_holds_jobs_is_continued() -> None:
     shop = pfs.Instance(pfs.generate(20, 8, 4).times % 4)
     makespans = [shop.solve(rounds, hold=[3], take=2).makespan for rounds in range(60)]
     assert makespans == sorted(makespans, reverse=True) and len(set(makespans)) > 1
-
-
-@pytest.mark.parametrize(("words", "kind", "why"), [
-    ({"hold": [1, 1]}, ValueError, "hold: job 1 occurs twice, at places 0 and 1"),
-    ({"hold": [3]}, ValueError, "hold: 3 at place 0 isn't a job: jobs are 0 to 2"),
-    ({"move": [3]}, ValueError, "move: 3 at place 0 isn't a job: jobs are 0 to 2"),
-    ({"hold": ["d"]}, ValueError, "hold: 'd' at place 0 isn't the name of a job"),
-    ({"hold": 1}, ValueError, "hold must be a list of jobs, not of the shape ()"),
-    ({"move": [0.5]}, ValueError, "move: 0.5 at place 0 isn't a whole number"),
-])
-def test_held_jobs_that_are_rejected(words: dict[str, Any], kind: type[Exception], why: str) -> None:
     shop = pfs.Instance([[3, 2], [2, 5], [4, 1]], job_names=["a", "b", "c"])
-    with pytest.raises(kind) as fault:
-        shop.solve(10, **words)
-    assert str(fault.value) == why
     assert shop.solve(10, hold=["c", "a"]).order.tolist() == [2, 0, 1], "names are jobs too"

@@ -8,8 +8,6 @@ from typing import Any
 
 import pfs
 import pytest
-from hypothesis import given
-from hypothesis import strategies as st
 from plainly import written
 
 MISSING = "the time is missing: write 0 where a job skips a machine (it still waits there for its turn)"
@@ -125,7 +123,6 @@ WRONG_TABLES: dict[str, tuple[Any, ...]] = {
     "thousands with typographic apostrophes": ("job;saw\na;1\u2019000,5\n", 2, 2, f"'1\u2019000,5' {UNGROUPED}"),
     "thousands with blanks": ("job;saw\na;12 345 678\n", 2, 2, f"'12 345 678' {UNGROUPED}"),
     "thousands with fixed blanks": ("job;saw\na;1\xa0000\n", 2, 2, f"'1\\xa0000' {UNGROUPED}"),
-    "thousands with narrow blanks": ("job;saw\na;1\u202f000\n", 2, 2, f"'1\\u202f000' {UNGROUPED}"),
     "a unit at a time": ("job;saw\na;1,5 h\n", 2, 2,
                          "'1,5 h' isn't a time: write the unit in brackets into the first cell of the table"),
     "two units": ("job;saw [min];drill [h]\na;3;2\n", 1, 3, UNITS.format("drill", "h", "min")),
@@ -260,13 +257,6 @@ def test_a_decimal_sign_that_is_given(tmp_path: pathlib.Path, decimal: str, cell
 def test_totals_that_are_allowed(tmp_path: pathlib.Path, case: str) -> None:
     shop = pfs.read_csv(written(tmp_path, WRONG_TABLES[case][0]), allow_totals=True)
     assert shop.jobs == WRONG_TABLES[case][0].count("\n") - 1
-
-
-@given(st.lists(st.lists(st.integers(0, 10**9), min_size=3, max_size=3), min_size=2, max_size=6))
-def test_numbers_are_read_back(tmp_path_factory: pytest.TempPathFactory, rows: list[list[int]]) -> None:
-    text = "job;a;b;c\n" + "".join(f"j{at};{';'.join(map(str, row))}\n" for at, row in enumerate(rows))
-    path = written(tmp_path_factory.mktemp("table"), text)
-    assert pfs.read_csv(path, allow_totals=True).times.tolist() == rows
 
 
 @pytest.mark.parametrize("case", [*BAD_TABLES, *WRONG_TABLES])

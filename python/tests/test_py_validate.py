@@ -73,14 +73,12 @@ INSERTIONS: list[tuple[Any, type[Exception], str]] = [
 REJECTED: dict[Callable[[Any], object], list[tuple[Any, type[Exception], str]]] = {
     pfs.Instance: [
         ([3, 2], ValueError, r"a row for each job and a column for each machine, not the shape \(2,\)"),
-        (7, ValueError, r"not the shape \(\)"),
         ([[1, 2], [3]], ValueError, "times can't be converted to an array"),
         (np.zeros((0, 2)), ValueError, "times has 0 jobs and 2 machines"),
         (np.zeros((2, 0)), ValueError, "times has 2 jobs and 0 machines"),
         (np.zeros((5001, 1)), ValueError, "times has 5,001 jobs and 1 machines"),
         (np.zeros((1, 201)), ValueError, "times has 1 jobs and 201 machines"),
         ([[1, 2], [3, 2.5]], ValueError, "times: 2.5 at job 1, machine 1 isn't a whole number"),
-        ([[1, float("nan")]], ValueError, "times: nan at job 0, machine 1 isn't a whole number"),
         ([[1, float("inf")]], ValueError, "times: inf at job 0, machine 1 isn't a whole number"),
         (np.array([[-1]], dtype=np.int8), ValueError, "times: -1 at job 0, machine 0 isn't from 0 to"),
         ([[1, 2], [-3, 2]], ValueError, "times: -3 at job 1, machine 0 isn't from 0 to 1,000,000,000"),
@@ -94,7 +92,6 @@ REJECTED: dict[Callable[[Any], object], list[tuple[Any, type[Exception], str]]] 
         ([[1, 2], (3, np.False_)], TypeError, "times must be whole numbers, not of dtype bool"),
         (np.array([[1, np.True_]], dtype=object), TypeError, "times: True at job 0, machine 1 isn't a whole number"),
         (np.array([[1]], dtype="M8[s]"), TypeError, "not of dtype datetime"),
-        (np.array([[(1,)]], dtype=[("a", int)]), TypeError, "times must be whole numbers"),
         (np.ma.masked_array([[1, 2]], mask=[[False, True]]),  # type: ignore[no-untyped-call]
          TypeError, "masked"),
         ([[3, 4], np.ma.masked_array([1, 2], mask=[False, True])],  # type: ignore[no-untyped-call]
@@ -117,7 +114,6 @@ REJECTED: dict[Callable[[Any], object], list[tuple[Any, type[Exception], str]]] 
         (np.array([0, 200], dtype=np.uint8), ValueError, "order: 200 at place 1 isn't a job: jobs are 0 to 2"),
         (np.array([np.int8(-1)], dtype=object), ValueError, "order: -1 at place 0 isn't a job"),
         ([[0, 1, 2]], ValueError, r"order must be a list of jobs, not of the shape \(1, 3\)"),
-        (0, ValueError, r"not of the shape \(\)"),
         (None, ValueError, r"not of the shape \(\)"),
         ([0, [1]], ValueError, "order can't be converted to an array"),
         (np.zeros(100_000, dtype=np.uint32), ValueError, "order: job 0 occurs twice, at places 0 and 1"),
@@ -144,9 +140,47 @@ REJECTED: dict[Callable[[Any], object], list[tuple[Any, type[Exception], str]]] 
         ((1, 201, 1), ValueError, "machines must be from 1 to 200, not 201"),
         ((1, 1, 0), ValueError, "seed must be from 1 to 2,147,483,646, not 0"),
         ((1, 1, 2**31 - 1), ValueError, "seed must be from .*, not 2147483647"),
-        ((1, 1, 2**64 + 1), ValueError, "seed must be from .*, not 18446744073709551617"),
         ((1.0, 1, 1), TypeError, "jobs must be an integer, not 1.0"),
     ],
+    SHOP.bound: [(method, kind, "method must be 'machines' or 'pairs', not ") for method, kind in
+                 (("johnson", ValueError), ("", ValueError), (None, TypeError), (b"pairs", TypeError))],
+    lambda words: SHOP.rpd(*words): [
+        ((9,), ValueError, "rpd needs a reference, since `upper` of the instance is 0"),
+        ((-1, 5), ValueError, "makespan must be from 0 to [0-9,]+, not -1"),
+        ((9, 0), ValueError, "reference must be from 1 to [0-9,]+, not 0"),
+        ((9.5, 5), TypeError, "makespan must be an integer, not 9.5"), ((True, 5), TypeError, "makespan must be"),
+        ((9, True), TypeError, "reference must be"), (([1, 0], 5), TypeError, "makespan must be an integer"),
+        ((2**64, 5), ValueError, "makespan must be from .*, not 18446744073709551616")],
+    lambda given: getattr(SHOP, given[0])(given[1]): [
+        (("heads", [0, 0]), ValueError, "sequence: job 0 occurs twice, at places 0 and 1"),
+        (("tails", [3]), ValueError, "sequence: 3 at place 0 isn't a job: jobs are 0 to 2"),
+        (("heads", [0, 1, 2, 0]), ValueError, "sequence: job 0 occurs twice, at places 0 and 3"),
+        (("heads", "0"), ValueError, "sequence must be a list of jobs"),
+        (("local_search", [0, 4]), ValueError, "sequence: 4 at place 1 isn't a job")],
+    lambda given: SHOP.insert_all(*given): [
+        (([0, 0], [1]), ValueError, "sequence: job 0 occurs twice"),
+        (([0], [1, 1]), ValueError, "jobs: job 1 occurs twice"),
+        (([0], [1, 7]), ValueError, "jobs: 7 at place 1 isn't a job"), (([0], [1.5]), ValueError, "jobs: 1.5"),
+        (([2, 0], [1, 0]), ValueError, "^job 0 is already in the sequence"),
+        (([0, 1, 2], range(9000)), ValueError, "jobs: 3 at place 3 isn't a job"),
+        (([0, 1, 2], [*range(3), *[0] * 20_000]), ValueError, "jobs: job 0 occurs twice, at places 0 and 3")],
+    lambda given: SHOP.local_search([0, 1], *given[:-1], **given[-1]): [
+        (([2], {}), ValueError, "^job 2 is not in the sequence"),
+        (([1, 1], {}), ValueError, "jobs: job 1 occurs twice"),
+        (({"passes": 101},), ValueError, "passes must be from 0 to 100"), (([0], 1, {}), TypeError, "positional"),
+        (({"passes": True},), TypeError, "passes must be an integer")],
+    pfs.from_frame: [(frame, TypeError, "frame must be a pandas DataFrame, not ") for frame in ([[1]], None)],
+    SHOP.to_text: [("csv", ValueError, "layout must be 'taillard' or 'orlib', not 'csv'")],
+    lambda words: pfs.read("x", *words): [
+        ((0,), TypeError, "layout must be 'taillard', 'orlib' or 'matrix', not 0"),
+        *((("orlib", block), ValueError, f"block must be from 1 to 1,000, not {block}") for block in (0, 1001))],
+    pfs.taillard: [(at, ValueError, f"number must be from 1 to 120, not {at}") for at in (0, 121)],
+    lambda words: pfs.Instance(TIMES, **words): [
+        ({"job_names": ["a"]}, ValueError, "has 1 names, but 3 are needed"),
+        ({"machine_names": ["a", "a"]}, ValueError, "'a' occurs twice"),
+        ({"decimals": 10}, ValueError, "decimals must be from .*, not 10"),
+        ({"seed": 2**32}, ValueError, "seed must be from .*, not 4294967296"),
+        *(({"job_names": names}, TypeError, "job_names") for names in ("abc", [1, 2, 3]))],
 }
 
 
@@ -178,30 +212,6 @@ def test_truth_values_are_no_numbers(truth: Any) -> None:
     for name, call in calls.items():
         with pytest.raises(TypeError, match=f"^{name.split()[0]} must be "):
             pytest.fail(f"{name} is {call()!r} for {truth!r}")
-
-
-def test_other_words_that_are_rejected() -> None:
-    shop = pfs.Instance(TIMES)
-    with pytest.raises(ValueError, match="layout must be 'taillard' or 'orlib', not 'csv'"):
-        shop.to_text("csv")
-    with pytest.raises(TypeError, match="layout must be 'taillard', 'orlib' or 'matrix', not 0"):
-        pfs.read("x", 0)  # type: ignore[arg-type]
-    for block in (0, 1001):
-        with pytest.raises(ValueError, match=f"block must be from 1 to 1,000, not {block}"):
-            pfs.read("x", "orlib", block)
-    for number in (0, 121):
-        with pytest.raises(ValueError, match=f"number must be from 1 to 120, not {number}"):
-            pfs.taillard(number)
-    rejected: list[tuple[dict[str, Any], str]] = [
-        ({"job_names": ["a"]}, "has 1 names, but 3 are needed"), ({"machine_names": ["a", "a"]}, "'a' occurs twice"),
-        ({"decimals": 10}, "decimals must be from .*, not 10"),
-        ({"seed": 2**32}, "seed must be from .*, not 4294967296")]
-    for words, why in rejected:
-        with pytest.raises(ValueError, match=why):
-            pfs.Instance(TIMES, **words)
-    for names in ("abc", [1, 2, 3]):
-        with pytest.raises(TypeError, match="job_names"):
-            pfs.Instance(TIMES, job_names=names)  # type: ignore[arg-type]
 
 
 # Names of the functions that are called without types.

@@ -81,16 +81,12 @@ def test_schedule_critical_path_and_idle_times(case: tuple[plainly.Table, list[i
     frame = made.to_frame()
     assert list(frame.columns) == ["job", "machine", "start", "end"]
     assert frame.to_numpy().tolist() == operations
-    times, order = case
-    path = pfs.Instance(times).schedule(order).critical_path()
+    path = made.critical_path()
     assert path[0] == (0, 0) and path[-1] == (len(order) - 1, len(times[0]) - 1)
     steps = [(after[0] - before[0], after[1] - before[1]) for before, after in zip(path, path[1:])]
     assert set(steps) <= {(0, 1), (1, 0)}
     assert sum(times[order[place]][machine] for place, machine in path) == plainly.makespan(times, order)
     assert all(type(number) is int for operation in path for number in operation)
-    times, order = case
-    made = pfs.Instance(times).schedule(order)
-    rows = plainly.schedule(times, order)
     due = [[start - (rows[place - 1][machine][1] if place else 0) for machine, (start, _) in enumerate(row)]
            for place, row in enumerate(rows)]
     assert made.idle().tolist() == due and made.idle().dtype == np.int64
@@ -150,26 +146,6 @@ def test_rpd() -> None:
     assert pfs.Instance([[1]]).rpd(3, 2) == 50
 
 
-REJECTED: list[tuple[Callable[..., Any], tuple[Any, ...], type[Exception], str]] = [
-    *((pfs.Instance([[1]]).bound, (method,), kind, "method must be 'machines' or 'pairs', not ")
-      for method, kind in (("johnson", ValueError), ("", ValueError), (None, TypeError), (b"pairs", TypeError))),
-    *((pfs.Instance([[1]]).rpd, words, kind, why) for words, kind, why in [
-        ((9,), ValueError, "rpd needs a reference, since `upper` of the instance is 0"),
-        ((-1, 5), ValueError, "makespan must be from 0 to [0-9,]+, not -1"),
-        ((9, 0), ValueError, "reference must be from 1 to [0-9,]+, not 0"),
-        ((9.5, 5), TypeError, "makespan must be an integer, not 9.5"), ((True, 5), TypeError, "makespan must be"),
-        ((9, True), TypeError, "reference must be"), (([1, 0], 5), TypeError, "makespan must be an integer"),
-        ((2**64, 5), ValueError, "makespan must be from .*, not 18446744073709551616")]),
-    *((pfs.from_frame, (frame,), TypeError, "frame must be a pandas DataFrame, not ") for frame in ([[1]], None)),
-]
-
-
-@pytest.mark.parametrize(("call", "words", "kind", "why"), REJECTED)
-def test_what_is_rejected(call: Callable[..., Any], words: tuple[Any, ...], kind: type[Exception], why: str) -> None:
-    with pytest.raises(kind, match=why):
-        call(*words)
-
-
 def test_returned_arrays_are_read_only() -> None:
     times = np.array([[3, 2], [2, 5], [4, 1]], dtype=np.uint32)
     shop = pfs.Instance(times)
@@ -198,7 +174,6 @@ SOLUTIONS: dict[str, tuple[Any, Any]] = {
     "order": ([1, 0], [0, 1]), "makespan": (9, 10), "cells": (16, 17), "machines": (2, 3), "rounds": (5, 6),
     "seed": (7, 8)}
 COMPARED = {pfs.Instance: INSTANCES, pfs.Solution: SOLUTIONS}
-CASES = [(kind, name) for kind, values in COMPARED.items() for name in values]
 
 
 def made_of(kind: type[Any], changed: str = "") -> Any:
@@ -206,32 +181,17 @@ def made_of(kind: type[Any], changed: str = "") -> Any:
     return kind(**{name: values[name == changed] for name, values in COMPARED[kind].items()})
 
 
-def fields_of(thing: Any) -> dict[str, Any]:
-    """What the object is made of, as lists, texts and numbers."""
-    found = {name: getattr(thing, name) for name in COMPARED[type(thing)]}
-    return {name: value.tolist() if isinstance(value, np.ndarray) else value for name, value in found.items()}
-
-
-def by_protocol(number: int) -> Callable[[Any], Any]:
-    return lambda thing: pickle.loads(pickle.dumps(thing, number))
-
-
-COPIES = {f"pickled by protocol {number}": by_protocol(number) for number in range(pickle.HIGHEST_PROTOCOL + 1)}
-COPIES |= {"copied": copy.copy, "copied deeply": copy.deepcopy}
-
-
 @pytest.mark.parametrize("kind", COMPARED)
 def test_each_parameter_is_compared(kind: type[Any]) -> None:
+    """Objects of which one attribute is another are unequal."""
     assert set(inspect.signature(kind).parameters) == COMPARED[kind].keys()
-    assert fields_of(made_of(kind)) == {name: values[0] for name, values in COMPARED[kind].items()}
+    kept = kept_by(made_of(kind))
+    assert {name: kept[name] for name in COMPARED[kind]} == {name: one for name, (one, _) in COMPARED[kind].items()}
     defaults = {name: parameter.default for name, parameter in inspect.signature(kind).parameters.items()}
-    assert not [name for name, value in fields_of(made_of(kind)).items() if value == defaults[name]], "a default"
-
-
-@pytest.mark.parametrize(("kind", "name"), CASES)
-def test_objects_of_which_one_attribute_is_another_are_unequal(kind: type[Any], name: str) -> None:
-    one, other = made_of(kind), made_of(kind, name)
-    assert not one == other and one != other, f"two of another {name} are equal"
+    assert not [name for name in COMPARED[kind] if kept[name] == defaults[name]], "a default"
+    for name in COMPARED[kind]:
+        one, other = made_of(kind), made_of(kind, name)
+        assert not one == other and one != other, f"two of another {name} are equal"
 
 
 def things() -> list[Any]:
@@ -251,14 +211,15 @@ def kept_by(thing: Any) -> dict[str, Any]:
             else value for name, value in values.items()}
 
 
-@pytest.mark.parametrize("how", COPIES)
-def test_a_copy_has_each_attribute(how: str) -> None:
+@pytest.mark.parametrize("protocol", [*range(pickle.HIGHEST_PROTOCOL + 1), None])
+def test_a_copy_has_each_attribute(protocol: int | None) -> None:
+    """Pickled by a protocol, or copied."""
     for one in things():
-        if isinstance(one, pfs.Schedule) and how[-1] in "01":
+        if isinstance(one, pfs.Schedule) and protocol in (0, 1):
             continue
-        other = COPIES[how](one)
+        other = copy.copy(one) if protocol is None else pickle.loads(pickle.dumps(one, protocol))
         assert type(other) is type(one) and str(other) == str(one)
-        assert kept_by(other) == kept_by(one) != {}, f"an attribute is lost where one is {how}"
+        assert kept_by(other) == kept_by(one) != {}, "an attribute is lost"
         if type(one) in COMPARED:
             assert other == one and hash(other) == hash(one) and one != 1
     assert pfs.taillard(1).solve(200, history=True) == pfs.taillard(1).solve(200), "the history is compared"
@@ -342,3 +303,83 @@ def test_names_that_are_rejected(order: list[Any], kind: type[Exception], why: s
             call(order)
     with pytest.raises(TypeError, match="order has names, but the jobs of the instance have none"):
         pfs.Instance([[3]]).makespan(["table"])
+
+
+# Building blocks of search methods: heads and tails, construction and local search
+
+@st.composite
+def parts(draw: st.DrawFn) -> tuple[plainly.Table, list[int], list[int]]:
+    """Times, a sequence of some jobs, and some of the other jobs."""
+    times, order = draw(plainly.shops_and_orders())
+    first, second = sorted(draw(st.tuples(*[st.integers(0, len(order))] * 2)))
+    return times, order[:first], order[first:second]
+
+
+@given(plainly.shops_and_sequences())
+def test_heads_and_tails_are_those_of_schedules(case: tuple[plainly.Table, list[int]]) -> None:
+    times, sequence = case
+    ends = [[end for _, end in row] for row in plainly.schedule(times, sequence)]
+    heads = pfs.Instance(times).heads(sequence)
+    assert heads.tolist() == ends and heads.shape == (len(sequence), len(times[0])) and heads.dtype == np.int64
+    backwards = [row[::-1] for row in times]
+    ends = [[end for _, end in row][::-1] for row in plainly.schedule(backwards, sequence[::-1])][::-1]
+    assert pfs.Instance(times).tails(sequence).tolist() == ends
+
+
+@given(parts())
+def test_insert_all_inserts_each_at_its_best_place(case: tuple[plainly.Table, list[int], list[int]]) -> None:
+    times, sequence, more = case
+    kept = list(sequence)
+    found = pfs.Instance(times).insert_all(sequence, more)
+    assert sequence == kept
+    for job in more:
+        kept.insert(plainly.best_place(times, kept, job)[0], job)
+    assert (found.jobs.tolist(), found.makespan) == (kept, plainly.makespan(times, kept))
+
+
+def moved(times: plainly.Table, sequence: list[int], jobs: list[int], passes: int) -> list[int]:
+    """The sequence after passes over some of its jobs."""
+    for job in jobs * passes:
+        others = [other for other in sequence if other != job]
+        place, _ = plainly.best_place(times, others, job)
+        sequence = [*others[:place], job, *others[place:]]
+    return sequence
+
+
+@given(st.data(), plainly.shops_and_sequences(), st.integers(0, 3))
+def test_local_search_moves_each_job_to_its_best_place(data: st.DataObject, case: tuple[plainly.Table, list[int]],
+                                                       passes: int) -> None:
+    times, sequence = case
+    shop = pfs.Instance(times)
+    jobs = data.draw(st.permutations(sequence))[:data.draw(st.integers(0, len(sequence)))]
+    found = shop.local_search(sequence, jobs, passes=passes)
+    due = moved(times, sequence, jobs, passes)
+    assert (found.jobs.tolist(), found.makespan) == (due, plainly.makespan(times, due))
+    assert found.makespan <= shop.makespan(sequence)
+    by_number = shop.local_search(sequence, passes=passes)
+    assert by_number.jobs.tolist() == moved(times, sequence, sorted(sequence), passes)
+
+
+def test_a_sequence_is_taken_where_an_order_is() -> None:
+    """As the list of its jobs."""
+    shop = pfs.taillard(1)
+    found = shop.insert_all([], range(20))
+    calls: list[Callable[[Any], object]] = [
+        shop.makespan, shop.check, shop.heads, shop.tails, shop.local_search, lambda own: shop.makespans([own, own]),
+        lambda own: shop.schedule(own).starts, lambda own: shop.solve(2, start=own),
+        lambda own: shop.solve(2, hold=own), lambda own: shop.insert_all([], own),
+        lambda own: pfs.Solution(own, found.makespan)]
+    assert [repr(call(found)) for call in calls] == [repr(call(found.jobs.tolist())) for call in calls]
+    assert shop.check(found).valid and not shop.check(found._replace(makespan=1)).valid
+    assert shop.rpd(found) == shop.rpd(found.makespan)
+    others = pfs.Sequence(found.jobs[1:], 0)
+    assert shop.best_place(others, int(found.jobs[0])) == shop.best_place(others.jobs, int(found.jobs[0]))
+    assert (shop.places(others, int(found.jobs[0])) == shop.places(others.jobs, int(found.jobs[0]))).all()
+
+
+def test_the_greatest_number_of_jobs() -> None:
+    shop = pfs.generate(5000, 1, 1)
+    assert (shop.n_jobs, shop.n_machines) == (5000, 1)
+    found = shop.insert_all(range(2500), range(2500, 5000))
+    assert sorted(found.jobs.tolist()) == [*range(5000)] and found.makespan == shop.makespan(found.jobs)
+    assert shop.heads(range(5000))[-1, -1] == found.makespan

@@ -1,7 +1,9 @@
 """Runs of scripts, and what they need."""
+import contextlib
 import csv
 import importlib.machinery
 import importlib.util
+import io
 import os
 import pathlib
 import subprocess
@@ -10,6 +12,7 @@ import time
 import tomllib
 from collections.abc import Callable, Sequence
 from typing import Any, NamedTuple
+from unittest import mock
 
 import pytest
 from support.needs import not_installed
@@ -32,6 +35,18 @@ def run_tool(words: Sequence[str | pathlib.Path], cwd: pathlib.Path, **how: Any)
     done = subprocess.run([str(word) for word in words], cwd=cwd, capture_output=True, text=True, timeout=MOST_SECONDS,
                           **how)
     return Done(done.returncode, done.stdout, done.stderr)
+
+
+def run_main(main: Callable[[], int], words: Sequence[str], cwd: pathlib.Path) -> Done:
+    """Run the function of a script with these words in this process, which is faster than a new one."""
+    out, got = io.StringIO(), io.StringIO()
+    with (mock.patch("sys.argv", [*words]), contextlib.chdir(cwd), contextlib.redirect_stdout(out),
+          contextlib.redirect_stderr(got)):
+        try:
+            status = main()
+        except SystemExit as end:
+            status = int(end.code or 0)
+    return Done(status, out.getvalue(), got.getvalue())
 
 
 def output_of(words: Sequence[str | pathlib.Path], cwd: pathlib.Path, **how: Any) -> str:

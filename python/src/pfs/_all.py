@@ -98,7 +98,6 @@ def solve_all(instances: Iterable[Instance], seeds: Iterable[int] = (0,), rounds
 
     Examples
     --------
-    >>> import pfs
     >>> found = pfs.solve_all([pfs.taillard(1), pfs.taillard(2)], seeds=[1, 2], rounds=100, workers=2)
     >>> {key: best.makespan for key, best in found.items()}
     {(0, 1): 1278, (0, 2): 1286, (1, 1): 1365, (1, 2): 1365}

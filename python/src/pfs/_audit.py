@@ -81,7 +81,7 @@ class Row(NamedTuple):
 
 
 def audit(table: Table, shops: Shops = (), *, layout: str | None = None, first: int | None = None) -> list[Audited]:
-    """Audit each order of a published table.
+    """Audit each order of a published table. ``pandas.DataFrame`` makes a table of the verdicts.
 
     A verdict comes from the library, whose results are proved. What is unclear in the table is an error.
 
@@ -101,11 +101,6 @@ def audit(table: Table, shops: Shops = (), *, layout: str | None = None, first: 
     first : int, optional
         The number of the first job, 0 or 1. By default it is that of most orders of a method.
 
-    Returns
-    -------
-    list of Audited
-        One for each row. ``pandas.DataFrame`` makes a table of it.
-
     Raises
     ------
     TypeError, ValueError
@@ -114,7 +109,6 @@ def audit(table: Table, shops: Shops = (), *, layout: str | None = None, first: 
 
     Examples
     --------
-    >>> import pfs
     >>> shop = pfs.Instance([[3, 2], [2, 5], [4, 1]], name="small")
     >>> table = [{"Instance": "Small", "Cmax": 10, "Sequence": "2 1 3"},
     ...          {"Instance": "small", "Cmax": 9, "Sequence": "2,3,1"}]

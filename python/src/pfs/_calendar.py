@@ -79,7 +79,6 @@ class Calendar:
 
     Examples
     --------
-    >>> import pfs
     >>> calendar = pfs.Calendar("2026-11-27T12:00", shifts="06:00-14:00", days="mon-fri", closed="2026-11-30")
     >>> shop = pfs.Instance([[3, 2], [1, 4]], job_names=["table", "chair"], unit="h")
     >>> print(shop.schedule([0, 1]).to_csv(calendar=calendar), end="")

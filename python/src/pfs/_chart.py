@@ -9,7 +9,7 @@ import json
 import logging
 import os
 import re
-from typing import TYPE_CHECKING, Any, NamedTuple
+from typing import TYPE_CHECKING, Any
 
 from pfs import _drawing
 from pfs._atomic import atomic_write
@@ -29,24 +29,16 @@ MOST_SHOWN, MOST_LISTED = 2_000, 100_000
 MINUTES = [1, 2, 5, 10, 15, 30, *(60 * 2**at for at in range(30))]
 
 
-class Frame(NamedTuple):
-    """The width in inches, the dots per inch, the title, and axes to draw on."""
-    width: float = 12.0
-    dpi: int = 110
-    title: bool | str = True
-    ax: Any = None
-
-    def checked(self) -> Frame:
-        """Return the frame after validating it."""
-        if isinstance(self.width, bool) or not isinstance(self.width, (int, float)):
-            raise TypeError(f"width must be a number of inches, not {self.width!r}")
-        if not 2 <= self.width <= 100:
-            raise ValueError(f"width must be from 2 to 100 inches, not {self.width}")
-        if not isinstance(self.title, (bool, str)):
-            raise TypeError(f"title must be True, False or a text, not {self.title!r}")
-        if self.ax is not None and not hasattr(self.ax, "broken_barh"):
-            raise TypeError(f"ax must be matplotlib axes, not {self.ax!r}")
-        return self._replace(dpi=checked_int(self.dpi, "dpi", 20, 2_400))
+def check_frame(width: float, title: bool | str, ax: Any) -> None:
+    """Validate the width in inches, the title, and axes to draw on."""
+    if isinstance(width, bool) or not isinstance(width, (int, float)):
+        raise TypeError(f"width must be a number of inches, not {width!r}")
+    if not 2 <= width <= 100:
+        raise ValueError(f"width must be from 2 to 100 inches, not {width}")
+    if not isinstance(title, (bool, str)):
+        raise TypeError(f"title must be True, False or a text, not {title!r}")
+    if ax is not None and not hasattr(ax, "broken_barh"):
+        raise TypeError(f"ax must be matplotlib axes, not {ax!r}")
 
 
 def svg_of(schedule: Schedule) -> str | None:
@@ -54,31 +46,29 @@ def svg_of(schedule: Schedule) -> str | None:
     if schedule.starts.size > MOST_SHOWN:
         return None
     try:
-        figure = plot(schedule, None, True, True, None)
+        figure = plot(schedule, None, _drawing.Look(critical=True), True)
     except ImportError:
         return None
-    picture: bytes = _drawing.picture_of(figure, "svg", _drawing.Look())
-    return picture.decode("utf-8")
+    return _drawing.picture_of(figure, "svg", _drawing.Look().dpi).decode("utf-8")
 
 
-def plot(schedule: Schedule, path: str | os.PathLike[str] | None, critical: bool, bound: bool, unit: str | None,
-         frame: Frame = Frame(), calendar: Calendar | None = None) -> Any:
-    """The figure, or, where the path is that of a page, none."""
+def plot(schedule: Schedule, path: str | os.PathLike[str] | None, look: _drawing.Look, bound: bool,
+         unit: str | None = None, ax: Any = None, calendar: Calendar | None = None) -> Any:
+    """The figure, or, where the path is that of a page, none. The look has what doesn't depend on the schedule."""
     shop = schedule.instance
     clock = None if calendar is None else Clock(calendar, shop)
     ending = None if path is None else ending_of(path)
-    frame = frame.checked()
-    if ending == "html" and frame.ax is not None:
+    check_frame(look.width, look.title, ax)
+    if ending == "html" and ax is not None:
         raise ValueError("ax is for pictures: a page has no axes")
     jobs, machines = ([shown(name) for name in names or [*map(str, range(count))]]
                       for names, count in ((shop.job_names, shop.jobs), (shop.machine_names, shop.machines)))
     if ending != "html":
-        machines = [_drawing.shortened(name, int(frame.width / 4 / _drawing.NAME_DIGIT)) for name in machines]
-    look = _drawing.Look(critical=critical, bound=shop.bound() if bound else None,
-                       unit=shown(unit or shop.unit or UNIT), decimals=shop.decimals, width=float(frame.width),
-                       dpi=frame.dpi, title=shown(frame.title) if isinstance(frame.title, str) else frame.title,
-                       key=shop.job_names is not None and frame.ax is None,
-                       beside=_drawing.beside(machines))
+        machines = [_drawing.shortened(name, int(look.width / 4 / _drawing.NAME_DIGIT)) for name in machines]
+    look = look._replace(bound=shop.bound() if bound else None, unit=shown(unit or shop.unit or UNIT),
+                         decimals=shop.decimals, width=float(look.width), dpi=checked_int(look.dpi, "dpi", 20, 2_400),
+                         title=shown(look.title) if isinstance(look.title, str) else look.title,
+                         key=shop.job_names is not None and ax is None, beside=_drawing.beside(machines))
     if clock is not None:
         end, digits = clock.span(0, schedule.makespan)[1], clock.digits(schedule.starts, schedule.ends)
         look = look._replace(scale=scale_of(clock), marks=clock.marks(schedule.makespan, most_marks(look)),
@@ -96,7 +86,7 @@ def plot(schedule: Schedule, path: str | os.PathLike[str] | None, critical: bool
         page = page_of(table, look, shown(shop.name), more, lists_of(table, look, schedule, clock))
         atomic_write(path, page.encode("utf-8"))
         return None
-    return drawn(table, look, path, ending, frame)
+    return drawn(table, look, path, ending, ax)
 
 
 def ending_of(path: str | os.PathLike[str]) -> str:
@@ -108,7 +98,7 @@ def ending_of(path: str | os.PathLike[str]) -> str:
 
 
 def drawn(table: _drawing.Table, look: _drawing.Look, path: str | os.PathLike[str] | None, ending: str | None,
-          frame: Frame) -> Any:
+          ax: Any) -> Any:
     """Draw the figure, and save it if there is a path. The settings of matplotlib don't change."""
     matplotlib = optional("matplotlib", "plot")
     logger = logging.getLogger("matplotlib")
@@ -116,12 +106,12 @@ def drawn(table: _drawing.Table, look: _drawing.Look, path: str | os.PathLike[st
     try:
         with matplotlib.rc_context():
             figure = _drawing.new_figure(table, look)
-            if frame.ax is not None:
-                figure = frame.ax.figure
-                look = look._replace(width=frame.ax.get_window_extent().width / figure.dpi + look.beside)
-            _drawing.draw(figure, table, look, frame.ax)
+            if ax is not None:
+                figure = ax.figure
+                look = look._replace(width=ax.get_window_extent().width / figure.dpi + look.beside)
+            _drawing.draw(figure, table, look, ax)
             if path is not None:
-                atomic_write(path, _drawing.picture_of(figure, str(ending), look))
+                atomic_write(path, _drawing.picture_of(figure, str(ending), look.dpi))
             return figure
     finally:
         logger.setLevel(level)

@@ -19,12 +19,11 @@ from pfs._calendar import Calendar, Clock, begin_of, dates_of, days_of, shifts_o
 from pfs._chart import ending_of
 from pfs._faults import Fault, TableFault
 from pfs._files import read, read_order
-from pfs._held import HeldSearch, by_total, insert_after
 from pfs._instance import Instance
 from pfs._names import CLOCK, amount, shown
 from pfs._optional import optional
 from pfs._orders import FoundOrder, numbers_by_name, order_in
-from pfs._search import ROUNDS, Pace, Search, limit_of
+from pfs._search import ROUNDS, HeldSearch, Pace, Search, by_total, insert_after, limit_of
 from pfs._solution import Solution
 from pfs._state import State, StateFault
 from pfs._tables import described, table_of

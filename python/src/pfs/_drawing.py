@@ -390,9 +390,9 @@ def scales(axis: Axis, table: Table, look: Look) -> None:
     axis.text(1.005, 1, "idle", transform=axis.transAxes, va="bottom", bbox=box)
 
 
-def picture_of(figure: Figure, extension: str, look: Look) -> bytes:
+def picture_of(figure: Figure, extension: str, dpi: float) -> bytes:
     """Return a figure as SVG, PNG or PDF. It has no date, so that equal pictures have equal bytes."""
     dates = {"svg": {"Date": None}, "pdf": {"CreationDate": None}}
     picture = io.BytesIO()
-    figure.savefig(picture, format=extension, dpi=look.dpi, metadata=dates.get(extension))
+    figure.savefig(picture, format=extension, dpi=dpi, metadata=dates.get(extension))
     return picture.getvalue()

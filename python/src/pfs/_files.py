@@ -4,7 +4,7 @@ from __future__ import annotations
 import contextlib
 import os
 import re
-from collections.abc import Callable
+from collections.abc import Callable, Iterator
 from ctypes import byref, c_char_p, c_size_t, c_uint64, c_void_p, cast
 from typing import IO, Any, TypeAlias
 
@@ -15,7 +15,6 @@ from pfs._benchmarks import taillard_rows
 from pfs._faults import INSTANCE_FAULTS, ORDER_FAULTS, FileFault, OrderFault, TableFault
 from pfs._hints import EXTRA_NUMBER, MACHINE_NUMBER, NUMBER_LINE, TRUNCATED, hint_of, where
 from pfs._instance import Instance
-from pfs._matrix import matrix_of
 from pfs._names import is_frame
 from pfs._solution import Solution
 from pfs._validate import Order, Times, checked_int, layout_number
@@ -140,6 +139,60 @@ def blocks_of(text: bytes, path: str, layout: int) -> list[Instance]:
     return shops
 
 
+# The layout `matrix`: the sizes of an instance on one line, and then a line of times for each job
+
+# A line from its first word on. Empty lines are skipped without an object for each.
+FILLED = re.compile(rb"\S[^\n]*")
+NUMBER = re.compile(rb"[0-9]{1,10}")
+
+
+def matrix_of(text: bytes, path: str) -> Instance:
+    """Return the instance of a file in the layout ``matrix``."""
+    if len(text) > c.LONGEST_INPUT:
+        raise TableFault(path, 1, 0, f"the file has more than {c.LONGEST_INPUT:,} bytes")
+    lines = lines_of(text)
+    line, sizes = next(lines, (1, list[bytes]()))
+    if len(sizes) != 2:
+        raise TableFault(path, line, 0, f"{counted(sizes)} numbers on the size line: it has those of jobs and machines")
+    jobs, machines = (number_of(path, line, column, sizes[column - 1], 1, most)
+                      for column, most in ((1, c.MOST_JOBS), (2, c.MOST_MACHINES)))
+    times = np.zeros((jobs, machines), dtype=np.uint32)
+    count = 0
+    for line, words in lines:
+        if count == jobs:
+            raise TableFault(path, line, 0, f"more than {jobs:,} lines of times for {jobs:,} jobs")
+        if len(words) != machines:
+            hint = ": the layout has a line for each job, not for each machine" if len(words) == jobs else ""
+            raise TableFault(path, line, 0, f"{counted(words)} times for {machines} machines{hint}")
+        times[count] = [number_of(path, line, column, word, 0, c.LONGEST_TIME) for column, word in enumerate(words, 1)]
+        count += 1
+    if count < jobs:
+        raise TableFault(path, line, 0, f"{count} lines of times for {jobs} jobs")
+    return Instance(times, name=os.path.basename(path))
+
+
+def lines_of(text: bytes) -> Iterator[tuple[int, list[bytes]]]:
+    """Return the lines that have words, with their numbers. Words after the 5,000th are left together, as one more."""
+    line, at = 1, 0
+    for found in FILLED.finditer(text):
+        line += text.count(b"\n", at, found.start())
+        at = found.start()
+        yield line, found[0].split(None, c.MOST_JOBS)
+
+
+def counted(words: list[bytes]) -> str:
+    """Return how many words a line has."""
+    return f"{len(words)}" if len(words) <= c.MOST_JOBS else f"more than {c.MOST_JOBS:,}"
+
+
+def number_of(path: str, line: int, column: int, word: bytes, least: int, most: int) -> int:
+    """Return the number of a word, which must be in this range."""
+    if not NUMBER.fullmatch(word) or not least <= int(word) <= most:
+        raise TableFault(path, line, column, f"{word[:20].decode('latin-1')!r} is not a whole number from {least} to "
+                                             f"{most:,}")
+    return int(word)
+
+
 def read(source: Source, layout: str, block: int = 1) -> Instance:
     """Read an instance file.
 
@@ -157,12 +210,10 @@ def read(source: Source, layout: str, block: int = 1) -> Instance:
     ------
     FileFault, TableFault
         If the file doesn't follow its layout; a TableFault for ``"matrix"``.
-    OSError
-        If the file can't be read.
 
     Examples
     --------
-    >>> import io, pfs
+    >>> import io
     >>> shop = pfs.read(io.BytesIO(b"3 2\\n0 3 1 2\\n0 2 1 5\\n0 4 1 1\\n"), "orlib")
     >>> shop.times
     array([[3, 2],
@@ -202,7 +253,7 @@ def read_all(source: Source, layout: str) -> list[Instance]:
 
     Examples
     --------
-    >>> import io, pfs
+    >>> import io
     >>> pfs.read_all(io.BytesIO(b"1 1\\n0 7\\n2 1\\n0 3 0 4\\n"), "orlib")
     [<Instance 1: 1 jobs, 1 machines>, <Instance 2: 2 jobs, 1 machines>]
     """
@@ -234,7 +285,7 @@ def read_order(source: Source) -> Solution:
 
     Examples
     --------
-    >>> import io, pfs
+    >>> import io
     >>> pfs.read_order(io.BytesIO(b"order2 3 2\\n2 1 3\\nmakespan 10\\n"))
     Solution(order=[1, 0, 2], makespan=10)
     """
@@ -279,7 +330,6 @@ def parse_order(text: str, first: int = 0) -> Order:
 
     Examples
     --------
-    >>> import pfs
     >>> order = pfs.parse_order("2, 1, 3", first=1)
     >>> order.tolist()
     [1, 0, 2]
@@ -329,7 +379,7 @@ def from_frame(frame: Any, *, unit: str = "", decimals: int = 0) -> Instance:
 
     Examples
     --------
-    >>> import pandas, pfs
+    >>> import pandas
     >>> frame = pandas.DataFrame({"saw": [3, 2], "drill": [2.5, 5]}, index=["table", "chair"])
     >>> shop = pfs.from_frame(frame, unit="h", decimals=1)
     >>> shop.times.tolist(), shop.job_names, shop.machine_names
@@ -374,7 +424,6 @@ def generate(jobs: int, machines: int, seed: int) -> Instance:
 
     Examples
     --------
-    >>> import pfs
     >>> pfs.generate(5, 1, 873654221).times.ravel().tolist()
     [54, 83, 15, 71, 77]
     """
@@ -387,22 +436,17 @@ def generate(jobs: int, machines: int, seed: int) -> Instance:
 
 
 def taillard(number: int) -> Instance:
-    """Return one of the 120 permutation flow shop instances of Taillard's benchmark (1993).
+    """Return one of the 120 permutation flow shop instances of Taillard's benchmark (1993), with its seed. ``lower`` is
+    the published lower bound, and ``upper`` the best known makespan (Taillard's list of best known bounds). Both are
+    published numbers; they aren't proved here.
 
     Parameters
     ----------
     number : int
         1 to 120, as in ``ta001`` to ``ta120``.
 
-    Returns
-    -------
-    Instance
-        The instance, with its seed. ``lower`` is the published lower bound, and ``upper`` the best known makespan
-        (Taillard's list of best known bounds). Both are published numbers; they aren't proved here.
-
     Examples
     --------
-    >>> import pfs
     >>> shop = pfs.taillard(1)
     >>> shop, shop.lower, shop.upper
     (<Instance ta001: 20 jobs, 5 machines>, 1232, 1278)

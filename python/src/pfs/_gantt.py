@@ -126,7 +126,7 @@ def draw() -> None:
     if width * height * look.dpi ** 2 > MOST_PIXELS:
         raise GanttError(f"a picture of {width:g} by {height:g} inches at {look.dpi} dots per inch has too many pixels")
     chart.draw(figure, table, look)
-    atomic_write(args.picture, chart.picture_of(figure, extension, look))
+    atomic_write(args.picture, chart.picture_of(figure, extension, look.dpi))
     if chart.is_image(table, look):
         print(f"pfs-gantt: {table.jobs * table.machines:,} operations are too many or too short to draw one by one: "
               f"the rows are an image of {look.dpi} dots per inch", file=sys.stderr)

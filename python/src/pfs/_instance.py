@@ -15,11 +15,10 @@ from pfs import _search
 from pfs._atomic import atomic_write
 from pfs._bounds import bound_by_pairs
 from pfs._faults import Interrupted
-from pfs._held import HeldSearch
 from pfs._library import LENGTHS, SHORT, Prepared
 from pfs._names import frame_names, is_frame, names_of
 from pfs._schedule import Schedule
-from pfs._search import Progress, Search, Stop
+from pfs._search import HeldSearch, Progress, Search, Stop
 from pfs._solution import Solution, as_order
 from pfs._validate import (BOOLS, MOST_UINT32, Jobs, Order, array_copy, as_uint32, as_uint32_bytes, checked_int,
                            checked_jobs, checked_order, checked_times, jobs_error, layout_number)
@@ -39,7 +38,7 @@ class Place(NamedTuple):
 
 
 class Sequence(NamedTuple):
-    """A sequence of jobs, and its makespan."""
+    """A sequence of jobs, an array of int64, and its makespan."""
 
     jobs: Order
     makespan: int
@@ -104,7 +103,6 @@ class Instance:
     --------
     Jobs, machines and places count from 0.
 
-    >>> import pfs
     >>> shop = pfs.Instance([[3, 2], [2, 5], [4, 1]])
     >>> shop.makespan([0, 1, 2])
     11
@@ -210,14 +208,8 @@ class Instance:
         return str(machine) if self.machine_names is None else self.machine_names[machine]
 
     def makespan(self, order: Jobs) -> int:
-        """Return the time at which the last job of an order leaves the last machine.
-
-        Parameters
-        ----------
-        order : array_like or Solution
-            Distinct jobs, by number from 0 or by name: an order of all jobs, or a partial sequence. The makespan of an
-            empty sequence is 0.
-        """
+        """Return the time at which the last job of an order of all jobs, or of a partial sequence, leaves the last
+        machine. The distinct jobs are given by number from 0 or by name. The makespan of an empty sequence is 0."""
         jobs, count = as_uint32_bytes(order, "order", self.job_names)
         prepared = self._taken()
         number = _pfs_makespan(prepared.address, jobs, LENGTHS[count] if count < SHORT else c_size_t(count),
@@ -241,7 +233,6 @@ class Instance:
 
         Examples
         --------
-        >>> import pfs
         >>> shop = pfs.Instance([[3, 2], [2, 5], [4, 1]])
         >>> shop.check([1, 0, 2], 10)
         Check(valid=True, makespan=10, bound=10, fault='')
@@ -275,7 +266,6 @@ class Instance:
 
         Examples
         --------
-        >>> import pfs
         >>> shop = pfs.taillard(51)
         >>> shop.bound(), shop.bound("pairs")
         (3480, 3527)
@@ -302,7 +292,6 @@ class Instance:
 
         Examples
         --------
-        >>> import pfs
         >>> shop = pfs.taillard(1)
         >>> round(shop.rpd(shop.neh()), 2)
         0.63
@@ -334,7 +323,6 @@ class Instance:
 
         Examples
         --------
-        >>> import pfs
         >>> pfs.Instance([[3, 2], [2, 5], [4, 1]]).best_place([0, 2], 1)
         Place(place=0, makespan=10)
         """
@@ -347,25 +335,20 @@ class Instance:
         best = _new_tuple(Place, (prepared.place.value, prepared.makespan.value))
         self._prepared.append(prepared)
         if number:
-            raise self._insertion_error(number, jobs, job)
+            raise self._insertion_error(number, jobs, np.uint32(job).tobytes())
         return best
 
     def places(self, sequence: Jobs, job: int) -> Order:
-        """Return the makespans for all places of a job in a partial sequence.
+        """Return the makespans for all places of a job in a partial sequence, as an array of int64. Element ``p`` is
+        the makespan after ``sequence.insert(p, job)``.
 
         Parameters
         ----------
         sequence, job : array_like, int
             As for :meth:`best_place`, which returns the first minimum.
 
-        Returns
-        -------
-        numpy.ndarray
-            An array of int64: element ``p`` is the makespan after ``sequence.insert(p, job)``.
-
         Examples
         --------
-        >>> import pfs
         >>> pfs.Instance([[3, 2], [2, 5], [4, 1]]).places([0, 2], 1)
         array([10, 11, 14])
         """
@@ -382,32 +365,20 @@ class Instance:
         spans = prepared.spans[:count + 1].copy()
         self._prepared.append(prepared)
         if number:
-            raise self._insertion_error(number, jobs, job)
+            raise self._insertion_error(number, jobs, np.uint32(job).tobytes())
         return spans
 
-    def _insertion_error(self, number: int, jobs: bytes, job: int) -> Exception:
-        """Return the exception for a sequence and another job that the library rejects with this number."""
-        fault = jobs_error(number, self.jobs, jobs, "sequence")
-        if number == c.REPEATED and fault.args == (c.message(number),):
-            return ValueError(f"job {job} is already in the sequence")
-        return fault
-
     def heads(self, sequence: Jobs) -> Order:
-        """Return the earliest end of each operation of a sequence of jobs.
+        """Return the earliest end of each operation of a sequence of jobs, as an array of int64 with a row for each job
+        of the sequence, in its order, and a column for each machine.
 
         Parameters
         ----------
         sequence : array_like
             Distinct jobs, counted from 0.
 
-        Returns
-        -------
-        numpy.ndarray
-            An array of int64 with a row for each job of the sequence, in its order, and a column for each machine.
-
         Examples
         --------
-        >>> import pfs
         >>> pfs.Instance([[3, 2], [2, 5], [4, 1]]).heads([1, 0])
         array([[2, 7],
                [5, 9]])
@@ -427,7 +398,6 @@ class Instance:
 
         Examples
         --------
-        >>> import pfs
         >>> pfs.Instance([[3, 2], [2, 5], [4, 1]]).tails([1, 0])
         array([[9, 7],
                [5, 2]])
@@ -445,7 +415,7 @@ class Instance:
         return heads, tails
 
     def insert_all(self, sequence: Jobs, jobs: Jobs) -> Sequence:
-        """Insert jobs into a partial sequence one after the other, each at its best place.
+        """Insert jobs into a partial sequence one after the other, each at its best place. Return the longer sequence.
 
         From an empty sequence and all jobs by decreasing total processing time, it finds the order of :meth:`neh`.
 
@@ -456,14 +426,8 @@ class Instance:
         jobs : array_like
             The jobs to insert, in this order; they are distinct, and none is in the sequence.
 
-        Returns
-        -------
-        Sequence
-            The ``jobs`` of the longer sequence, an array of int64, and its ``makespan``.
-
         Examples
         --------
-        >>> import pfs
         >>> pfs.Instance([[3, 2], [2, 5], [4, 1]]).insert_all([2], [0, 1])
         Sequence(jobs=array([1, 0, 2]), makespan=10)
         """
@@ -473,13 +437,12 @@ class Instance:
         makespan = c_uint64()
         number = self._call("pfs_construct", given, count, more, many, found.ctypes.data, found.size, byref(makespan))
         if number:
-            raise self._reinsertion_error(number, given, more, is_in=True)
+            raise self._insertion_error(number, given, more)
         return Sequence(found.astype(np.int64), makespan.value)
 
     def local_search(self, sequence: Jobs, jobs: Jobs | None = None, *, passes: int = 1) -> Sequence:
-        """Improve a sequence of jobs: in a pass, each of some jobs is removed and inserted at its best place.
-
-        The result is never longer than the sequence.
+        """Improve a sequence of jobs: in a pass, each of some jobs is removed and inserted at its best place. Return
+        the new sequence, which is never longer.
 
         Parameters
         ----------
@@ -491,14 +454,8 @@ class Instance:
         passes : int
             The number of passes, 0 to 100.
 
-        Returns
-        -------
-        Sequence
-            The ``jobs`` of the new sequence, an array of int64, and its ``makespan``.
-
         Examples
         --------
-        >>> import pfs
         >>> pfs.Instance([[3, 2], [2, 5], [4, 1]]).local_search([2, 1, 0])
         Sequence(jobs=array([1, 0, 2]), makespan=10)
         """
@@ -511,12 +468,12 @@ class Instance:
         makespan = c_uint64()
         number = self._call("pfs_local_search", moved, many, passes, found.ctypes.data, found.size, byref(makespan))
         if number:
-            raise self._reinsertion_error(number, given, moved, is_in=False)
+            raise self._insertion_error(number, given, moved, is_in=False)
         return Sequence(found.astype(np.int64), makespan.value)
 
-    def _reinsertion_error(self, number: int, given: bytes, moved: bytes, *, is_in: bool) -> Exception:
-        """Return the exception for a number that such a function returned. With `is_in` a job of the list is wrong if
-        it is in the sequence, otherwise if it isn't."""
+    def _insertion_error(self, number: int, given: bytes, moved: bytes, *, is_in: bool = True) -> Exception:
+        """Return the exception for a sequence and jobs to insert or, without `is_in`, to move that the library rejects
+        with this number. With `is_in` a job is wrong if it is in the sequence, otherwise if it isn't."""
         generic = (c.message(number),)
         fault = jobs_error(number, self.jobs, given, "sequence")
         if fault.args != generic:
@@ -526,7 +483,7 @@ class Instance:
         wrong = [job for job in np.frombuffer(moved, dtype=np.uint32).tolist() if (job in sequence) == is_in]
         if fault.args != generic or not wrong:
             return fault
-        return ValueError(f"jobs: job {wrong[0]} {'is already' if is_in else 'is not'} in the sequence")
+        return ValueError(f"job {wrong[0]} {'is already' if is_in else 'is not'} in the sequence")
 
     def makespans(self, orders: npt.ArrayLike) -> Order:
         """Return the makespans of many sequences of equal length, as an array of int64.
@@ -539,7 +496,6 @@ class Instance:
 
         Examples
         --------
-        >>> import pfs
         >>> pfs.Instance([[3, 2], [2, 5], [4, 1]]).makespans([[0, 1, 2], [1, 0, 2]])
         array([11, 10])
         """
@@ -549,8 +505,6 @@ class Instance:
         own = array_copy(rows, "orders")
         if own.ndim != 2:
             raise ValueError(f"orders must have a row for each sequence of jobs, not the shape {own.shape}")
-        if own.dtype.kind == "b":
-            raise TypeError("orders must be whole numbers, not of dtype bool")
         jobs = as_uint32(own, MOST_UINT32, "orders", "row {}, place {}", "isn't a job: jobs count from 0")
         spans = np.empty(len(jobs), dtype=np.int64)
         number = self._call("pfs_makespans", jobs.ctypes.data, jobs.size, jobs.shape[1], spans.ctypes.data, spans.size)
@@ -569,7 +523,9 @@ class Instance:
 
         A round removes ``take`` jobs, inserts each at its best place, and makes ``passes`` passes. In a pass each job
         in turn is removed and inserted at its best place. The new order is kept unless its makespan is greater. The
-        same options give the same order on every machine, which is also the order that ``pfs solve`` prints.
+        same options give the same order on every machine, which is also the order that ``pfs solve`` prints. Of the
+        solution that is returned, ``cells`` counts the cells of this call, and ``rounds`` is the number of the next
+        round.
 
         Parameters
         ----------
@@ -610,16 +566,8 @@ class Instance:
             The only jobs, by numbers or names, that rounds and passes move. The others keep their order. With ``hold``
             or ``move`` the rounds are run in Python, and take ten times as long or more; ``cells`` is then 0.
 
-        Returns
-        -------
-        Solution
-            The best order. ``cells`` counts the cells of this call, and ``rounds`` is the number of the next round.
-
         Raises
         ------
-        TypeError, ValueError
-            If an option is of the wrong type or out of range, or ``start`` isn't an order of all jobs or is a solution
-            for another number of machines.
         Interrupted
             After Ctrl-C. Its ``solution`` is the best so far. To continue, call ``solve(.., start=stop.solution,
             first=stop.solution.rounds)`` with the rounds that are left, to the same result.
@@ -628,7 +576,6 @@ class Instance:
 
         Examples
         --------
-        >>> import pfs
         >>> shop = pfs.taillard(1)
         >>> shop.solve(1000).makespan
         1278
@@ -655,13 +602,8 @@ class Instance:
             raise Interrupted(search.solution()) from None
 
     def schedule(self, order: Jobs) -> Schedule:
-        """Return the schedule of an order, in which each operation starts as early as possible.
-
-        Parameters
-        ----------
-        order : array_like or Solution
-            An order of all jobs, by number from 0 or by name.
-        """
+        """Return the schedule of an order of all jobs, by number from 0 or by name. Each operation starts as early as
+        possible."""
         jobs = checked_order(as_order(order, self), self.jobs, "order", self.job_names)
         starts = np.empty((self.jobs, self.machines), dtype=np.int64)
         ends = np.empty_like(starts)
@@ -683,13 +625,11 @@ class Instance:
         return text.raw[:length.value].decode("ascii")
 
     def write(self, path: str | os.PathLike[str], layout: str = "taillard") -> None:
-        """Write an instance file with one block.
+        """Write an instance file with one block. An existing file is replaced atomically.
 
         Parameters
         ----------
-        path : str or os.PathLike
-            The file. An existing file is replaced atomically.
-        layout : str
-            As for :meth:`to_text`.
+        path, layout : str or os.PathLike, str
+            The file, and the layout as for :meth:`to_text`.
         """
         atomic_write(path, self.to_text(layout).encode("ascii"))

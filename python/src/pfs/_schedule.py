@@ -11,7 +11,7 @@ import numpy as np
 
 from pfs._atomic import atomic_write, text_cell
 from pfs._calendar import Calendar, Clock, text_of
-from pfs._drawing import critical_path
+from pfs._drawing import Look, critical_path
 from pfs._names import CLOCK, amount
 from pfs._optional import optional
 from pfs._validate import Order
@@ -48,7 +48,6 @@ class Schedule:
 
     Examples
     --------
-    >>> import pfs
     >>> schedule = pfs.Instance([[3, 2], [2, 5], [4, 1]]).schedule([1, 0, 2])
     >>> schedule.makespan
     10
@@ -97,7 +96,6 @@ class Schedule:
 
         Examples
         --------
-        >>> import pfs
         >>> schedule = pfs.Instance([[3, 2], [2, 5], [4, 1]]).schedule([1, 0, 2])
         >>> schedule.critical_path()
         [(0, 0), (0, 1), (1, 1), (2, 1)]
@@ -112,7 +110,6 @@ class Schedule:
 
         Examples
         --------
-        >>> import pfs
         >>> pfs.Instance([[3, 2], [2, 5], [4, 1]]).schedule([1, 0, 2]).idle()
         array([[0, 2],
                [0, 0],
@@ -130,7 +127,6 @@ class Schedule:
 
         Examples
         --------
-        >>> import pfs
         >>> frame = pfs.Instance([[3, 2], [2, 5]]).schedule([1, 0]).to_frame()
         >>> print(frame.to_string(index=False))
          job  machine  start  end
@@ -153,23 +149,19 @@ class Schedule:
 
     def to_csv(self, path: str | os.PathLike[str] | None = None, delimiter: str = ",", *,
                mark: bool = False, calendar: Calendar | None = None) -> str | None:
-        """Write the operations as CSV. A name that a spreadsheet would interpret as a formula gets an apostrophe.
+        """Write the operations as CSV, or return them as a text if there is no path. A name that a spreadsheet would
+        interpret as a formula gets an apostrophe.
 
         Parameters
         ----------
         path : str or os.PathLike, optional
-            The file. An existing file is replaced atomically. By default the text is returned.
+            The file. An existing file is replaced atomically.
         delimiter : str
             The separator of the columns. With ``;`` decimals have a comma.
         mark : bool
             Begin the file with a byte order mark. Excel needs it to read letters such as ``ä`` correctly.
         calendar : Calendar, optional
             Write dates and times of day, such as ``2026-11-30 06:00``, instead of times.
-
-        Returns
-        -------
-        str or None
-            The text, if there is no path.
 
         Raises
         ------
@@ -193,19 +185,12 @@ class Schedule:
         return None
 
     def to_xlsx(self, path: str | os.PathLike[str], *, calendar: Calendar | None = None) -> None:
-        """Write the operations as a workbook, with numbers, or with dates and times of day.
+        """Write the operations as a workbook, with numbers, or with dates and times of day. This needs openpyxl.
 
         Parameters
         ----------
-        path : str or os.PathLike
-            The file. An existing file is replaced atomically.
-        calendar : Calendar, optional
-            Write dates and times of day instead of times.
-
-        Raises
-        ------
-        ImportError, ValueError
-            If openpyxl isn't installed, or as by :meth:`to_csv`.
+        path, calendar : str or os.PathLike, Calendar
+            As for :meth:`to_csv`, which raises the same errors.
         """
         shop = self.instance
         clock = None if calendar is None else Clock(calendar, shop)
@@ -269,9 +254,8 @@ class Schedule:
             If matplotlib isn't installed, an argument is of the wrong type, the name has another ending, a number is
             out of range, ``ax`` is given for a page, or a calendar for times whose unit is not a unit of time.
         """
-        from pfs._chart import Frame, plot
-        return plot(self, path, critical=critical, bound=bound, unit=unit, frame=Frame(width, dpi, title, ax),
-                    calendar=calendar)
+        from pfs._chart import plot
+        return plot(self, path, Look(width, dpi, title, critical), bound, unit, ax, calendar)
 
     def _repr_svg_(self) -> str | None:
         """Return the chart for Jupyter, or None without matplotlib or if the chart would be very large."""

@@ -49,7 +49,6 @@ class Solution:
 
     Examples
     --------
-    >>> import pfs
     >>> best = pfs.Instance([[3, 2], [2, 5], [4, 1]]).neh()
     >>> best
     Solution(order=[1, 0, 2], makespan=10)
@@ -112,13 +111,8 @@ class Solution:
         return text.raw[:length.value].decode("ascii")
 
     def write(self, path: str | os.PathLike[str]) -> None:
-        """Write an order file, which ``pfs check`` and :func:`pfs.read_order` read.
-
-        Parameters
-        ----------
-        path : str or os.PathLike
-            The file. An existing file is replaced atomically.
-        """
+        """Write an order file, which ``pfs check`` and :func:`pfs.read_order` read. An existing file is replaced
+        atomically."""
         atomic_write(path, self.to_text().encode("ascii"))
 
 

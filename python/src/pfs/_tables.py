@@ -193,7 +193,7 @@ def read_csv(source: str | os.PathLike[str], unit: str = "", *, decimal: str | N
 
     Examples
     --------
-    >>> import pathlib, tempfile, pfs
+    >>> import pathlib, tempfile
     >>> path = pathlib.Path(tempfile.mkdtemp(), "plan.csv")
     >>> _ = path.write_text("job [h];saw;drill\\ntable;3;2,5\\nchair;2;5\\n")
     >>> shop = pfs.read_csv(path)

@@ -170,8 +170,6 @@ def checked_jobs(given: Any, what: str) -> npt.NDArray[np.uint32]:
     own = array_copy(given, what)
     if own.ndim != 1:
         raise ValueError(f"{what} must be a list of jobs, not of the shape {own.shape}")
-    if own.dtype.kind == "b":
-        raise TypeError(f"{what} must be whole numbers, not of dtype {own.dtype}")
     return as_uint32(own, MOST_UINT32, what, "place {}", "isn't a job: jobs count from 0")
 
 

@@ -10,7 +10,7 @@ def number(least: int, most: int) -> Callable[[str], int]:
     """Return a parser of integers from `least` to `most`."""
     def read(text: str) -> int:
         if not re.fullmatch("[0-9]{1,30}", text, re.ASCII) or not least <= int(text) <= most:
-            raise argparse.ArgumentTypeError(f"{text!r} is not a number from {least:,} to {most:,}")
+            raise argparse.ArgumentTypeError(f"{text!r} is not a whole number from {least:,} to {most:,}")
         return int(text)
     return read
 

@@ -44,7 +44,7 @@ def command_line() -> CommandLine:
     taillard.add_argument("folder", metavar="FOLDER", type=pathlib.Path)
     run = add("run", "Makes the runs of a plan with GNU parallel, which gets the further options.", allow_abbrev=False)
     slurm = add("slurm", "Makes the runs of a plan on a Slurm cluster, as one array; sbatch gets the further options.",
-                allow_abbrev=False)
+                "run", allow_abbrev=False)
     for starter in (run, slurm):
         starter.add_argument("--retry", action="store_true", help="repeat the runs that failed")
         starter.add_argument("plan", metavar="PLAN")

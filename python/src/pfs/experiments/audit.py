@@ -6,7 +6,7 @@ import contextlib
 import os
 import pathlib
 
-from pfs._atomic import atomic_write, text_cell
+from pfs._atomic import text_cell
 from pfs._audit import Audited, Shelf
 from pfs._audit import audit as audited
 from pfs._faults import Fault
@@ -28,8 +28,7 @@ def audit(args: argparse.Namespace) -> int:
         raise ExperimentError(f"{args.csv} is the table: name another file for the verdicts")
     if args.csv:
         rows = [[text_cell(cell) if isinstance(cell, str) else cell for cell in row] for row in found]
-        text = csv_text([["line", *Audited._fields[1:]], *rows])
-        atomic_write(args.csv, text.encode(errors="backslashreplace"))
+        stage.write_text(args.csv, csv_text([["line", *Audited._fields[1:]], *rows]))
     for row in found:
         if row.why:
             name = f"{row.instance} {row.method}".rstrip()

@@ -153,9 +153,6 @@ class Search:
         if number != 0:
             raise Failed("solve: exit 4, pfs: no memory" if number == 1 else f"libpfs: {function} returns {number}")
 
-    def neh(self) -> None:
-        self.call("pfs_neh")
-
     def run_rounds(self, count: int) -> int:
         """Runs rounds of one seed, at most this number, and returns how many."""
         first, seed = self.rounds % MOST_ROUNDS, self.seed + self.rounds // MOST_ROUNDS * STEP
@@ -169,7 +166,7 @@ def search(running: Search, seconds: float) -> float:
     """Searches for this processor time, and returns the time spent. A part is only started if it is expected to end in
     time, as estimated from the part before it."""
     start = time.process_time()
-    running.neh()
+    running.call("pfs_neh")
     count, before = 1, time.process_time()
     while count > 0 and before - start < seconds:
         made = running.run_rounds(count)
@@ -305,21 +302,13 @@ def kill_descendants() -> int:
     return killed
 
 
-# The run
-
-def find(run: Run) -> Found:
-    """Searches with the command of the method, by time, or by rounds."""
-    with open(os.path.join(HERE, "commands.json"), encoding="utf-8") as file:
-        command = json.load(file).get(run.method)
-    if command:
-        return by_command(command, run)
-    return by_rounds(run) if run.limit == "-" else by_time(run)
-
-
 def main() -> None:
+    """Searches with the command of the method, by rounds or by time, and audits the order."""
     run, order = Run._make(sys.argv[1:]), ""
     try:
-        made = find(run)
+        with open(os.path.join(HERE, "commands.json"), encoding="utf-8") as file:
+            command = json.load(file).get(run.method)
+        made = by_command(command, run) if command else by_rounds(run) if run.limit == "-" else by_time(run)
         order = made.order
         row = [run.number, *audit(run, order), made.cells, f"{made.seconds:.6f}", "ok"]
         row += [made.rounds, str(made.left)] if made.rounds or made.left else []

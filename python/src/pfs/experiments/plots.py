@@ -1,7 +1,6 @@
 """The plots of a report. A plot is left out if no run has its values."""
 from __future__ import annotations
 
-import io
 import math
 import pathlib
 import textwrap
@@ -14,13 +13,13 @@ from matplotlib.figure import Figure
 from matplotlib.ticker import NullLocator
 
 from pfs._atomic import atomic_write
+from pfs._drawing import picture_of
 from pfs.experiments import plain
 from pfs.experiments.statistics import SETTING, setting_names
 
 # The same runs give the same bytes on every machine. The fonts of a PDF are TrueType. No name is shown as a formula.
 SETTINGS = {"svg.fonttype": "none", "svg.hashsalt": "pfs", "pdf.fonttype": 42, "axes.grid": True, "grid.alpha": 0.3,
             "axes.spines.top": False, "axes.spines.right": False, "font.size": 9, "text.parse_math": False}
-DATES = {"svg": {"Date": None}, "pdf": {"CreationDate": None}}
 # The approximate width and height of a letter in inches, and the most letters of a name in a picture.
 WIDE, HIGH, LONGEST = 0.077, 0.17, 40
 # Shorter times can't be measured.
@@ -49,9 +48,7 @@ def plot(done: pd.DataFrame, shared: pd.DataFrame, folder: pathlib.Path, ending:
         if figure is not None:
             if not titles:
                 figure.suptitle("")
-            made = io.BytesIO()
-            figure.savefig(made, format=ending, dpi=dpi, metadata=DATES.get(ending))
-            atomic_write(folder / f"{name}.{ending}", made.getvalue())
+            atomic_write(folder / f"{name}.{ending}", picture_of(figure, ending, dpi))
 
 
 def shown(name: str) -> str:

@@ -1,4 +1,4 @@
-"""Runs with GNU parallel, here and over ssh; their results and the CSV; and audits of it."""
+"""Runs with GNU parallel, here and over ssh, and on a Slurm cluster; their results and the CSV; and audits of it."""
 from __future__ import annotations
 
 import argparse
@@ -6,9 +6,11 @@ import contextlib
 import csv
 import fcntl
 import io
+import math
 import os
 import pathlib
 import re
+import shlex
 import signal
 import subprocess
 import sys
@@ -33,6 +35,10 @@ DISTINCT = ["method", "rounds", "time_factor", "take", "passes", "seed"]
 # The columns of a CSV that identify a run, and all that `check` needs.
 SAME = ["instance", "method", "rounds", "time_factor", "take", "passes", "seed", "repetition"]
 NEEDED = ["instance", "rounds", "take", "passes", "seed", "repetition", "makespan", "bound", "status", "order"]
+# By default an array of Slurm has at most this number of tasks, and each takes at least about this number of seconds.
+MOST_TASKS, LEAST_SECONDS = 1000, 60
+# More than pfs needs for a table cell.
+SECONDS_A_CELL = 1e-9
 
 
 def run(args: argparse.Namespace) -> int:
@@ -76,6 +82,44 @@ def parallel(folder: pathlib.Path, words: list[str]) -> None:
     signal.pthread_sigmask(signal.SIG_UNBLOCK, stops)
     process.wait()
     one.kill_descendants()
+
+
+# Slurm
+
+def slurm(args: argparse.Namespace) -> int:
+    """Submits an array that makes the runs that are left, waits for it and for earlier ones of the same CSV, and writes
+    the CSV. After an interruption the array continues."""
+    require_program("sbatch", "slurm-client")
+    experiment = prepare(args.plan, args.csv, args.pfs)
+    left = list_left(experiment, args.retry)
+    # Runs that are shorter than a minute share a task.
+    usual = min(MOST_TASKS, max(1, math.ceil(sum(map(seconds_of, left)) / LEAST_SECONDS)))
+    tasks = min(len(left), int(args.tasks or usual))
+    task = str(pathlib.Path(one.__file__).with_name("task"))
+    words = ["sbatch", "--wait", f"--array=1-{tasks}", f"--job-name={experiment.stage}", "--dependency=singleton",
+             "--output=slurm/%A-%a.log", *args.options, task, experiment.stage]
+    (experiment.folder / "slurm").mkdir(exist_ok=True)
+    if args.dry_run:
+        if left:
+            print(f"cd {shlex.quote(str(experiment.folder))} && {shlex.join(words)}")
+        print(f"{args.csv}: {len(left)} runs still to run", file=sys.stderr)
+        return 0
+    if left:
+        subprocess.run(words, cwd=experiment.folder, stdin=subprocess.DEVNULL, stdout=sys.stderr)
+    return 1 if any(gather(experiment, args.csv)) else 0
+
+
+def seconds_of(run: Row) -> float:
+    """Returns about how many seconds a run takes. A command without a time, or a run of an instance that pfs rejects,
+    needs a whole task."""
+    if run["limit"]:
+        return float(run["limit"])
+    numbers = [run[column] for column in ("jobs", "machines", "rounds", "take", "passes")]
+    if not all(map(str.isdigit, numbers)):
+        return LEAST_SECONDS
+    jobs, machines, rounds, take, passes = map(int, numbers)
+    round_cells = 2 * take * (2 * jobs - take) + passes * jobs * (4 * jobs - 2)
+    return SECONDS_A_CELL * machines * (2 * jobs * jobs + rounds * round_cells)
 
 
 # Results

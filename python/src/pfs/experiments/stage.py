@@ -4,11 +4,15 @@ from __future__ import annotations
 
 import argparse
 import contextlib
+import datetime
 import fcntl
+import filecmp
+import hashlib
 import itertools
 import json
 import os
 import pathlib
+import platform
 import re
 import secrets
 import shutil
@@ -19,7 +23,8 @@ from typing import Any, NamedTuple
 
 from pfs._atomic import atomic_write
 from pfs._benchmarks import taillard_rows
-from pfs.experiments import ExperimentError, listed, one, plain, provenance
+from pfs._version import VERSION
+from pfs.experiments import ExperimentError, listed, one, plain
 from pfs.experiments.plan import Row, read_plan, reference_for, reference_of
 
 # What plan.json has of a run: columns of the CSV, its number, the copy of its instance, and the seconds of a search by
@@ -33,6 +38,10 @@ OF_ROUNDS = ["take", "passes", "seed"]
 ONE_JOB = b"1 1 1 0 0\nprocessing times :\n1\n"
 # Seconds after which a program that doesn't behave like pfs is killed.
 PATIENCE = 20
+# What the runs were made with.
+PROVENANCE = "provenance.json"
+# Of each input its name, its path, and the path of the copy that the runs use.
+Inputs = list[tuple[str, str, pathlib.Path]]
 
 
 class Experiment(NamedTuple):
@@ -105,8 +114,8 @@ def prepare(plan_path: str, csv_path: str, program: str | None) -> Experiment:
             raise ExperimentError(f"{csv_path} was started with another {what}: use another CSV")
         inputs = copied_inputs(plan, stored["places"], top, folder / stage_of(folder))
         experiment = Experiment(folder, add_runs(plan, stored, top, folder, csv_path), reference)
-        provenance.note_start(folder, plan, inputs)
-        if changed := provenance.changed(inputs):
+        note_start(folder, plan, inputs)
+        if changed := changed_in(inputs):
             text = (f"{csv_path}: changed since they were copied for its runs: {', '.join(changed)}. The copies are "
                     f"used: to begin anew, name another CSV or delete {csv_path}.d")
             print(plain(text), file=sys.stderr, flush=True)
@@ -173,7 +182,7 @@ def copy(source: str, to: pathlib.Path) -> None:
         os.replace(new, to)
 
 
-def copied_inputs(plan: dict[str, Any], places: dict[str, int], top: str, stage: pathlib.Path) -> provenance.Inputs:
+def copied_inputs(plan: dict[str, Any], places: dict[str, int], top: str, stage: pathlib.Path) -> Inputs:
     """Copies what the runs need: a command with its files, or the library for searches by time, and the instances.
     Returns them and the program. Where the program and the library are is left out: every version of them finds the
     same orders."""
@@ -311,3 +320,37 @@ def stage_of(folder: pathlib.Path) -> str:
     for stage in folder.glob("pfs-experiment-*"):
         return stage.name
     raise ExperimentError(f"{folder} has no copy of the program: delete it to start again")
+
+
+# Provenance
+
+def note_start(folder: pathlib.Path, plan: dict[str, Any], inputs: Inputs) -> None:
+    """Writes the version, the plan and the sums of the copies, and adds this start to the earlier ones."""
+    sums = {name: hashlib.sha256(copy.read_bytes()).hexdigest() for name, _, copy in inputs}
+    start = {"at": datetime.datetime.now(datetime.timezone.utc).isoformat(timespec="seconds"),
+             "host": os.uname().nodename, "processor": processor(), "processors": os.cpu_count(),
+             "system": platform.platform(), "python": platform.python_version()}
+    starts = [*earlier_starts(folder), start]
+    text = json.dumps({"version": VERSION, "plan": plan, "sha256": sums, "starts": starts}, indent=1)
+    write_text(folder / PROVENANCE, f"{text}\n")
+
+
+def earlier_starts(folder: pathlib.Path) -> list[Any]:
+    """Returns the starts in the file; none if there is no such file or it is damaged."""
+    with contextlib.suppress(OSError, ValueError, RecursionError, KeyError, TypeError):
+        return list(json.loads((folder / PROVENANCE).read_bytes())["starts"])
+    return []
+
+
+def processor() -> str:
+    """Returns the name of the processor, or an empty text."""
+    with contextlib.suppress(OSError), open("/proc/cpuinfo", encoding="utf-8", errors="replace") as file:
+        for line in file:
+            if line.startswith("model name"):
+                return line.partition(":")[2].strip()
+    return platform.processor()
+
+
+def changed_in(inputs: Inputs) -> list[str]:
+    """Returns the names of the inputs that differ from their copies. One that is gone has not changed."""
+    return [name for name, path, copy in inputs if os.path.isfile(path) and not filecmp.cmp(path, copy, shallow=False)]
