@@ -568,6 +568,9 @@ class Instance:
 
         Raises
         ------
+        TypeError, ValueError
+            If an option is of the wrong type or out of range, or ``start`` isn't an order of all jobs or is a solution
+            for another number of machines.
         Interrupted
             After Ctrl-C. Its ``solution`` is the best so far. To continue, call ``solve(.., start=stop.solution,
             first=stop.solution.rounds)`` with the rounds that are left, to the same result.
