@@ -1,7 +1,6 @@
 //! Arguments from C: they are validated and copied into the types of the crates below.
 ghost use Rattle.std.specs.Prelude.{◌≡◌, ℕ, ◌≤◌, ◌<◌, ◌*◌, ◌↔◌, [], ◌∷◌, ◌++◌, length, false, All, Contains};
-ghost use Rattle.std.specs.Prelude.{IsOk, IsTrue, IfOk, IfErr, nat_eq, slice_index_or};
-ghost use Rattle.std.specs.List.{IsDistinct};
+ghost use Rattle.std.specs.Prelude.{◌≢◌, Err, IsOk, IsTrue, IfOk, IfErr, slice_index_or};
 ghost use Rattle.pfs_base.specs.FlowShop.{AreSizes, IsWithin};
 ghost use Rattle.pfs_base.specs.Limits.{limits};
 ghost use Rattle.pfs_base.specs.Lists.{first_some};
@@ -97,6 +96,7 @@ pub(crate) fn validate_jobs(size: usize, jobs: &[u32]) -> Result<(), CallFault>
     requires { size ≤ MOST_JOBS }
     ensures validated { Validates result (jobs_fault size jobs.now) }
     ensures sequence { IsOk result ↔ IsSequence size jobs.now }
+    ensures kind { result ≢ Err CallFault.Room }
 {
     // Only a list that has a fault is searched for the first one.
     if size <= FEW_JOBS && is_sequence(size as u32, jobs, &mut [false; FEW_JOBS]) {
@@ -123,15 +123,13 @@ pub(crate) fn validate_more(size: usize, sequence: &[u32], more: &[u32]) -> Resu
     requires { IsSequence size sequence.now }
     ensures validated { Validates result (jobs_fault size (sequence.now ++ more.now)) }
     ensures together { IfOk result (λ done. IsSequence size (sequence.now ++ more.now)) }
+    ensures kind { result ≢ Err CallFault.Room }
 {
     for (place, job) in more.iter().enumerate() {
         if *job as usize >= size {
             return Err(CallFault::Job);
         }
-        if sequence.contains(job) {
-            return Err(CallFault::Repeated);
-        }
-        if more[..place].contains(job) {
+        if sequence.contains(job) || more[..place].contains(job) {
             return Err(CallFault::Repeated);
         }
     }
@@ -149,20 +147,14 @@ pub(crate) fn validate_insertion(size: usize, sequence: &[u32], job: u32) -> Res
     ensures in_range { IfOk result (λ done. job < size) }
     ensures absent { IfOk result (λ done. Contains sequence.now job → ⊥) }
 {
-    if size <= FEW_JOBS && is_insertion(size, sequence, job) {
-        return Ok(());
+    if size <= FEW_JOBS && (job as usize) < size {
+        let mut marks = [false; FEW_JOBS];
+        if is_sequence(size as u32, sequence, &mut marks) && !marks[job as usize] {
+            return Ok(());
+        }
     }
     validate_jobs(size, sequence)?;
-    validate_job(size, sequence, job)
-}
-
-// Whether the job and the jobs of the sequence are distinct and below the size, which is at most `FEW_JOBS`.
-fn is_insertion(size: usize, sequence: &[u32], job: u32) -> bool
-    requires { size ≤ FEW_JOBS }
-    ensures { IsTrue result ↔ IsSequence size (job ∷ sequence.now) }
-{
-    let mut marks = [false; FEW_JOBS];
-    (job as usize) < size && is_sequence(size as u32, sequence, &mut marks) && !marks[job as usize]
+    validate_more(size, sequence, &[job])
 }
 
 // Whether the jobs are distinct and below the size. If so, they are marked. No job is marked before.
@@ -173,52 +165,21 @@ fn is_sequence(size: u32, jobs: &[u32], marks: &mut [bool]) -> bool
     ensures sequence { IsTrue result ↔ IsSequence size jobs.now }
     ensures marked { IsTrue result → (job : ℕ) → IsTrue (slice_index_or marks.new job false) ↔ Contains jobs.now job }
 {
-    are_below(size, jobs) && are_distinct(jobs, marks)
-}
-
-// Whether each job is below the size. All are compared, since a loop that may end early is not vectorized.
-#[tactic(auto, using(crate::proofs::Marks::small_more, crate::proofs::Marks::small_all))]
-fn are_below(size: u32, jobs: &[u32]) -> bool
-    ensures { IsTrue result ↔ All (λ job. job < size) jobs.now }
-{
+    // All jobs are compared, since a loop that may end early is not vectorized.
     let mut is_below = true;
     for job in jobs {
         is_below &= *job < size;
     }
-    is_below
-}
-
-// Whether the jobs are distinct. They are marked; no job is marked before. A repeated job does not end the loop, so each
-// job is marked without a branch.
-#[tactic(auto, using(crate::proofs::Marks::one_mark))]
-fn are_distinct(jobs: &[u32], marks: &mut [bool]) -> bool
-    requires small { All (λ job. job < length marks.old) jobs.now }
-    requires none { All (λ mark. mark ≡ false) marks.old }
-    ensures distinct { IsTrue result ↔ IsDistinct nat_eq jobs.now }
-    ensures marked { (job : ℕ) → IsTrue (slice_index_or marks.new job false) ↔ Contains jobs.now job }
-{
+    if !is_below {
+        return false;
+    }
+    // A repeated job does not end the loop, so each job is marked without a branch.
     let mut is_repeated = false;
     for job in jobs {
         is_repeated |= marks[*job as usize];
         marks[*job as usize] = true;
     }
     !is_repeated
-}
-
-// Validates a job to insert into a sequence. Returns `Job` if it is not below the size, else `Repeated` if it is in
-// the sequence already. The time is linear in the length of the sequence.
-fn validate_job(size: usize, sequence: &[u32], job: u32) -> Result<(), CallFault>
-    ensures validated { Validates result (job_fault size sequence.now job) }
-    ensures in_range { IfOk result (λ done. job < size) }
-    ensures absent { IfOk result (λ done. Contains sequence.now job → ⊥) }
-{
-    if job as usize >= size {
-        return Err(CallFault::Job);
-    }
-    if sequence.contains(&job) {
-        return Err(CallFault::Repeated);
-    }
-    Ok(())
 }
 
 /// Validates a number of passes: `Passes` if it is above the limit.

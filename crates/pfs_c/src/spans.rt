@@ -18,7 +18,7 @@ ghost use Rattle.pfs_c.specs.Private.Outcomes.{Rejects, Validates};
 use crate::given::{order_of, validate_jobs, validate_length, validate_product};
 use crate::handle::Prepared;
 use crate::numbers::{CallFault, PFS_OK, number_of};
-use crate::rows::{fill_heads, fill_tails, span_of};
+use crate::rows::{fill_rows, span_of};
 use pfs_audit::{TimeTable, bound, table};
 use pfs_base::{Instance, MOST_JOBS};
 use std::alloc::Global;
@@ -277,7 +277,7 @@ fn heads_tails_in(
     validate_product(heads.len(), sequence.len(), machines)?;
     validate_product(tails.len(), sequence.len(), machines)?;
     validate_jobs(instance.jobs(), sequence)?;
-    fill_heads(instance, sequence, heads);
-    fill_tails(instance, sequence, tails);
+    fill_rows(instance, sequence, heads, false);
+    fill_rows(instance, sequence, tails, true);
     Ok(())
 }
