@@ -1,6 +1,6 @@
 -- Arguments have no fault exactly if they are right.
 use Rattle.std.proofs.Common.{◌≡◌, ℕ, ◌*◌, ◌&&◌, Bool, true, false, [], ◌∷◌, length, refl, None, get_or, nat_le}
-use Rattle.std.proofs.Common.{◌≤◌, arith, List, Option, Some}
+use Rattle.std.proofs.Common.{arith, List, Option, Some}
 use Rattle.std.proofs.lemmas.Bool.{leb-true, le-leb, eqb-true, eq-eqb}
 use Rattle.std.proofs.lemmas.Bool.Decides.{nat_tests}
 use Rattle.std.proofs.lemmas.List.Sums.{AllPass-from_list_all, list_all-from_AllPass}

@@ -1,5 +1,5 @@
 -- Lists of jobs of a sequence, and what construction and local search find.
-use Rattle.std.proofs.Common.{◌≡◌, ℕ, ◌+◌, ◌<◌, ◌++◌, refl, false, List, [], ◌∷◌, length, get_or, nat_eq, All, Contains}
+use Rattle.std.proofs.Common.{◌≡◌, ℕ, ◌+◌, ◌<◌, ◌++◌, refl, List, [], ◌∷◌, length, get_or, nat_eq, All, Contains}
 use Rattle.std.proofs.Common.{insert, ◌∙◌, Some, None, arith}
 use Rattle.std.specs.List.{list_any}
 use Rattle.std.specs.Cmp.{nat_eq_equiv}

@@ -1,11 +1,11 @@
 -- Lists of jobs that are validated from the left.
-use Rattle.std.proofs.Common.{◌≡◌, ◌↔◌, ℕ, zero, suc, ◌+◌, ◌-◌, ◌<◌, ◌≤◌, ◌++◌, refl, true, false, List, [], ◌∷◌, length, take}
-use Rattle.std.proofs.Common.{drop, map, get_or, nat_eq, nat_lt, All, Contains, ◌∙◌, sym, ap, inl, inr, arith, Option, Some}
-use Rattle.std.proofs.Common.{None, zero-add, suc-add, append_assoc, Result, IsOk}
+use Rattle.std.proofs.Common.{◌≡◌, ◌↔◌, ℕ, zero, suc, ◌+◌, ◌-◌, ◌<◌, ◌≤◌, ◌++◌, refl, false, List, [], ◌∷◌}
+use Rattle.std.proofs.Common.{length, take, drop, map, get_or, nat_eq, Contains, ◌∙◌, sym, ap, inl, inr, arith}
+use Rattle.std.proofs.Common.{Option, Some, None, zero-add, suc-add, append_assoc, Result, IsOk}
 use Rattle.std.specs.List.{list_any}
 use Rattle.std.specs.Option.{option_or}
 use Rattle.std.specs.Cmp.{nat_eq_equiv}
-use Rattle.std.proofs.lemmas.Bool.{eqb-true, lt-ltb, le-ltb, ltb-true, false_from_ne_true, cases_lt}
+use Rattle.std.proofs.lemmas.Bool.{eqb-true, lt-ltb, le-ltb, false_from_ne_true, cases_lt}
 use Rattle.std.proofs.lemmas.List.{append-nil, get_or_at, get_or_append_left, length-append, map-append, take_at}
 use Rattle.std.proofs.lemmas.List.{take-append-drop, take-append-le, take_more}
 use Rattle.std.proofs.lemmas.List.Sorted.{IsPermutation-append_comm}
@@ -34,8 +34,12 @@ below_more : (f : ℕ → Option CallFault) (count : ℕ)
     → first_some (map f (below (suc count))) ≡ option_or (first_some (map f (below count))) (f count)
 below_more f count =
     ap (λ xs. first_some (map f xs)) (range_with_len-push 0 count)
-    ∙ rw (zero-add count, map-append f (below count) (count ∷ []),
-    first_some-append (map f (below count)) (f count ∷ []), first_one (f count)) refl
+    ∙ rw (
+      zero-add count,
+      map-append f (below count) (count ∷ []),
+      first_some-append (map f (below count)) (f count ∷ []),
+      first_one (f count),
+    ) refl
 
 -- a fault is that of all checks
 below_all : (f : ℕ → Option CallFault) (count more : ℕ) (why : CallFault)
@@ -104,8 +108,13 @@ jobs_more size jobs job =
     let before : map (place_fault size all) (below (length jobs)) ≡ map (place_fault size jobs) (below (length jobs)) =
     map-range_with_len-same (place_fault size all) (place_fault size jobs) 0 (length jobs) (λ i low lt.
     rw (take-append-le i jobs (job ∷ []) (omega arith), get_or_append_left jobs (job ∷ []) 0 i (omega arith)) refl) in
-    rw (long, below_more (place_fault size all) (length jobs), before, take_at jobs (job ∷ []) (length jobs) refl,
-    get_or_at jobs job [] 0 (length jobs) refl) refl
+    rw (
+      long,
+      below_more (place_fault size all) (length jobs),
+      before,
+      take_at jobs (job ∷ []) (length jobs) refl,
+      get_or_at jobs job [] 0 (length jobs) refl,
+    ) refl
 
 -- a fault of the first jobs is that of all
 pub jobs_all : (size : ℕ) (front rest : List ℕ) (why : CallFault) → jobs_fault size front ≡ Some why

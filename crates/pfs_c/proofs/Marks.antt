@@ -1,6 +1,7 @@
 -- Jobs that are compared and marked in loops without branches.
-use Rattle.std.proofs.Common.{◌≡◌, ◌↔◌, ℕ, ◌+◌, ◌<◌, ◌≤◌, Bool, true, false, List, [], ◌∷◌, ◌++◌, length, take, get_or}
-use Rattle.std.proofs.Common.{nat_eq, nat_lt, set, All, Contains, ◌||◌, ◌&&◌, not, sym, ◌∙◌, inl, inr, refl, arith, length-set}
+use Rattle.std.proofs.Common.{◌≡◌, ◌↔◌, ℕ, ◌+◌, ◌<◌, ◌≤◌, Bool, true, false, List, [], ◌∷◌, length, take, get_or}
+use Rattle.std.proofs.Common.{nat_eq, nat_lt, set, All, Contains, ◌||◌, ◌&&◌, not, sym, ◌∙◌, inl, inr, refl, arith}
+use Rattle.std.proofs.Common.{length-set}
 use Rattle.std.specs.List.{list_all, list_any}
 use Rattle.std.specs.Cmp.{nat_eq_equiv}
 use Rattle.std.proofs.lemmas.Bool.{cases_Bool, eqb-true, eqb-false, lt-ltb, ltb-true, or_parts, or_from}

@@ -11,7 +11,7 @@ use Rattle.pfs_base.specs.Limits.{limits}
 use Rattle.pfs_base.specs.Paths.{operation, makespan}
 use Rattle.pfs_base.proofs.Published.Heads.{head, head_before, head_le, head_before_le, head_more, head_step}
 use Rattle.pfs_base.proofs.Published.Heads.{heaviest_is, makespan_is, time_of-le}
-use Rattle.pfs_insert.specs.Exchange.{heaviest_front, heaviest_back}
+use Rattle.pfs_insert.specs.Exchange.{heaviest_back}
 use Rattle.pfs_insert.proofs.Published.TableRows.{back_none, back_last, back_more}
 use Rattle.pfs_order.specs.Sequence.{IsSequence}
 use Rattle.pfs_order.proofs.Published.Sequences.{length-le-size}
@@ -46,7 +46,8 @@ module _ (shop : FlowShop) (jobs : List ℕ) (back : Bool) where
   -- a row with the weights after `later` jobs at the first turns, and those after `count` jobs at the other ones
   pub record RowTo (count later turn : ℕ) (row : List ℕ) : Type 0 where
     pub done : (t : ℕ) → t < turn → get_or row (in_turn back shop.machines t) 0 ≡ head weigh later t
-    pub to_do : (t : ℕ) → turn ≤ t → t < shop.machines → get_or row (in_turn back shop.machines t) 0 ≡ head weigh count t
+    pub to_do : (t : ℕ) → turn ≤ t → t < shop.machines
+        → get_or row (in_turn back shop.machines t) 0 ≡ head weigh count t
 
   pub row_first : (count later : ℕ) (row : List ℕ) → IsRow shop jobs back count row → RowTo count later 0 row
   row_first count later row holds = record {
@@ -60,8 +61,9 @@ module _ (shop : FlowShop) (jobs : List ℕ) (back : Bool) where
   row_more count later turn machine row new so_far inside is wide new_is =
       rw is
       let at = in_turn back shop.machines in
-      let other : (t : ℕ) → t < shop.machines → t ≢ turn → get_or (set row (at turn) new) (at t) 0 ≡ get_or row (at t) 0 =
-      λ t lt apart. get_or-set_other row (at turn) (at t) new 0 (in_turn_other back shop.machines t turn lt inside apart) in
+      let other : (t : ℕ) → t < shop.machines → t ≢ turn
+      → get_or (set row (at turn) new) (at t) 0 ≡ get_or row (at t) 0 = λ t lt apart.
+      get_or-set_other row (at turn) (at t) new 0 (in_turn_other back shop.machines t turn lt inside apart) in
       record {
         done = λ t lt. elim (cases_eq t turn) [
           | inl is ↦ rw is (get_or-set_same row (at turn) new 0
@@ -103,13 +105,23 @@ module _ (shop : FlowShop) (jobs : List ℕ) (back : Bool) where
         time_of-le shop within (get_or jobs (in_turn back (length jobs) row) 0) (in_turn back shop.machines machine)
 
     pub head_short : (count turn : ℕ) → count ≤ length jobs → turn < shop.machines → head weigh count turn ≤ most_head
-    head_short count turn le lt = omega (arith, head_le weigh LONGEST_TIME small count turn,
-        length-le-size shop.jobs jobs sequence, within.sizes.few_jobs, within.sizes.few_machines)
+    head_short count turn le lt = omega (
+      arith,
+      head_le weigh LONGEST_TIME small count turn,
+      length-le-size shop.jobs jobs sequence,
+      within.sizes.few_jobs,
+      within.sizes.few_machines,
+    )
 
     pub before_short : (count turn : ℕ) → count ≤ length jobs → turn < shop.machines
         → head_before weigh count turn ≤ most_head
-    before_short count turn le lt = omega (arith, head_before_le weigh LONGEST_TIME small count turn,
-        length-le-size shop.jobs jobs sequence, within.sizes.few_jobs, within.sizes.few_machines)
+    before_short count turn le lt = omega (
+      arith,
+      head_before_le weigh LONGEST_TIME small count turn,
+      length-le-size shop.jobs jobs sequence,
+      within.sizes.few_jobs,
+      within.sizes.few_machines,
+    )
 
 -- ---- what the rows are
 
@@ -217,7 +229,8 @@ module _ (shop : FlowShop) (jobs : List ℕ) (back : Bool) where
             ∙ so_far r turn (omega (arith, lt, other)) in_row
       ]
 
-pub rows_all : (shop : FlowShop) (jobs : List ℕ) (back : Bool) (count : ℕ) (table : List ℕ) → RowsTo shop jobs back count table
+pub rows_all : (shop : FlowShop) (jobs : List ℕ) (back : Bool) (count : ℕ) (table : List ℕ)
+    → RowsTo shop jobs back count table
     → length jobs ≤ count → AreRows shop jobs back table
 rows_all shop jobs false count table so_far all = λ row machine inside lt.
     so_far row machine (omega arith) lt ∙ sym (heaviest_is (operation shop jobs) row machine)

@@ -5,14 +5,13 @@ ghost use Rattle.pfs_base.specs.FlowShop.{AreSizes, IsWithin};
 ghost use Rattle.pfs_base.specs.Limits.{limits};
 ghost use Rattle.pfs_base.specs.Lists.{first_some};
 ghost use Rattle.pfs_order.specs.Sequence.{IsSequence};
-ghost use Rattle.pfs_c.specs.Validation.{shop_of, sizes_fault, length_fault, times_fault, shop_fault};
+ghost use Rattle.pfs_c.specs.Validation.{shop_of, sizes_fault, length_fault, times_fault, shop_fault, unless};
 ghost use Rattle.pfs_c.specs.Validation.{jobs_fault, job_fault};
 ghost use Rattle.pfs_c.specs.Private.Outcomes.{Validates};
-ghost use Rattle.pfs_c.specs.Searching.{count_fault, passes_fault, take_fault};
 ghost use Rattle.pfs_c.specs.Texts.{put_in_front};
 
 use crate::numbers::CallFault;
-use pfs_base::{Instance, LONGEST_TIME, MOST_JOBS, MOST_MACHINES, MOST_PASSES, MOST_ROUNDS, Notes};
+use pfs_base::{Instance, LONGEST_TIME, MOST_JOBS, MOST_MACHINES, Notes};
 use pfs_order::{Order, Seq};
 use std::alloc::Global;
 
@@ -27,7 +26,15 @@ pub(crate) const NO_NOTES: Notes = Notes {
 // validating a few jobs.
 const FEW_JOBS: usize = 512;
 
-/// Validates the numbers of jobs and of machines. Returns `Size` if one is outside its limits.
+/// Returns an error unless a test succeeds.
+pub(crate) fn validate(test: bool, why: CallFault) -> Result<(), CallFault>
+    ensures validated { Validates result (unless test why) }
+    ensures passed { IfOk result (λ done. IsTrue test) }
+{
+    if test { Ok(()) } else { Err(why) }
+}
+
+/// Validates the numbers of jobs and of machines.
 pub(crate) fn validate_sizes(jobs: usize, machines: usize) -> Result<(), CallFault>
     ensures validated { Validates result (sizes_fault jobs machines) }
     ensures within { IfOk result (λ done. AreSizes limits jobs machines) }
@@ -39,18 +46,6 @@ pub(crate) fn validate_sizes(jobs: usize, machines: usize) -> Result<(), CallFau
     }
 }
 
-/// Validates the length of a list. Returns `Length` if it is not the wanted one.
-pub(crate) fn validate_length(length: usize, wanted: usize) -> Result<(), CallFault>
-    ensures validated { Validates result (length_fault length wanted) }
-    ensures equal { IfOk result (λ done. length ≡ wanted) }
-{
-    if length == wanted {
-        Ok(())
-    } else {
-        Err(CallFault::Length)
-    }
-}
-
 /// Validates the length of a list that must have `count * long` entries. If that product overflows, the length is
 /// wrong.
 pub(crate) fn validate_product(length: usize, count: usize, long: usize) -> Result<(), CallFault>
@@ -58,7 +53,7 @@ pub(crate) fn validate_product(length: usize, count: usize, long: usize) -> Resu
     ensures equal { IfOk result (λ done. length ≡ count * long) }
 {
     match count.checked_mul(long) {
-        Some(wanted) => validate_length(length, wanted),
+        Some(wanted) => validate(length == wanted, CallFault::Length),
         None => Err(CallFault::Length),
     }
 }
@@ -73,11 +68,7 @@ pub(crate) fn validate_times(times: &[u32]) -> Result<(), CallFault>
     for time in times {
         longest = longest.max(*time);
     }
-    if longest <= LONGEST_TIME {
-        Ok(())
-    } else {
-        Err(CallFault::Time)
-    }
+    validate(longest <= LONGEST_TIME, CallFault::Time)
 }
 
 /// Validates the sizes, then the number of times, then the times, and returns the first fault.
@@ -86,7 +77,7 @@ pub(crate) fn validate_shop(times: &[u32], jobs: usize, machines: usize) -> Resu
     ensures within { IfOk result (λ done. IsWithin limits (shop_of times.now jobs machines)) }
 {
     validate_sizes(jobs, machines)?;
-    validate_length(times.len(), jobs * machines)?;
+    validate(times.len() == jobs * machines, CallFault::Length)?;
     validate_times(times)
 }
 
@@ -180,39 +171,6 @@ fn is_sequence(size: u32, jobs: &[u32], marks: &mut [bool]) -> bool
         marks[*job as usize] = true;
     }
     !is_repeated
-}
-
-/// Validates a number of passes: `Passes` if it is above the limit.
-pub(crate) fn validate_passes(passes: u32) -> Result<(), CallFault>
-    ensures { Validates result (passes_fault passes) }
-{
-    if passes <= MOST_PASSES {
-        Ok(())
-    } else {
-        Err(CallFault::Passes)
-    }
-}
-
-/// Validates a destruction size: `Take` if it is not from 1 to the number of jobs.
-pub(crate) fn validate_take(take: usize, jobs: usize) -> Result<(), CallFault>
-    ensures { Validates result (take_fault take jobs) }
-{
-    if take >= 1 && take <= jobs {
-        Ok(())
-    } else {
-        Err(CallFault::Take)
-    }
-}
-
-/// Validates rounds by the first and their number: `Rounds` if the last is above the limit.
-pub(crate) fn validate_count(first: u32, count: u32) -> Result<(), CallFault>
-    ensures { Validates result (count_fault first count) }
-{
-    if first as u64 + count as u64 <= MOST_ROUNDS as u64 {
-        Ok(())
-    } else {
-        Err(CallFault::Rounds)
-    }
 }
 
 /// Makes an instance of validated times. It allocates once, and returns `Memory` if that fails; it has no other error.

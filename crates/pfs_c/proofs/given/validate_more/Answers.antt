@@ -10,8 +10,8 @@ use Rattle.pfs_c.proofs.given.validate_more.Goals.{then-contains-via-else-contai
 pub returns-then-job-size-clause-validated : goal.returns-then-job-size-clause-validated
 returns-then-job-size-clause-validated c =
     let at = c.loop-place in
-    let wrong = more_wrong c.args.size c.args.sequence.now c.args.more.now at.place c.loop-place-test.true at.invariant Job
-    (job_out c.args.size _ _ c.if-job-size.true) in
+    let wrong = more_wrong c.args.size c.args.sequence.now c.args.more.now at.place c.loop-place-test.true at.invariant
+    Job (job_out c.args.size _ _ c.if-job-size.true) in
     rw wrong refl
 
 pub returns-then-contains-clause-validated : goal.returns-then-contains-clause-validated
@@ -37,7 +37,10 @@ loop-place-preserved c =
     let first : Contains sequence job → ⊥ = search rules in
     let later : Contains before job → ⊥ = search rules in
     more_right c.args.size sequence c.args.more.now at.place c.loop-place-test.true at.invariant c.if-job-size.false
-    (λ among. elim (Contains-append_cases sequence before job among) [ inl early ↦ first early | inr late ↦ later late ])
+    (λ among. elim (Contains-append_cases sequence before job among) [
+      | inl early ↦ first early
+      | inr late ↦ later late
+    ])
 
 pub returns-clause-validated : goal.returns-clause-validated
 returns-clause-validated c =

@@ -1,6 +1,5 @@
 use Rattle.std.proofs.Common.{◌≡◌, ◌+◌, ◌∙◌, refl, sym, arith}
 use Rattle.pfs_base.proofs.Published.Heads.{head, head_before_more}
-use Rattle.pfs_c.specs.Private.Rows.{in_turn, turned}
 use Rattle.pfs_c.proofs.RowSteps.{before_short, head_short, in_turn_below, over_is, row_more, weigh, weight_is}
 use Rattle.pfs_c.proofs.rows.add_job.Goals as goal
 
@@ -15,7 +14,8 @@ greater-requires-clause-a c =
       arith,
       over_is shop jobs c.args.back c.args.count (c.args.count + 1) at.turn _ at.row at.invariant.row lt
           (rw wide.value at c.index_in_turn-machine.ensures),
-      head_short shop jobs c.args.back wide.within c.requires.sequence c.args.count at.turn (omega (arith, c.requires.count)) lt,
+      head_short shop jobs c.args.back wide.within c.requires.sequence c.args.count at.turn
+          (omega (arith, c.requires.count)) lt,
     )
 
 pub greater-requires-clause-b : goal.greater-requires-clause-b
@@ -47,7 +47,8 @@ loop-turn-preserved c =
     let new : c.greater.result + c.from.result ≡ head (weigh shop jobs back) (count + 1) at.turn = omega (
       arith,
       weight_is shop jobs back count at.turn _ at.before _
-          (over_is shop jobs back count (count + 1) at.turn _ at.row at.invariant.row lt machine) at.invariant.before time_is,
+          (over_is shop jobs back count (count + 1) at.turn _ at.row at.invariant.row lt machine) at.invariant.before
+          time_is,
       c.greater.ensures.value,
     ) in
     record {

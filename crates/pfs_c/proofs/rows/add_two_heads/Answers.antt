@@ -72,8 +72,8 @@ loop-machine-preserved c =
       c.greater.ensures.value,
       c.from.ensures,
     ) in
-    let second : c.greater-in-loop-machine.result + c.from-in-loop-machine.result ≡ head weights (place + 1 + 1) machine =
-    omega (
+    let second : c.greater-in-loop-machine.result + c.from-in-loop-machine.result
+    ≡ head weights (place + 1 + 1) machine = omega (
       arith,
       weight_is shop jobs false (place + 1) machine _ at.before_after _ first at.invariant.before_after
           (c.times_of-times_after.ensures.each machine lt),
