@@ -1,5 +1,5 @@
 //! Rows of heads and tails.
-ghost use Rattle.std.specs.Prelude.{◌≡◌, ℕ, ◌+◌, ◌*◌, ◌<◌, ◌≤◌, length, max, slice_index, false};
+ghost use Rattle.std.specs.Prelude.{◌≡◌, ℕ, ◌+◌, ◌*◌, ◌<◌, ◌≤◌, length, max, slice_index, false, true};
 ghost use Rattle.pfs_base.specs.FlowShop.{time_of};
 ghost use Rattle.pfs_base.specs.Paths.{makespan};
 ghost use Rattle.pfs_order.specs.Sequence.{IsSequence};
@@ -41,28 +41,24 @@ fn index_in_turn(count: usize, turn: usize, back: bool) -> usize
     if back { count - 1 - turn } else { turn }
 }
 
-// Turns a row before a job into the row after it: of heads, or with `back` of tails, which begin at the last job and
-// the last machine. The row is that of the first `count` jobs.
+// Turns the row of heads before the job at a place into the row after it.
 #[inline(always)]
-fn add_job(instance: &Instance, sequence: &[u32], count: usize, row: &mut [u64], back: bool)
+fn add_head(instance: &Instance, sequence: &[u32], place: usize, heads: &mut [u64])
     requires sequence { IsSequence instance.now.shop.jobs sequence.now }
-    requires count { count < length sequence.now }
-    requires wide { instance.now.shop.machines ≤ length row.old }
-    requires row { IsRow instance.now.shop sequence.now back count row.old }
-    ensures { IsRow instance.now.shop sequence.now back (count + 1) row.new }
+    requires place { place < length sequence.now }
+    requires wide { instance.now.shop.machines ≤ length heads.old }
+    requires heads { IsRow instance.now.shop sequence.now false place heads.old }
+    ensures { IsRow instance.now.shop sequence.now false (place + 1) heads.new }
 {
-    let place = index_in_turn(sequence.len(), count, back);
     let times = times_of(instance, sequence[place] as usize);
-    let machines = instance.machines();
     let mut before = 0;
-    for turn in 0..machines {
-        let machine = index_in_turn(machines, turn, back);
-        before = greater(row[machine], before) + u64::from(times[machine]);
-        row[machine] = before;
+    for machine in 0..instance.machines() {
+        before = greater(heads[machine], before) + u64::from(times[machine]);
+        heads[machine] = before;
     }
 }
 
-// The same of heads for two jobs. The cells of the second job wait for other cells than those of the first, so the
+// The same for two jobs. The cells of the second job wait for other cells than those of the first, so the
 // processor computes both at once.
 #[inline(always)]
 fn add_two_heads(instance: &Instance, sequence: &[u32], place: usize, heads: &mut [u64])
@@ -83,6 +79,39 @@ fn add_two_heads(instance: &Instance, sequence: &[u32], place: usize, heads: &mu
     }
 }
 
+// Turns the row of tails of the last `count` jobs into that of one more.
+#[inline(always)]
+fn add_tail(instance: &Instance, sequence: &[u32], count: usize, tails: &mut [u64])
+    requires sequence { IsSequence instance.now.shop.jobs sequence.now }
+    requires count { count < length sequence.now }
+    requires wide { instance.now.shop.machines ≤ length tails.old }
+    requires tails { IsRow instance.now.shop sequence.now true count tails.old }
+    ensures { IsRow instance.now.shop sequence.now true (count + 1) tails.new }
+{
+    let times = times_of(instance, sequence[sequence.len() - 1 - count] as usize);
+    let mut after = 0;
+    for machine in (0..instance.machines()).rev() {
+        after = greater(tails[machine], after) + u64::from(times[machine]);
+        tails[machine] = after;
+    }
+}
+
+// Adds a job to a row of heads, or with `back` to a row of tails.
+#[inline(always)]
+fn add_job(instance: &Instance, sequence: &[u32], count: usize, row: &mut [u64], back: bool)
+    requires sequence { IsSequence instance.now.shop.jobs sequence.now }
+    requires count { count < length sequence.now }
+    requires wide { instance.now.shop.machines ≤ length row.old }
+    requires row { IsRow instance.now.shop sequence.now back count row.old }
+    ensures { IsRow instance.now.shop sequence.now back (count + 1) row.new }
+{
+    if back {
+        add_tail(instance, sequence, count, row);
+    } else {
+        add_head(instance, sequence, count, row);
+    }
+}
+
 /// The makespan of a sequence.
 #[inline(never)]
 pub(crate) fn span_of(instance: &Instance, sequence: &[u32]) -> u64
@@ -97,7 +126,7 @@ pub(crate) fn span_of(instance: &Instance, sequence: &[u32]) -> u64
         add_two_heads(instance, sequence, 2 * pair, &mut heads);
     }
     if len % 2 == 1 {
-        add_job(instance, sequence, len - 1, &mut heads, false);
+        add_head(instance, sequence, len - 1, &mut heads);
     }
     heads[machines - 1]
 }
