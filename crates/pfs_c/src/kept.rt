@@ -14,14 +14,11 @@ ghost use Rattle.pfs_c.specs.Searching.{rounds_fault};
 ghost use Rattle.pfs_c.specs.Validation.{insertion_fault};
 ghost use Rattle.pfs_c.specs.Private.Outcomes.{Validates};
 
-use crate::given::{
-    copy_sequence, has_jobs, validate_count, validate_insertion, validate_jobs, validate_length,
-    validate_passes, validate_take,
-};
+use crate::given::{copy_sequence, has_jobs, validate, validate_insertion, validate_jobs};
 use crate::numbers::CallFault;
 use crate::rows::span_of;
 use crate::searching::RoundsOptions;
-use pfs_base::{Bench, Instance};
+use pfs_base::{Bench, Instance, MOST_PASSES, MOST_ROUNDS};
 use pfs_order::Seq;
 use pfs_search::{Rounds, Search};
 use std::alloc::Global;
@@ -115,11 +112,13 @@ impl Kept {
         ensures kept_cells { IfErr result (λ _. cells.new ≡ cells.old) }
     {
         let jobs = self.instance.jobs();
-        validate_length(order.len(), jobs)?;
+        validate(order.len() == jobs, CallFault::Length)?;
         validate_jobs(jobs, order)?;
-        validate_take(options.take, jobs)?;
-        validate_passes(options.passes)?;
-        validate_count(options.first, options.count)?;
+        validate(1 <= options.take, CallFault::Take)?;
+        validate(options.take <= jobs, CallFault::Take)?;
+        validate(options.passes <= MOST_PASSES, CallFault::Passes)?;
+        let last = options.first as u64 + options.count as u64;
+        validate(last <= MOST_ROUNDS as u64, CallFault::Rounds)?;
         let rounds = Rounds {
             count: options.count,
             take: options.take,
@@ -187,7 +186,7 @@ impl Kept {
         ensures shop { self.new ≡ self.old }
         ensures kept { IfErr result (λ _. makespans.new ≡ makespans.old) }
     {
-        validate_length(makespans.len(), sequence.len() + 1)?;
+        validate(makespans.len() == sequence.len() + 1, CallFault::Length)?;
         validate_insertion(self.instance.jobs(), sequence, job)?;
         self.is_span_known = false;
         self.sequence.set(sequence);

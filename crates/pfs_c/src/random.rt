@@ -6,7 +6,7 @@ ghost use Rattle.pfs_c.specs.Random.{words_from};
 ghost use Rattle.pfs_c.specs.Validation.{generate_fault};
 ghost use Rattle.pfs_c.specs.Private.Outcomes.{Rejects};
 
-use crate::given::{validate_length, validate_sizes};
+use crate::given::{validate, validate_sizes};
 use crate::numbers::{CallFault, PFS_OK};
 use pfs_base::Instance;
 use pfs_layout::generate;
@@ -70,6 +70,6 @@ fn generated_of(
     if seed < 1 || seed > 2_147_483_646 {
         return Err(CallFault::Seed);
     }
-    validate_length(long, jobs * machines)?;
+    validate(long == jobs * machines, CallFault::Length)?;
     generate(alloc, jobs, machines, seed).or(Err(CallFault::Memory))
 }

@@ -1,10 +1,9 @@
 //! Rows of heads and tails.
-ghost use Rattle.std.specs.Prelude.{◌≡◌, ◌≢◌, ℕ, ◌+◌, ◌*◌, ◌<◌, ◌≤◌, length, max, slice_index};
+ghost use Rattle.std.specs.Prelude.{◌≡◌, ℕ, ◌+◌, ◌*◌, ◌<◌, ◌≤◌, length, max, slice_index, false, true};
 ghost use Rattle.pfs_base.specs.FlowShop.{time_of};
 ghost use Rattle.pfs_base.specs.Paths.{makespan};
 ghost use Rattle.pfs_order.specs.Sequence.{IsSequence};
-ghost use Rattle.pfs_c.specs.HeadsTails.{AreRowHeads, AreRowTails};
-ghost use Rattle.pfs_c.specs.Private.Rows.{HeadsAt, TailsAt};
+ghost use Rattle.pfs_c.specs.Private.Rows.{AreRows, IsRow, in_turn};
 
 use pfs_base::{Instance, MOST_MACHINES, SPAN_MAX};
 
@@ -33,14 +32,23 @@ fn greater(a: u64, b: u64) -> u64
     if (a as i64) < (b as i64) { b } else { a }
 }
 
-// Turns the row of heads before the job at a place of a sequence into the row after it.
+// The index, below `count`, that comes at a turn: they go from 0 on, or with `back` from the last one down.
+#[inline(always)]
+fn index_in_turn(count: usize, turn: usize, back: bool) -> usize
+    requires { turn < count }
+    ensures { result ≡ in_turn back count turn }
+{
+    if back { count - 1 - turn } else { turn }
+}
+
+// Turns the row of heads before the job at a place into the row after it.
 #[inline(always)]
 fn add_head(instance: &Instance, sequence: &[u32], place: usize, heads: &mut [u64])
     requires sequence { IsSequence instance.now.shop.jobs sequence.now }
     requires place { place < length sequence.now }
     requires wide { instance.now.shop.machines ≤ length heads.old }
-    requires heads { HeadsAt instance.now.shop sequence.now place heads.old }
-    ensures { HeadsAt instance.now.shop sequence.now (place + 1) heads.new }
+    requires heads { IsRow instance.now.shop sequence.now false place heads.old }
+    ensures { IsRow instance.now.shop sequence.now false (place + 1) heads.new }
 {
     let times = times_of(instance, sequence[place] as usize);
     let mut before = 0;
@@ -50,15 +58,15 @@ fn add_head(instance: &Instance, sequence: &[u32], place: usize, heads: &mut [u6
     }
 }
 
-// The same for two places. The cells of the second job wait for other cells than those of the first, so the processor
-// computes both at once.
+// The same for two jobs. The cells of the second job wait for other cells than those of the first, so the
+// processor computes both at once.
 #[inline(always)]
 fn add_two_heads(instance: &Instance, sequence: &[u32], place: usize, heads: &mut [u64])
     requires sequence { IsSequence instance.now.shop.jobs sequence.now }
     requires place { place + 1 < length sequence.now }
     requires wide { instance.now.shop.machines ≤ length heads.old }
-    requires heads { HeadsAt instance.now.shop sequence.now place heads.old }
-    ensures { HeadsAt instance.now.shop sequence.now (place + 2) heads.new }
+    requires heads { IsRow instance.now.shop sequence.now false place heads.old }
+    ensures { IsRow instance.now.shop sequence.now false (place + 2) heads.new }
 {
     let times = times_of(instance, sequence[place] as usize);
     let times_after = times_of(instance, sequence[place + 1] as usize);
@@ -71,16 +79,16 @@ fn add_two_heads(instance: &Instance, sequence: &[u32], place: usize, heads: &mu
     }
 }
 
-// Moves a row of tails back over the job at a place of a sequence.
+// Turns the row of tails of the last `count` jobs into that of one more.
 #[inline(always)]
-fn add_tail(instance: &Instance, sequence: &[u32], place: usize, tails: &mut [u64])
+fn add_tail(instance: &Instance, sequence: &[u32], count: usize, tails: &mut [u64])
     requires sequence { IsSequence instance.now.shop.jobs sequence.now }
-    requires place { place < length sequence.now }
+    requires count { count < length sequence.now }
     requires wide { instance.now.shop.machines ≤ length tails.old }
-    requires tails { TailsAt instance.now.shop sequence.now (place + 1) tails.old }
-    ensures { TailsAt instance.now.shop sequence.now place tails.new }
+    requires tails { IsRow instance.now.shop sequence.now true count tails.old }
+    ensures { IsRow instance.now.shop sequence.now true (count + 1) tails.new }
 {
-    let times = times_of(instance, sequence[place] as usize);
+    let times = times_of(instance, sequence[sequence.len() - 1 - count] as usize);
     let mut after = 0;
     for machine in (0..instance.machines()).rev() {
         after = greater(tails[machine], after) + u64::from(times[machine]);
@@ -88,75 +96,53 @@ fn add_tail(instance: &Instance, sequence: &[u32], place: usize, tails: &mut [u6
     }
 }
 
+// Adds a job to a row of heads, or with `back` to a row of tails.
+#[inline(always)]
+fn add_job(instance: &Instance, sequence: &[u32], count: usize, row: &mut [u64], back: bool)
+    requires sequence { IsSequence instance.now.shop.jobs sequence.now }
+    requires count { count < length sequence.now }
+    requires wide { instance.now.shop.machines ≤ length row.old }
+    requires row { IsRow instance.now.shop sequence.now back count row.old }
+    ensures { IsRow instance.now.shop sequence.now back (count + 1) row.new }
+{
+    if back {
+        add_tail(instance, sequence, count, row);
+    } else {
+        add_head(instance, sequence, count, row);
+    }
+}
+
 /// The makespan of a sequence.
-// It is compiled once. A copy whose jumps cross a boundary of 32 bytes would take up to 1.6 of the time.
 #[inline(never)]
 pub(crate) fn span_of(instance: &Instance, sequence: &[u32]) -> u64
     requires { IsSequence instance.now.shop.jobs sequence.now }
     ensures { result ≡ makespan instance.now.shop sequence.now }
 {
+    // It is compiled once. A copy whose jumps cross a boundary of 32 bytes would take up to 1.6 of the time.
     let machines = instance.machines();
     let mut heads = [0; MOST_MACHINES];
-    span_in(instance, sequence, &mut heads[..machines])
-}
-
-// The makespan of a sequence, computed in a row of zeros.
-#[inline(always)]
-fn span_in(instance: &Instance, sequence: &[u32], heads: &mut [u64]) -> u64
-    requires sequence { IsSequence instance.now.shop.jobs sequence.now }
-    requires wide { length heads.old ≡ instance.now.shop.machines }
-    requires heads { HeadsAt instance.now.shop sequence.now 0 heads.old }
-    ensures { result ≡ makespan instance.now.shop sequence.now }
-{
     let len = sequence.len();
     for pair in 0..len / 2 {
-        add_two_heads(instance, sequence, 2 * pair, heads);
+        add_two_heads(instance, sequence, 2 * pair, &mut heads);
     }
     if len % 2 == 1 {
-        add_head(instance, sequence, len - 1, heads);
+        add_head(instance, sequence, len - 1, &mut heads);
     }
-    heads[instance.machines() - 1]
+    heads[machines - 1]
 }
 
-/// Fills the rows of heads from the first place to the last.
-pub(crate) fn fill_heads(instance: &Instance, sequence: &[u32], heads: &mut [u64])
+/// Fills a table with the rows of heads of a sequence, or with `back` with its rows of tails.
+#[inline(always)]
+pub(crate) fn fill_rows(instance: &Instance, sequence: &[u32], table: &mut [u64], back: bool)
     requires sequence { IsSequence instance.now.shop.jobs sequence.now }
-    requires long { length sequence.now * instance.now.shop.machines ≤ length heads.old }
-    ensures { AreRowHeads instance.now.shop sequence.now heads.new }
+    requires long { length table.old ≡ length sequence.now * instance.now.shop.machines }
+    ensures { AreRows instance.now.shop sequence.now back table.new }
 {
     let machines = instance.machines();
     let mut row = [0; MOST_MACHINES];
-    for place in 0..sequence.len() {
-        add_head(instance, sequence, place, &mut row);
-        copy_row(&row, machines, place, heads);
-    }
-}
-
-/// Fills the rows of tails from the last place to the first.
-pub(crate) fn fill_tails(instance: &Instance, sequence: &[u32], tails: &mut [u64])
-    requires sequence { IsSequence instance.now.shop.jobs sequence.now }
-    requires long { length sequence.now * instance.now.shop.machines ≤ length tails.old }
-    ensures { AreRowTails instance.now.shop sequence.now tails.new }
-{
-    let machines = instance.machines();
-    let mut row = [0; MOST_MACHINES];
-    for place in (0..sequence.len()).rev() {
-        add_tail(instance, sequence, place, &mut row);
-        copy_row(&row, machines, place, tails);
-    }
-}
-
-// Copies a row to its place in a table.
-fn copy_row(row: &[u64], machines: usize, place: usize, table: &mut [u64])
-    requires wide { machines ≤ length row.now }
-    requires long { (place + 1) * machines ≤ length table.old }
-    ensures row { (machine : ℕ) → machine < machines
-        → slice_index table.new (place * machines + machine) ≡ slice_index row.now machine }
-    ensures others { (other machine : ℕ) → other ≢ place → machine < machines
-        → slice_index table.new (other * machines + machine) ≡ slice_index table.old (other * machines + machine) }
-{
-    let first = place * machines;
-    for machine in 0..machines {
-        table[first + machine] = row[machine];
+    for count in 0..sequence.len() {
+        add_job(instance, sequence, count, &mut row, back);
+        let first = index_in_turn(sequence.len(), count, back) * machines;
+        table[first..first + machines].copy_from_slice(&row[..machines]);
     }
 }

@@ -9,11 +9,11 @@ ghost use Rattle.pfs_c.specs.Searching.{rounds_fault};
 ghost use Rattle.pfs_c.specs.Validation.{jobs_fault, length_fault, on_shop};
 ghost use Rattle.pfs_c.specs.Private.Outcomes.{Validates};
 
-use crate::given::{validate_jobs, validate_length, validate_more, validate_passes};
+use crate::given::{validate, validate_jobs, validate_more};
 use crate::handle::Prepared;
 use crate::kept::Kept;
 use crate::numbers::{CallFault, PFS_OK, number_of};
-use pfs_base::MOST_JOBS;
+use pfs_base::{MOST_JOBS, MOST_PASSES};
 use std::alloc::Global;
 
 /// Computes the order of NEH (Nawaz, Enscore and Ham 1983) by heads and tails (Taillard 1990), its makespan, and the
@@ -37,7 +37,7 @@ pub extern "C" fn pfs_neh(
     let Some(mut kept) = instance.take(alloc) else {
         return CallFault::NotPrepared.number();
     };
-    let valid = validate_length(order.len(), kept.instance().jobs());
+    let valid = validate(order.len() == kept.instance().jobs(), CallFault::Length);
     if valid.is_ok() {
         *span = kept.neh(alloc, order, cells);
     }
@@ -131,7 +131,8 @@ fn construct_in(
     ensures kept_span { IfErr result (λ _. span.new ≡ span.old) }
 {
     let jobs = kept.instance().jobs();
-    validate_length(order.len(), sequence.len() + more.len())?;
+    let all = sequence.len() + more.len();
+    validate(order.len() == all, CallFault::Length)?;
     validate_jobs(jobs, sequence)?;
     validate_more(jobs, sequence, more)?;
     order[..sequence.len()].copy_from_slice(sequence);
@@ -183,7 +184,7 @@ fn local_search_in(
     validate_jobs(jobs, sequence)?;
     validate_jobs(jobs, list)?;
     validate_members(sequence, list)?;
-    validate_passes(passes)?;
+    validate(passes <= MOST_PASSES, CallFault::Passes)?;
     let count = sequence.len();
     *span = kept.visit(list, passes, sequence, count);
     Ok(())

@@ -15,10 +15,10 @@ ghost use Rattle.pfs_c.specs.Tables.{EndAfterTimes, table_entry, table_fault};
 ghost use Rattle.pfs_c.specs.Validation.{insertion_fault, jobs_fault, length_fault, on_shop};
 ghost use Rattle.pfs_c.specs.Private.Outcomes.{Rejects, Validates};
 
-use crate::given::{order_of, validate_jobs, validate_length, validate_product};
+use crate::given::{order_of, validate, validate_jobs, validate_product};
 use crate::handle::Prepared;
 use crate::numbers::{CallFault, PFS_OK, number_of};
-use crate::rows::{fill_heads, fill_tails, span_of};
+use crate::rows::{fill_rows, span_of};
 use pfs_audit::{TimeTable, bound, table};
 use pfs_base::{Instance, MOST_JOBS};
 use std::alloc::Global;
@@ -225,9 +225,9 @@ fn table_in(
     ensures timed { IfOk result (λ table. EndAfterTimes instance.now.shop order.now table.starts table.ends) }
 {
     let (jobs, machines) = (instance.jobs(), instance.machines());
-    validate_length(order.len(), jobs)?;
-    validate_length(starts, jobs * machines)?;
-    validate_length(ends, jobs * machines)?;
+    validate(order.len() == jobs, CallFault::Length)?;
+    validate(starts == jobs * machines, CallFault::Length)?;
+    validate(ends == jobs * machines, CallFault::Length)?;
     validate_jobs(jobs, order)?;
     let order = order_of(alloc, order)?;
     table(alloc, instance, &order).or(Err(CallFault::Memory))
@@ -277,7 +277,7 @@ fn heads_tails_in(
     validate_product(heads.len(), sequence.len(), machines)?;
     validate_product(tails.len(), sequence.len(), machines)?;
     validate_jobs(instance.jobs(), sequence)?;
-    fill_heads(instance, sequence, heads);
-    fill_tails(instance, sequence, tails);
+    fill_rows(instance, sequence, heads, false);
+    fill_rows(instance, sequence, tails, true);
     Ok(())
 }

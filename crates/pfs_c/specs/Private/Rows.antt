@@ -1,29 +1,30 @@
 -- Rows of heads and tails, as a loop over the machines fills them.
-use Rattle.std.specs.Prelude.{◌≡◌, ℕ, zero, suc, ◌+◌, ◌*◌, ◌<◌, ◌≤◌, List, length, slice_index}
+use Rattle.std.specs.Prelude.{◌≡◌, ℕ, zero, suc, ◌-◌, ◌<◌, List, Bool, true, false, length, slice_index}
 use Rattle.pfs_base.specs.FlowShop.{FlowShop}
-use Rattle.pfs_insert.specs.Exchange.{heaviest_front, heaviest_back}
+use Rattle.pfs_base.specs.Paths.{heaviest, operation}
+use Rattle.pfs_c.specs.HeadsTails.{AreRowHeads, AreRowTails}
 
--- when a machine has completed the jobs before a place of the sequence, if each job starts as early as possible
-abbrev pub done_before : FlowShop → List ℕ → ℕ → ℕ → ℕ
-done_before shop jobs zero machine = 0
-done_before shop jobs (suc place) machine = heaviest_front shop jobs place machine
+-- number `turn` of the numbers below `count`, from the first on, or (where `back` is true) from the last on
+abbrev pub in_turn : Bool → ℕ → ℕ → ℕ
+in_turn true count turn = count - 1 - turn
+in_turn false count turn = turn
 
--- a row contains this time for each machine
-abbrev pub HeadsAt : FlowShop → List ℕ → ℕ → List ℕ → Type 0
-HeadsAt shop jobs place row = (machine : ℕ) → machine < shop.machines
-    → slice_index row machine ≡ done_before shop jobs place machine
+-- the operations of a sequence, or of the sequence and the machines in reverse
+abbrev pub turned : FlowShop → List ℕ → Bool → ℕ → ℕ → ℕ
+turned shop jobs back row machine =
+    operation shop jobs (in_turn back (length jobs) row) (in_turn back shop.machines machine)
 
--- the same of tails at a place of the sequence
-abbrev pub TailsAt : FlowShop → List ℕ → ℕ → List ℕ → Type 0
-TailsAt shop jobs place row = (machine : ℕ) → machine < shop.machines
-    → slice_index row machine ≡ heaviest_back shop jobs place machine
+-- the weight of the heaviest path to a machine in the last of the given number of rows, and 0 for no rows
+abbrev pub done_before : (ℕ → ℕ → ℕ) → ℕ → ℕ → ℕ
+done_before weigh zero machine = 0
+done_before weigh (suc row) machine = heaviest weigh 0 0 row machine
 
--- the first `count` rows of a table have the heads of their places
-abbrev pub HeadsTable : FlowShop → List ℕ → ℕ → List ℕ → Type 0
-HeadsTable shop jobs count table = (place machine : ℕ) → place < count → machine < shop.machines
-    → slice_index table (place * shop.machines + machine) ≡ heaviest_front shop jobs place machine
+-- a row has these weights for the first `count` jobs, or for the last ones
+abbrev pub IsRow : FlowShop → List ℕ → Bool → ℕ → List ℕ → Type 0
+IsRow shop jobs back count row = (turn : ℕ) → turn < shop.machines
+    → slice_index row (in_turn back shop.machines turn) ≡ done_before (turned shop jobs back) count turn
 
--- the rows of a table from one on, up to the last place, have the tails of their places
-abbrev pub TailsTable : FlowShop → List ℕ → ℕ → List ℕ → Type 0
-TailsTable shop jobs from table = (place machine : ℕ) → from ≤ place → place < length jobs → machine < shop.machines
-    → slice_index table (place * shop.machines + machine) ≡ heaviest_back shop jobs place machine
+-- a table has the rows of all jobs
+abbrev pub AreRows : FlowShop → List ℕ → Bool → List ℕ → Type 0
+AreRows shop jobs true table = AreRowTails shop jobs table
+AreRows shop jobs false table = AreRowHeads shop jobs table

@@ -103,7 +103,6 @@ pub extern "C" fn pfs_write_order(
 }
 
 // The order file of an order that C passes.
-#[tactic(auto, using(crate::proofs::TextLemmas::jobs_have_room))]
 fn order_file_in(
     alloc: Global,
     order: &[u32],

@@ -1,16 +1,16 @@
 use Rattle.std.proofs.Common.{refl}
 use Rattle.pfs_order.proofs.Published.Sequences.{IsSequence-nil}
-use Rattle.pfs_c.proofs.Jobs.{right_of_sequence, valid_is}
+use Rattle.pfs_c.proofs.Jobs.{jobs_right, valid_is}
 use Rattle.pfs_c.proofs.given.validate_jobs.Goals as goal
 
 pub returns-then-is_sequence-clause-validated : goal.returns-then-is_sequence-clause-validated
 returns-then-is_sequence-clause-validated c =
-    let right = right_of_sequence c.args.size c.args.jobs.now (c.is_sequence.ensures.sequence.0 c.if-is_sequence.true) in
+    let right = (jobs_right c.args.size c.args.jobs.now).1 (c.is_sequence.ensures.sequence.0 c.if-is_sequence.true) in
     rw right refl
 
 pub returns-then-is_long_sequence-clause-validated : goal.returns-then-is_long_sequence-clause-validated
 returns-then-is_long_sequence-clause-validated c =
-    let right = right_of_sequence c.args.size c.args.jobs.now (c.is_long_sequence.ensures.0 c.if-is_long_sequence.true) in
+    let right = (jobs_right c.args.size c.args.jobs.now).1 (c.is_long_sequence.ensures.0 c.if-is_long_sequence.true) in
     rw right refl
 
 pub validate_more-requires : goal.validate_more-requires

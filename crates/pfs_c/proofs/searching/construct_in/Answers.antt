@@ -1,4 +1,5 @@
 use Rattle.std.proofs.Common.{◌++◌, ℕ, length, drop, ap, refl, subst, ◌∙◌, arith}
+use Rattle.std.proofs.lemmas.Bool.{eqb-true}
 use Rattle.std.proofs.lemmas.List.{length-append, length-drop, take_at}
 use Rattle.pfs_base.specs.FlowShop.{FlowShop}
 use Rattle.pfs_order.specs.Sequence.{IsSequence}
@@ -28,7 +29,7 @@ visit-requires-clause-long c =
       arith,
       length-append {A = ℕ},
       length-drop {A = ℕ},
-      c.in_ok-validate_length.ensures.equal,
+      eqb-true _ _ c.in_ok-validate.ensures.passed,
       found.long,
     ))
 

@@ -1,6 +1,6 @@
 use Rattle.std.proofs.Common.{◌≡◌, refl, arith, rules, Err}
 use Rattle.pfs_c.specs.Many.{sequence_at}
-use Rattle.pfs_c.proofs.Jobs.{sequence_of_right}
+use Rattle.pfs_c.proofs.Jobs.{jobs_right}
 use Rattle.pfs_c.proofs.ManyLemmas.{each_right, one_wrong}
 use Rattle.pfs_c.proofs.Returning.{passed}
 use Rattle.pfs_c.proofs.spans.validate_many.Goals as goal
@@ -23,5 +23,5 @@ returns-clause-validated c =
 
 pub returns-clause-each : goal.returns-clause-each
 returns-clause-each c = λ index lt.
-    sequence_of_right c.args.jobs (sequence_at c.args.long c.args.sequences.now index)
+    (jobs_right c.args.jobs (sequence_at c.args.long c.args.sequences.now index)).0
     (c.loop-index.invariant index (omega (arith, lt, c.loop-index-test.false)))
