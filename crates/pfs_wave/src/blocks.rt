@@ -64,12 +64,12 @@ pub struct Blocks<V: Band> {
     lanes: usize,
     jobs: usize,
     // The vectors of each job, and after them vectors of zeros.
-    rows: Vec<V>,
+    rows: Vec<V::Times>,
     // The number of jobs of the last sequence.
     len: usize,
     // The jobs of the last sequence, and after them, for each step, the number of the vectors of zeros.
     order: Vec<usize>,
-    times: Vec<V>,
+    times: Vec<V::Times>,
     tails: Vec<V>,
     sums: Vec<V::Number>,
 }
@@ -86,7 +86,7 @@ impl<V: Band> Model for Blocks<V> {
       count = vectors_in a.width;
       lanes = a.lanes;
       jobs = a.jobs;
-      rows = map V.lanes a.rows.items;
+      rows = map V.Times.lanes a.rows.items;
     } };
 
     ghost invariant = { λ a. record {
@@ -94,8 +94,8 @@ impl<V: Band> Model for Blocks<V> {
       eight : a.lanes ≤ 8;
       few : a.jobs ≤ MOST_JOBS;
       rows : length a.rows.items ≡ a.jobs * vectors_in a.width + vectors_in a.width;
-      holds : IsHolding (vectors_in a.width) a.jobs (map V.lanes a.rows.items) a.len a.order.items
-          (map V.lanes a.times.items);
+      holds : IsHolding (vectors_in a.width) a.jobs (map V.Times.lanes a.rows.items) a.len a.order.items
+          (map V.Times.lanes a.times.items);
       tails : length a.tails.items ≡ (a.jobs + 9) * vectors_in a.width;
       sums : length a.sums.items ≡ a.jobs + 15;
     } };
@@ -117,7 +117,7 @@ impl<V: Band> Blocks<V> {
     /// The times of an instance, and a sequence of no jobs. It reserves all memory of an insertion, and returns
     /// `AllocError` where that fails.
     pub fn new(alloc: Global, instance: &Instance) -> Result<Blocks<V>, AllocError>
-        requires { All (λ time. time ≤ V.CAP) instance.now.shop.times }
+        requires { All (λ time. time ≤ V.Times.CAP) instance.now.shop.times }
         ensures { IfOk result (λ made. HasShop instance.now.shop made) }
     {
         let jobs = instance.jobs();
@@ -130,7 +130,9 @@ impl<V: Band> Blocks<V> {
         order.reserve_exact(steps)?;
         order.resize(steps, jobs)?;
         let times = zero_vectors(alloc, steps * count)?;
-        let tails = zero_vectors(alloc, (jobs + 9) * count)?;
+        let mut tails = Vec::new(alloc);
+        tails.reserve_exact((jobs + 9) * count)?;
+        tails.resize((jobs + 9) * count, V::zeros())?;
         let mut sums = Vec::new(alloc);
         sums.reserve_exact(jobs + 15)?;
         sums.resize(jobs + 15, V::zeros().last())?;
@@ -210,7 +212,7 @@ impl<V: Band> Blocks<V> {
             → V.Holds (slice_index_or spans.new place 0) (makespan_with shop sequence.now job place) }
         ensures same { self.new ≡ self.old }
     {
-        hold::<V, N>(
+        hold::<V::Times, N>(
             &self.rows,
             &mut self.order,
             &mut self.times,

@@ -3,7 +3,7 @@ ghost use Rattle.std.specs.Prelude.{◌≡◌, ◌+◌, ◌*◌, ◌<◌, ◌≤
 ghost use Rattle.std.specs.List.{All, slice_index_or};
 ghost use Rattle.pfs_wave.specs.Private.HeldRows.{IsHolding, IsKept, IsPadded};
 
-use crate::band::Band;
+use crate::band::Stored;
 use crate::times::{fill_times, move_back};
 
 /// The numbers of rows of a sequence that are rows of the sequence before: at its front, and at its end.
@@ -110,10 +110,10 @@ pub fn write_rows(order: &mut [usize], seq: &[usize], none: usize, from: usize, 
 /// at the front and at the end are skewed again. `order` has the jobs of the sequence, and after them the number of the
 /// row of zeros.
 #[inline(always)]
-pub fn hold<V: Band, const N: usize>(
-    rows: &[V],
+pub fn hold<T: Stored, const N: usize>(
+    rows: &[T],
     order: &mut [usize],
-    times: &mut [V],
+    times: &mut [T],
     jobs: usize,
     len: usize,
     seq: &[usize],
@@ -122,15 +122,15 @@ pub fn hold<V: Band, const N: usize>(
     requires small { jobs * N + 9 * N < 2 ^ 32 }
     requires jobs { All (λ job. job < jobs) seq.now }
     requires few { length seq.now ≤ jobs }
-    requires holds { IsHolding N jobs (map V.lanes rows.now) len order.old (map V.lanes times.old) }
+    requires holds { IsHolding N jobs (map T.lanes rows.now) len order.old (map T.lanes times.old) }
     ensures order { length order.new ≡ length order.old }
     ensures times { length times.new ≡ length times.old }
     ensures jobs { take (length seq.now) order.new ≡ seq.now }
-    ensures holds { IsHolding N jobs (map V.lanes rows.now) (length seq.now) order.new (map V.lanes times.new) }
+    ensures holds { IsHolding N jobs (map T.lanes rows.now) (length seq.now) order.new (map T.lanes times.new) }
 {
     let longest = len.max(seq.len());
     let kept = kept_rows(&order[..len], seq);
     write_rows(order, seq, jobs, kept.front, longest);
-    let changed = move_back::<V, N>(times, len, seq.len(), kept, jobs + 8);
-    fill_times::<V, N>(rows, order, times, changed);
+    let changed = move_back::<T, N>(times, len, seq.len(), kept, jobs + 8);
+    fill_times::<T, N>(rows, order, times, changed);
 }

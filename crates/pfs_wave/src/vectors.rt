@@ -4,19 +4,19 @@ ghost use Rattle.std.specs.List.{slice_index_or};
 ghost use Rattle.pfs_wave.specs.Private.Blocks.{vectors_of};
 ghost use Rattle.pfs_wave.specs.Private.Lanes.{IsNext, IsSecond};
 
-use crate::band::Band;
+use crate::band::{Band, Stored};
 
-/// As many vectors as the array has.
+/// The vectors of as many times as the array has.
 #[inline(always)]
-pub fn array_of<V: Band, const N: usize>(vectors: &[V]) -> [V; N]
-    requires { length vectors.now ≡ N }
+pub fn array_of<V: Band, const N: usize>(times: &[V::Times]) -> [V; N]
+    requires { length times.now ≡ N }
     ensures length { length result ≡ N }
     ensures vectors { (k : ℕ) → k < N
-        → vectors_of (map V.lanes result) k ≡ vectors_of (map V.lanes vectors.now) k }
+        → vectors_of (map V.lanes result) k ≡ vectors_of (map V.Times.lanes times.now) k }
 {
     let mut array = [V::zeros(); N];
     for k in 0..N {
-        array[k] = vectors[k];
+        array[k] = V::load(times[k]);
     }
     array
 }
@@ -63,7 +63,7 @@ pub fn from_after<V: Band>(vector: V) -> V
 
 /// Writes one vector of a table.
 #[inline(always)]
-pub fn put<V: Band>(table: &mut [V], at: usize, vector: V)
+pub fn put<T: Stored>(table: &mut [T], at: usize, vector: T)
     requires { at < length table.old }
     ensures { table.new ≡ slice_set table.old at vector }
 {

@@ -17,7 +17,7 @@ use Rattle.pfs_wave.proofs.best.best_place.Goals as goal
 -- the sum of each place
 sums_are : (g : given.Over) (c : goal.After-with g) (shop : FlowShop) (jobs : List ℕ) (inserted : ℕ)
     → IsInsertion g.V.Band.Holds shop jobs inserted g.row.N c.args.lanes c.args.steps c.args.permits.tails c.args.permits.sums
-    (map g.V.Band.lanes c.args.times.now) (map g.V.Band.lanes c.args.job.now)
+    (map g.V.Times.Stored.lanes c.args.times.now) (map g.V.Times.Stored.lanes c.args.job.now)
     → (place : ℕ) → place ≤ length jobs
     → g.V.Band.Holds (get_or (map g.V.Band.number c.fill_sums-paid.new.sums) (7 + place) 0)
     (makespan_with shop jobs inserted place)
@@ -56,7 +56,7 @@ sums_are g c shop jobs inserted is place le =
 -- the same in the whole list
 all_sums_are : (g : given.Over) (c : goal.After-with g) (shop : FlowShop) (jobs : List ℕ) (inserted : ℕ)
     → IsInsertion g.V.Band.Holds shop jobs inserted g.row.N c.args.lanes c.args.steps c.args.permits.tails c.args.permits.sums
-    (map g.V.Band.lanes c.args.times.now) (map g.V.Band.lanes c.args.job.now)
+    (map g.V.Times.Stored.lanes c.args.times.now) (map g.V.Times.Stored.lanes c.args.job.now)
     → (place : ℕ) → place ≤ length jobs
     → g.V.Band.Holds (get_or (map g.V.Band.number (c.fill_sums-paid.new.sums ++ drop (c.args.steps + 7) c.args.sums.now))
     (7 + place) 0) (makespan_with shop jobs inserted place)

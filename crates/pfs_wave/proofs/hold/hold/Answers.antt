@@ -21,7 +21,7 @@ returns-clause-jobs g c =
 
 pub returns-clause-holds : goal.returns-clause-holds
 returns-clause-holds g c =
-    let lanes = g.V.Band.lanes in
+    let lanes = g.T.Stored.lanes in
     let count = g.row.N in
     let jobs = c.args.jobs in
     let rows = map lanes c.args.rows.now in

@@ -7,7 +7,7 @@ use Rattle.pfs_wave.proofs.times.fill_times.Goals as goal
 
 pub loop-k-preserved : goal.loop-k-preserved
 loop-k-preserved g c =
-    let lanes = g.V.Band.lanes in
+    let lanes = g.T.Stored.lanes in
     let count = g.row.N in
     let all = map lanes c.args.rows.now in
     let order = c.args.order.now in

@@ -45,7 +45,7 @@ put-requires-in-loop-row g c =
 
 pub loop-turn-init : goal.loop-turn-init
 loop-turn-init g c =
-    let lanes = g.V.Band.lanes in
+    let lanes = g.T.Stored.lanes in
     let rows = rows_at g.row.N (map lanes c.args.rows.now) c.args.order.now c.args.k in
     let from = c.args.from in
     let start : from ≡ from + 4 * 0 = omega arith in
@@ -60,7 +60,7 @@ loop-turn-init g c =
 
 pub loop-turn-preserved : goal.loop-turn-preserved
 loop-turn-preserved g c =
-    let lanes = g.V.Band.lanes in
+    let lanes = g.T.Stored.lanes in
     let count = g.row.N in
     let k = c.args.k in
     let from = c.args.from in
@@ -115,7 +115,7 @@ loop-turn-preserved g c =
 
 pub loop-row-init : goal.loop-row-init
 loop-row-init g c =
-    let lanes = g.V.Band.lanes in
+    let lanes = g.T.Stored.lanes in
     let rows = rows_at g.row.N (map lanes c.args.rows.now) c.args.order.now c.args.k in
     let from = c.args.from in
     let outside = c.loop-turn-test.false in
@@ -131,7 +131,7 @@ loop-row-init g c =
 
 pub loop-row-preserved : goal.loop-row-preserved
 loop-row-preserved g c =
-    let lanes = g.V.Band.lanes in
+    let lanes = g.T.Stored.lanes in
     let count = g.row.N in
     let k = c.args.k in
     let rows = rows_at count (map lanes c.args.rows.now) c.args.order.now k in

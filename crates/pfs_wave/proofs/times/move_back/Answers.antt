@@ -24,7 +24,7 @@ copy_within-requires-clause-dest_in_bounds g c =
 
 pub returns-clause-moved : goal.returns-clause-moved
 returns-clause-moved g c some longer =
-    let lanes = g.V.Band.lanes in
+    let lanes = g.T.Stored.lanes in
     let count = g.row.N in
     let old = c.args.old in
     let new = c.args.new in

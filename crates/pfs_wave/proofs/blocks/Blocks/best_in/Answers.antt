@@ -49,10 +49,10 @@ passed : (g : given.Over) (c : goal.After-slice_known-2-1 g) (shop : FlowShop) �
     → IsPaid c.args.permits.tails c.args.permits.sums (length c.args.sequence.now) shop.machines
     → IsInsertion g.V.Band.Holds shop c.args.sequence.now c.args.job g.row.N c.self.inside.lanes
     (length c.args.sequence.now + c.self.inside.lanes) c.args.permits.tails c.args.permits.sums
-    (map g.V.Band.lanes (take ((length c.args.sequence.now + c.self.inside.lanes) * g.row.N) c.hold.new.times))
-    (map g.V.Band.lanes (take (c.args.job * g.row.N + g.row.N - c.args.job * g.row.N) (drop (c.args.job * g.row.N) c.self.inside.rows.items)))
+    (map g.V.Times.Stored.lanes (take ((length c.args.sequence.now + c.self.inside.lanes) * g.row.N) c.hold.new.times))
+    (map g.V.Times.Stored.lanes (take (c.args.job * g.row.N + g.row.N - c.args.job * g.row.N) (drop (c.args.job * g.row.N) c.self.inside.rows.items)))
 passed g c shop has paid =
-    let lanes = g.V.Band.lanes in
+    let lanes = g.V.Times.Stored.lanes in
     let inside = c.self.inside in
     let count = g.row.N in
     let jobs = c.args.sequence.now in
