@@ -69,7 +69,9 @@ pub struct Blocks<V: Band> {
     len: usize,
     // The jobs of the last sequence, and after them, for each step, the number of the vectors of zeros.
     order: Vec<usize>,
+    // The skewed times of the last sequence, from the step `start` on, with room for them to begin earlier or later.
     times: Vec<V::Times>,
+    start: usize,
     tails: Vec<V>,
     sums: Vec<V::Number>,
 }
@@ -78,7 +80,7 @@ impl<V: Band> Model for Blocks<V> {
     ghost use Rattle.std.specs.Prelude.{◌≡◌, ◌+◌, ◌*◌, ◌≤◌, length, map};
     ghost use Rattle.pfs_base.specs.declared.limits.TheConstants.{MOST_JOBS};
     ghost use Rattle.pfs_wave.specs.Private.Blocks.{BlockRows, vectors_in};
-    ghost use Rattle.pfs_wave.specs.Private.HeldRows.{IsHolding};
+    ghost use Rattle.pfs_wave.specs.Private.HeldRows.{IsHolding, part_from};
 
     ghost Value = { BlockRows };
 
@@ -95,7 +97,9 @@ impl<V: Band> Model for Blocks<V> {
       few : a.jobs ≤ MOST_JOBS;
       rows : length a.rows.items ≡ a.jobs * vectors_in a.width + vectors_in a.width;
       holds : IsHolding (vectors_in a.width) a.jobs (map V.Times.lanes a.rows.items) a.len a.order.items
-          (map V.Times.lanes a.times.items);
+          (map V.Times.lanes (part_from a.start (a.jobs + 8) (vectors_in a.width) a.times.items));
+      times : length a.times.items ≡ (2 * a.jobs + 8) * vectors_in a.width;
+      start : a.start ≤ a.jobs;
       tails : length a.tails.items ≡ (a.jobs + 9) * vectors_in a.width;
       sums : length a.sums.items ≡ a.jobs + 15;
     } };
@@ -129,7 +133,7 @@ impl<V: Band> Blocks<V> {
         let mut order = Vec::new(alloc);
         order.reserve_exact(steps)?;
         order.resize(steps, jobs)?;
-        let times = zero_vectors(alloc, steps * count)?;
+        let times = zero_vectors(alloc, (jobs + steps) * count)?;
         let mut tails = Vec::new(alloc);
         tails.reserve_exact((jobs + 9) * count)?;
         tails.resize((jobs + 9) * count, V::zeros())?;
@@ -144,6 +148,7 @@ impl<V: Band> Blocks<V> {
             len: 0,
             order,
             times,
+            start: jobs,
             tails,
             sums,
         })
@@ -212,10 +217,11 @@ impl<V: Band> Blocks<V> {
             → V.Holds (slice_index_or spans.new place 0) (makespan_with shop sequence.now job place) }
         ensures same { self.new ≡ self.old }
     {
-        hold::<V::Times, N>(
+        self.start = hold::<V::Times, N>(
             &self.rows,
             &mut self.order,
             &mut self.times,
+            self.start,
             self.jobs,
             self.len,
             sequence,
@@ -226,7 +232,7 @@ impl<V: Band> Blocks<V> {
             permits,
             self.lanes,
             steps,
-            &self.times[..steps * N],
+            &self.times[self.start * N..(self.start + steps) * N],
             &self.rows[job * N..job * N + N],
             &mut self.tails,
             &mut self.sums,

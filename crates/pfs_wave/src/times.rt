@@ -148,7 +148,7 @@ pub fn move_back<T: Stored, const N: usize>(
     kept: Kept,
     steps: usize,
 ) -> Changed
-    requires old { kept.back ≤ old }
+    requires old { kept.front + kept.back ≤ old }
     requires new { new + 8 ≤ steps }
     requires old_room { old + 8 ≤ steps }
     requires small { steps * N + N < 2 ^ 32 }
@@ -158,7 +158,7 @@ pub fn move_back<T: Stored, const N: usize>(
     ensures none { kept.back ≡ 0 → (result.to ≡ max old new) × (result.end ≡ steps) × (times.new ≡ times.old) }
     ensures kept { new ≤ old → (result.to ≡ old - kept.back) × (result.end ≡ steps) × (times.new ≡ times.old) }
     ensures moved { 0 < kept.back → old < new → (result.to ≡ new - kept.back + 8) × (result.end ≡ new - kept.back + 8)
-        × ((k : ℕ) → k < N → AreMoved (new - kept.back + 8) (new + 8) (new - old)
+        × ((k : ℕ) → k < N → AreMoved (kept.front + 8) (new - kept.back + 8) (new + 8) (new - old) steps
         (column N (map T.lanes times.old) k) (column N (map T.lanes times.new) k)) }
 {
     let from = kept.front;
@@ -178,4 +178,25 @@ pub fn move_back<T: Stored, const N: usize>(
         to: moved,
         end: moved,
     }
+}
+
+/// Moves the steps that have rows of the front of a sequence, from the step `start` of a table to the step `first`.
+#[inline(always)]
+pub fn move_front<T: Stored, const N: usize>(
+    table: &mut [T],
+    start: usize,
+    first: usize,
+    front: usize,
+)
+    requires some { 1 ≤ N }
+    requires start { (start + front + 8) * N ≤ length table.old }
+    requires first { (first + front + 8) * N ≤ length table.old }
+    requires small { length table.old < 2 ^ 32 }
+    ensures length { length table.new ≡ length table.old }
+    ensures moved { (k step : ℕ) → k < N → step < front + 8 → column N (map T.lanes table.new) k (first + step)
+        ≡ column N (map T.lanes table.old) k (start + step) }
+    ensures after { (k step : ℕ) → k < N → first + front + 8 ≤ step
+        → column N (map T.lanes table.new) k step ≡ column N (map T.lanes table.old) k step }
+{
+    table.copy_within(start * N..(start + front + 8) * N, first * N);
 }

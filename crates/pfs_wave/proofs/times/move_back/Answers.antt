@@ -56,9 +56,9 @@ returns-clause-moved g c some longer =
             (λ d. is.0 (step * count + k) d (omega arith) (omega arith) ∙ ap (λ i. get_or table i d) here)
             (omega arith) (omega arith);
         before = λ step lt.
-            let after = step_after count step moved lt in
+            let after = step_after count step moved (omega arith) in
             unchanged lanes table made (step * count + k) (λ d. is.1 (step * count + k) d (omega arith)) long;
-        after = λ step le.
+        after = λ step le inside_steps.
             let more : (new + 8) * count ≤ step * count = mul-le-mul_right count le in
             unchanged lanes table made (step * count + k) (λ d. is.2 (step * count + k) d (omega arith)) long;
       },
