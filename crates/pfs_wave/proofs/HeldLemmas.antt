@@ -296,17 +296,17 @@ holding_none count jobs shop rows order times has jobs_is order_is times_are =
       };
     }
 
--- the first steps of a table of times
-pub times_taken : {X : Type 0} (Holds : Holding) (lanes : X → List ℕ) (count steps n : ℕ) (time : Cells) (table : List X)
-    → steps * count ≤ n → AreTimes Holds count steps time (map lanes table)
-    → AreTimes Holds count steps time (map lanes (take n table))
-times_taken Holds lanes count steps n time table enough are =
+-- the first steps of a part of a table of times
+pub times_first : {X : Type 0} (Holds : Holding) (lanes : X → List ℕ) (count start steps all : ℕ) (time : Cells)
+    (table : List X) → steps ≤ all → AreTimes Holds count steps time (map lanes (part_from start all count table))
+    → AreTimes Holds count steps time (map lanes (part_from start steps count table))
+times_first Holds lanes count start steps all time table enough are =
     let same : (step k : ℕ) → step < steps → k < count
-    → step_of count (map lanes (take n table)) step k ≡ step_of count (map lanes table) step k =
+    → step_of count (map lanes (part_from start steps count table)) step k
+    ≡ step_of count (map lanes (part_from start all count table)) step k =
     λ step k lt k_lt.
-    let inside = vector_inside count steps step k (steps * count) lt k_lt refl in
-    ap (λ l. get_or l (step * count + k) []) (sym (take-map lanes n table))
-    ∙ get_or-take n (map lanes table) (step * count + k) [] (omega arith) in
+    part_step lanes count start steps table k step k_lt lt
+    ∙ sym (part_step lanes count start all table k step k_lt (omega arith)) in
     record {
       cells_are = λ step lt k k_lt row lane lane_lt here.
           changed Holds (ap (λ l. get_or l lane 0) (same step k lt k_lt)) refl (are.cells_are step lt k k_lt row lane lane_lt here);

@@ -2,10 +2,11 @@
 ghost use Rattle.std.specs.Prelude.{◌≡◌, ℕ, ◌+◌, ◌-◌, ◌<◌, ◌≤◌, ◌^◌, ◌∷◌, [], ◌++◌, List, length, map, max};
 ghost use Rattle.std.specs.Prelude.{take, drop};
 ghost use Rattle.std.specs.List.{All, slice_index_or};
-ghost use Rattle.pfs_wave.specs.Private.Lanes.{Holding, IsEach, zeros};
+ghost use Rattle.pfs_wave.specs.Private.Lanes.{Holding, IsEach};
 ghost use Rattle.pfs_wave.specs.Private.Least.{IsLeastSoFar};
 
 use pfs_insert::Placed;
+use std::simd::prelude::*;
 
 // The lanes that a shuffle of two bands takes, of 0 to 7 in the first and 8 to 15 in the second: those that move up and
 // down, the three blends, and those from the last to the first.
@@ -29,14 +30,14 @@ pub trait Stored: Copy + Drop {
     /// The greatest time that fits.
     ghost CAP: { ℕ };
 
-    /// Times of 0.
-    fn zeros() -> Self
-        ensures { lanes result ≡ zeros 8 };
-
     /// These times.
     fn from_times(times: [u32; 8]) -> Self
         requires { All (λ time. time ≤ CAP) times }
         ensures { lanes result ≡ times };
+
+    /// The times in 32 bits.
+    fn extended(self) -> u32x8
+        ensures { result ≡ lanes self };
 
     /// The odd lanes of `other`, and the even lanes of `self`.
     fn odd_from(self, other: Self) -> Self
@@ -88,10 +89,6 @@ pub trait Band: Copy + Drop {
 
     /// The number of vectors up to which a pass keeps those of a step in registers.
     const IN_REGISTERS: usize;
-
-    /// A band of zeros.
-    fn zeros() -> Self
-        ensures { lanes result ≡ zeros 8 };
 
     /// A band of kept times.
     fn load(times: Self::Times) -> Self

@@ -12,6 +12,7 @@ use crate::best::{best_place, copy_sums};
 use crate::hold::hold;
 use crate::permits::Permits;
 use crate::rows::{shop_rows, zero_vectors};
+use crate::vectors::zeros;
 use pfs_base::{Instance, MOST_JOBS, Paid};
 use pfs_insert::Placed;
 use std::alloc::{AllocError, Global};
@@ -130,16 +131,10 @@ impl<V: Band> Blocks<V> {
         let count = width.vectors();
         let steps = jobs + 8;
         let rows = shop_rows(alloc, instance, count)?;
-        let mut order = Vec::new(alloc);
-        order.reserve_exact(steps)?;
-        order.resize(steps, jobs)?;
+        let order = vec![in alloc; jobs; steps]?;
         let times = zero_vectors(alloc, (jobs + steps) * count)?;
-        let mut tails = Vec::new(alloc);
-        tails.reserve_exact((jobs + 9) * count)?;
-        tails.resize((jobs + 9) * count, V::zeros())?;
-        let mut sums = Vec::new(alloc);
-        sums.reserve_exact(jobs + 15)?;
-        sums.resize(jobs + 15, V::zeros().last())?;
+        let tails = vec![in alloc; zeros::<V>(); (jobs + 9) * count]?;
+        let sums = vec![in alloc; zeros::<V>().last(); jobs + 15]?;
         Ok(Blocks {
             width,
             lanes: lanes_for(machines, count),

@@ -5,7 +5,6 @@ ghost use Rattle.pfs_wave.specs.Private.Lanes.{HoldsBelow};
 
 use crate::band::{BACK, Band, DOWN, HALF, ODD, PAIRS, Stored, UP};
 use crate::best::first_least;
-use crate::short::Short;
 use pfs_insert::Placed;
 use std::marker::PhantomData;
 use std::simd::prelude::*;
@@ -13,7 +12,7 @@ use std::simd::prelude::*;
 /// Eight times of 32 bits.
 #[derive(Clone, Copy)]
 pub struct LongTimes {
-    pub values: u32x8,
+    values: u32x8,
     ghost eight: { length values ≡ 8 },
 }
 
@@ -25,15 +24,14 @@ impl Stored for LongTimes {
     ghost eight = { λ times. times.eight };
 
     #[inline(always)]
-    fn zeros() -> LongTimes {
-        let values = u32x8::splat(0);
+    fn from_times(times: [u32; 8]) -> LongTimes {
+        let values = u32x8::from_array(times);
         LongTimes { values }
     }
 
     #[inline(always)]
-    fn from_times(times: [u32; 8]) -> LongTimes {
-        let values = u32x8::from_array(times);
-        LongTimes { values }
+    fn extended(self) -> u32x8 {
+        self.values
     }
 
     #[inline(always)]
@@ -55,35 +53,14 @@ impl Stored for LongTimes {
     }
 }
 
-/// Times that lanes of 32 bits have room for.
-pub trait Extend: Stored {
-    /// The times in 32 bits.
-    fn extended(self) -> u32x8
-        ensures { result ≡ Self.lanes self };
-}
-
-impl Extend for Short {
-    #[inline(always)]
-    fn extended(self) -> u32x8 {
-        self.values.cast::<u32>()
-    }
-}
-
-impl Extend for LongTimes {
-    #[inline(always)]
-    fn extended(self) -> u32x8 {
-        self.values
-    }
-}
-
 /// Eight lanes of 32 bits. They have room for values below 2^32 - 1, and greater sums wrap.
 #[derive(Clone, Copy)]
-pub struct Long<T: Extend> {
+pub struct Long<T: Stored> {
     lanes: LongTimes,
     times: PhantomData<T>,
 }
 
-impl<T: Extend> Long<T> {
+impl<T: Stored> Long<T> {
     #[inline(always)]
     fn of(values: u32x8) -> Long<T>
         requires { length values ≡ 8 }
@@ -95,7 +72,7 @@ impl<T: Extend> Long<T> {
     }
 }
 
-impl<T: Extend> Band for Long<T> {
+impl<T: Stored> Band for Long<T> {
     type Times = T;
 
     type Number = u64;
@@ -111,11 +88,6 @@ impl<T: Extend> Band for Long<T> {
     const IN_REGISTERS: usize = 4;
 
     ghost eight = { λ band. band.lanes.eight };
-
-    #[inline(always)]
-    fn zeros() -> Long<T> {
-        Long::of(u32x8::splat(0))
-    }
 
     #[inline(always)]
     fn load(times: T) -> Long<T> {

@@ -13,7 +13,7 @@ use std::simd::prelude::*;
 /// Eight lanes of 16 bits. Sums stop at 65,535, as the processor's do.
 #[derive(Clone, Copy)]
 pub struct Short {
-    pub values: u16x8,
+    values: u16x8,
     ghost eight: { length values ≡ 8 },
 }
 
@@ -33,15 +33,14 @@ impl Stored for Short {
     ghost eight = { λ times. times.eight };
 
     #[inline(always)]
-    fn zeros() -> Short {
-        let values = u16x8::splat(0);
+    fn from_times(times: [u32; 8]) -> Short {
+        let values = u32x8::from_array(times).cast::<u16>();
         Short { values }
     }
 
     #[inline(always)]
-    fn from_times(times: [u32; 8]) -> Short {
-        let values = u32x8::from_array(times).cast::<u16>();
-        Short { values }
+    fn extended(self) -> u32x8 {
+        self.values.cast::<u32>()
     }
 
     #[inline(always)]
@@ -79,12 +78,6 @@ impl Band for Short {
     const IN_REGISTERS: usize = 8;
 
     ghost eight = { λ band. band.eight };
-
-    #[inline(always)]
-    fn zeros() -> Short {
-        let values = u16x8::splat(0);
-        Short { values }
-    }
 
     #[inline(always)]
     fn load(times: Short) -> Short {

@@ -6,7 +6,7 @@ ghost use Rattle.pfs_wave.specs.Private.Payment.{AreTimesOf, IsNoneFrom};
 ghost use Rattle.pfs_wave.specs.Private.Recurrences.{AreSummed, AreTables, TablesOfCells};
 
 use crate::band::Band;
-use crate::vectors::{array_of, from_before, next_value};
+use crate::vectors::{array_of, from_before, next_value, zeros};
 use pfs_base::{Paid, Permit};
 
 /// What the last vector of a step leaves for the first vector of the next step.
@@ -82,7 +82,7 @@ pub fn fill_sums<V: Band, const N: usize>(
         → IsRow N t.job (vectors_of (map V.Times.lanes job.now)) → (place : ℕ) → place ≤ rows → place < steps
         → V.Holds (slice_index_or (map V.number sums.new) (place + 7) 0) (t.sum place (min 8 (steps - place) * N)) }
 {
-    let zero = V::zeros();
+    let zero = zeros::<V>();
     let mut heads = [zero; N];
     let job = array_of::<V, N>(job);
     let mut carry = Carry {

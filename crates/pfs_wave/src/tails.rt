@@ -6,7 +6,7 @@ ghost use Rattle.pfs_wave.specs.Private.Payment.{AreTimesOf};
 ghost use Rattle.pfs_wave.specs.Private.Recurrences.{AreTails};
 
 use crate::band::Band;
-use crate::vectors::{from_after, next_value, second_value};
+use crate::vectors::{from_after, next_value, second_value, zeros};
 use pfs_base::Permit;
 
 // The second vector of a step, if there is one, from what the step after it leaves for the first vector.
@@ -110,7 +110,7 @@ pub fn fill_tails<V: Band, const N: usize>(
         → HoldCells V.Holds N steps tail (map V.lanes tails.new) }
 {
     permit.spend();
-    let mut first = V::zeros();
+    let mut first = zeros::<V>();
     let mut now = [first; N];
     tails[steps * N..].copy_from_slice(&now);
     for left in 0..steps {

@@ -2,9 +2,17 @@
 ghost use Rattle.std.specs.Prelude.{◌≡◌, ℕ, suc, ◌<◌, length, map, slice_set};
 ghost use Rattle.std.specs.List.{slice_index_or};
 ghost use Rattle.pfs_wave.specs.Private.Blocks.{vectors_of};
-ghost use Rattle.pfs_wave.specs.Private.Lanes.{IsNext, IsSecond};
+ghost use Rattle.pfs_wave.specs.Private.Lanes.{IsNext, IsSecond, zeros};
 
 use crate::band::{Band, Stored};
+
+/// A vector of zeros.
+#[inline(always)]
+pub fn zeros<V: Band>() -> V
+    ensures { V.lanes result ≡ zeros 8 }
+{
+    V::load(V::Times::from_times([0; 8]))
+}
 
 /// The vectors of as many times as the array has.
 #[inline(always)]
@@ -14,7 +22,7 @@ pub fn array_of<V: Band, const N: usize>(times: &[V::Times]) -> [V; N]
     ensures vectors { (k : ℕ) → k < N
         → vectors_of (map V.lanes result) k ≡ vectors_of (map V.Times.lanes times.now) k }
 {
-    let mut array = [V::zeros(); N];
+    let mut array = [zeros(); N];
     for k in 0..N {
         array[k] = V::load(times[k]);
     }
@@ -49,7 +57,7 @@ pub fn from_before<V: Band>(vector: V) -> V
     ensures next { (lane : ℕ) → suc lane < 8
         → slice_index_or (V.lanes result) (suc lane) 0 ≡ slice_index_or (V.lanes vector) lane 0 }
 {
-    vector.up(V::zeros())
+    vector.up(zeros())
 }
 
 /// Each lane from the lane after it, and 0 in the last one.
@@ -58,7 +66,7 @@ pub fn from_after<V: Band>(vector: V) -> V
     ensures { (lane : ℕ) → lane < 8
         → slice_index_or (V.lanes result) lane 0 ≡ slice_index_or (V.lanes vector) (suc lane) 0 }
 {
-    vector.down(V::zeros())
+    vector.down(zeros())
 }
 
 /// Writes one vector of a table.

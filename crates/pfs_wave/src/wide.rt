@@ -3,7 +3,7 @@ ghost use Rattle.std.proofs.Common.{refl};
 ghost use Rattle.std.specs.Prelude.{◌≡◌, ℕ, ◌≤◌, length};
 ghost use Rattle.pfs_wave.specs.Private.Lanes.{HoldsBelow};
 
-use crate::band::{BACK, Band, DOWN, UP};
+use crate::band::{BACK, Band, DOWN, Stored, UP};
 use crate::best::first_least;
 use crate::long::LongTimes;
 use pfs_insert::Placed;
@@ -34,14 +34,8 @@ impl Band for Wide {
     ghost eight = { λ band. band.eight };
 
     #[inline(always)]
-    fn zeros() -> Wide {
-        let values = u64x8::splat(0);
-        Wide { values }
-    }
-
-    #[inline(always)]
     fn load(times: LongTimes) -> Wide {
-        let values = times.values.cast::<u64>();
+        let values = times.extended().cast::<u64>();
         Wide { values }
     }
 
