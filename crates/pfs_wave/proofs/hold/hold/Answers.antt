@@ -10,7 +10,8 @@ use Rattle.pfs_wave.proofs.hold.hold.Goals as goal
 pub fill_times-requires-clause-jobs : goal.fill_times-requires-clause-jobs
 fill_times-requires-clause-jobs g c row d lt =
     let rows = c.requires.rows in
-    let few = padded_in c.args.seq.now c.write_rows.new.order c.args.jobs c.requires.jobs c.write_rows.ensures.rows row d lt
+    let few = padded_in c.args.seq.now c.write_rows.new.order c.args.jobs c.requires.jobs c.write_rows.ensures.rows
+    row d lt
     in
     omega (arith, mul-le-mul_right g.row.N few)
 
@@ -51,7 +52,8 @@ returns-clause-holds g c =
       | inr no_back ↦
           let same = c.move_back-changed.ensures.none (omega arith) in
           rw (same.0, same.1, same.2, all) (
-          subst (λ n. HoldOutside (rows_at count rows others k) front (max n (length seq)) (length others) (length others)
+          subst (λ n. HoldOutside (rows_at count rows others k) front (max n (length seq)) (length others)
+          (length others)
           (column count times k)) held_long
           (outside_none count rows order others (take len order) seq jobs front back k (column count times k)
           (column count times k) (holds.lanes k k_lt) kept was is same_steps))

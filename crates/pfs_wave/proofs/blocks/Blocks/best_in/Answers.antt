@@ -50,7 +50,8 @@ passed : (g : given.Over) (c : goal.After-slice_known-2-1 g) (shop : FlowShop) �
     → IsInsertion g.V.Band.Holds shop c.args.sequence.now c.args.job g.row.N c.self.inside.lanes
     (length c.args.sequence.now + c.self.inside.lanes) c.args.permits.tails c.args.permits.sums
     (map g.V.Times.Stored.lanes (take ((length c.args.sequence.now + c.self.inside.lanes) * g.row.N) c.hold.new.times))
-    (map g.V.Times.Stored.lanes (take (c.args.job * g.row.N + g.row.N - c.args.job * g.row.N) (drop (c.args.job * g.row.N) c.self.inside.rows.items)))
+    (map g.V.Times.Stored.lanes (take (c.args.job * g.row.N + g.row.N - c.args.job * g.row.N)
+    (drop (c.args.job * g.row.N) c.self.inside.rows.items)))
 passed g c shop has paid =
     let lanes = g.V.Times.Stored.lanes in
     let inside = c.self.inside in
@@ -69,13 +70,15 @@ passed g c shop has paid =
     let few = holds.some in
     let eight = c.self.invariant.eight in
     let whole : AreTimes g.V.Band.Holds count steps (padded_time shop jobs) (map lanes times) =
-    rw c.hold.ensures.jobs at (holding_times holds g.V.Band.Holds g.V.Band.itself shop steps (ap (λ b. b.jobs) view ∙ has.jobs) has_rows (omega arith)) in
+    rw c.hold.ensures.jobs at (holding_times holds g.V.Band.Holds g.V.Band.itself shop steps
+    (ap (λ b. b.jobs) view ∙ has.jobs) has_rows (omega arith)) in
     record {
       some = has.some;
       few = rw (← ap (λ b. b.lanes) view, c.requires.count) at has.few;
       all = refl;
       paid = paid;
-      times_are = times_taken g.V.Band.Holds lanes count steps (steps * count) (padded_time shop jobs) times (omega arith) whole;
+      times_are = times_taken g.V.Band.Holds lanes count steps (steps * count) (padded_time shop jobs) times
+          (omega arith) whole;
       job_is = λ lane k lt k_lt.
           ap (λ v. get_or v lane 0)
           (part_read lanes count c.args.job (c.args.job * count) n inside.rows.items refl k (omega arith))

@@ -15,11 +15,14 @@ invariant_of-result g c =
       some = c.lanes_for.ensures.some;
       eight = c.lanes_for.ensures.eight;
       few = omega (arith, jobs_are.value, jobs_are.within.sizes.few_jobs);
-      rows = rw count_is at rows_long ∙ ap (λ n. n * vectors_in c.for_machines-width.result + vectors_in c.for_machines-width.result) (sym jobs_are.value);
+      rows = rw count_is at rows_long ∙ ap
+          (λ n. n * vectors_in c.for_machines-width.result + vectors_in c.for_machines-width.result)
+          (sym jobs_are.value);
       holds =
           holding_none (vectors_in c.for_machines-width.result) jobs c.args.instance.now.shop
           (map lanes c.in_ok-rows.rows.items) c.in_ok-order.order.items (map lanes c.in_ok-times.times.items)
-          (rw count_is at c.in_ok-rows.ensures.rows) jobs_are.value (c.in_ok-order.ensures.items_if_clones_equal (λ y is. is)) (rw count_is at c.in_ok-times.ensures.zeros);
+          (rw count_is at c.in_ok-rows.ensures.rows) jobs_are.value
+          (c.in_ok-order.ensures.items_if_clones_equal (λ y is. is)) (rw count_is at c.in_ok-times.ensures.zeros);
       tails = rw count_is at (sym c.in_ok-tails.tails.ok.0 ∙ c.in_ok-tails.ensures.len);
       sums = omega (arith, c.in_ok-sums.ensures.len, c.in_ok-sums.sums.ok);
     }
