@@ -2,7 +2,7 @@
 ghost use Rattle.std.specs.Prelude.{◌≡◌, ℕ, ◌+◌, ◌-◌, ◌<◌, ◌≤◌, ◌^◌, ◌∷◌, [], ◌++◌, List, length, map, max};
 ghost use Rattle.std.specs.Prelude.{take, drop};
 ghost use Rattle.std.specs.List.{All, slice_index_or};
-ghost use Rattle.pfs_wave.specs.Private.Lanes.{Holding, IsEach};
+ghost use Rattle.pfs_wave.specs.Private.Lanes.{Holding, IsEach, zeros};
 ghost use Rattle.pfs_wave.specs.Private.Least.{IsLeastSoFar};
 
 use pfs_insert::Placed;
@@ -29,6 +29,10 @@ pub trait Stored: Copy + Drop {
 
     /// The greatest time that fits.
     ghost CAP: { ℕ };
+
+    /// Times of 0.
+    fn zeros() -> Self
+        ensures { lanes result ≡ zeros 8 };
 
     /// These times.
     fn from_times(times: [u32; 8]) -> Self

@@ -32,7 +32,7 @@ impl<T: Stored> Blends<T> {
     pub fn none() -> Blends<T>
         ensures { AreBlends T.lanes (λ back lane. 0) result }
     {
-        let zero = T::from_times([0; 8]);
+        let zero = T::zeros();
         Blends {
             before: zero,
             pair_one: zero,

@@ -24,6 +24,12 @@ impl Stored for LongTimes {
     ghost eight = { λ times. times.eight };
 
     #[inline(always)]
+    fn zeros() -> LongTimes {
+        let values = u32x8::splat(0);
+        LongTimes { values }
+    }
+
+    #[inline(always)]
     fn from_times(times: [u32; 8]) -> LongTimes {
         let values = u32x8::from_array(times);
         LongTimes { values }

@@ -100,7 +100,7 @@ pub fn zero_vectors<T: Stored>(alloc: Global, count: usize) -> Result<Vec<T>, Al
     let mut vectors = Vec::new(alloc);
     vectors.reserve_exact(count)?;
     for _vector in 0..count {
-        vectors.push_reserved(T::from_times([0; 8]));
+        vectors.push_reserved(T::zeros());
     }
     Ok(vectors)
 }

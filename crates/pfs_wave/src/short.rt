@@ -33,6 +33,12 @@ impl Stored for Short {
     ghost eight = { λ times. times.eight };
 
     #[inline(always)]
+    fn zeros() -> Short {
+        let values = u16x8::splat(0);
+        Short { values }
+    }
+
+    #[inline(always)]
     fn from_times(times: [u32; 8]) -> Short {
         let values = u32x8::from_array(times).cast::<u16>();
         Short { values }

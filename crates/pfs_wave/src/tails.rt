@@ -51,8 +51,8 @@ fn chosen<'a, V: Band, const N: usize>(array: &'a [V], table: &'a [V]) -> &'a [V
     if N <= V::IN_REGISTERS { array } else { table }
 }
 
-// The tails of a step, from those of the step after it, which `now` and `after` both have. `first` is the first of these.
-// They are written to `now` and to `row`, and the first one is returned.
+// The tails of a step, from those of the step after it, which `now` and `after` both have. `first` is the first of
+// these. They are written to `now` and to `row`, and the first one is returned.
 #[inline(always)]
 fn step_tails<V: Band, const N: usize>(
     first: V,

@@ -11,7 +11,7 @@ use crate::band::{Band, Stored};
 pub fn zeros<V: Band>() -> V
     ensures { V.lanes result ≡ zeros 8 }
 {
-    V::load(V::Times::from_times([0; 8]))
+    V::load(V::Times::zeros())
 }
 
 /// The vectors of as many times as the array has.

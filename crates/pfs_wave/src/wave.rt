@@ -39,7 +39,8 @@ pub(crate) fn longest_time(instance: &Instance) -> u32
     longest
 }
 
-/// The insertions of an instance, in the smallest lanes that every path of the instance fits in.
+/// The insertions of an instance, in the smallest lanes that every path of the instance fits in. `Medium` has lanes of 32
+/// bits over times of 16.
 #[derive(Drop)]
 pub(crate) enum Wave {
     Short(Blocks<Short>),

@@ -92,10 +92,12 @@ returns-clause-sums g c t rows machines paid of job_of are times_are tails_are j
           let lane = steps - 1 - place in
           let all : suc lane ≡ min 8 (steps - place) = omega arith in
           let here : place + 7 - (steps - 1) ≡ 7 - lane = omega arith in
-          changed Holds (put_inside number (steps - 1) n sums written (omega arith) written_long 0 (place + 7) (omega arith)
+          changed Holds (put_inside number (steps - 1) n sums written (omega arith) written_long 0 (place + 7)
+          (omega arith)
           (omega arith)
           ∙ ap (λ i. get_or (map number written) i 0) here
           ∙ ap (λ l. get_or (map number l) (7 - lane) 0) c.copy_from_slice.ensures.after
           ∙ c.reversed.ensures lane (omega arith))
-          (ap (λ lanes. t.sum place (lanes * g.row.N)) all) (filled.summed.sum_is place lane (omega arith) le (omega arith))
+          (ap (λ lanes. t.sum place (lanes * g.row.N)) all)
+          (filled.summed.sum_is place lane (omega arith) le (omega arith))
     ]

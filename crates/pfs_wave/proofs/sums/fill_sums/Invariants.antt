@@ -17,6 +17,7 @@ invariant-loop-step g l =
           → AreTimes Holds count l.steps t.time (map kept l.times)
           → HoldCells Holds count l.steps t.tail (map lanes l.tails)
           → IsRow count t.job (vectors_of (map kept l.fn.job))
-          → AreSumsFilled Holds count rows l.step t (vectors_of (map lanes l.heads)) (lanes l.carry.0) (lanes l.carry.1.0)
+          → AreSumsFilled Holds count rows l.step t (vectors_of (map lanes l.heads)) (lanes l.carry.0)
+          (lanes l.carry.1.0)
           (map g.V.Band.number l.sums);
     }

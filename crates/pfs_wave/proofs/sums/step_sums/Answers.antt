@@ -52,7 +52,8 @@ loop-k-preserved g c =
     (rw (above, read lanes job k c.index-job-k.result (omega arith)) at c.next_value-inserted.ensures)
     (λ lane a b t lt p q r. c.greater-sum.ensures lane a (b + t) lt p (c.sum.ensures lane b t lt q
     (changed Holds (ap (λ v. get_or v lane 0) tail) refl r)))
-    (rw (above, c.load.ensures ∙ read_as kept times k c.index-times-k.result (omega arith) c.index-times-k.is) at c.next_value-head.ensures)
+    (rw (above, c.load.ensures ∙ read_as kept times k c.index-times-k.result (omega arith) c.index-times-k.is) at
+    c.next_value-head.ensures)
 
 pub returns-clause-cells : goal.returns-clause-cells
 returns-clause-cells g c t rows step are times_are none tails_are job_is summed =

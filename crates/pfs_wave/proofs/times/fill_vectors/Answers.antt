@@ -94,7 +94,8 @@ loop-turn-preserved g c =
     let d =
     filled_more lanes count k rows from (row + 2) ((row + 2) * count + k) (row + 3) old c.put-in-loop-turn.new.table
     c.push-c.result.row b k_lt refl (omega arith) (omega arith)
-    (vector_inside count steps (row + 2) k _ (omega arith) k_lt (c.put-in-loop-turn.auto.table ∙ c.put.auto.table ∙ long))
+    (vector_inside count steps (row + 2) k _ (omega arith) k_lt
+    (c.put-in-loop-turn.auto.table ∙ c.put.auto.table ∙ long))
     c.put-in-loop-turn-2.ensures
     (out_is rows (row + 2) c.vector_of-in-loop-turn-2.ensures (c.push-c.ensures.row (past_at rows (row + 2)) two)) in
     record {

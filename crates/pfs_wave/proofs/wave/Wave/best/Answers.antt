@@ -8,7 +8,8 @@ returns-in-Short-clause-best c shop serves paid =
     let is = rw c.in-Short.is at serves in
     let few = rw c.in-Short.is at c.requires.few in
     found shop c.args.sequence.now c.args.job 65535 (c.best.ensures.best shop is.blocks paid) refl 0 (omega arith)
-    (served_path shop 65535 is.blocks.some is.short c.args.sequence.now c.args.job 0 (omega (arith, few, is.blocks.jobs))
+    (served_path shop 65535 is.blocks.some is.short c.args.sequence.now c.args.job 0
+    (omega (arith, few, is.blocks.jobs))
     (omega arith))
 
 pub returns-in-Short-clause-spans : goal.returns-in-Short-clause-spans

@@ -6,7 +6,8 @@ pub new-requires : goal.new-requires
 new-requires c =
     let path = c.path_bound-path.ensures in
     let sizes = path.within.sizes in
-    served_times c.args.instance.now.shop 65535 sizes.some_machine (omega (arith, path.value, c.if-path-lt65535.true)) sizes.some_job
+    served_times c.args.instance.now.shop 65535 sizes.some_machine (omega (arith, path.value, c.if-path-lt65535.true))
+    sizes.some_job
 
 pub new-requires-then-longest-le65535 : goal.new-requires-then-longest-le65535
 new-requires-then-longest-le65535 c k d lt =
