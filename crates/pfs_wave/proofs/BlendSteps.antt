@@ -7,7 +7,7 @@ use Rattle.pfs_wave.proofs.PastRows.{past_is, past_none}
 use Rattle.pfs_wave.specs.declared.blends.Blends.{Blends}
 
 -- the blends take one more row
-pub next_is : {B N : Type 0} (lanes : B → List ℕ) (band : Rows) (row to : ℕ) {now : List ℕ} (next : Blends B N)
+pub next_is : {B : Type 0} (lanes : B → List ℕ) (band : Rows) (row to : ℕ) {now : List ℕ} (next : Blends B)
     → to ≡ row + 1 → now ≡ band row
     → AreBlends lanes (pushed now (past_at band row)) next → AreBlends lanes (past_at band to) next
 next_is lanes band row to next to_is e is = rw (to_is, add-one, ← e) is
@@ -25,7 +25,7 @@ same_back : (p q : Past) → ((back lane : ℕ) → back ≤ 6 → p back lane �
 same_back p q same a b c d e f g h la lb lc ld le lf lg lh =
     rw (same a 0 la, same b 1 lb, same c 2 lc, same d 3 ld, same e 4 le, same f 5 lf, same g 6 lg, same h 7 lh) refl
 
-same_blends : {B N : Type 0} (lanes : B → List ℕ) (p q : Past) (blends : Blends B N)
+same_blends : {B : Type 0} (lanes : B → List ℕ) (p q : Past) (blends : Blends B)
     → ((back lane : ℕ) → back ≤ 6 → p back lane ≡ q back lane)
     → AreBlends lanes p blends → AreBlends lanes q blends
 same_blends lanes p q blends same are =
@@ -51,7 +51,7 @@ same_blends lanes p q blends same are =
 abbrev pub later_rows : Rows → ℕ → Rows
 later_rows band start row = band (start + row)
 
-pub warm : {B N : Type 0} (lanes : B → List ℕ) (band : Rows) (row start count : ℕ) (blends : Blends B N)
+pub warm : {B : Type 0} (lanes : B → List ℕ) (band : Rows) (row start count : ℕ) (blends : Blends B)
     → start ≡ row - 7 → start + count ≡ row
     → AreBlends lanes (past_at (later_rows band start) count) blends → AreBlends lanes (past_at band row) blends
 warm lanes band row start count blends start_is all are =

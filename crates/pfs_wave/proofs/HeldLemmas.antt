@@ -1,14 +1,14 @@
 -- Skewed times that are kept from one sequence to the next.
-use Rattle.std.proofs.Common.{inl, inr, max, ◌≡◌, ℕ, zero, suc, ◌+◌, ◌-◌, ◌*◌, ◌<◌, ◌≤◌, List, [], ◌++◌, length, take}
+use Rattle.std.proofs.Common.{inl, inr, max, ◌≡◌, ℕ, zero, suc, ◌+◌, ◌-◌, ◌*◌, ◌<◌, ◌≤◌, List, [], ◌++◌, length, take, drop}
 use Rattle.std.proofs.Common.{get_or, replicate, map, ap, ◌∙◌, sym, refl, arith}
 use Rattle.std.proofs.lemmas.Bool.{cases_lt, lt-ltb, le-ltb}
-use Rattle.std.proofs.lemmas.List.{get_or-take, get_or-replicate, get_or_default, get_or_past, length-take-le}
+use Rattle.std.proofs.lemmas.List.{drop-map, get_or-drop, get_or-take, get_or-replicate, get_or_default, get_or_past, length-take-le}
 use Rattle.std.proofs.lemmas.List.{length-replicate, same_lists, take-map}
 use Rattle.std.specs.List.{All}
 use Rattle.pfs_base.specs.FlowShop.{FlowShop}
 use Rattle.pfs_wave.specs.Private.Lanes.{Holding, Rows, zeros}
 use Rattle.pfs_wave.specs.Private.Blocks.{AreTimes, Cells, HasRows, step_of}
-use Rattle.pfs_wave.specs.Private.HeldRows.{AreMoved, HoldLanes, HoldOutside, IsHolding, IsKept, IsPadded, column, rows_at}
+use Rattle.pfs_wave.specs.Private.HeldRows.{AreMoved, HoldLanes, HoldOutside, IsHolding, IsKept, IsPadded, column, part_from, rows_at}
 use Rattle.pfs_wave.specs.Private.Padded.{padded_time}
 use Rattle.pfs_wave.proofs.SkewedTimes.{vector_inside}
 use Rattle.pfs_wave.proofs.TailCells.{changed}
@@ -198,15 +198,15 @@ module _ (count : ℕ) (rows : List (List ℕ)) (order others held seq : List �
       }
 
   -- a sequence that grew
-  module _ (longer : length held < length seq) (room : length seq + 8 ≤ length others)
-      (moved : AreMoved (length seq - back + 8) (length seq + 8) (length seq - length held) times new) where
+  module _ (to : ℕ) (longer : length held < length seq) (room : length seq + 8 ≤ to)
+      (moved : AreMoved (front + 8) (length seq - back + 8) to (length seq - length held) (length others) times new) where
     at_later_steps : (row lane : ℕ) → length seq - back + 8 ≤ row + lane → lane < 8 → row + lane < length others
         → get_or (new (row + lane)) lane 0 ≡ get_or (to_skew row) lane 0
     at_later_steps row lane after lt inside =
         let in_held = kept.in_held in
         let in_seq = kept.in_seq in
         let by = length seq - length held in
-        elim (cases_lt (row + lane) (length seq + 8)) [
+        elim (cases_lt (row + lane) to) [
           | inl within ↦
               let at : row + lane - by ≡ (row - by) + lane = omega arith in
               ap (λ l. get_or l lane 0) (moved.moved (row + lane) (omega arith) within)
@@ -214,7 +214,7 @@ module _ (count : ℕ) (rows : List (List ℕ)) (order others held seq : List �
               ∙ old.times_are (row - by) lane lt (omega arith)
               ∙ same_row row (row - by) lane (back_job row (omega arith) (omega arith) (omega arith) (omega arith))
           | inr beyond ↦
-              ap (λ l. get_or l lane 0) (moved.after (row + lane) beyond)
+              ap (λ l. get_or l lane 0) (moved.after (row + lane) beyond inside)
               ∙ old.times_are row lane lt (omega arith)
               ∙ same_row row row lane (none_job row (omega arith) (omega arith) (omega arith))
         ]
@@ -234,6 +234,36 @@ module _ (count : ℕ) (rows : List (List ℕ)) (order others held seq : List �
               ap (λ l. get_or l lane 0) (moved.before step (omega arith))
               ∙ old.none_before step lane early lt (omega arith);
         }
+
+  -- only the steps of the rows at the front are moved
+  pub outside_front : ((step : ℕ) → step < front + 8 → new step ≡ times step)
+      → HoldOutside to_skew front (length others) (length others) (length others) new
+  outside_front moved =
+      let in_held = kept.in_held in
+      let in_seq = kept.in_seq in
+      record {
+        front = λ row lane before lt inside.
+            ap (λ l. get_or l lane 0) (moved (row + lane) (omega arith))
+            ∙ old.times_are row lane lt (omega arith) ∙ same_row row row lane (front_job row before (omega arith));
+        back = λ row lane after lt inside. absurd (omega arith);
+        later = λ row lane after lt inside. absurd (omega arith);
+        none_before = λ step lane early lt inside.
+            ap (λ l. get_or l lane 0) (moved step (omega arith)) ∙ old.none_before step lane early lt (omega arith);
+      }
+
+-- a step of a part of a table
+pub part_step : {X : Type 0} (lanes : X → List ℕ) (count start steps : ℕ) (table : List X) (k step : ℕ) → k < count
+    → step < steps → column count (map lanes (part_from start steps count table)) k step
+    ≡ column count (map lanes table) k (start + step)
+part_step lanes count start steps table k step k_lt lt =
+    let n = (start + steps) * count - start * count in
+    let inside : step * count + k < n = omega (arith, vector_inside count steps step k (steps * count) lt k_lt refl) in
+    let here : start * count + (step * count + k) ≡ (start + step) * count + k = omega arith in
+    ap (λ l. get_or l (step * count + k) []) (sym (take-map lanes n (drop (start * count) table))
+    ∙ ap (take n) (sym (drop-map lanes (start * count) table)))
+    ∙ get_or-take n (drop (start * count) (map lanes table)) (step * count + k) [] inside
+    ∙ get_or-drop (start * count) (map lanes table) (step * count + k) []
+    ∙ ap (λ i. get_or (map lanes table) i []) here
 
 -- a sequence of no jobs
 pub holding_none : (count jobs : ℕ) (shop : FlowShop) (rows : List (List ℕ)) (order : List ℕ) (times : List (List ℕ))
@@ -266,17 +296,17 @@ holding_none count jobs shop rows order times has jobs_is order_is times_are =
       };
     }
 
--- the first steps of a table of times
-pub times_taken : {X : Type 0} (Holds : Holding) (lanes : X → List ℕ) (count steps n : ℕ) (time : Cells) (table : List X)
-    → steps * count ≤ n → AreTimes Holds count steps time (map lanes table)
-    → AreTimes Holds count steps time (map lanes (take n table))
-times_taken Holds lanes count steps n time table enough are =
+-- the first steps of a part of a table of times
+pub times_first : {X : Type 0} (Holds : Holding) (lanes : X → List ℕ) (count start steps all : ℕ) (time : Cells)
+    (table : List X) → steps ≤ all → AreTimes Holds count steps time (map lanes (part_from start all count table))
+    → AreTimes Holds count steps time (map lanes (part_from start steps count table))
+times_first Holds lanes count start steps all time table enough are =
     let same : (step k : ℕ) → step < steps → k < count
-    → step_of count (map lanes (take n table)) step k ≡ step_of count (map lanes table) step k =
+    → step_of count (map lanes (part_from start steps count table)) step k
+    ≡ step_of count (map lanes (part_from start all count table)) step k =
     λ step k lt k_lt.
-    let inside = vector_inside count steps step k (steps * count) lt k_lt refl in
-    ap (λ l. get_or l (step * count + k) []) (sym (take-map lanes n table))
-    ∙ get_or-take n (map lanes table) (step * count + k) [] (omega arith) in
+    part_step lanes count start steps table k step k_lt lt
+    ∙ sym (part_step lanes count start all table k step k_lt (omega arith)) in
     record {
       cells_are = λ step lt k k_lt row lane lane_lt here.
           changed Holds (ap (λ l. get_or l lane 0) (same step k lt k_lt)) refl (are.cells_are step lt k k_lt row lane lane_lt here);

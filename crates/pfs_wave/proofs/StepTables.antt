@@ -6,7 +6,7 @@ use Rattle.std.proofs.lemmas.Bool.{cases_lt}
 use Rattle.std.proofs.lemmas.List.{get_or-take, get_or-drop, take-map, drop-map, get_or-map, length-map, length-set}
 use Rattle.std.proofs.lemmas.List.{get_or-set_same, get_or-set_other, map-set}
 use borrow.Rule.Slice.PartMut.{put_mid}
-use Rattle.pfs_wave.specs.Private.Blocks.{vectors_of, step_of}
+use Rattle.pfs_wave.specs.Private.Blocks.{Vectors, vectors_of, step_of}
 use Rattle.pfs_wave.proofs.PutParts.{put_inside, put_after}
 
 module _ {X : Type 0} (lanes : X → List ℕ) (row : List X) (k : ℕ) (x : X) where
@@ -24,15 +24,16 @@ module _ {X : Type 0} (lanes : X → List ℕ) (row : List X) (k : ℕ) (x : X) 
   pub set_other : (j : ℕ) → (j ≡ k → ⊥) → vectors_of (map lanes (slice_set row k x)) j ≡ vectors_of (map lanes row) j
   set_other j other = rw (map-set lanes row k x) (get_or-set_other (map lanes row) k j (lanes x) [] (omega arith))
 
--- the first vectors of an array are those of `vectors`
-pub record AreCopiedSoFar {X : Type 0} (lanes : X → List ℕ) (vectors array : List X) (to : ℕ) : Type 0 where
-  pub long : length array ≡ length vectors
-  pub same : (k : ℕ) → k < to → vectors_of (map lanes array) k ≡ vectors_of (map lanes vectors) k
+-- the first vectors of an array of `count` are these
+pub record AreCopiedSoFar {X : Type 0} (lanes : X → List ℕ) (count : ℕ) (vectors : Vectors) (array : List X) (to : ℕ) :
+    Type 0 where
+  pub long : length array ≡ count
+  pub same : (k : ℕ) → k < to → vectors_of (map lanes array) k ≡ vectors k
 
-pub copied_more : {X : Type 0} (lanes : X → List ℕ) (vectors array : List X) (k : ℕ) (new : X)
-    → AreCopiedSoFar lanes vectors array k → k < length vectors → lanes new ≡ vectors_of (map lanes vectors) k
-    → AreCopiedSoFar lanes vectors (slice_set array k new) (k + 1)
-copied_more lanes vectors array k new so_far lt is =
+pub copied_more : {X : Type 0} (lanes : X → List ℕ) (count : ℕ) (vectors : Vectors) (array : List X) (k : ℕ) (new : X)
+    → AreCopiedSoFar lanes count vectors array k → k < count → lanes new ≡ vectors k
+    → AreCopiedSoFar lanes count vectors (slice_set array k new) (k + 1)
+copied_more lanes count vectors array k new so_far lt is =
     let long = so_far.long in
     record {
       long = length-set array k new ∙ long;

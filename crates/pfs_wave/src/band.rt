@@ -6,6 +6,7 @@ ghost use Rattle.pfs_wave.specs.Private.Lanes.{Holding, IsEach, zeros};
 ghost use Rattle.pfs_wave.specs.Private.Least.{IsLeastSoFar};
 
 use pfs_insert::Placed;
+use std::simd::prelude::*;
 
 // The lanes that a shuffle of two bands takes, of 0 to 7 in the first and 8 to 15 in the second: those that move up and
 // down, the three blends, and those from the last to the first.
@@ -21,54 +22,26 @@ pub const HALF: [usize; 8] = [0, 1, 2, 3, 12, 13, 14, 15];
 
 pub const BACK: [usize; 8] = [7, 6, 5, 4, 3, 2, 1, 0];
 
-/// Eight lanes, each with a number that holds a value. Where the lanes have no room for a value, the number may be
-/// another one.
-pub trait Band: Copy + Drop {
-    /// The number of a lane.
-    type Number: Copy + Drop;
-
-    /// The values of the lanes.
+/// Eight times, as rows and skewed times have them: in few bits, so that long tables take less memory.
+pub trait Stored: Copy + Drop {
+    /// The times.
     ghost lanes: { Self → List ℕ };
 
-    /// The value of a number.
-    ghost number: { Self.Number → ℕ };
-
-    /// That a number holds a value.
-    ghost Holds: { Holding };
-
-    /// Each number holds itself.
-    ghost itself: { (n : ℕ) → Holds n n };
-
-    /// The greatest time of a lane.
+    /// The greatest time that fits.
     ghost CAP: { ℕ };
 
-    /// The number of vectors up to which a pass keeps those of a step in registers.
-    const IN_REGISTERS: usize;
-
-    /// A band of zeros.
+    /// Times of 0.
     fn zeros() -> Self
         ensures { lanes result ≡ zeros 8 };
 
-    /// A band of eight times.
+    /// These times.
     fn from_times(times: [u32; 8]) -> Self
         requires { All (λ time. time ≤ CAP) times }
         ensures { lanes result ≡ times };
 
-    /// Moves each lane to the next one. Lane 0 is the last lane of `carry`.
-    fn up(self, carry: Self) -> Self
-        ensures { lanes result ≡ slice_index_or (lanes carry) 7 0 ∷ take 7 (lanes self) };
-
-    /// Moves each lane to the one before it. The last lane is the first lane of `carry`.
-    fn down(self, carry: Self) -> Self
-        ensures { lanes result ≡ drop 1 (lanes self) ++ (slice_index_or (lanes carry) 0 0 ∷ []) };
-
-    /// The greater value of each lane.
-    fn greater(self, other: Self) -> Self
-        ensures { IsEach Holds max (lanes self) (lanes other) (lanes result) };
-
-    /// The sum of each lane.
-    fn sum(self, other: Self) -> Self
-        ensures { IsEach Holds (λ a b. a + b) (lanes self) (lanes other) (lanes result) };
+    /// The times in 32 bits.
+    fn extended(self) -> u32x8
+        ensures { result ≡ lanes self };
 
     /// The odd lanes of `other`, and the even lanes of `self`.
     fn odd_from(self, other: Self) -> Self
@@ -93,6 +66,53 @@ pub trait Band: Copy + Drop {
             ∷ slice_index_or (lanes self) 2 0 ∷ slice_index_or (lanes self) 3 0
             ∷ slice_index_or (lanes other) 4 0 ∷ slice_index_or (lanes other) 5 0
             ∷ slice_index_or (lanes other) 6 0 ∷ slice_index_or (lanes other) 7 0 ∷ [] };
+
+    ghost eight: { (times : Self) → length (lanes times) ≡ 8 };
+}
+
+/// Eight lanes, each with a number that holds a value. Where the lanes have no room for a value, the number may be
+/// another one.
+pub trait Band: Copy + Drop {
+    /// Eight times, in the size in which they are kept.
+    type Times: Stored;
+
+    /// The number of a lane.
+    type Number: Copy + Drop;
+
+    /// The values of the lanes.
+    ghost lanes: { Self → List ℕ };
+
+    /// The value of a number.
+    ghost number: { Self.Number → ℕ };
+
+    /// That a number holds a value.
+    ghost Holds: { Holding };
+
+    /// Each number holds itself.
+    ghost itself: { (n : ℕ) → Holds n n };
+
+    /// The number of vectors up to which a pass keeps those of a step in registers.
+    const IN_REGISTERS: usize;
+
+    /// A band of kept times.
+    fn load(times: Self::Times) -> Self
+        ensures { lanes result ≡ Self.Times.lanes times };
+
+    /// Moves each lane to the next one. Lane 0 is the last lane of `carry`.
+    fn up(self, carry: Self) -> Self
+        ensures { lanes result ≡ slice_index_or (lanes carry) 7 0 ∷ take 7 (lanes self) };
+
+    /// Moves each lane to the one before it. The last lane is the first lane of `carry`.
+    fn down(self, carry: Self) -> Self
+        ensures { lanes result ≡ drop 1 (lanes self) ++ (slice_index_or (lanes carry) 0 0 ∷ []) };
+
+    /// The greater value of each lane.
+    fn greater(self, other: Self) -> Self
+        ensures { IsEach Holds max (lanes self) (lanes other) (lanes result) };
+
+    /// The sum of each lane.
+    fn sum(self, other: Self) -> Self
+        ensures { IsEach Holds (λ a b. a + b) (lanes self) (lanes other) (lanes result) };
 
     /// The number of the last lane.
     fn last(self) -> Self::Number

@@ -66,8 +66,8 @@ pub fn best_place<V: Band, const N: usize>(
     permits: Permits,
     lanes: usize,
     steps: usize,
-    times: &[V],
-    job: &[V],
+    times: &[V::Times],
+    job: &[V::Times],
     tails: &mut [V],
     sums: &mut [V::Number],
 ) -> Placed<Paid>
@@ -86,11 +86,11 @@ pub fn best_place<V: Band, const N: usize>(
     ensures within { result.place + lanes ≤ steps }
     ensures best { (shop : FlowShop) (jobs : List ℕ) (inserted : ℕ)
         → IsInsertion V.Holds shop jobs inserted N lanes steps permits.tails permits.sums
-        (map V.lanes times.now) (map V.lanes job.now)
+        (map V.Times.lanes times.now) (map V.Times.lanes job.now)
         → IsLeastHeld V.Holds (makespan_with shop jobs inserted) (length jobs + 1) result.place result.span }
     ensures spans { (shop : FlowShop) (jobs : List ℕ) (inserted : ℕ)
         → IsInsertion V.Holds shop jobs inserted N lanes steps permits.tails permits.sums
-        (map V.lanes times.now) (map V.lanes job.now)
+        (map V.Times.lanes times.now) (map V.Times.lanes job.now)
         → (place : ℕ) → place ≤ length jobs
         → V.Holds (slice_index_or (map V.number sums.new) (7 + place) 0) (makespan_with shop jobs inserted place) }
 {

@@ -4,35 +4,35 @@
 ghost use Rattle.std.specs.Prelude.{◌≡◌, ℕ};
 ghost use Rattle.pfs_wave.specs.Private.Blending.{Past, AreBlends, pushed, diagonal};
 
-use crate::band::Band;
+use crate::band::Stored;
 
 /// What the blends need of the last rows: the last row, the results of the first blend for the last two rows, and the
 /// results of the second blend for the last four.
 #[derive(Clone, Copy)]
-pub struct Blends<B: Band> {
-    before: B,
-    pair_one: B,
-    pair_two: B,
-    four_one: B,
-    four_two: B,
-    four_three: B,
-    four_four: B,
+pub struct Blends<T: Stored> {
+    before: T,
+    pair_one: T,
+    pair_two: T,
+    four_one: T,
+    four_two: T,
+    four_three: T,
+    four_four: T,
 }
 
 /// A skewed row, and what the blends of the next row need.
 #[derive(Clone, Copy)]
-pub struct Blended<B: Band> {
-    pub next: Blends<B>,
-    pub row: B,
+pub struct Blended<T: Stored> {
+    pub next: Blends<T>,
+    pub row: T,
 }
 
-impl<B: Band> Blends<B> {
+impl<T: Stored> Blends<T> {
     /// Before the first row: zeros.
     #[inline(always)]
-    pub fn none() -> Blends<B>
-        ensures { AreBlends B.lanes (λ back lane. 0) result }
+    pub fn none() -> Blends<T>
+        ensures { AreBlends T.lanes (λ back lane. 0) result }
     {
-        let zero = B::zeros();
+        let zero = T::zeros();
         Blends {
             before: zero,
             pair_one: zero,
@@ -46,11 +46,11 @@ impl<B: Band> Blends<B> {
 
     /// Skews one more row.
     #[inline(always)]
-    pub fn push(self, now: B) -> Blended<B>
-        ensures next { (past : Past) → AreBlends B.lanes past self
-            → AreBlends B.lanes (pushed (B.lanes now) past) result.next }
-        ensures row { (past : Past) → AreBlends B.lanes past self
-            → B.lanes result.row ≡ diagonal (pushed (B.lanes now) past) }
+    pub fn push(self, now: T) -> Blended<T>
+        ensures next { (past : Past) → AreBlends T.lanes past self
+            → AreBlends T.lanes (pushed (T.lanes now) past) result.next }
+        ensures row { (past : Past) → AreBlends T.lanes past self
+            → T.lanes result.row ≡ diagonal (pushed (T.lanes now) past) }
     {
         let pair = now.odd_from(self.before);
         let four = pair.pairs_from(self.pair_two);

@@ -12,6 +12,7 @@ use crate::best::{best_place, copy_sums};
 use crate::hold::hold;
 use crate::permits::Permits;
 use crate::rows::{shop_rows, zero_vectors};
+use crate::vectors::zeros;
 use pfs_base::{Instance, MOST_JOBS, Paid};
 use pfs_insert::Placed;
 use std::alloc::{AllocError, Global};
@@ -64,12 +65,14 @@ pub struct Blocks<V: Band> {
     lanes: usize,
     jobs: usize,
     // The vectors of each job, and after them vectors of zeros.
-    rows: Vec<V>,
+    rows: Vec<V::Times>,
     // The number of jobs of the last sequence.
     len: usize,
     // The jobs of the last sequence, and after them, for each step, the number of the vectors of zeros.
     order: Vec<usize>,
-    times: Vec<V>,
+    // The skewed times of the last sequence, from the step `start` on, with room for them to begin earlier or later.
+    times: Vec<V::Times>,
+    start: usize,
     tails: Vec<V>,
     sums: Vec<V::Number>,
 }
@@ -78,7 +81,7 @@ impl<V: Band> Model for Blocks<V> {
     ghost use Rattle.std.specs.Prelude.{◌≡◌, ◌+◌, ◌*◌, ◌≤◌, length, map};
     ghost use Rattle.pfs_base.specs.declared.limits.TheConstants.{MOST_JOBS};
     ghost use Rattle.pfs_wave.specs.Private.Blocks.{BlockRows, vectors_in};
-    ghost use Rattle.pfs_wave.specs.Private.HeldRows.{IsHolding};
+    ghost use Rattle.pfs_wave.specs.Private.HeldRows.{IsHolding, part_from};
 
     ghost Value = { BlockRows };
 
@@ -86,7 +89,7 @@ impl<V: Band> Model for Blocks<V> {
       count = vectors_in a.width;
       lanes = a.lanes;
       jobs = a.jobs;
-      rows = map V.lanes a.rows.items;
+      rows = map V.Times.lanes a.rows.items;
     } };
 
     ghost invariant = { λ a. record {
@@ -94,8 +97,10 @@ impl<V: Band> Model for Blocks<V> {
       eight : a.lanes ≤ 8;
       few : a.jobs ≤ MOST_JOBS;
       rows : length a.rows.items ≡ a.jobs * vectors_in a.width + vectors_in a.width;
-      holds : IsHolding (vectors_in a.width) a.jobs (map V.lanes a.rows.items) a.len a.order.items
-          (map V.lanes a.times.items);
+      holds : IsHolding (vectors_in a.width) a.jobs (map V.Times.lanes a.rows.items) a.len a.order.items
+          (map V.Times.lanes (part_from a.start (a.jobs + 8) (vectors_in a.width) a.times.items));
+      times : length a.times.items ≡ (2 * a.jobs + 8) * vectors_in a.width;
+      start : a.start ≤ a.jobs;
       tails : length a.tails.items ≡ (a.jobs + 9) * vectors_in a.width;
       sums : length a.sums.items ≡ a.jobs + 15;
     } };
@@ -117,7 +122,7 @@ impl<V: Band> Blocks<V> {
     /// The times of an instance, and a sequence of no jobs. It reserves all memory of an insertion, and returns
     /// `AllocError` where that fails.
     pub fn new(alloc: Global, instance: &Instance) -> Result<Blocks<V>, AllocError>
-        requires { All (λ time. time ≤ V.CAP) instance.now.shop.times }
+        requires { All (λ time. time ≤ V.Times.CAP) instance.now.shop.times }
         ensures { IfOk result (λ made. HasShop instance.now.shop made) }
     {
         let jobs = instance.jobs();
@@ -126,14 +131,10 @@ impl<V: Band> Blocks<V> {
         let count = width.vectors();
         let steps = jobs + 8;
         let rows = shop_rows(alloc, instance, count)?;
-        let mut order = Vec::new(alloc);
-        order.reserve_exact(steps)?;
-        order.resize(steps, jobs)?;
-        let times = zero_vectors(alloc, steps * count)?;
-        let tails = zero_vectors(alloc, (jobs + 9) * count)?;
-        let mut sums = Vec::new(alloc);
-        sums.reserve_exact(jobs + 15)?;
-        sums.resize(jobs + 15, V::zeros().last())?;
+        let order = vec![in alloc; jobs; steps]?;
+        let times = zero_vectors(alloc, (jobs + steps) * count)?;
+        let tails = vec![in alloc; zeros::<V>(); (jobs + 9) * count]?;
+        let sums = vec![in alloc; zeros::<V>().last(); jobs + 15]?;
         Ok(Blocks {
             width,
             lanes: lanes_for(machines, count),
@@ -142,6 +143,7 @@ impl<V: Band> Blocks<V> {
             len: 0,
             order,
             times,
+            start: jobs,
             tails,
             sums,
         })
@@ -210,10 +212,11 @@ impl<V: Band> Blocks<V> {
             → V.Holds (slice_index_or spans.new place 0) (makespan_with shop sequence.now job place) }
         ensures same { self.new ≡ self.old }
     {
-        hold::<V, N>(
+        self.start = hold::<V::Times, N>(
             &self.rows,
             &mut self.order,
             &mut self.times,
+            self.start,
             self.jobs,
             self.len,
             sequence,
@@ -224,7 +227,7 @@ impl<V: Band> Blocks<V> {
             permits,
             self.lanes,
             steps,
-            &self.times[..steps * N],
+            &self.times[self.start * N..(self.start + steps) * N],
             &self.rows[job * N..job * N + N],
             &mut self.tails,
             &mut self.sums,

@@ -1,10 +1,10 @@
 //! The skewed times of one sequence, made from those of the sequence before it.
-ghost use Rattle.std.specs.Prelude.{◌≡◌, ◌+◌, ◌*◌, ◌<◌, ◌≤◌, ◌^◌, length, map, take, ℕ, ◌-◌, true};
+ghost use Rattle.std.specs.Prelude.{◌≡◌, ◌≢◌, ◌+◌, ◌*◌, ◌<◌, ◌≤◌, ◌^◌, ◌⊎◌, length, map, take, ℕ, ◌-◌, true};
 ghost use Rattle.std.specs.List.{All, slice_index_or};
-ghost use Rattle.pfs_wave.specs.Private.HeldRows.{IsHolding, IsKept, IsPadded};
+ghost use Rattle.pfs_wave.specs.Private.HeldRows.{IsHolding, IsKept, IsPadded, part_from};
 
-use crate::band::Band;
-use crate::times::{fill_times, move_back};
+use crate::band::Stored;
+use crate::times::{Changed, fill_times, move_back, move_front};
 
 /// The numbers of rows of a sequence that are rows of the sequence before: at its front, and at its end.
 #[derive(Clone, Copy, Debug, PartialEq, Eq)]
@@ -106,31 +106,80 @@ pub fn write_rows(order: &mut [usize], seq: &[usize], none: usize, from: usize, 
     }
 }
 
-/// Skews the times of a sequence over those of a sequence of `len` jobs. Only the rows between those that are the same
-/// at the front and at the end are skewed again. `order` has the jobs of the sequence, and after them the number of the
-/// row of zeros.
+// Where the table of a new sequence begins: further to the front if fewer rows are kept at the front than at the end
+// and there is room, or at `jobs` where none is left and no row at the end is kept.
 #[inline(always)]
-pub fn hold<V: Band, const N: usize>(
-    rows: &[V],
+fn start_for(kept: Kept, start: usize, jobs: usize, old: usize, new: usize) -> usize
+    requires start { start ≤ jobs }
+    ensures within { result ≤ jobs }
+    ensures moved { result ≢ start → (kept.back ≡ 0) ⊎ ((0 < kept.back) × (old < new) × (result + (new - old) ≡ start)) }
+{
+    if kept.back == 0 {
+        if start == 0 { jobs } else { start }
+    } else if kept.front < kept.back && old < new && new - old <= start {
+        start - (new - old)
+    } else {
+        start
+    }
+}
+
+/// Skews the times of a sequence over those of a sequence of `len` jobs. Only the rows between those that are the same
+/// at the front and at the end are skewed again, and of these two parts the shorter one is moved. `order` has the jobs of
+/// the sequence, and after them the number of the row of zeros. The skewed times begin at the step `start` of the table;
+/// the result is where they begin now.
+#[inline(always)]
+pub fn hold<T: Stored, const N: usize>(
+    rows: &[T],
     order: &mut [usize],
-    times: &mut [V],
+    table: &mut [T],
+    start: usize,
     jobs: usize,
     len: usize,
     seq: &[usize],
-)
+) -> usize
+    requires some { 1 ≤ N }
     requires rows { length rows.now ≡ jobs * N + N }
-    requires small { jobs * N + 9 * N < 2 ^ 32 }
+    requires small { (2 * jobs + 9) * N < 2 ^ 32 }
+    requires table { length table.old ≡ (2 * jobs + 8) * N }
+    requires start { start ≤ jobs }
     requires jobs { All (λ job. job < jobs) seq.now }
     requires few { length seq.now ≤ jobs }
-    requires holds { IsHolding N jobs (map V.lanes rows.now) len order.old (map V.lanes times.old) }
+    requires holds { IsHolding N jobs (map T.lanes rows.now) len order.old
+        (map T.lanes (part_from start (jobs + 8) N table.old)) }
     ensures order { length order.new ≡ length order.old }
-    ensures times { length times.new ≡ length times.old }
+    ensures table { length table.new ≡ length table.old }
+    ensures start { result ≤ jobs }
     ensures jobs { take (length seq.now) order.new ≡ seq.now }
-    ensures holds { IsHolding N jobs (map V.lanes rows.now) (length seq.now) order.new (map V.lanes times.new) }
+    ensures holds { IsHolding N jobs (map T.lanes rows.now) (length seq.now) order.new
+        (map T.lanes (part_from result (jobs + 8) N table.new)) }
 {
     let longest = len.max(seq.len());
     let kept = kept_rows(&order[..len], seq);
     write_rows(order, seq, jobs, kept.front, longest);
-    let changed = move_back::<V, N>(times, len, seq.len(), kept, jobs + 8);
-    fill_times::<V, N>(rows, order, times, changed);
+    let steps = jobs + 8;
+    let first = start_for(kept, start, jobs, len, seq.len());
+    if first == start {
+        let times = &mut table[start * N..(start + steps) * N];
+        let changed = move_back::<T, N>(times, len, seq.len(), kept, steps);
+        fill_times::<T, N>(rows, order, times, changed);
+        return start;
+    }
+    move_front::<T, N>(table, start, first, kept.front);
+    let end = if kept.back == 0 {
+        steps
+    } else {
+        seq.len() - kept.back + 8
+    };
+    let changed = Changed {
+        from: kept.front,
+        to: end,
+        end,
+    };
+    fill_times::<T, N>(
+        rows,
+        order,
+        &mut table[first * N..(first + steps) * N],
+        changed,
+    );
+    first
 }

@@ -3,22 +3,87 @@ ghost use Rattle.std.proofs.Common.{refl};
 ghost use Rattle.std.specs.Prelude.{◌≡◌, ℕ, ◌≤◌, length};
 ghost use Rattle.pfs_wave.specs.Private.Lanes.{HoldsBelow};
 
-use crate::band::{BACK, Band, DOWN, HALF, ODD, PAIRS, UP};
+use crate::band::{BACK, Band, DOWN, HALF, ODD, PAIRS, Stored, UP};
 use crate::best::first_least;
 use pfs_insert::Placed;
+use std::marker::PhantomData;
 use std::simd::prelude::*;
 
-/// Eight lanes of 32 bits. They have room for values below 2^32 - 1, and greater sums wrap.
+/// Eight times of 32 bits.
 #[derive(Clone, Copy)]
-pub struct Long {
+pub struct LongTimes {
     values: u32x8,
     ghost eight: { length values ≡ 8 },
 }
 
-impl Band for Long {
+impl Stored for LongTimes {
+    ghost lanes = { λ times. times.values };
+
+    ghost CAP = { 4294967295 };
+
+    ghost eight = { λ times. times.eight };
+
+    #[inline(always)]
+    fn zeros() -> LongTimes {
+        let values = u32x8::splat(0);
+        LongTimes { values }
+    }
+
+    #[inline(always)]
+    fn from_times(times: [u32; 8]) -> LongTimes {
+        let values = u32x8::from_array(times);
+        LongTimes { values }
+    }
+
+    #[inline(always)]
+    fn extended(self) -> u32x8 {
+        self.values
+    }
+
+    #[inline(always)]
+    fn odd_from(self, other: LongTimes) -> LongTimes {
+        let values = self.values.shuffle(other.values, ODD);
+        LongTimes { values }
+    }
+
+    #[inline(always)]
+    fn pairs_from(self, other: LongTimes) -> LongTimes {
+        let values = self.values.shuffle(other.values, PAIRS);
+        LongTimes { values }
+    }
+
+    #[inline(always)]
+    fn half_from(self, other: LongTimes) -> LongTimes {
+        let values = self.values.shuffle(other.values, HALF);
+        LongTimes { values }
+    }
+}
+
+/// Eight lanes of 32 bits. They have room for values below 2^32 - 1, and greater sums wrap.
+#[derive(Clone, Copy)]
+pub struct Long<T: Stored> {
+    lanes: LongTimes,
+    times: PhantomData<T>,
+}
+
+impl<T: Stored> Long<T> {
+    #[inline(always)]
+    fn of(values: u32x8) -> Long<T>
+        requires { length values ≡ 8 }
+        ensures { result.lanes.values ≡ values }
+    {
+        let lanes = LongTimes { values };
+        let times = PhantomData;
+        Long { lanes, times }
+    }
+}
+
+impl<T: Stored> Band for Long<T> {
+    type Times = T;
+
     type Number = u64;
 
-    ghost lanes = { λ band. band.values };
+    ghost lanes = { λ band. band.lanes.values };
 
     ghost number = { λ n. n };
 
@@ -26,74 +91,43 @@ impl Band for Long {
 
     ghost itself = { λ n small. refl };
 
-    ghost CAP = { 4294967295 };
-
     const IN_REGISTERS: usize = 4;
 
-    ghost eight = { λ band. band.eight };
+    ghost eight = { λ band. band.lanes.eight };
 
     #[inline(always)]
-    fn zeros() -> Long {
-        let values = u32x8::splat(0);
-        Long { values }
+    fn load(times: T) -> Long<T> {
+        Long::of(times.extended())
     }
 
     #[inline(always)]
-    fn from_times(times: [u32; 8]) -> Long {
-        let values = u32x8::from_array(times);
-        Long { values }
+    fn up(self, carry: Long<T>) -> Long<T> {
+        Long::of(carry.lanes.values.shuffle(self.lanes.values, UP))
     }
 
     #[inline(always)]
-    fn up(self, carry: Long) -> Long {
-        let values = carry.values.shuffle(self.values, UP);
-        Long { values }
+    fn down(self, carry: Long<T>) -> Long<T> {
+        Long::of(self.lanes.values.shuffle(carry.lanes.values, DOWN))
     }
 
     #[inline(always)]
-    fn down(self, carry: Long) -> Long {
-        let values = self.values.shuffle(carry.values, DOWN);
-        Long { values }
+    fn greater(self, other: Long<T>) -> Long<T> {
+        Long::of(self.lanes.values.simd_max(other.lanes.values))
     }
 
     #[inline(always)]
-    fn greater(self, other: Long) -> Long {
-        let values = self.values.simd_max(other.values);
-        Long { values }
-    }
-
-    #[inline(always)]
-    fn sum(self, other: Long) -> Long {
-        let values = self.values + other.values;
-        Long { values }
-    }
-
-    #[inline(always)]
-    fn odd_from(self, other: Long) -> Long {
-        let values = self.values.shuffle(other.values, ODD);
-        Long { values }
-    }
-
-    #[inline(always)]
-    fn pairs_from(self, other: Long) -> Long {
-        let values = self.values.shuffle(other.values, PAIRS);
-        Long { values }
-    }
-
-    #[inline(always)]
-    fn half_from(self, other: Long) -> Long {
-        let values = self.values.shuffle(other.values, HALF);
-        Long { values }
+    fn sum(self, other: Long<T>) -> Long<T> {
+        Long::of(self.lanes.values + other.lanes.values)
     }
 
     #[inline(always)]
     fn last(self) -> u64 {
-        u64::from(self.values.to_array()[7])
+        u64::from(self.lanes.values.to_array()[7])
     }
 
     #[inline(always)]
     fn reversed(self) -> [u64; 8] {
-        let values = self.values.shuffle(self.values, BACK);
+        let values = self.lanes.values.shuffle(self.lanes.values, BACK);
         values.cast::<u64>().to_array()
     }
 

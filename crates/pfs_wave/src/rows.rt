@@ -6,7 +6,7 @@ ghost use Rattle.pfs_wave.specs.Private.Lanes.{zeros};
 ghost use Rattle.pfs_wave.specs.Private.Blocks.{HasRows, IsRow, step_of};
 ghost use Rattle.pfs_wave.specs.Private.Padded.{on_machine};
 
-use crate::band::Band;
+use crate::band::Stored;
 use crate::vectors::put;
 use pfs_base::Instance;
 use std::alloc::{AllocError, Global};
@@ -25,15 +25,15 @@ fn lane_time(instance: &Instance, job: usize, machine: usize) -> u32
 }
 
 // Vector k of a job's times: lane l has the time on machine l * count + k.
-fn job_vector<V: Band>(instance: &Instance, job: usize, count: usize, k: usize) -> V
+fn job_vector<T: Stored>(instance: &Instance, job: usize, count: usize, k: usize) -> T
     requires job { job < instance.now.shop.jobs }
-    requires short { All (λ time. time ≤ V.CAP) instance.now.shop.times }
+    requires short { All (λ time. time ≤ T.CAP) instance.now.shop.times }
     requires count { count < 2 ^ 16 }
     requires k { k < count }
-    ensures { (lane : ℕ) → lane < 8 → slice_index_or (V.lanes result) lane 0
+    ensures { (lane : ℕ) → lane < 8 → slice_index_or (T.lanes result) lane 0
         ≡ on_machine instance.now.shop (time_of instance.now.shop job) (lane * count + k) }
 {
-    V::from_times([
+    T::from_times([
         lane_time(instance, job, k),
         lane_time(instance, job, count + k),
         lane_time(instance, job, 2 * count + k),
@@ -46,16 +46,16 @@ fn job_vector<V: Band>(instance: &Instance, job: usize, count: usize, k: usize) 
 }
 
 // Writes the vectors of a job.
-fn fill_job<V: Band>(rows: &mut [V], instance: &Instance, job: usize, count: usize)
+fn fill_job<T: Stored>(rows: &mut [T], instance: &Instance, job: usize, count: usize)
     requires job { job < instance.now.shop.jobs }
-    requires short { All (λ time. time ≤ V.CAP) instance.now.shop.times }
+    requires short { All (λ time. time ≤ T.CAP) instance.now.shop.times }
     requires few { count ≤ 26 }
     requires inside { job * count + count ≤ length rows.old }
     ensures length { length rows.new ≡ length rows.old }
     ensures job { IsRow count (on_machine instance.now.shop (time_of instance.now.shop job))
-        (step_of count (map V.lanes rows.new) job) }
+        (step_of count (map T.lanes rows.new) job) }
     ensures others { (other k : ℕ) → k < count → other ≢ job
-        → step_of count (map V.lanes rows.new) other k ≡ step_of count (map V.lanes rows.old) other k }
+        → step_of count (map T.lanes rows.new) other k ≡ step_of count (map T.lanes rows.old) other k }
 {
     for k in 0..count {
         put(rows, job * count + k, job_vector(instance, job, count, k));
@@ -63,12 +63,12 @@ fn fill_job<V: Band>(rows: &mut [V], instance: &Instance, job: usize, count: usi
 }
 
 // Writes the vectors of all jobs over vectors of zeros.
-fn fill_rows<V: Band>(rows: &mut [V], instance: &Instance, count: usize)
-    requires short { All (λ time. time ≤ V.CAP) instance.now.shop.times }
+fn fill_rows<T: Stored>(rows: &mut [T], instance: &Instance, count: usize)
+    requires short { All (λ time. time ≤ T.CAP) instance.now.shop.times }
     requires few { count ≤ 26 }
-    requires zeros { map V.lanes rows.old ≡ replicate (instance.now.shop.jobs * count + count) (zeros 8) }
+    requires zeros { map T.lanes rows.old ≡ replicate (instance.now.shop.jobs * count + count) (zeros 8) }
     ensures length { length rows.new ≡ length rows.old }
-    ensures rows { HasRows instance.now.shop count (map V.lanes rows.new) }
+    ensures rows { HasRows instance.now.shop count (map T.lanes rows.new) }
 {
     for job in 0..instance.jobs() {
         fill_job(rows, instance, job, count);
@@ -77,15 +77,15 @@ fn fill_rows<V: Band>(rows: &mut [V], instance: &Instance, count: usize)
 
 /// The times of each job of an instance in `count` vectors, and after them as many vectors of zeros. It reserves memory
 /// once, and returns `AllocError` where that fails.
-pub fn shop_rows<V: Band>(
+pub fn shop_rows<T: Stored>(
     alloc: Global,
     instance: &Instance,
     count: usize,
-) -> Result<Vec<V>, AllocError>
-    requires short { All (λ time. time ≤ V.CAP) instance.now.shop.times }
+) -> Result<Vec<T>, AllocError>
+    requires short { All (λ time. time ≤ T.CAP) instance.now.shop.times }
     requires few { count ≤ 26 }
     ensures long { IfOk result (λ rows. length rows.items ≡ instance.now.shop.jobs * count + count) }
-    ensures rows { IfOk result (λ rows. HasRows instance.now.shop count (map V.lanes rows.items)) }
+    ensures rows { IfOk result (λ rows. HasRows instance.now.shop count (map T.lanes rows.items)) }
 {
     let mut rows = zero_vectors(alloc, instance.jobs() * count + count)?;
     fill_rows(&mut rows, instance, count);
@@ -93,14 +93,14 @@ pub fn shop_rows<V: Band>(
 }
 
 /// As many vectors of zeros. It returns `AllocError` where allocation fails.
-pub fn zero_vectors<V: Band>(alloc: Global, count: usize) -> Result<Vec<V>, AllocError>
+pub fn zero_vectors<T: Stored>(alloc: Global, count: usize) -> Result<Vec<T>, AllocError>
     ensures count { IfOk result (λ made. length made.items ≡ count) }
-    ensures zeros { IfOk result (λ made. map V.lanes made.items ≡ replicate count (zeros 8)) }
+    ensures zeros { IfOk result (λ made. map T.lanes made.items ≡ replicate count (zeros 8)) }
 {
     let mut vectors = Vec::new(alloc);
     vectors.reserve_exact(count)?;
     for _vector in 0..count {
-        vectors.push_reserved(V::zeros());
+        vectors.push_reserved(T::zeros());
     }
     Ok(vectors)
 }

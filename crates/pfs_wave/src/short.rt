@@ -5,7 +5,7 @@ ghost use Rattle.std.specs.Simd.Lanes.{Each1, zip2};
 ghost use Rattle.pfs_wave.specs.Private.Lanes.{capped_add};
 ghost use Rattle.pfs_wave.specs.Wavefront.{HoldsCapped};
 
-use crate::band::{BACK, Band, DOWN, HALF, ODD, PAIRS, UP};
+use crate::band::{BACK, Band, DOWN, HALF, ODD, PAIRS, Stored, UP};
 use crate::best::first_least_key;
 use pfs_insert::Placed;
 use std::simd::prelude::*;
@@ -25,22 +25,12 @@ fn saturating_sum(a: u16x8, b: u16x8) -> u16x8
     a.saturating_add(b)
 }
 
-impl Band for Short {
-    type Number = u16;
-
-    ghost lanes = { λ band. band.values };
-
-    ghost number = { λ n. n };
-
-    ghost Holds = { HoldsCapped 65535 };
-
-    ghost itself = { λ n. refl };
+impl Stored for Short {
+    ghost lanes = { λ times. times.values };
 
     ghost CAP = { 65535 };
 
-    const IN_REGISTERS: usize = 8;
-
-    ghost eight = { λ band. band.eight };
+    ghost eight = { λ times. times.eight };
 
     #[inline(always)]
     fn zeros() -> Short {
@@ -52,6 +42,52 @@ impl Band for Short {
     fn from_times(times: [u32; 8]) -> Short {
         let values = u32x8::from_array(times).cast::<u16>();
         Short { values }
+    }
+
+    #[inline(always)]
+    fn extended(self) -> u32x8 {
+        self.values.cast::<u32>()
+    }
+
+    #[inline(always)]
+    fn odd_from(self, other: Short) -> Short {
+        let values = self.values.shuffle(other.values, ODD);
+        Short { values }
+    }
+
+    #[inline(always)]
+    fn pairs_from(self, other: Short) -> Short {
+        let values = self.values.shuffle(other.values, PAIRS);
+        Short { values }
+    }
+
+    #[inline(always)]
+    fn half_from(self, other: Short) -> Short {
+        let values = self.values.shuffle(other.values, HALF);
+        Short { values }
+    }
+}
+
+impl Band for Short {
+    type Times = Short;
+
+    type Number = u16;
+
+    ghost lanes = { λ band. band.values };
+
+    ghost number = { λ n. n };
+
+    ghost Holds = { HoldsCapped 65535 };
+
+    ghost itself = { λ n. refl };
+
+    const IN_REGISTERS: usize = 8;
+
+    ghost eight = { λ band. band.eight };
+
+    #[inline(always)]
+    fn load(times: Short) -> Short {
+        times
     }
 
     #[inline(always)]
@@ -75,24 +111,6 @@ impl Band for Short {
     #[inline(always)]
     fn sum(self, other: Short) -> Short {
         let values = saturating_sum(self.values, other.values);
-        Short { values }
-    }
-
-    #[inline(always)]
-    fn odd_from(self, other: Short) -> Short {
-        let values = self.values.shuffle(other.values, ODD);
-        Short { values }
-    }
-
-    #[inline(always)]
-    fn pairs_from(self, other: Short) -> Short {
-        let values = self.values.shuffle(other.values, PAIRS);
-        Short { values }
-    }
-
-    #[inline(always)]
-    fn half_from(self, other: Short) -> Short {
-        let values = self.values.shuffle(other.values, HALF);
         Short { values }
     }
 

@@ -6,7 +6,7 @@ ghost use Rattle.pfs_wave.specs.Private.Payment.{AreTimesOf, IsNoneFrom};
 ghost use Rattle.pfs_wave.specs.Private.Recurrences.{AreSummed, AreTables, TablesOfCells};
 
 use crate::band::Band;
-use crate::vectors::{array_of, from_before, next_value};
+use crate::vectors::{array_of, from_before, next_value, zeros};
 use pfs_base::{Paid, Permit};
 
 /// What the last vector of a step leaves for the first vector of the next step.
@@ -22,7 +22,7 @@ struct Carry<V: Band> {
 fn step_sums<V: Band, const N: usize>(
     heads: &mut [V; N],
     before: &Carry<V>,
-    times: &[V],
+    times: &[V::Times],
     tails: &[V],
     job: &[V; N],
 ) -> Carry<V>
@@ -31,8 +31,8 @@ fn step_sums<V: Band, const N: usize>(
     requires tails { length tails.now ≡ N }
     ensures length { length heads.new ≡ N }
     ensures cells { (t : TablesOfCells) (rows step : ℕ) → AreTables rows t
-        → IsStep V.Holds N step t.time (vectors_of (map V.lanes times.now))
-        → IsNoneBefore N step (vectors_of (map V.lanes times.now))
+        → IsStep V.Holds N step t.time (vectors_of (map V.Times.lanes times.now))
+        → IsNoneBefore N step (vectors_of (map V.Times.lanes times.now))
         → IsStep V.Holds N step t.tail (vectors_of (map V.lanes tails.now))
         → IsRow N t.job (vectors_of (map V.lanes job.now))
         → AreSummed V.Holds N rows step t (vectors_of (map V.lanes heads.old)) (V.lanes before.now.inserted)
@@ -47,7 +47,7 @@ fn step_sums<V: Band, const N: usize>(
         let above = heads[k];
         inserted = next_value(inserted, above, job[k]);
         sum = sum.greater(inserted.sum(tails[k]));
-        head = next_value(head, above, times[k]);
+        head = next_value(head, above, V::load(times[k]));
         heads[k] = head;
     }
     Carry { inserted, sum }
@@ -61,9 +61,9 @@ fn step_sums<V: Band, const N: usize>(
 pub fn fill_sums<V: Band, const N: usize>(
     permit: Permit,
     steps: usize,
-    times: &[V],
+    times: &[V::Times],
     tails: &[V],
-    job: &[V],
+    job: &[V::Times],
     sums: &mut [V::Number],
 ) -> Paid
     requires paid { 1 ≤ permit }
@@ -77,12 +77,12 @@ pub fn fill_sums<V: Band, const N: usize>(
     ensures length { length sums.new ≡ length sums.old }
     ensures sums { (t : TablesOfCells) (rows machines : ℕ) → permit ≡ (3 * rows + 2) * machines
         → AreTimesOf rows machines t.time → IsNoneFrom machines t.job → AreTables rows t
-        → AreTimes V.Holds N steps t.time (map V.lanes times.now)
+        → AreTimes V.Holds N steps t.time (map V.Times.lanes times.now)
         → HoldCells V.Holds N steps t.tail (map V.lanes tails.now)
-        → IsRow N t.job (vectors_of (map V.lanes job.now)) → (place : ℕ) → place ≤ rows → place < steps
+        → IsRow N t.job (vectors_of (map V.Times.lanes job.now)) → (place : ℕ) → place ≤ rows → place < steps
         → V.Holds (slice_index_or (map V.number sums.new) (place + 7) 0) (t.sum place (min 8 (steps - place) * N)) }
 {
-    let zero = V::zeros();
+    let zero = zeros::<V>();
     let mut heads = [zero; N];
     let job = array_of::<V, N>(job);
     let mut carry = Carry {

@@ -6,17 +6,17 @@ ghost use Rattle.pfs_wave.specs.Private.Payment.{AreTimesOf};
 ghost use Rattle.pfs_wave.specs.Private.Recurrences.{AreTails};
 
 use crate::band::Band;
-use crate::vectors::{from_after, next_value, second_value};
+use crate::vectors::{from_after, next_value, second_value, zeros};
 use pfs_base::Permit;
 
 // The second vector of a step, if there is one, from what the step after it leaves for the first vector.
 #[inline(always)]
-fn second_tail<V: Band, const N: usize>(carry: V, after: &[V], times: &[V]) -> V
+fn second_tail<V: Band, const N: usize>(carry: V, after: &[V], times: &[V::Times]) -> V
     requires after { length after.now ≡ N }
     requires times { length times.now ≡ N }
     ensures { 2 ≤ N → IsSecond V.Holds (V.lanes carry) (vectors_of (map V.lanes after.now) (N - 1))
-        (vectors_of (map V.lanes times.now) (N - 1)) (vectors_of (map V.lanes after.now) (N - 2))
-        (vectors_of (map V.lanes times.now) (N - 2)) (V.lanes result) }
+        (vectors_of (map V.Times.lanes times.now) (N - 1)) (vectors_of (map V.lanes after.now) (N - 2))
+        (vectors_of (map V.Times.lanes times.now) (N - 2)) (V.lanes result) }
 {
     if N < 2 {
         return carry;
@@ -24,9 +24,9 @@ fn second_tail<V: Band, const N: usize>(carry: V, after: &[V], times: &[V]) -> V
     second_value(
         carry,
         after[N - 1],
-        times[N - 1],
+        V::load(times[N - 1]),
         after[N - 2],
-        times[N - 2],
+        V::load(times[N - 2]),
     )
 }
 
@@ -51,13 +51,13 @@ fn chosen<'a, V: Band, const N: usize>(array: &'a [V], table: &'a [V]) -> &'a [V
     if N <= V::IN_REGISTERS { array } else { table }
 }
 
-// The tails of a step, from those of the step after it, which `now` and `after` both have. `first` is the first of these.
-// They are written to `now` and to `row`, and the first one is returned.
+// The tails of a step, from those of the step after it, which `now` and `after` both have. `first` is the first of
+// these. They are written to `now` and to `row`, and the first one is returned.
 #[inline(always)]
 fn step_tails<V: Band, const N: usize>(
     first: V,
     after: &[V],
-    times: &[V],
+    times: &[V::Times],
     now: &mut [V; N],
     row: &mut [V],
 ) -> V
@@ -68,7 +68,7 @@ fn step_tails<V: Band, const N: usize>(
     ensures length { length now.new ≡ N }
     ensures row_length { length row.new ≡ N }
     ensures tails { (time tail : Cells) (step : ℕ) → AreTails N time tail
-        → IsStep V.Holds N step time (vectors_of (map V.lanes times.now))
+        → IsStep V.Holds N step time (vectors_of (map V.Times.lanes times.now))
         → IsStep V.Holds N (suc step) tail (vectors_of (map V.lanes after.now))
         → IsStep V.Holds N (suc step) tail (vectors_of (map V.lanes now.old))
         → IsColumn V.Holds N (suc step) tail 0 (V.lanes first)
@@ -82,7 +82,7 @@ fn step_tails<V: Band, const N: usize>(
     let second = second_tail::<V, N>(tail, after, times);
     for passed in 0..N {
         let k = N - 1 - passed;
-        tail = next_tail(passed, second, tail, after[k], times[k]);
+        tail = next_tail(passed, second, tail, after[k], V::load(times[k]));
         now[k] = tail;
         row[k] = tail;
     }
@@ -95,7 +95,7 @@ fn step_tails<V: Band, const N: usize>(
 pub fn fill_tails<V: Band, const N: usize>(
     permit: Permit,
     steps: usize,
-    times: &[V],
+    times: &[V::Times],
     tails: &mut [V],
 )
     requires some { 1 ≤ N }
@@ -106,11 +106,11 @@ pub fn fill_tails<V: Band, const N: usize>(
     ensures tails { (rows machines : ℕ) (time tail : Cells) → permit ≡ rows * machines
         → AreTimesOf rows machines time → AreTails N time tail
         → ((row lane k : ℕ) → lane < 8 → k < N → row + lane ≡ steps → tail row (lane * N + k) ≡ 0)
-        → HoldCells V.Holds N steps time (map V.lanes times.now)
+        → HoldCells V.Holds N steps time (map V.Times.lanes times.now)
         → HoldCells V.Holds N steps tail (map V.lanes tails.new) }
 {
     permit.spend();
-    let mut first = V::zeros();
+    let mut first = zeros::<V>();
     let mut now = [first; N];
     tails[steps * N..].copy_from_slice(&now);
     for left in 0..steps {

@@ -6,7 +6,7 @@ ghost use Rattle.pfs_wave.specs.Private.HeldRows.{AreMoved, HoldLanes, HoldOutsi
 ghost use Rattle.pfs_wave.specs.Private.Blending.{AreBlends, past_at};
 ghost use Rattle.pfs_wave.specs.Private.SkewedBand.{IsFilled};
 
-use crate::band::Band;
+use crate::band::Stored;
 use crate::blends::Blends;
 use crate::hold::Kept;
 use crate::vectors::put;
@@ -21,31 +21,31 @@ pub struct Changed {
 
 // Vector k of a row of the sequence.
 #[inline(always)]
-fn vector_of<V: Band, const N: usize>(rows: &[V], order: &[usize], row: usize, k: usize) -> V
+fn vector_of<T: Stored, const N: usize>(rows: &[T], order: &[usize], row: usize, k: usize) -> T
     requires jobs { All (λ job. job * N + N ≤ length rows.now) order.now }
     requires k { k < N }
     requires row { row < length order.now }
-    ensures { V.lanes result ≡ rows_at N (map V.lanes rows.now) order.now k row }
+    ensures { T.lanes result ≡ rows_at N (map T.lanes rows.now) order.now k row }
 {
     rows[order[row] * N + k]
 }
 
 // What the blends keep of the rows before a row. They need at most seven of these.
 #[inline(always)]
-fn blends_before<V: Band, const N: usize>(
-    rows: &[V],
+fn blends_before<T: Stored, const N: usize>(
+    rows: &[T],
     order: &[usize],
     row: usize,
     k: usize,
-) -> Blends<V>
+) -> Blends<T>
     requires jobs { All (λ job. job * N + N ≤ length rows.now) order.now }
     requires k { k < N }
     requires row { row ≤ length order.now }
-    ensures { AreBlends V.lanes (past_at (rows_at N (map V.lanes rows.now) order.now k) row) result }
+    ensures { AreBlends T.lanes (past_at (rows_at N (map T.lanes rows.now) order.now k) row) result }
 {
     let mut last = Blends::none();
     for earlier in row.saturating_sub(7)..row {
-        last = last.push(vector_of::<V, N>(rows, order, earlier, k)).next;
+        last = last.push(vector_of::<T, N>(rows, order, earlier, k)).next;
     }
     last
 }
@@ -72,10 +72,10 @@ fn filled_end(changed: Changed, room: usize) -> usize
 // Fills vector k of the steps from `from` to before `to`. With four rows in each turn of the loop the blends stay in
 // registers and are not copied.
 #[inline(always)]
-fn fill_vectors<V: Band, const N: usize>(
-    rows: &[V],
+fn fill_vectors<T: Stored, const N: usize>(
+    rows: &[T],
     order: &[usize],
-    times: &mut [V],
+    times: &mut [T],
     from: usize,
     to: usize,
     k: usize,
@@ -86,17 +86,17 @@ fn fill_vectors<V: Band, const N: usize>(
     requires room { to ≤ length order.now }
     requires small { length order.now * N + N < 2 ^ 32 }
     requires steps { length times.old ≡ length order.now * N }
-    ensures filled { IsFilled N k (rows_at N (map V.lanes rows.now) order.now k) from to (map V.lanes times.old)
-        (map V.lanes times.new) }
+    ensures filled { IsFilled N k (rows_at N (map T.lanes rows.now) order.now k) from to (map T.lanes times.old)
+        (map T.lanes times.new) }
 {
-    let mut last = blends_before::<V, N>(rows, order, from, k);
+    let mut last = blends_before::<T, N>(rows, order, from, k);
     let turns = (to - from) / 4;
     for turn in 0..turns {
         let row = from + 4 * turn;
-        let a = last.push(vector_of::<V, N>(rows, order, row, k));
-        let b = a.next.push(vector_of::<V, N>(rows, order, row + 1, k));
-        let c = b.next.push(vector_of::<V, N>(rows, order, row + 2, k));
-        let d = c.next.push(vector_of::<V, N>(rows, order, row + 3, k));
+        let a = last.push(vector_of::<T, N>(rows, order, row, k));
+        let b = a.next.push(vector_of::<T, N>(rows, order, row + 1, k));
+        let c = b.next.push(vector_of::<T, N>(rows, order, row + 2, k));
+        let d = c.next.push(vector_of::<T, N>(rows, order, row + 3, k));
         last = d.next;
         put(times, row * N + k, a.row);
         put(times, (row + 1) * N + k, b.row);
@@ -104,7 +104,7 @@ fn fill_vectors<V: Band, const N: usize>(
         put(times, (row + 3) * N + k, d.row);
     }
     for row in from + 4 * turns..to {
-        let one = last.push(vector_of::<V, N>(rows, order, row, k));
+        let one = last.push(vector_of::<T, N>(rows, order, row, k));
         last = one.next;
         put(times, row * N + k, one.row);
     }
@@ -112,10 +112,10 @@ fn fill_vectors<V: Band, const N: usize>(
 
 /// Skews the rows of a sequence that changed. The other rows are skewed already.
 #[inline(never)]
-pub fn fill_times<V: Band, const N: usize>(
-    rows: &[V],
+pub fn fill_times<T: Stored, const N: usize>(
+    rows: &[T],
     order: &[usize],
-    times: &mut [V],
+    times: &mut [T],
     changed: Changed,
 )
     requires jobs { All (λ job. job * N + N ≤ length rows.now) order.now }
@@ -126,14 +126,14 @@ pub fn fill_times<V: Band, const N: usize>(
     requires steps { length times.old ≡ length order.now * N }
     ensures steps { length times.new ≡ length times.old }
     ensures held { (k : ℕ) → k < N
-        → HoldOutside (rows_at N (map V.lanes rows.now) order.now k) changed.from changed.to changed.end
-        (length order.now) (column N (map V.lanes times.old) k)
-        → HoldLanes (rows_at N (map V.lanes rows.now) order.now k) (length order.now)
-        (column N (map V.lanes times.new) k) }
+        → HoldOutside (rows_at N (map T.lanes rows.now) order.now k) changed.from changed.to changed.end
+        (length order.now) (column N (map T.lanes times.old) k)
+        → HoldLanes (rows_at N (map T.lanes rows.now) order.now k) (length order.now)
+        (column N (map T.lanes times.new) k) }
 {
     let end = filled_end(changed, order.len());
     for k in 0..N {
-        fill_vectors::<V, N>(rows, order, times, changed.from, end, k);
+        fill_vectors::<T, N>(rows, order, times, changed.from, end, k);
     }
 }
 
@@ -141,14 +141,14 @@ pub fn fill_times<V: Band, const N: usize>(
 /// the rows that are not right yet. A step has rows of both parts up to eight steps after the first row that moves, so
 /// the function moves only the steps after that.
 #[inline(always)]
-pub fn move_back<V: Band, const N: usize>(
-    times: &mut [V],
+pub fn move_back<T: Stored, const N: usize>(
+    times: &mut [T],
     old: usize,
     new: usize,
     kept: Kept,
     steps: usize,
 ) -> Changed
-    requires old { kept.back ≤ old }
+    requires old { kept.front + kept.back ≤ old }
     requires new { new + 8 ≤ steps }
     requires old_room { old + 8 ≤ steps }
     requires small { steps * N + N < 2 ^ 32 }
@@ -158,8 +158,8 @@ pub fn move_back<V: Band, const N: usize>(
     ensures none { kept.back ≡ 0 → (result.to ≡ max old new) × (result.end ≡ steps) × (times.new ≡ times.old) }
     ensures kept { new ≤ old → (result.to ≡ old - kept.back) × (result.end ≡ steps) × (times.new ≡ times.old) }
     ensures moved { 0 < kept.back → old < new → (result.to ≡ new - kept.back + 8) × (result.end ≡ new - kept.back + 8)
-        × ((k : ℕ) → k < N → AreMoved (new - kept.back + 8) (new + 8) (new - old)
-        (column N (map V.lanes times.old) k) (column N (map V.lanes times.new) k)) }
+        × ((k : ℕ) → k < N → AreMoved (kept.front + 8) (new - kept.back + 8) (new + 8) (new - old) steps
+        (column N (map T.lanes times.old) k) (column N (map T.lanes times.new) k)) }
 {
     let from = kept.front;
     if kept.back == 0 || new <= old {
@@ -178,4 +178,25 @@ pub fn move_back<V: Band, const N: usize>(
         to: moved,
         end: moved,
     }
+}
+
+/// Moves the steps that have rows of the front of a sequence, from the step `start` of a table to the step `first`.
+#[inline(always)]
+pub fn move_front<T: Stored, const N: usize>(
+    table: &mut [T],
+    start: usize,
+    first: usize,
+    front: usize,
+)
+    requires some { 1 ≤ N }
+    requires start { (start + front + 8) * N ≤ length table.old }
+    requires first { (first + front + 8) * N ≤ length table.old }
+    requires small { length table.old < 2 ^ 32 }
+    ensures length { length table.new ≡ length table.old }
+    ensures moved { (k step : ℕ) → k < N → step < front + 8 → column N (map T.lanes table.new) k (first + step)
+        ≡ column N (map T.lanes table.old) k (start + step) }
+    ensures after { (k step : ℕ) → k < N → first + front + 8 ≤ step
+        → column N (map T.lanes table.new) k step ≡ column N (map T.lanes table.old) k step }
+{
+    table.copy_within(start * N..(start + front + 8) * N, first * N);
 }

@@ -2,21 +2,29 @@
 ghost use Rattle.std.specs.Prelude.{◌≡◌, ℕ, suc, ◌<◌, length, map, slice_set};
 ghost use Rattle.std.specs.List.{slice_index_or};
 ghost use Rattle.pfs_wave.specs.Private.Blocks.{vectors_of};
-ghost use Rattle.pfs_wave.specs.Private.Lanes.{IsNext, IsSecond};
+ghost use Rattle.pfs_wave.specs.Private.Lanes.{IsNext, IsSecond, zeros};
 
-use crate::band::Band;
+use crate::band::{Band, Stored};
 
-/// As many vectors as the array has.
+/// A vector of zeros.
 #[inline(always)]
-pub fn array_of<V: Band, const N: usize>(vectors: &[V]) -> [V; N]
-    requires { length vectors.now ≡ N }
+pub fn zeros<V: Band>() -> V
+    ensures { V.lanes result ≡ zeros 8 }
+{
+    V::load(V::Times::zeros())
+}
+
+/// The vectors of as many times as the array has.
+#[inline(always)]
+pub fn array_of<V: Band, const N: usize>(times: &[V::Times]) -> [V; N]
+    requires { length times.now ≡ N }
     ensures length { length result ≡ N }
     ensures vectors { (k : ℕ) → k < N
-        → vectors_of (map V.lanes result) k ≡ vectors_of (map V.lanes vectors.now) k }
+        → vectors_of (map V.lanes result) k ≡ vectors_of (map V.Times.lanes times.now) k }
 {
-    let mut array = [V::zeros(); N];
+    let mut array = [zeros(); N];
     for k in 0..N {
-        array[k] = vectors[k];
+        array[k] = V::load(times[k]);
     }
     array
 }
@@ -49,7 +57,7 @@ pub fn from_before<V: Band>(vector: V) -> V
     ensures next { (lane : ℕ) → suc lane < 8
         → slice_index_or (V.lanes result) (suc lane) 0 ≡ slice_index_or (V.lanes vector) lane 0 }
 {
-    vector.up(V::zeros())
+    vector.up(zeros())
 }
 
 /// Each lane from the lane after it, and 0 in the last one.
@@ -58,12 +66,12 @@ pub fn from_after<V: Band>(vector: V) -> V
     ensures { (lane : ℕ) → lane < 8
         → slice_index_or (V.lanes result) lane 0 ≡ slice_index_or (V.lanes vector) (suc lane) 0 }
 {
-    vector.down(V::zeros())
+    vector.down(zeros())
 }
 
 /// Writes one vector of a table.
 #[inline(always)]
-pub fn put<V: Band>(table: &mut [V], at: usize, vector: V)
+pub fn put<T: Stored>(table: &mut [T], at: usize, vector: T)
     requires { at < length table.old }
     ensures { table.new ≡ slice_set table.old at vector }
 {

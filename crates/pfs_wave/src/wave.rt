@@ -10,7 +10,7 @@ ghost use Rattle.pfs_wave.specs.Private.Payment.{IsPaid};
 ghost use Rattle.pfs_wave.specs.Private.Waves.{Serves, blocks_of, longest_path};
 
 use crate::blocks::Blocks;
-use crate::long::Long;
+use crate::long::{Long, LongTimes};
 use crate::permits::Permits;
 use crate::short::Short;
 use crate::wide::Wide;
@@ -39,11 +39,13 @@ pub(crate) fn longest_time(instance: &Instance) -> u32
     longest
 }
 
-/// The insertions of an instance, in the smallest lanes that every path of the instance fits in.
+/// The insertions of an instance, in the smallest lanes that every path of the instance fits in. `Medium` has lanes of 32
+/// bits over times of 16.
 #[derive(Drop)]
 pub(crate) enum Wave {
     Short(Blocks<Short>),
-    Long(Blocks<Long>),
+    Medium(Blocks<Long<Short>>),
+    Long(Blocks<Long<LongTimes>>),
     Wide(Blocks<Wide>),
 }
 
@@ -53,8 +55,11 @@ impl Wave {
         ensures { IfOk result (λ made. Serves instance.now.shop made) }
     {
         let path = path_bound(instance);
+        let longest = longest_time(instance);
         if path < 65_535 {
             Ok(Wave::Short(Blocks::new(alloc, instance)?))
+        } else if path < 4_294_967_295 && longest <= 65_535 {
+            Ok(Wave::Medium(Blocks::new(alloc, instance)?))
         } else if path < 4_294_967_295 {
             Ok(Wave::Long(Blocks::new(alloc, instance)?))
         } else {
@@ -88,6 +93,7 @@ impl Wave {
     {
         match self {
             Wave::Short(blocks) => blocks.best(permits, sequence, job, spans),
+            Wave::Medium(blocks) => blocks.best(permits, sequence, job, spans),
             Wave::Long(blocks) => blocks.best(permits, sequence, job, spans),
             Wave::Wide(blocks) => blocks.best(permits, sequence, job, spans),
         }

@@ -3,8 +3,9 @@ ghost use Rattle.std.proofs.Common.{refl};
 ghost use Rattle.std.specs.Prelude.{◌≡◌, ℕ, ◌≤◌, length};
 ghost use Rattle.pfs_wave.specs.Private.Lanes.{HoldsBelow};
 
-use crate::band::{BACK, Band, DOWN, HALF, ODD, PAIRS, UP};
+use crate::band::{BACK, Band, DOWN, Stored, UP};
 use crate::best::first_least;
+use crate::long::LongTimes;
 use pfs_insert::Placed;
 use std::simd::prelude::*;
 
@@ -16,6 +17,8 @@ pub struct Wide {
 }
 
 impl Band for Wide {
+    type Times = LongTimes;
+
     type Number = u64;
 
     ghost lanes = { λ band. band.values };
@@ -26,21 +29,13 @@ impl Band for Wide {
 
     ghost itself = { λ n small. refl };
 
-    ghost CAP = { 9223372036854775807 };
-
     const IN_REGISTERS: usize = 2;
 
     ghost eight = { λ band. band.eight };
 
     #[inline(always)]
-    fn zeros() -> Wide {
-        let values = u64x8::splat(0);
-        Wide { values }
-    }
-
-    #[inline(always)]
-    fn from_times(times: [u32; 8]) -> Wide {
-        let values = u32x8::from_array(times).cast::<u64>();
+    fn load(times: LongTimes) -> Wide {
+        let values = times.extended().cast::<u64>();
         Wide { values }
     }
 
@@ -67,24 +62,6 @@ impl Band for Wide {
     #[inline(always)]
     fn sum(self, other: Wide) -> Wide {
         let values = self.values + other.values;
-        Wide { values }
-    }
-
-    #[inline(always)]
-    fn odd_from(self, other: Wide) -> Wide {
-        let values = self.values.shuffle(other.values, ODD);
-        Wide { values }
-    }
-
-    #[inline(always)]
-    fn pairs_from(self, other: Wide) -> Wide {
-        let values = self.values.shuffle(other.values, PAIRS);
-        Wide { values }
-    }
-
-    #[inline(always)]
-    fn half_from(self, other: Wide) -> Wide {
-        let values = self.values.shuffle(other.values, HALF);
         Wide { values }
     }
 

@@ -29,7 +29,7 @@ diagonal past = each_back past 0 1 2 3 4 5 6 7
 
 -- what the blends keep of the last rows: the last row, the last two results of the first blend, and the last four of
 -- the second
-pub record AreBlends {B N : Type 0} (lanes : B → List ℕ) (past : Past) (blends : Blends B N) : Type 0 where
+pub record AreBlends {B : Type 0} (lanes : B → List ℕ) (past : Past) (blends : Blends B) : Type 0 where
   pub before : lanes blends.before ≡ each_back past 0 0 0 0 0 0 0 0
   pub pair_one : lanes blends.pair_one ≡ each_back past 0 1 0 1 0 1 0 1
   pub pair_two : lanes blends.pair_two ≡ each_back past 1 2 1 2 1 2 1 2

@@ -1,6 +1,6 @@
 -- The skewed times of a sequence, kept from one sequence to the next.
 use Rattle.std.specs.Prelude.{ℕ, ◌≡◌, ◌+◌, ◌-◌, ◌*◌, ◌<◌, ◌≤◌, List, length}
-use Rattle.std.specs.List.{slice_index_or, All}
+use Rattle.std.specs.List.{slice_index_or, between, All}
 use Rattle.pfs_wave.specs.Private.Lanes.{Rows}
 use Rattle.pfs_wave.specs.Private.Blocks.{step_of}
 use Rattle.pfs_wave.specs.Private.Padded.{lane_of}
@@ -27,6 +27,10 @@ rows_at count rows order k row = step_of count rows (slice_index_or order row 0)
 abbrev pub column : ℕ → List (List ℕ) → ℕ → Rows
 column count table k step = step_of count table step k
 
+-- the vectors of the steps from `start` on
+abbrev pub part_from : {X : Type 0} → ℕ → ℕ → ℕ → List X → List X
+part_from start steps count table = between (start * count) ((start + steps) * count) table
+
 -- the lanes contain the rows, skewed
 pub record HoldLanes (rows : Rows) (steps : ℕ) (times : Rows) : Type 0 where
   pub times_are : (row lane : ℕ) → lane < 8 → row + lane < steps
@@ -43,11 +47,12 @@ pub record HoldOutside (rows : Rows) (first last end steps : ℕ) (times : Rows)
       → lane_of times (row + lane) lane ≡ lane_of rows row lane
   pub none_before : (step lane : ℕ) → step < lane → lane < 8 → step < steps → lane_of times step lane ≡ 0
 
--- each step from `from` to before `to` is the old step that is `by` steps before it, and all other steps are unchanged
-pub record AreMoved (from to by : ℕ) (old new : Rows) : Type 0 where
+-- each step from `from` to before `to` is the old step that is `by` steps before it, and those before `front` and from
+-- `to` to before `steps` are unchanged
+pub record AreMoved (front from to by steps : ℕ) (old new : Rows) : Type 0 where
   pub moved : (step : ℕ) → from ≤ step → step < to → new step ≡ old (step - by)
-  pub before : (step : ℕ) → step < from → new step ≡ old step
-  pub after : (step : ℕ) → to ≤ step → new step ≡ old step
+  pub before : (step : ℕ) → step < front → new step ≡ old step
+  pub after : (step : ℕ) → to ≤ step → step < steps → new step ≡ old step
 
 -- `order` is a sequence of `len` of the jobs, followed by the number of the row after those of all jobs; `times` are the
 -- skewed times of all its rows

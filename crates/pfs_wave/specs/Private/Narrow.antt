@@ -38,8 +38,7 @@ abbrev pub after_best : NarrowTables → Sequence → ℕ → ℕ → ℕ → Na
 after_best tables seq job place span =
     record tables {
       last = known_with seq job place span;
-      kept =
-          if nat_eq (length seq.jobs + 1) tables.blocks.jobs
+      kept = if nat_eq (length seq.jobs + 1) tables.blocks.jobs
           then (if nat_le span tables.kept.span then known_with seq job place span else tables.kept)
           else tables.kept;
     }

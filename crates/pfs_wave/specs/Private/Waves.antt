@@ -13,12 +13,14 @@ longest_path shop = (shop.jobs + shop.machines - 1) * greatest shop.times
 -- what it computes with
 abbrev pub blocks_of : Wave → BlockRows
 blocks_of (wave.Short blocks) = blocks
+blocks_of (wave.Medium blocks) = blocks
 blocks_of (wave.Long blocks) = blocks
 blocks_of (wave.Wide blocks) = blocks
 
 -- the greatest value of its lanes
 abbrev pub cap_of : Wave → ℕ
 cap_of (wave.Short blocks) = 65535
+cap_of (wave.Medium blocks) = 4294967295
 cap_of (wave.Long blocks) = 4294967295
 cap_of (wave.Wide blocks) = 9223372036854775807
 

@@ -16,8 +16,9 @@ use Rattle.pfs_wave.proofs.best.best_place.Goals as goal
 
 -- the sum of each place
 sums_are : (g : given.Over) (c : goal.After-with g) (shop : FlowShop) (jobs : List ℕ) (inserted : ℕ)
-    → IsInsertion g.V.Band.Holds shop jobs inserted g.row.N c.args.lanes c.args.steps c.args.permits.tails c.args.permits.sums
-    (map g.V.Band.lanes c.args.times.now) (map g.V.Band.lanes c.args.job.now)
+    → IsInsertion g.V.Band.Holds shop jobs inserted g.row.N c.args.lanes c.args.steps c.args.permits.tails
+    c.args.permits.sums
+    (map g.V.Times.Stored.lanes c.args.times.now) (map g.V.Times.Stored.lanes c.args.job.now)
     → (place : ℕ) → place ≤ length jobs
     → g.V.Band.Holds (get_or (map g.V.Band.number c.fill_sums-paid.new.sums) (7 + place) 0)
     (makespan_with shop jobs inserted place)
@@ -50,15 +51,18 @@ sums_are g c shop jobs inserted is place le =
     let more : lanes * count ≤ filled * count = mul-le-mul_right count (omega arith) in
     changed Holds (ap (λ i. get_or (map number c.fill_sums-paid.new.sums) i 0) at)
     (whole_sum shop jobs some inserted place (filled * count) (omega arith) (omega arith) (omega arith))
-    (c.fill_sums-paid.ensures.sums (true_cells shop jobs some inserted) (length jobs) shop.machines is.paid.sums_are of job_of
+    (c.fill_sums-paid.ensures.sums (true_cells shop jobs some inserted) (length jobs) shop.machines is.paid.sums_are
+    of job_of
     (true_tables shop jobs some inserted) is.times_are backs is.job_is place (omega arith) (omega arith))
 
 -- the same in the whole list
 all_sums_are : (g : given.Over) (c : goal.After-with g) (shop : FlowShop) (jobs : List ℕ) (inserted : ℕ)
-    → IsInsertion g.V.Band.Holds shop jobs inserted g.row.N c.args.lanes c.args.steps c.args.permits.tails c.args.permits.sums
-    (map g.V.Band.lanes c.args.times.now) (map g.V.Band.lanes c.args.job.now)
+    → IsInsertion g.V.Band.Holds shop jobs inserted g.row.N c.args.lanes c.args.steps c.args.permits.tails
+    c.args.permits.sums
+    (map g.V.Times.Stored.lanes c.args.times.now) (map g.V.Times.Stored.lanes c.args.job.now)
     → (place : ℕ) → place ≤ length jobs
-    → g.V.Band.Holds (get_or (map g.V.Band.number (c.fill_sums-paid.new.sums ++ drop (c.args.steps + 7) c.args.sums.now))
+    → g.V.Band.Holds (get_or (map g.V.Band.number
+    (c.fill_sums-paid.new.sums ++ drop (c.args.steps + 7) c.args.sums.now))
     (7 + place) 0) (makespan_with shop jobs inserted place)
 all_sums_are g c shop jobs inserted is place le =
     let all = is.all in

@@ -14,7 +14,7 @@ loop-k-init g c = record {
 pub loop-k-preserved : goal.loop-k-preserved
 loop-k-preserved g c =
     let shop = c.args.instance.now.shop in
-    job_more g.V.Band.lanes c.args.count c.args.job (on_machine shop (time_of shop c.args.job)) c.args.rows.now
+    job_more g.T.Stored.lanes c.args.count c.args.job (on_machine shop (time_of shop c.args.job)) c.args.rows.now
     c.loop-k.rows c.loop-k.k c.job_vector.result c.loop-k.invariant c.loop-k-test.true c.requires.inside c.put.ensures
     c.job_vector.ensures
 

@@ -5,5 +5,6 @@ use Rattle.pfs_wave.proofs.rows.fill_job.Given as goal
 
 abbrev pub invariant-loop-k : goal.invariant-loop-k
 invariant-loop-k g l =
-    IsJobSoFar g.V.Band.lanes l.count l.job (on_machine l.instance.shop (time_of l.instance.shop l.job)) l.fn.rows l.rows
+    IsJobSoFar g.T.Stored.lanes l.count l.job (on_machine l.instance.shop (time_of l.instance.shop l.job)) l.fn.rows
+    l.rows
     l.k

@@ -7,7 +7,7 @@ use Rattle.pfs_wave.proofs.rows.job_vector.Goals as goal
 
 pub from_times-requires : goal.from_times-requires
 from_times-requires g c =
-    let cap = g.V.Band.CAP in
+    let cap = g.T.Stored.CAP in
     let shop = c.args.instance.now.shop in
     let small = λ (machine time : ℕ) (is : time ≡ on_machine shop (time_of shop c.args.job) machine).
     subst (λ t. t ≤ cap) (sym is) (machine_small shop c.args.job machine cap c.requires.short) in

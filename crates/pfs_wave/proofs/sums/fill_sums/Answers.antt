@@ -29,6 +29,7 @@ loop-step-init g c =
 pub loop-step-preserved : goal.loop-step-preserved
 loop-step-preserved g c =
     let lanes = g.V.Band.lanes in
+    let kept = g.V.Times.Stored.lanes in
     let number = g.V.Band.number in
     let count = g.row.N in
     let Holds = g.V.Band.Holds in
@@ -44,9 +45,9 @@ loop-step-preserved g c =
     let long = so_far.sums_long in
     let all = c.requires.sums in
     let now = c.step_sums-carry.result in
-    let times_read = vectors_of (map lanes (take n (drop at times))) in
+    let times_read = vectors_of (map kept (take n (drop at times))) in
     let tails_read = vectors_of (map lanes (take n (drop at tails))) in
-    let times_same = λ (k : ℕ) (lt : k < count). part_read lanes count step at n times refl k (omega arith) in
+    let times_same = λ (k : ℕ) (lt : k < count). part_read kept count step at n times refl k (omega arith) in
     let tails_same = λ (k : ℕ) (lt : k < count). part_read lanes count step at n tails refl k (omega arith) in
     record {
       heads_long = c.step_sums-carry.ensures.length;
@@ -59,8 +60,8 @@ loop-step-preserved g c =
           (lanes now.inserted) (lanes now.sum) (map number sums) step (number c.last.result) filled
           (omega (arith, length-map sums number))
           (c.step_sums-carry.ensures.cells t rows step are
-          (step_read Holds count steps times_read (map lanes times) step inside times_same t.time times_are.cells_are)
-          (none_read Holds count steps times_read (map lanes times) step inside times_same t.time times_are)
+          (step_read Holds count steps times_read (map kept times) step inside times_same t.time times_are.cells_are)
+          (none_read Holds count steps times_read (map kept times) step inside times_same t.time times_are)
           (step_read Holds count steps tails_read (map lanes tails) step inside tails_same t.tail tails_are)
           (λ lane k lt k_lt. ap (λ v. get_or v lane 0) (c.array_of-job.ensures.vectors k k_lt) ∙ job_is lane k lt k_lt)
           filled.summed)
@@ -91,10 +92,12 @@ returns-clause-sums g c t rows machines paid of job_of are times_are tails_are j
           let lane = steps - 1 - place in
           let all : suc lane ≡ min 8 (steps - place) = omega arith in
           let here : place + 7 - (steps - 1) ≡ 7 - lane = omega arith in
-          changed Holds (put_inside number (steps - 1) n sums written (omega arith) written_long 0 (place + 7) (omega arith)
+          changed Holds (put_inside number (steps - 1) n sums written (omega arith) written_long 0 (place + 7)
+          (omega arith)
           (omega arith)
           ∙ ap (λ i. get_or (map number written) i 0) here
           ∙ ap (λ l. get_or (map number l) (7 - lane) 0) c.copy_from_slice.ensures.after
           ∙ c.reversed.ensures lane (omega arith))
-          (ap (λ lanes. t.sum place (lanes * g.row.N)) all) (filled.summed.sum_is place lane (omega arith) le (omega arith))
+          (ap (λ lanes. t.sum place (lanes * g.row.N)) all)
+          (filled.summed.sum_is place lane (omega arith) le (omega arith))
     ]

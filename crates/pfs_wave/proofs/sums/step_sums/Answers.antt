@@ -1,4 +1,4 @@
-use Rattle.std.proofs.Common.{◌+◌, ◌-◌, map, get_or, ap, refl, arith}
+use Rattle.std.proofs.Common.{◌+◌, ◌-◌, map, get_or, ap, ◌∙◌, refl, arith}
 use Rattle.pfs_wave.specs.Private.Blocks.{vectors_of}
 use Rattle.pfs_wave.proofs.StepTables.{read, read_as}
 use Rattle.pfs_wave.proofs.TailCells.{changed}
@@ -8,6 +8,7 @@ use Rattle.pfs_wave.proofs.sums.step_sums.Goals as goal
 pub loop-k-init : goal.loop-k-init
 loop-k-init g c =
     let lanes = g.V.Band.lanes in
+    let kept = g.V.Times.Stored.lanes in
     let before = c.args.before.now in
     let heads = c.args.heads.now in
     let last = c.index-heads.result in
@@ -16,7 +17,7 @@ loop-k-init g c =
     let inserted = c.from_before-inserted.ensures in
     let sum = c.from_before-sum.ensures in
     let head = c.from_before-head.ensures in
-    step_sums_none g.V.Band.Holds g.V.Band.itself lanes g.row.N (vectors_of (map lanes c.args.times.now))
+    step_sums_none g.V.Band.Holds g.V.Band.itself lanes g.row.N (vectors_of (map kept c.args.times.now))
     (vectors_of (map lanes c.args.tails.now)) (vectors_of (map lanes c.args.job.now)) some
     (vectors_of (map lanes heads)) (lanes before.inserted) (lanes before.sum) heads
     (lanes (get_or heads (g.row.N - 1) last)) (lanes c.from_before-inserted.result) (lanes c.from_before-sum.result)
@@ -27,6 +28,7 @@ loop-k-init g c =
 pub loop-k-preserved : goal.loop-k-preserved
 loop-k-preserved g c =
     let lanes = g.V.Band.lanes in
+    let kept = g.V.Times.Stored.lanes in
     let Holds = g.V.Band.Holds in
     let before = c.args.before.now in
     let heads = c.loop-k.heads in
@@ -43,14 +45,15 @@ loop-k-preserved g c =
     let inserted = c.next_value-inserted.result in
     let above = read lanes heads k c.index-heads-k.result (omega arith) in
     let tail = read_as lanes tails k c.index-tails-k.result (omega arith) c.index-tails-k.is in
-    step_sums_more Holds g.V.Band.itself lanes g.row.N (vectors_of (map lanes times)) (vectors_of (map lanes tails))
+    step_sums_more Holds g.V.Band.itself lanes g.row.N (vectors_of (map kept times)) (vectors_of (map lanes tails))
     (vectors_of (map lanes job)) c.requires.some (vectors_of (map lanes c.args.heads.now)) (lanes before.inserted)
     (lanes before.sum) heads (lanes c.loop-k.inserted) (lanes c.loop-k.sum) (lanes c.loop-k.head) k
     c.next_value-head.result (lanes inserted) (lanes c.greater-sum.result) so_far inside
     (rw (above, read lanes job k c.index-job-k.result (omega arith)) at c.next_value-inserted.ensures)
     (λ lane a b t lt p q r. c.greater-sum.ensures lane a (b + t) lt p (c.sum.ensures lane b t lt q
     (changed Holds (ap (λ v. get_or v lane 0) tail) refl r)))
-    (rw (above, read_as lanes times k c.index-times-k.result (omega arith) c.index-times-k.is) at c.next_value-head.ensures)
+    (rw (above, c.load.ensures ∙ read_as kept times k c.index-times-k.result (omega arith) c.index-times-k.is) at
+    c.next_value-head.ensures)
 
 pub returns-clause-cells : goal.returns-clause-cells
 returns-clause-cells g c t rows step are times_are none tails_are job_is summed =

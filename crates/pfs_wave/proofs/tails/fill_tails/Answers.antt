@@ -18,19 +18,27 @@ loop-left-init g c =
     let all = c.requires.tails in
     let n_is : length table - at ≡ count = omega arith in
     let long : length written ≡ count =
-    omega (arith, c.copy_from_slice.ensures.len, length-take-le (length table - at) (drop at table) (omega (arith, length-drop at table))) in
+    omega (
+      arith,
+      c.copy_from_slice.ensures.len,
+      length-take-le (length table - at) (drop at table)
+          (omega (arith, length-drop at table)),
+    ) in
     record {
       long = put_long at (length table - at) table written (omega arith) (omega arith);
       now_long = length-replicate count c.zeros-first.result;
       cells = λ time tail are last held.
-          tails_filled_none g.V.Band.Holds g.V.Band.itself lanes count c.args.steps tail c.zeros-first.result _ c.requires.some c.zeros-first.ensures last
-          (λ k lt. part_written lanes count c.args.steps at (length table - at) table refl written n_is (omega arith) long k lt
+          tails_filled_none g.V.Band.Holds g.V.Band.itself lanes count c.args.steps tail c.zeros-first.result _
+          c.requires.some c.zeros-first.ensures last
+          (λ k lt. part_written lanes count c.args.steps at (length table - at) table refl written n_is (omega arith)
+          long k lt
           ∙ ap (λ l. vectors_of (map lanes l) k) c.copy_from_slice.ensures.after);
     }
 
 pub loop-left-preserved : goal.loop-left-preserved
 loop-left-preserved g c =
     let lanes = g.V.Band.lanes in
+    let kept = g.V.Times.Stored.lanes in
     let count = g.row.N in
     let steps = c.args.steps in
     let left = c.loop-left.left in
@@ -58,11 +66,13 @@ loop-left-preserved g c =
       long = ap length is ∙ put_long at count table row (omega arith) row_long ∙ c.loop-left.invariant.long;
       now_long = made.length;
       cells = λ time tail are last held.
-          rw is (tails_filled_more g.V.Band.Holds g.V.Band.itself lanes count steps time tail (map lanes times) table c.loop-left.now
+          rw is (tails_filled_more g.V.Band.Holds g.V.Band.itself lanes count steps time tail (map kept times) table
+          c.loop-left.now
           c.step_tails-first.new.now row (lanes c.loop-left.first) (lanes c.step_tails-first.result)
-          (vectors_of (map lanes (take n (drop at times)))) (vectors_of (map lanes (take count back))) left step at are held
+          (vectors_of (map kept (take n (drop at times)))) (vectors_of (map lanes (take count back))) left step at are
+          held
           (c.loop-left.invariant.cells time tail are last held) inside refl long refl row_long
-          (λ k lt. part_read lanes count step at n times refl k (omega arith))
+          (λ k lt. part_read kept count step at n times refl k (omega arith))
           (λ k lt. ap (λ l. vectors_of (map lanes (take count l)) k) after_is
           ∙ part_read lanes count (suc step) (at + count) count table (sym next) k lt) made.tails);
     }

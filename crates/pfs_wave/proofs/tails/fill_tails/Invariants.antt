@@ -7,6 +7,7 @@ use Rattle.pfs_wave.proofs.tails.fill_tails.Given as goal
 abbrev pub invariant-loop-left : goal.invariant-loop-left
 invariant-loop-left g l =
     let lanes = g.V.Band.lanes in
+    let kept = g.V.Times.Stored.lanes in
     let count = g.row.N in
     let Holds = g.V.Band.Holds in
     record {
@@ -14,6 +15,6 @@ invariant-loop-left g l =
       now_long : length l.now ≡ count;
       cells : (time tail : Cells) → AreTails count time tail
           → ((row lane k : ℕ) → lane < 8 → k < count → row + lane ≡ l.steps → tail row (lane * count + k) ≡ 0)
-          → HoldCells Holds count l.steps time (map lanes l.times)
+          → HoldCells Holds count l.steps time (map kept l.times)
           → AreTailsFilled Holds lanes count l.steps tail l.tails l.now (lanes l.first) l.left;
     }

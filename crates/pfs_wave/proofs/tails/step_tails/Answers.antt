@@ -7,13 +7,16 @@ use Rattle.pfs_wave.proofs.tails.step_tails.Goals as goal
 pub loop-passed-init : goal.loop-passed-init
 loop-passed-init g c =
     let lanes = g.V.Band.lanes in
-    step_tails_none g.V.Band.Holds g.V.Band.itself lanes g.row.N (vectors_of (map lanes c.args.times.now))
-    (vectors_of (map lanes c.chosen-after.result.now)) (lanes c.args.first) (g.met.V.Band.eight c.args.first) c.args.now.now
+    let kept = g.V.Times.Stored.lanes in
+    step_tails_none g.V.Band.Holds g.V.Band.itself lanes g.row.N (vectors_of (map kept c.args.times.now))
+    (vectors_of (map lanes c.chosen-after.result.now)) (lanes c.args.first) (g.met.V.Band.eight c.args.first)
+    c.args.now.now
     c.args.row.now (lanes c.from_after-tail.result) c.told-now c.requires.row c.from_after-tail.ensures
 
 pub loop-passed-preserved : goal.loop-passed-preserved
 loop-passed-preserved g c =
     let lanes = g.V.Band.lanes in
+    let kept = g.V.Times.Stored.lanes in
     let count = g.row.N in
     let after = c.chosen-after.result.now in
     let times = c.args.times.now in
@@ -25,8 +28,9 @@ loop-passed-preserved g c =
     elim c.chosen-after.ensures [ inl is ↦ ap length is ∙ c.told-now | inr is ↦ ap length is ∙ c.requires.after ] in
     let times_long = c.requires.times in
     let above = read_as lanes after k c.index-after-k.result (omega arith) c.index-after-k.is in
-    let time = read_as lanes times k c.index-times-k.result (omega arith) c.index-times-k.is in
-    step_tails_more g.V.Band.Holds g.V.Band.itself lanes count (vectors_of (map lanes times)) (vectors_of (map lanes after)) (lanes first)
+    let time = c.load.ensures ∙ read_as kept times k c.index-times-k.result (omega arith) c.index-times-k.is in
+    step_tails_more g.V.Band.Holds g.V.Band.itself lanes count (vectors_of (map kept times))
+    (vectors_of (map lanes after)) (lanes first)
     (g.met.V.Band.eight first) c.loop-passed.now c.loop-passed.row (lanes c.loop-passed.tail) c.loop-passed.passed k
     c.next_tail-tail.result (lanes c.from_after-tail.result) (lanes c.second_tail-second.result) so_far inside refl
     c.from_after-tail.ensures c.second_tail-second.ensures c.next_tail-tail.ensures.second

@@ -6,5 +6,6 @@ use Rattle.pfs_wave.proofs.tails.step_tails.Given as goal
 abbrev pub invariant-loop-passed : goal.invariant-loop-passed
 invariant-loop-passed g l =
     let lanes = g.V.Band.lanes in
-    AreStepTails g.V.Band.Holds lanes g.row.N (vectors_of (map lanes l.times)) (vectors_of (map lanes l.after))
+    let kept = g.V.Times.Stored.lanes in
+    AreStepTails g.V.Band.Holds lanes g.row.N (vectors_of (map kept l.times)) (vectors_of (map lanes l.after))
     (lanes l.fn.first) l.now l.row (lanes l.tail) l.passed

@@ -6,7 +6,7 @@ use Rattle.pfs_wave.proofs.times.blends_before.Goals as goal
 
 pub loop-earlier-preserved : goal.loop-earlier-preserved
 loop-earlier-preserved g c =
-    let rows = rows_at g.row.N (map g.V.Band.lanes c.args.rows.now) c.args.order.now c.args.k in
+    let rows = rows_at g.row.N (map g.T.Stored.lanes c.args.rows.now) c.args.order.now c.args.k in
     let start = c.args.row - 7 in
     let earlier = c.loop-earlier.earlier in
     let begun = c.loop-earlier.invariant.begun in
@@ -15,17 +15,17 @@ loop-earlier-preserved g c =
     record {
       begun = omega arith;
       blends =
-          next_is g.V.Band.lanes (later_rows rows start) count (earlier + 1 - start) _ (omega arith)
+          next_is g.T.Stored.lanes (later_rows rows start) count (earlier + 1 - start) _ (omega arith)
           (c.vector_of.ensures ∙ ap rows at)
           (c.push-last.ensures.next (past_at (later_rows rows start) count) c.loop-earlier.invariant.blends);
     }
 
 pub returns : goal.returns
 returns g c =
-    let rows = rows_at g.row.N (map g.V.Band.lanes c.args.rows.now) c.args.order.now c.args.k in
+    let rows = rows_at g.row.N (map g.T.Stored.lanes c.args.rows.now) c.args.order.now c.args.k in
     let start = c.args.row - 7 in
     let begun = c.loop-earlier.invariant.begun in
     let end = c.loop-earlier.auto.earlier-end in
     let outside = c.loop-earlier-test.false in
-    warm g.V.Band.lanes rows c.args.row start (c.loop-earlier.earlier - start) _ (omega arith) (omega arith)
+    warm g.T.Stored.lanes rows c.args.row start (c.loop-earlier.earlier - start) _ (omega arith) (omega arith)
     c.loop-earlier.invariant.blends

@@ -9,7 +9,7 @@ invariant-loop-earlier g l =
     let start = l.row - 7 in
     record {
       begun : start ≤ l.earlier;
-      blends : AreBlends g.V.Band.lanes
-          (past_at (later_rows (rows_at g.row.N (map g.V.Band.lanes l.rows) l.order l.k) start) (l.earlier - start))
+      blends : AreBlends g.T.Stored.lanes
+          (past_at (later_rows (rows_at g.row.N (map g.T.Stored.lanes l.rows) l.order l.k) start) (l.earlier - start))
           l.last;
     }

@@ -7,7 +7,7 @@ use Rattle.pfs_wave.proofs.times.fill_times.Goals as goal
 
 pub loop-k-preserved : goal.loop-k-preserved
 loop-k-preserved g c =
-    let lanes = g.V.Band.lanes in
+    let lanes = g.T.Stored.lanes in
     let count = g.row.N in
     let all = map lanes c.args.rows.now in
     let order = c.args.order.now in
@@ -30,10 +30,12 @@ loop-k-preserved g c =
                 (λ step. filled.others step j (omega arith) (λ same. omega arith)) (so_far.done j earlier outside)
             | inr here ↦
                 let same : k ≡ j = omega arith in
-                subst (λ i. HoldOutside (rows_at count all order i) changed.from changed.to changed.end steps (column count old i)
+                subst (λ i. HoldOutside (rows_at count all order i) changed.from changed.to changed.end steps
+                (column count old i)
                 → HoldLanes (rows_at count all order i) steps (column count new i)) same
                 (λ out.
-                hold_filled (rows_at count all order k) changed.from changed.to changed.end c.filled_end-end.result steps
+                hold_filled (rows_at count all order k) changed.from changed.to changed.end c.filled_end-end.result
+                steps
                 (column count old k) (column count new k) filled.filled
                 (λ step early. filled.before step early ∙ so_far.rest step k inside (omega arith))
                 (λ step late. filled.after step late ∙ so_far.rest step k inside (omega arith)) ends out) outside

@@ -6,7 +6,7 @@ use Rattle.pfs_wave.proofs.times.fill_times.Given as goal
 -- the vectors so far contain the rows of the sequence; those after them are unchanged
 abbrev pub invariant-loop-k : goal.invariant-loop-k
 invariant-loop-k g l =
-    let lanes = g.V.Band.lanes in
+    let lanes = g.T.Stored.lanes in
     let count = g.row.N in
     let old = map lanes l.fn.times in
     let times = map lanes l.times in

@@ -45,7 +45,7 @@ put-requires-in-loop-row g c =
 
 pub loop-turn-init : goal.loop-turn-init
 loop-turn-init g c =
-    let lanes = g.V.Band.lanes in
+    let lanes = g.T.Stored.lanes in
     let rows = rows_at g.row.N (map lanes c.args.rows.now) c.args.order.now c.args.k in
     let from = c.args.from in
     let start : from ≡ from + 4 * 0 = omega arith in
@@ -60,7 +60,7 @@ loop-turn-init g c =
 
 pub loop-turn-preserved : goal.loop-turn-preserved
 loop-turn-preserved g c =
-    let lanes = g.V.Band.lanes in
+    let lanes = g.T.Stored.lanes in
     let count = g.row.N in
     let k = c.args.k in
     let from = c.args.from in
@@ -94,7 +94,8 @@ loop-turn-preserved g c =
     let d =
     filled_more lanes count k rows from (row + 2) ((row + 2) * count + k) (row + 3) old c.put-in-loop-turn.new.table
     c.push-c.result.row b k_lt refl (omega arith) (omega arith)
-    (vector_inside count steps (row + 2) k _ (omega arith) k_lt (c.put-in-loop-turn.auto.table ∙ c.put.auto.table ∙ long))
+    (vector_inside count steps (row + 2) k _ (omega arith) k_lt
+    (c.put-in-loop-turn.auto.table ∙ c.put.auto.table ∙ long))
     c.put-in-loop-turn-2.ensures
     (out_is rows (row + 2) c.vector_of-in-loop-turn-2.ensures (c.push-c.ensures.row (past_at rows (row + 2)) two)) in
     record {
@@ -115,7 +116,7 @@ loop-turn-preserved g c =
 
 pub loop-row-init : goal.loop-row-init
 loop-row-init g c =
-    let lanes = g.V.Band.lanes in
+    let lanes = g.T.Stored.lanes in
     let rows = rows_at g.row.N (map lanes c.args.rows.now) c.args.order.now c.args.k in
     let from = c.args.from in
     let outside = c.loop-turn-test.false in
@@ -131,7 +132,7 @@ loop-row-init g c =
 
 pub loop-row-preserved : goal.loop-row-preserved
 loop-row-preserved g c =
-    let lanes = g.V.Band.lanes in
+    let lanes = g.T.Stored.lanes in
     let count = g.row.N in
     let k = c.args.k in
     let rows = rows_at count (map lanes c.args.rows.now) c.args.order.now k in

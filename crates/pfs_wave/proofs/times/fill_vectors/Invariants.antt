@@ -6,7 +6,7 @@ use Rattle.pfs_wave.proofs.times.fill_vectors.Given as goal
 
 abbrev pub invariant-loop-turn : goal.invariant-loop-turn
 invariant-loop-turn g l =
-    let lanes = g.V.Band.lanes in
+    let lanes = g.T.Stored.lanes in
     let rows = rows_at g.row.N (map lanes l.rows) l.order l.k in
     record {
       long : length l.times ≡ length l.fn.times;
@@ -16,7 +16,7 @@ invariant-loop-turn g l =
 
 abbrev pub invariant-loop-row : goal.invariant-loop-row
 invariant-loop-row g l =
-    let lanes = g.V.Band.lanes in
+    let lanes = g.T.Stored.lanes in
     let rows = rows_at g.row.N (map lanes l.rows) l.order l.k in
     record {
       long : length l.times ≡ length l.fn.times;

@@ -24,7 +24,7 @@ copy_within-requires-clause-dest_in_bounds g c =
 
 pub returns-clause-moved : goal.returns-clause-moved
 returns-clause-moved g c some longer =
-    let lanes = g.V.Band.lanes in
+    let lanes = g.T.Stored.lanes in
     let count = g.row.N in
     let old = c.args.old in
     let new = c.args.new in
@@ -56,9 +56,9 @@ returns-clause-moved g c some longer =
             (λ d. is.0 (step * count + k) d (omega arith) (omega arith) ∙ ap (λ i. get_or table i d) here)
             (omega arith) (omega arith);
         before = λ step lt.
-            let after = step_after count step moved lt in
+            let after = step_after count step moved (omega arith) in
             unchanged lanes table made (step * count + k) (λ d. is.1 (step * count + k) d (omega arith)) long;
-        after = λ step le.
+        after = λ step le inside_steps.
             let more : (new + 8) * count ≤ step * count = mul-le-mul_right count le in
             unchanged lanes table made (step * count + k) (λ d. is.2 (step * count + k) d (omega arith)) long;
       },

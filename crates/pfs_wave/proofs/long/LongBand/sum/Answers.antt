@@ -3,9 +3,9 @@ use Rattle.pfs_wave.proofs.Steps.{length-zip}
 use Rattle.pfs_wave.proofs.VectorLemmas.{wrapped_sum}
 use Rattle.pfs_wave.proofs.long.LongBand.sum.Goals as goal
 
-pub invariant_of-result : goal.invariant_of-result
-invariant_of-result c =
-    let a = c.args.self.values in
-    let b = c.args.other.values in
-    let long = c.args.self.eight in
-    record { eight = length-zip 8 (wrapped_sum w32) a b (omega arith) c.args.other.eight }
+pub of-requires : goal.of-requires
+of-requires g c =
+    let a = c.args.self.lanes.values in
+    let b = c.args.other.lanes.values in
+    let long = c.args.self.lanes.eight in
+    length-zip 8 (wrapped_sum w32) a b (omega arith) c.args.other.lanes.eight
