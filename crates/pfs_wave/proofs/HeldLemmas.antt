@@ -2,13 +2,15 @@
 use Rattle.std.proofs.Common.{inl, inr, max, ◌≡◌, ℕ, zero, suc, ◌+◌, ◌-◌, ◌*◌, ◌<◌, ◌≤◌, List, [], ◌++◌, length, take, drop}
 use Rattle.std.proofs.Common.{get_or, replicate, map, ap, ◌∙◌, sym, refl, arith}
 use Rattle.std.proofs.lemmas.Bool.{cases_lt, lt-ltb, le-ltb}
-use Rattle.std.proofs.lemmas.List.{drop-map, get_or-drop, get_or-take, get_or-replicate, get_or_default, get_or_past, length-take-le}
+use Rattle.std.proofs.lemmas.List.{drop-map, get_or-drop, get_or-take, get_or-replicate, get_or_default, get_or_past}
+use Rattle.std.proofs.lemmas.List.{length-take-le}
 use Rattle.std.proofs.lemmas.List.{length-replicate, same_lists, take-map}
 use Rattle.std.specs.List.{All}
 use Rattle.pfs_base.specs.FlowShop.{FlowShop}
 use Rattle.pfs_wave.specs.Private.Lanes.{Holding, Rows, zeros}
 use Rattle.pfs_wave.specs.Private.Blocks.{AreTimes, Cells, HasRows, step_of}
-use Rattle.pfs_wave.specs.Private.HeldRows.{AreMoved, HoldLanes, HoldOutside, IsHolding, IsKept, IsPadded, column, part_from, rows_at}
+use Rattle.pfs_wave.specs.Private.HeldRows.{AreMoved, HoldLanes, HoldOutside, IsHolding, IsKept, IsPadded, column}
+use Rattle.pfs_wave.specs.Private.HeldRows.{part_from, rows_at}
 use Rattle.pfs_wave.specs.Private.Padded.{padded_time}
 use Rattle.pfs_wave.proofs.SkewedTimes.{vector_inside}
 use Rattle.pfs_wave.proofs.TailCells.{changed}
@@ -199,41 +201,42 @@ module _ (count : ℕ) (rows : List (List ℕ)) (order others held seq : List �
 
   -- a sequence that grew
   module _ (to : ℕ) (longer : length held < length seq) (room : length seq + 8 ≤ to)
-      (moved : AreMoved (front + 8) (length seq - back + 8) to (length seq - length held) (length others) times new) where
-    at_later_steps : (row lane : ℕ) → length seq - back + 8 ≤ row + lane → lane < 8 → row + lane < length others
-        → get_or (new (row + lane)) lane 0 ≡ get_or (to_skew row) lane 0
-    at_later_steps row lane after lt inside =
-        let in_held = kept.in_held in
-        let in_seq = kept.in_seq in
-        let by = length seq - length held in
-        elim (cases_lt (row + lane) to) [
-          | inl within ↦
-              let at : row + lane - by ≡ (row - by) + lane = omega arith in
-              ap (λ l. get_or l lane 0) (moved.moved (row + lane) (omega arith) within)
-              ∙ ap (λ n. get_or (times n) lane 0) at
-              ∙ old.times_are (row - by) lane lt (omega arith)
-              ∙ same_row row (row - by) lane (back_job row (omega arith) (omega arith) (omega arith) (omega arith))
-          | inr beyond ↦
-              ap (λ l. get_or l lane 0) (moved.after (row + lane) beyond inside)
-              ∙ old.times_are row lane lt (omega arith)
-              ∙ same_row row row lane (none_job row (omega arith) (omega arith) (omega arith))
-        ]
+      (moved : AreMoved (front + 8) (length seq - back + 8) to (length seq - length held) (length others) times new)
+    where
+      at_later_steps : (row lane : ℕ) → length seq - back + 8 ≤ row + lane → lane < 8 → row + lane < length others
+          → get_or (new (row + lane)) lane 0 ≡ get_or (to_skew row) lane 0
+      at_later_steps row lane after lt inside =
+          let in_held = kept.in_held in
+          let in_seq = kept.in_seq in
+          let by = length seq - length held in
+          elim (cases_lt (row + lane) to) [
+            | inl within ↦
+                let at : row + lane - by ≡ (row - by) + lane = omega arith in
+                ap (λ l. get_or l lane 0) (moved.moved (row + lane) (omega arith) within)
+                ∙ ap (λ n. get_or (times n) lane 0) at
+                ∙ old.times_are (row - by) lane lt (omega arith)
+                ∙ same_row row (row - by) lane (back_job row (omega arith) (omega arith) (omega arith) (omega arith))
+            | inr beyond ↦
+                ap (λ l. get_or l lane 0) (moved.after (row + lane) beyond inside)
+                ∙ old.times_are row lane lt (omega arith)
+                ∙ same_row row row lane (none_job row (omega arith) (omega arith) (omega arith))
+          ]
 
-    pub outside_moved :
-        HoldOutside to_skew front (length seq - back + 8) (length seq - back + 8) (length others) new
-    outside_moved =
-        let in_held = kept.in_held in
-        let in_seq = kept.in_seq in
-        record {
-          front = λ row lane before lt inside.
-              ap (λ l. get_or l lane 0) (moved.before (row + lane) (omega arith))
-              ∙ old.times_are row lane lt (omega arith) ∙ same_row row row lane (front_job row before (omega arith));
-          back = λ row lane after lt inside. at_later_steps row lane (omega arith) lt inside;
-          later = λ row lane after lt inside. at_later_steps row lane after lt inside;
-          none_before = λ step lane early lt inside.
-              ap (λ l. get_or l lane 0) (moved.before step (omega arith))
-              ∙ old.none_before step lane early lt (omega arith);
-        }
+      pub outside_moved :
+          HoldOutside to_skew front (length seq - back + 8) (length seq - back + 8) (length others) new
+      outside_moved =
+          let in_held = kept.in_held in
+          let in_seq = kept.in_seq in
+          record {
+            front = λ row lane before lt inside.
+                ap (λ l. get_or l lane 0) (moved.before (row + lane) (omega arith))
+                ∙ old.times_are row lane lt (omega arith) ∙ same_row row row lane (front_job row before (omega arith));
+            back = λ row lane after lt inside. at_later_steps row lane (omega arith) lt inside;
+            later = λ row lane after lt inside. at_later_steps row lane after lt inside;
+            none_before = λ step lane early lt inside.
+                ap (λ l. get_or l lane 0) (moved.before step (omega arith))
+                ∙ old.none_before step lane early lt (omega arith);
+          }
 
   -- only the steps of the rows at the front are moved
   pub outside_front : ((step : ℕ) → step < front + 8 → new step ≡ times step)
@@ -309,7 +312,8 @@ times_first Holds lanes count start steps all time table enough are =
     ∙ sym (part_step lanes count start all table k step k_lt (omega arith)) in
     record {
       cells_are = λ step lt k k_lt row lane lane_lt here.
-          changed Holds (ap (λ l. get_or l lane 0) (same step k lt k_lt)) refl (are.cells_are step lt k k_lt row lane lane_lt here);
+          changed Holds (ap (λ l. get_or l lane 0) (same step k lt k_lt)) refl
+          (are.cells_are step lt k k_lt row lane lane_lt here);
       none_before = λ step lt lane k lane_lt k_lt early.
           ap (λ l. get_or l lane 0) (same step k lt k_lt) ∙ are.none_before step lt lane k lane_lt k_lt early;
     }

@@ -112,7 +112,8 @@ pub fn write_rows(order: &mut [usize], seq: &[usize], none: usize, from: usize, 
 fn start_for(kept: Kept, start: usize, jobs: usize, old: usize, new: usize) -> usize
     requires start { start ≤ jobs }
     ensures within { result ≤ jobs }
-    ensures moved { result ≢ start → (kept.back ≡ 0) ⊎ ((0 < kept.back) × (old < new) × (result + (new - old) ≡ start)) }
+    ensures moved { result ≢ start
+        → (kept.back ≡ 0) ⊎ ((0 < kept.back) × (old < new) × (result + (new - old) ≡ start)) }
 {
     if kept.back == 0 {
         if start == 0 { jobs } else { start }
@@ -124,9 +125,9 @@ fn start_for(kept: Kept, start: usize, jobs: usize, old: usize, new: usize) -> u
 }
 
 /// Skews the times of a sequence over those of a sequence of `len` jobs. Only the rows between those that are the same
-/// at the front and at the end are skewed again, and of these two parts the shorter one is moved. `order` has the jobs of
-/// the sequence, and after them the number of the row of zeros. The skewed times begin at the step `start` of the table;
-/// the result is where they begin now.
+/// at the front and at the end are skewed again, and of these two parts the shorter one is moved. `order` has the jobs
+/// of the sequence, and after them the number of the row of zeros. The skewed times begin at the step `start` of the
+/// table; the result is where they begin now.
 #[inline(always)]
 pub fn hold<T: Stored, const N: usize>(
     rows: &[T],

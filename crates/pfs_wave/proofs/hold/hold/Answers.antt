@@ -1,4 +1,5 @@
-use Rattle.std.proofs.Common.{ℕ, inl, inr, max, ◌≡◌, ◌+◌, ◌-◌, ◌*◌, ◌<◌, ◌≤◌, length, map, take, drop, ◌∙◌, ap, sym, subst, arith}
+use Rattle.std.proofs.Common.{ℕ, inl, inr, max, ◌≡◌, ◌+◌, ◌-◌, ◌*◌, ◌<◌, ◌≤◌, length, map, take, drop, ◌∙◌}
+use Rattle.std.proofs.Common.{ap, sym, subst, arith}
 use Rattle.std.proofs.Math.Nat.{mul-le-mul_right}
 use Rattle.std.proofs.lemmas.Bool.{cases_lt}
 use Rattle.std.proofs.lemmas.List.{length-drop, length-map, length-take-le}
@@ -98,7 +99,8 @@ returns-then-first-start-clause-holds g c =
     let inside : c.args.start * count ≤ length c.args.table.now =
     omega (arith, c.requires.table, mul-le-mul_right count c.requires.start) in
     rw (between-put_mid (c.args.start * count) ((c.args.start + (jobs + 8)) * count - c.args.start * count)
-    c.args.table.now c.fill_times.new.times ((c.args.start + (jobs + 8)) * count) inside (omega (arith, long, part_long, steps)))
+    c.args.table.now c.fill_times.new.times ((c.args.start + (jobs + 8)) * count) inside
+    (omega (arith, long, part_long, steps)))
     (holding_more seq others new holds c.requires.jobs few same_steps is
     (length-map c.fill_times.new.times lanes ∙ long ∙ sym (length-map part lanes))
     (λ k k_lt. c.fill_times.ensures.held k k_lt (outside k k_lt)))

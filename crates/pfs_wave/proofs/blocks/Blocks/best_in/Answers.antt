@@ -21,8 +21,10 @@ invariant_of-self g c =
     let times = c.hold-self-inside.new.table in
     let tails = c.best_place-best.new.tails in
     let sums = c.best_place-best.new.sums in
-    let order_long : length order ≡ inside.order.len = omega (arith, c.hold-self-inside.ensures.order, c.deref_mut.ensures.len) in
-    let times_long : length times ≡ inside.times.len = omega (arith, c.hold-self-inside.ensures.table, c.deref_mut-2.ensures.len) in
+    let order_long : length order ≡ inside.order.len =
+    omega (arith, c.hold-self-inside.ensures.order, c.deref_mut.ensures.len) in
+    let times_long : length times ≡ inside.times.len =
+    omega (arith, c.hold-self-inside.ensures.table, c.deref_mut-2.ensures.len) in
     let tails_long : length tails ≡ inside.tails.len =
     omega (arith, c.best_place-best.ensures.tails, c.deref_mut-3.ensures.len) in
     let sums_long : length sums ≡ inside.sums.len =
@@ -55,7 +57,8 @@ passed : (g : given.Over) (c : goal.After-slice_known-2-1 g) (shop : FlowShop) �
     (length c.args.sequence.now + c.self.inside.lanes) c.args.permits.tails c.args.permits.sums
     (map g.V.Times.Stored.lanes (part_from c.hold-self-inside.result (length c.args.sequence.now + c.self.inside.lanes)
     g.row.N c.hold-self-inside.new.table))
-    (map g.V.Times.Stored.lanes (take (c.args.job * g.row.N + g.row.N - c.args.job * g.row.N) (drop (c.args.job * g.row.N) c.self.inside.rows.items)))
+    (map g.V.Times.Stored.lanes (take (c.args.job * g.row.N + g.row.N - c.args.job * g.row.N)
+    (drop (c.args.job * g.row.N) c.self.inside.rows.items)))
 passed g c shop has paid =
     let lanes = g.V.Times.Stored.lanes in
     let inside = c.self.inside in
@@ -73,16 +76,17 @@ passed g c shop has paid =
     let some = holds.steps in
     let few = holds.some in
     let eight = c.self.invariant.eight in
-    let whole : AreTimes g.V.Band.Holds count steps (padded_time shop jobs) (map lanes (part_from c.hold-self-inside.result (inside.jobs + 8) count times)) =
-    rw c.hold-self-inside.ensures.jobs at (holding_times holds g.V.Band.Holds g.V.Band.itself shop steps (ap (λ b. b.jobs) view ∙ has.jobs) has_rows (omega arith)) in
+    let whole : AreTimes g.V.Band.Holds count steps (padded_time shop jobs)
+    (map lanes (part_from c.hold-self-inside.result (inside.jobs + 8) count times)) =
+    rw c.hold-self-inside.ensures.jobs at (holding_times holds g.V.Band.Holds g.V.Band.itself shop steps
+    (ap (λ b. b.jobs) view ∙ has.jobs) has_rows (omega arith)) in
     record {
       some = has.some;
       few = rw (← ap (λ b. b.lanes) view, c.requires.count) at has.few;
       all = refl;
       paid = paid;
-      times_are =
-          times_first g.V.Band.Holds lanes count c.hold-self-inside.result steps (inside.jobs + 8) (padded_time shop jobs)
-          times (omega arith) whole;
+      times_are = times_first g.V.Band.Holds lanes count c.hold-self-inside.result steps (inside.jobs + 8)
+          (padded_time shop jobs) times (omega arith) whole;
       job_is = λ lane k lt k_lt.
           ap (λ v. get_or v lane 0)
           (part_read lanes count c.args.job (c.args.job * count) n inside.rows.items refl k (omega arith))
@@ -93,7 +97,8 @@ pub returns-clause-best : goal.returns-clause-best
 returns-clause-best g c shop has paid =
     let inside = c.self.inside in
     let times = c.hold-self-inside.new.table in
-    let times_long : length times ≡ inside.times.len = omega (arith, c.hold-self-inside.ensures.table, c.deref_mut-2.ensures.len) in
+    let times_long : length times ≡ inside.times.len =
+    omega (arith, c.hold-self-inside.ensures.table, c.deref_mut-2.ensures.len) in
     let found = rw (
       c.deref-2.ensures.value,
       c.deref-3.ensures.value,
@@ -105,7 +110,8 @@ pub returns-clause-spans : goal.returns-clause-spans
 returns-clause-spans g c shop has paid place lt =
     let inside = c.self.inside in
     let times = c.hold-self-inside.new.table in
-    let times_long : length times ≡ inside.times.len = omega (arith, c.hold-self-inside.ensures.table, c.deref_mut-2.ensures.len) in
+    let times_long : length times ≡ inside.times.len =
+    omega (arith, c.hold-self-inside.ensures.table, c.deref_mut-2.ensures.len) in
     let found = rw (
       c.deref-2.ensures.value,
       c.deref-3.ensures.value,

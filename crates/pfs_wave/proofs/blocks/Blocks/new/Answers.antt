@@ -22,17 +22,18 @@ invariant_of-result g c =
     let none : map lanes (part_from jobs (jobs + 8) width items) ≡ replicate ((jobs + 8) * width) (zeros 8) =
     sym (take-map lanes n (drop (jobs * width) items))
     ∙ ap (take n) (sym (drop-map lanes (jobs * width) items)
-    ∙ ap (drop (jobs * width)) (rw count_is at c.in_ok-times.ensures.zeros) ∙ drop-replicate (jobs * width) all (zeros 8))
+    ∙ ap (drop (jobs * width)) (rw count_is at c.in_ok-times.ensures.zeros)
+    ∙ drop-replicate (jobs * width) all (zeros 8))
     ∙ take-replicate n n (zeros 8) (omega arith) ∙ ap (λ n. replicate n (zeros 8)) long in
     record {
       some = c.lanes_for.ensures.some;
       eight = c.lanes_for.ensures.eight;
       few = omega (arith, jobs_are.value, jobs_are.within.sizes.few_jobs);
-      rows = rw count_is at rows_long ∙ ap (λ n. n * vectors_in c.for_machines-width.result + vectors_in c.for_machines-width.result) (sym jobs_are.value);
+      rows = rw count_is at rows_long ∙ ap (λ n. n * width + width) (sym jobs_are.value);
       holds =
-          holding_none (vectors_in c.for_machines-width.result) jobs c.args.instance.now.shop
-          (map lanes c.in_ok-rows.rows.items) c.in_ok-order.order.items (map lanes (part_from jobs (jobs + 8) width items))
-          (rw count_is at c.in_ok-rows.ensures.rows) jobs_are.value (c.in_ok-order.ensures.items_if_clones_equal (λ y is. is)) none;
+          holding_none width jobs c.args.instance.now.shop (map lanes c.in_ok-rows.rows.items) c.in_ok-order.order.items
+          (map lanes (part_from jobs (jobs + 8) width items)) (rw count_is at c.in_ok-rows.ensures.rows) jobs_are.value
+          (c.in_ok-order.ensures.items_if_clones_equal (λ y is. is)) none;
       times = omega (arith, rw count_is at times_long);
       start = omega arith;
       tails = rw count_is at (sym c.in_ok-tails.tails.ok.0 ∙ c.in_ok-tails.ensures.len);
