@@ -47,12 +47,12 @@ def calls(body: str) -> list[tuple[str, bool]]:
 
 @pytest.mark.parametrize("loop", LOOPS)
 def test_a_loop_of_a_wavefront_calls_nothing(pfs: Program, loop: str) -> None:
-    """Before its loop a function clears a long array of vectors by `memset`. A program without symbols can't be tested
-    and passes."""
+    """Before its loop a function clears long arrays of vectors by `memset`, and copies them by `memcpy`. A program
+    without symbols can't be tested and passes."""
     functions = loops(pfs, loop)
     if functions is None:
         return
     assert len(functions) == LOOPS[loop]
     for body in functions:
         for call, again in calls(body):
-            assert not again and call.endswith("<memset@plt>"), call
+            assert not again and call.endswith(("<memset@plt>", "<memcpy@plt>")), call
