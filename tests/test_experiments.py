@@ -742,6 +742,7 @@ def test_the_file_has_the_version_the_sums_and_each_start(mine: Experiment, top:
                               "are used: to begin anew, name another CSV or delete out.csv.d\n"
                               "out.csv: 2 runs, 0 of them failed, 0 still to run\n")
     assert mine.columns("makespan") == before * 2
+    assert json.loads((mine.runs / "provenance.json").read_text())["sha256"] == wanted, "sums of the copies"
     assert mine.run("new.csv").stderr == "new.csv: 2 runs, 0 of them failed, 0 still to run\n"
     assert mine.columns("makespan", csv_name="new.csv") != before * 2
     for damaged in (b"", b"{", b"[1]", b'{"starts": 3}', b"\xff"):

@@ -105,6 +105,14 @@ def test_a_report_has_its_table_and_its_plots(ending: str, begin: bytes, report:
         assert ending != "pdf" or (b"/FontFile2" in picture and b"/Type3" not in picture), "fonts"
 
 
+def test_pictures_have_the_dots_per_inch_of_the_option(report: Reported, folder: pathlib.Path) -> None:
+    widths = []
+    for dpi in ("50", "100"):
+        assert report(REPORTED, "--dpi", dpi).status == 0
+        widths.append(int.from_bytes((folder / "report" / "gap.png").read_bytes()[16:20], "big"))
+    assert widths[1] == 2 * widths[0]
+
+
 def test_of_runs_that_all_failed_there_is_only_the_table(report: Reported, folder: pathlib.Path) -> None:
     got = report(HEAD + "\na,20,5,0,4,0,1,1,,,,,,solve: signal 9\n")
     assert got == Done(1, "", "pfs-experiments report: no run succeeded: nothing to plot\n")
