@@ -1,3 +1,2 @@
-pub mod CommandLemmas
 pub mod FormLemmas
 pub mod JobLemmas

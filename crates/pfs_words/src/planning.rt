@@ -5,7 +5,7 @@ ghost use Rattle.pfs_words.specs.Jobs.{AsksFor, AsksForNothing, IsWithinLimits};
 ghost use Rattle.pfs_words.specs.Private.Parses.{Plans};
 
 use self::commands::{
-    audit_command, convert_command, generate_command, solve_command, value_command,
+    audit_command, convert_command, file_command, generate_command, solve_command,
 };
 use self::values::{flag_in, layout_in, matches_for, number_in, number_in_if, path_in};
 use crate::job::Job;
@@ -59,7 +59,10 @@ pub fn plan(alloc: Global, words: &[String]) -> Result<Job, UsageFault>
 fn plan_value(alloc: Global, words: &[String]) -> Result<Job, UsageFault>
     ensures { Plans (codes "value") (map string_bytes words.now) result }
 {
-    let matches = matches_for(value_command(alloc, LAYOUT_NAMES.as_slice())?, words)?;
+    let matches = matches_for(
+        file_command(alloc, "value", LAYOUT_NAMES.as_slice())?,
+        words,
+    )?;
     Ok(Job::Value {
         layout: layout_in(&matches, "layout"),
         block: number_in(&matches, "block") as usize,

@@ -4,7 +4,7 @@ ghost use Rattle.clap.specs.Words.{app_of, rule_of};
 ghost use Rattle.pfs_words.specs.Commands.{flat_form, layout_rule, option_rule, block_rule, path_rule, number_rule};
 ghost use Rattle.pfs_words.specs.Commands.{flag_rule, rounds_rule, take_rule, search_seed_rule, passes_rule};
 ghost use Rattle.pfs_words.specs.Commands.{solve_form};
-ghost use Rattle.pfs_words.specs.Commands.{value_form, audit_form, convert_form, generate_form};
+ghost use Rattle.pfs_words.specs.Commands.{audit_form, convert_form, generate_form};
 
 use clap::builder::ValueParser;
 use clap::{Arg, ArgAction, Command};
@@ -97,15 +97,27 @@ fn layout_command<'a>(
         .arg(block_arg(alloc))
 }
 
-/// Returns the command `value`. For this and the functions below, `names` are the names of the layouts, and an
-/// error means that an allocation failed.
-pub(super) fn value_command<'a>(
+/// Returns the command with this name whose arguments are `--layout L [--block K] FILE`. For this and the functions
+/// below, `names` are the names of the layouts, and an error means that an allocation failed.
+pub(super) fn file_command<'a>(
     alloc: Global,
+    name: &'a str,
     names: &'a [&'a str],
 ) -> Result<Command<'a>, AllocError>
-    ensures { IfOk result (λ command. app_of command ≡ value_form names.entry) }
+    ensures { IfOk result (λ command. app_of command ≡ flat_form name.entry.now
+        (layout_rule names.entry (codes "layout") ∷ block_rule ∷ path_rule (codes "file") ∷ [])) }
 {
-    layout_command(alloc, "value", names)?.arg(path_arg(alloc, "file"))
+    layout_command(alloc, name, names)?.arg(path_arg(alloc, "file"))
+}
+
+// The command `solve` as far as its option `--take`.
+fn rounds_command<'a>(alloc: Global, names: &'a [&'a str]) -> Result<Command<'a>, AllocError>
+    ensures { IfOk result (λ command. app_of command ≡ flat_form (codes "solve")
+        (layout_rule names.entry (codes "layout") ∷ block_rule ∷ rounds_rule ∷ take_rule ∷ [])) }
+{
+    layout_command(alloc, "solve", names)?
+        .arg(default_arg(alloc, "rounds", 0, MOST_ROUNDS as u64, "0"))?
+        .arg(option_arg(alloc, "take", 1, MOST_JOBS as u64))
 }
 
 // The command `solve` as far as its options with a number.
@@ -114,9 +126,7 @@ fn search_command<'a>(alloc: Global, names: &'a [&'a str]) -> Result<Command<'a>
         (layout_rule names.entry (codes "layout") ∷ block_rule ∷ rounds_rule ∷ take_rule
         ∷ search_seed_rule ∷ passes_rule ∷ [])) }
 {
-    layout_command(alloc, "solve", names)?
-        .arg(default_arg(alloc, "rounds", 0, MOST_ROUNDS as u64, "0"))?
-        .arg(option_arg(alloc, "take", 1, MOST_JOBS as u64))?
+    rounds_command(alloc, names)?
         .arg(default_arg(alloc, "seed", 0, u64::MAX, "0"))?
         .arg(default_arg(alloc, "passes", 0, MOST_PASSES as u64, "0"))
 }
@@ -141,9 +151,17 @@ pub(super) fn audit_command<'a>(
 ) -> Result<Command<'a>, AllocError>
     ensures { IfOk result (λ command. app_of command ≡ audit_form name.entry.now names.entry) }
 {
-    layout_command(alloc, name, names)?
-        .arg(path_arg(alloc, "file"))?
-        .arg(path_arg(alloc, "order"))
+    file_command(alloc, name, names)?.arg(path_arg(alloc, "order"))
+}
+
+// The command `convert` as far as its options with a layout.
+fn layouts_command<'a>(alloc: Global, names: &'a [&'a str]) -> Result<Command<'a>, AllocError>
+    ensures { IfOk result (λ command. app_of command ≡ flat_form (codes "convert")
+        (layout_rule names.entry (codes "from") ∷ layout_rule names.entry (codes "to") ∷ [])) }
+{
+    flat_command(alloc, "convert")
+        .arg(layout_arg(alloc, "from", names))?
+        .arg(layout_arg(alloc, "to", names))
 }
 
 /// Returns the command `convert`.
@@ -153,9 +171,7 @@ pub(super) fn convert_command<'a>(
 ) -> Result<Command<'a>, AllocError>
     ensures { IfOk result (λ command. app_of command ≡ convert_form names.entry) }
 {
-    flat_command(alloc, "convert")
-        .arg(layout_arg(alloc, "from", names))?
-        .arg(layout_arg(alloc, "to", names))?
+    layouts_command(alloc, names)?
         .arg(block_arg(alloc))?
         .arg(path_arg(alloc, "file"))
 }
