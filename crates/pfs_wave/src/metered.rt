@@ -4,31 +4,24 @@ ghost use Rattle.pfs_base.specs.Limits.{limits};
 ghost use Rattle.pfs_base.specs.FlowShop.{IsWithin};
 ghost use Rattle.pfs_insert.specs.Inserter.{IsBestPlace};
 ghost use Rattle.pfs_insert.specs.Insertion.{heads_tails_cost};
-ghost use Rattle.pfs_wave.specs.Private.Narrow.{HasNarrow};
-ghost use Rattle.pfs_wave.specs.Private.Payment.{IsPaid};
-ghost use Rattle.pfs_wave.specs.Private.Waves.{Serves};
+ghost use Rattle.pfs_wave.specs.Tables.{HasLanes};
 
-use crate::narrow::Narrow;
 use crate::permits::Permits;
 use crate::tables::{LaneTables, OfShop};
-use crate::wave::Wave;
-use pfs_base::{Bench, Instance, Length, Metered, Paid, Shop, Span};
+use pfs_base::{Bench, Instance, Length, Metered, Shop, Span};
 use pfs_insert::Placed;
 use pfs_order::Seq;
 use std::marker::Model;
 
-/// A metered bench over an instance, with its times in lanes. It computes in the narrow lanes,
-/// if there are any, the insertions whose makespans are known to fit in them.
+/// A metered bench over an instance, with the tables of its insertions in lanes.
 #[derive(Drop)]
 pub struct MeteredLanes<'a> {
     bench: Metered<'a>,
     instance: &'a Instance,
-    wave: Wave,
-    narrow: Option<Narrow>,
+    tables: LaneTables,
     ghost within: { IsWithin limits (⟦<Metered<'static> as Bench>⟧.shop bench) },
     ghost same: { instance.now.shop ≡ ⟦<Metered<'static> as Bench>⟧.shop bench },
-    ghost serves: { Serves (⟦<Metered<'static> as Bench>⟧.shop bench) wave },
-    ghost tables: { HasNarrow (⟦<Metered<'static> as Bench>⟧.shop bench) narrow },
+    ghost own: { HasLanes (⟦<Metered<'static> as Bench>⟧.shop bench) tables },
 }
 
 impl<'a> MeteredLanes<'a> {
@@ -41,8 +34,7 @@ impl<'a> MeteredLanes<'a> {
         MeteredLanes {
             bench: instance.metered(),
             instance,
-            wave: tables.wave,
-            narrow: tables.narrow,
+            tables,
         }
     }
 
@@ -50,32 +42,7 @@ impl<'a> MeteredLanes<'a> {
     pub fn into_tables(self) -> LaneTables
         ensures { ⟦<LaneTables as OfShop>⟧.is_of result (⟦<MeteredLanes<'a> as Bench>⟧.shop self.entry) }
     {
-        LaneTables {
-            wave: self.wave,
-            narrow: self.narrow,
-        }
-    }
-
-    /// The best place for a job in a sequence, and the makespan with the job there, in the narrow lanes where they serve
-    /// the insertion. The permits pay for its cells.
-    #[inline(always)]
-    pub(crate) fn find(&mut self, permits: Permits, seq: &Seq, job: usize) -> Placed<Paid>
-        requires size { seq.now.size ≡ (⟦<MeteredLanes<'a> as Bench>⟧.shop self.old).jobs }
-        requires job { job < (⟦<MeteredLanes<'a> as Bench>⟧.shop self.old).jobs }
-        requires absent { Contains seq.now.jobs job → ⊥ }
-        requires paid { IsPaid permits.tails permits.sums (length seq.now.jobs)
-            (⟦<MeteredLanes<'a> as Bench>⟧.shop self.old).machines }
-        ensures best { IsBestPlace (⟦<MeteredLanes<'a> as Bench>⟧.shop self.old) seq.now.jobs job
-            result.place result.span }
-        ensures counted { ⟦<MeteredLanes<'a> as Bench>⟧.counted self.new
-            ≡ ⟦<MeteredLanes<'a> as Bench>⟧.counted self.old }
-        ensures shop { ⟦<MeteredLanes<'a> as Bench>⟧.shop self.new
-            ≡ ⟦<MeteredLanes<'a> as Bench>⟧.shop self.old }
-    {
-        if let Some(narrow) = &mut self.narrow {
-            return narrow.best_or_wide(permits, &mut self.wave, self.instance, seq, job);
-        }
-        self.wave.best(permits, seq.as_slice(), job, &mut [])
+        self.tables
     }
 
     /// The best place for a job that is not in the sequence, and the makespan with the job there. It counts the cells
@@ -96,7 +63,7 @@ impl<'a> MeteredLanes<'a> {
             ≡ ⟦<MeteredLanes<'a> as Bench>⟧.shop self.old }
     {
         let permits = Permits::count(&mut self.bench, seq.len());
-        let best = self.find(permits, seq, job);
+        let best = self.tables.find(permits, self.instance, seq, job, &mut []);
         Placed {
             place: best.place,
             span: self.bench.length(best.span),
