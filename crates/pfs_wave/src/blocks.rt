@@ -6,9 +6,8 @@ ghost use Rattle.pfs_wave.specs.Private.Blocks.{HasShop, vectors_in};
 ghost use Rattle.pfs_wave.specs.Private.Payment.{IsFound, IsPaid};
 
 use crate::band::Band;
-use crate::best::best_place;
+use crate::best::{Permits, best_place};
 use crate::hold::hold;
-use crate::permits::Permits;
 use crate::rows::{shop_rows, zero_vectors};
 use crate::vectors::zeros;
 use pfs_base::{Instance, MOST_JOBS, Paid};

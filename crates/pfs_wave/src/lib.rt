@@ -11,7 +11,6 @@ pub mod laws;
 mod long;
 mod metered;
 mod mixed;
-mod permits;
 mod rows;
 mod short;
 mod sums;
@@ -19,9 +18,6 @@ mod tables;
 mod tails;
 mod times;
 mod vectors;
-mod wavefront;
-mod wide;
 
-pub use metered::MeteredLanes;
+pub use metered::{MeteredLanes, Wavefront};
 pub use tables::{LaneTables, OfShop};
-pub use wavefront::Wavefront;

@@ -10,9 +10,9 @@ ghost use Rattle.pfs_wave.specs.Private.Blocks.{longest_path};
 ghost use Rattle.pfs_wave.specs.Private.Mixed.{IsKnown, IsMixed, after_best, known_with};
 ghost use Rattle.pfs_wave.specs.Private.Payment.{IsPaid};
 
+use crate::best::Permits;
 use crate::blocks::Blocks;
 use crate::long::Long;
-use crate::permits::Permits;
 use crate::short::Short;
 use pfs_base::{Instance, Paid, Shop};
 use pfs_insert::Placed;

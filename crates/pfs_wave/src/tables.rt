@@ -10,12 +10,11 @@ ghost use Rattle.pfs_wave.specs.Private.Blocks.{longest_path};
 ghost use Rattle.pfs_wave.specs.Private.Payment.{IsPaid};
 ghost use Rattle.pfs_wave.specs.Tables.{HasLanes};
 
+use crate::best::Permits;
 use crate::blocks::Blocks;
-use crate::long::{Long, LongTimes};
+use crate::long::{Long, LongTimes, Wide};
 use crate::mixed::Mixed;
-use crate::permits::Permits;
 use crate::short::Short;
-use crate::wide::Wide;
 use pfs_base::{Instance, Paid};
 use pfs_insert::Placed;
 use pfs_order::Seq;

@@ -3,7 +3,7 @@ use Rattle.pfs_wave.specs.Private.Lanes.{HoldsBelow}
 use Rattle.pfs_wave.proofs.LaneSteps.{each_lane}
 use Rattle.pfs_wave.proofs.Steps.{length-zip}
 use Rattle.pfs_wave.proofs.VectorLemmas.{wide_greater, wide_greater_is, wide_lanes}
-use Rattle.pfs_wave.proofs.wide.WideBand.greater.Goals as goal
+use Rattle.pfs_wave.proofs.long.WideBand.greater.Goals as goal
 
 pub invariant_of-result : goal.invariant_of-result
 invariant_of-result c =

@@ -1,7 +1,7 @@
 use Rattle.std.proofs.Common.{w64, arith}
 use Rattle.pfs_wave.proofs.Steps.{length-zip}
 use Rattle.pfs_wave.proofs.VectorLemmas.{wrapped_sum}
-use Rattle.pfs_wave.proofs.wide.WideBand.sum.Goals as goal
+use Rattle.pfs_wave.proofs.long.WideBand.sum.Goals as goal
 
 pub invariant_of-result : goal.invariant_of-result
 invariant_of-result c =

@@ -1,6 +1,6 @@
 use Rattle.std.proofs.Common.{arith}
 use Rattle.pfs_wave.proofs.ServedPaths.{cells_split}
-use Rattle.pfs_wave.proofs.permits.Permits.count.Goals as goal
+use Rattle.pfs_wave.proofs.best.Permits.count.Goals as goal
 
 pub count-sums-requires : goal.count-sums-requires
 count-sums-requires c =
