@@ -5,10 +5,8 @@ use Rattle.pfs_wave.specs.Private.Blocks.{AreTimes, HasShop, vectors_in}
 use Rattle.pfs_wave.specs.Private.HeldRows.{part_from}
 use Rattle.pfs_wave.specs.Private.Padded.{padded_time}
 use Rattle.pfs_wave.specs.Private.Payment.{IsInsertion, IsPaid}
-use Rattle.pfs_wave.proofs.BestFound.{number_of_part}
 use Rattle.pfs_wave.proofs.HeldLemmas.{holding_times, times_first}
 use Rattle.pfs_wave.proofs.StepTables.{part_read}
-use Rattle.pfs_wave.proofs.TailCells.{changed}
 use Rattle.pfs_wave.proofs.blocks.Blocks.best_in.Given as given
 use Rattle.pfs_wave.proofs.blocks.Blocks.best_in.Goals as goal
 
