@@ -48,11 +48,11 @@ pub fn copy<B: Bench>(bench: &B) -> Result<B, std::alloc::AllocError> {
 }
 # The same over a bench of lanes.
 REFUSED_LANES = {
-    "reads_lanes": ("""/// Whether a bench has lanes of 16 bits too.
-pub fn is_mixed(bench: &MeteredLanes) -> bool {
-    bench.narrow.is_some()
+    "reads_lanes": ("""/// The tables of a bench.
+pub fn tables(bench: &MeteredLanes) -> &pfs_wave::LaneTables {
+    &bench.tables
 }
-""", "error[private-field]: field `narrow` of struct `MeteredLanes` is private"),
+""", "error[private-field]: field `tables` of struct `MeteredLanes` is private"),
     "makes_a_permit": ("""/// A permit for a cell that nothing has counted.
 pub fn permit(_bench: &MeteredLanes) -> pfs_base::Permit {
     pfs_base::Permit { cells: 1 }

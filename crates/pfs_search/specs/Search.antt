@@ -3,7 +3,7 @@ use Rattle.std.specs.Prelude.{◌≡◌, ℕ, List, IsSomeAnd}
 use Rattle.pfs_base.specs.FlowShop.{FlowShop}
 use Rattle.pfs_base.specs.Paths.{makespan}
 use Rattle.pfs_wave.specs.Tables.{HasLanes}
-use Rattle.pfs_wave.specs.declared.wavefront.Wavefront.{Wavefront}
+use Rattle.pfs_wave.specs.declared.metered.Wavefront.{Wavefront}
 use Rattle.pfs_search.specs.SearcherView.{AllFit}
 use Rattle.pfs_search.specs.Solution.{InLimits}
 use Rattle.pfs_search.specs.declared.rounds.Rounds.{Rounds}

@@ -6,7 +6,7 @@ pub mod HeldLemmas
 pub mod LaneSteps
 pub mod LeastKey
 pub mod Longest
-pub mod NarrowLemmas
+pub mod MixedLemmas
 pub mod RowCells
 pub mod ServedPaths
 pub mod SkewedTimes

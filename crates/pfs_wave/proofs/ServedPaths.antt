@@ -1,8 +1,8 @@
 -- Paths of a shop, none of which is as long as the greatest value of a lane.
-use Rattle.std.proofs.Common.{◌≡◌, ℕ, zero, suc, ◌+◌, ◌-◌, ◌*◌, ◌<◌, ◌≤◌, List, [], ◌∷◌, length, insert, arith, refl}
+use Rattle.std.proofs.Common.{◌≡◌, ℕ, zero, suc, ◌+◌, ◌-◌, ◌*◌, ◌<◌, ◌≤◌, List, [], ◌∷◌, length, insert, ap, subst, arith, refl}
 use Rattle.std.proofs.Math.Nat.{mul-le-mul_right, add-mul}
 use Rattle.std.proofs.lemmas.List.Edits.{length-insert}
-use Rattle.std.specs.List.{All}
+use Rattle.std.specs.List.{All, slice_index_or}
 use Rattle.pfs_base.specs.FlowShop.{FlowShop, IsWithin}
 use Rattle.pfs_base.specs.Limits.{limits}
 use Rattle.pfs_base.specs.Paths.{greatest}
@@ -11,8 +11,13 @@ use Rattle.pfs_base.proofs.Published.Heaviest.{greatest-cons}
 use Rattle.pfs_insert.specs.Inserter.{IsBestPlace}
 use Rattle.pfs_insert.specs.Insertion.{makespan_with}
 use Rattle.pfs_wave.specs.Private.Lanes.{HoldsBelow}
-use Rattle.pfs_wave.specs.Private.Least.{IsLeastHeld}
-use Rattle.pfs_wave.specs.Private.Waves.{longest_path}
+use Rattle.pfs_wave.specs.Private.Blocks.{FitsLanes, longest_path}
+use Rattle.pfs_wave.specs.Private.Mixed.{IsMixed}
+use Rattle.pfs_wave.specs.Private.Payment.{IsFound}
+use Rattle.pfs_wave.specs.Tables.{HasLanes}
+use Rattle.pfs_wave.specs.Wavefront.{HoldsCapped, capped}
+use Rattle.pfs_wave.specs.declared.tables.Wave.{Wave}
+use Rattle.pfs_wave.specs.declared.tables.Wave.TheVariants as wave
 use Rattle.pfs_wave.proofs.BestFound.{below_limit, found}
 use Rattle.pfs_wave.proofs.Longest.{longest_with_law}
 
@@ -34,14 +39,27 @@ module _ (shop : FlowShop) (cap : ℕ) (some : 1 ≤ shop.machines) (short : lon
         short,
       )
 
-  -- the first place of the least number is the best place
-  pub served_best : (jobs : List ℕ) (job : ℕ) {place least : ℕ} → length jobs < shop.jobs
-      → IsLeastHeld (HoldsBelow cap) (makespan_with shop jobs job) (length jobs + 1) place least
+  -- numbers that hold makespans up to the cap are the makespans, and the first place of the least one is the best place
+  pub served_capped : (jobs : List ℕ) (job : ℕ) {place least count : ℕ} {sums : List ℕ} → length jobs < shop.jobs
+      → count ≤ length jobs + 1 → IsFound (HoldsCapped cap) shop jobs job place least count sums
       → IsBestPlace shop jobs job place least
-  served_best jobs job few held =
-      let small = λ (place : ℕ) (lt : place < length jobs + 1). served_path jobs job place few (omega arith) in
-      found shop jobs job cap (below_limit cap (makespan_with shop jobs job) small held) refl 0 (omega arith)
-      (small 0 (omega arith))
+      × ((at : ℕ) → at < count → slice_index_or sums at 0 ≡ makespan_with shop jobs job at)
+  served_capped jobs job few room is = (
+    found shop jobs job cap is.best refl 0 (omega arith) (served_path jobs job 0 few (omega arith)),
+    λ at lt. omega (arith, served_path jobs job at few (omega arith), is.sums_hold at lt),
+  )
+
+  -- the same of numbers that hold makespans below it
+  pub served_below : (jobs : List ℕ) (job : ℕ) {place least count : ℕ} {sums : List ℕ} → length jobs < shop.jobs
+      → count ≤ length jobs + 1 → IsFound (HoldsBelow cap) shop jobs job place least count sums
+      → IsBestPlace shop jobs job place least
+      × ((at : ℕ) → at < count → slice_index_or sums at 0 ≡ makespan_with shop jobs job at)
+  served_below jobs job few room is =
+      let small = λ (at : ℕ) (lt : at < length jobs + 1). served_path jobs job at few (omega arith) in
+      served_capped jobs job few room (record {
+        best = below_limit cap (makespan_with shop jobs job) small is.best;
+        sums_hold = λ at lt. ap (capped cap) (is.sums_hold at lt (small at (omega arith)));
+      })
 
   -- every time is at most the cap
   pub served_times : 1 ≤ shop.jobs → All (λ time. time ≤ cap) shop.times
@@ -64,3 +82,18 @@ pub cells_split : (len machines : ℕ) → len * machines + (3 * len + 2) * mach
 cells_split len machines =
     let all : 4 * (len + 1) - 2 ≡ len + (3 * len + 2) = omega arith in
     rw (all, add-mul len (3 * len + 2) machines) refl
+
+-- the lanes of a shop, by cases
+abbrev pub Serves : FlowShop → Wave → Type 0
+Serves shop (wave.Short blocks) = FitsLanes shop 65535 blocks
+Serves shop (wave.Mixed mixed) = (65535 ≤ longest_path shop) × (greatest shop.times ≤ 65535) × IsMixed shop mixed
+Serves shop (wave.Long blocks) = (65535 < greatest shop.times) × FitsLanes shop 4294967295 blocks
+Serves shop (wave.Wide blocks) = (4294967295 ≤ longest_path shop) × FitsLanes shop 9223372036854775807 blocks
+
+pub has_lanes : (shop : FlowShop) (made : Wave) → Serves shop made → HasLanes shop (record { wave = made })
+has_lanes shop made serves = record {
+  short = λ blocks is. subst (Serves shop) is serves;
+  mixed = λ mixed is. subst (Serves shop) is serves;
+  long = λ blocks is. subst (Serves shop) is serves;
+  wide = λ blocks is. subst (Serves shop) is serves;
+}

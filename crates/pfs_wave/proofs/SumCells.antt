@@ -1,8 +1,8 @@
 -- The pass of the heads, the inserted rows and the sums, one vector after the other.
-use Rattle.std.proofs.Common.{ℕ, zero, suc, ◌≡◌, ◌+◌, ◌-◌, ◌*◌, ◌<◌, ◌≤◌, List, length, map, get_or, slice_set, max}
+use Rattle.std.proofs.Common.{ℕ, zero, suc, ◌≡◌, ◌+◌, ◌-◌, ◌*◌, ◌<◌, ◌≤◌, List, ◌∷◌, length, map, take, get_or, slice_set, max}
 use Rattle.std.proofs.Common.{ap, ◌∙◌, sym, refl, arith, inl, inr, subst}
 use Rattle.std.proofs.lemmas.Bool.{cases_lt}
-use Rattle.std.proofs.lemmas.List.{get_or-set_same, get_or-set_other, length-set}
+use Rattle.std.proofs.lemmas.List.{get_or-set_same, get_or-set_other, get_or-take, length-set}
 use Rattle.pfs_wave.specs.Private.Lanes.{Holding, IsNext}
 use Rattle.pfs_wave.specs.Private.Blocks.{Cells, Vectors, AreTimes, HoldCells, IsNoneBefore, IsRow, IsStep, step_of, vectors_of}
 use Rattle.pfs_wave.specs.Private.Recurrences.{AreSummed, AreTables, TablesOfCells}
@@ -13,6 +13,12 @@ use Rattle.pfs_wave.proofs.TailCells.{changed, column_as}
 pub record IsMoved (old new : List ℕ) : Type 0 where
   pub first : get_or new 0 0 ≡ 0
   pub next : (lane : ℕ) → suc lane < 8 → get_or new (suc lane) 0 ≡ get_or old lane 0
+
+pub moved_up : (old new : List ℕ) → new ≡ 0 ∷ take 7 old → IsMoved old new
+moved_up old new is = record {
+  first = ap (λ l. get_or l 0 0) is;
+  next = λ lane lt. ap (λ l. get_or l (suc lane) 0) is ∙ get_or-take 7 old lane 0 (omega arith);
+}
 
 -- the lanes of sums with a machine more
 abbrev pub IsMore : Holding → List ℕ → List ℕ → List ℕ → List ℕ → Type 0

@@ -3,9 +3,8 @@ pub mod Blocks
 pub mod HeldRows
 pub mod Lanes
 pub mod Least
-pub mod Narrow
+pub mod Mixed
 pub mod Padded
 pub mod Payment
 pub mod Recurrences
 pub mod SkewedBand
-pub mod Waves

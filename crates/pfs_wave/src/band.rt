@@ -98,13 +98,13 @@ pub trait Band: Copy + Drop {
     fn load(times: Self::Times) -> Self
         ensures { lanes result ≡ Self.Times.lanes times };
 
-    /// Moves each lane to the next one. Lane 0 is the last lane of `carry`.
-    fn up(self, carry: Self) -> Self
-        ensures { lanes result ≡ slice_index_or (lanes carry) 7 0 ∷ take 7 (lanes self) };
+    /// Moves each lane to the next one. Lane 0 is 0.
+    fn up(self) -> Self
+        ensures { lanes result ≡ 0 ∷ take 7 (lanes self) };
 
-    /// Moves each lane to the one before it. The last lane is the first lane of `carry`.
-    fn down(self, carry: Self) -> Self
-        ensures { lanes result ≡ drop 1 (lanes self) ++ (slice_index_or (lanes carry) 0 0 ∷ []) };
+    /// Moves each lane to the one before it. The last lane is 0.
+    fn down(self) -> Self
+        ensures { lanes result ≡ drop 1 (lanes self) ++ (0 ∷ []) };
 
     /// The greater value of each lane.
     fn greater(self, other: Self) -> Self

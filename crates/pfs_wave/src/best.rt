@@ -1,17 +1,46 @@
-//! The passes of an insertion, and the best place.
+//! The passes of an insertion, what pays for them, and the best place.
 ghost use Rattle.std.specs.Prelude.{◌≡◌, ℕ, ◌+◌, ◌-◌, ◌*◌, ◌<◌, ◌≤◌, ◌^◌, List, length, map};
 ghost use Rattle.std.specs.List.{slice_index_or};
 ghost use Rattle.pfs_base.specs.FlowShop.{FlowShop};
-ghost use Rattle.pfs_insert.specs.Insertion.{makespan_with};
-ghost use Rattle.pfs_wave.specs.Private.Payment.{IsInsertion};
-ghost use Rattle.pfs_wave.specs.Private.Least.{IsLeastHeld, IsLeastSoFar};
+ghost use Rattle.pfs_insert.specs.Insertion.{heads_tails_cost};
+ghost use Rattle.pfs_wave.specs.Private.Payment.{IsFound, IsInsertion, IsPaid};
+ghost use Rattle.pfs_wave.specs.Private.Least.{IsLeastSoFar};
 
 use crate::band::Band;
-use crate::permits::Permits;
 use crate::sums::fill_sums;
 use crate::tails::fill_tails;
-use pfs_base::Paid;
+use pfs_base::{Bench, Metered, Paid, Permit};
 use pfs_insert::Placed;
+
+/// A permit for each pass of an insertion. They can't be dropped: the passes spend them.
+pub struct Permits {
+    pub tails: Permit,
+    pub sums: Permit,
+    ghost some: { 1 ≤ sums },
+}
+
+impl Permits {
+    /// Counts the cells of an insertion into a sequence of this length: one for each tail and each head of the
+    /// sequence, and for each value of the inserted row and each sum at each place, of each job and machine. Lanes
+    /// that contain no value of a table are not counted, and putting times in the lanes' order is not counted either,
+    /// since it computes no sum.
+    #[inline(always)]
+    pub fn count(bench: &mut Metered, len: usize) -> Permits
+        requires room { ⟦<Metered<'static> as Bench>⟧.counted bench.old
+            + heads_tails_cost (len + 1) (⟦<Metered<'static> as Bench>⟧.shop bench.old).machines < 2 ^ 64 }
+        ensures paid { IsPaid result.tails result.sums len (⟦<Metered<'static> as Bench>⟧.shop bench.old).machines }
+        ensures counted { ⟦<Metered<'static> as Bench>⟧.counted bench.new
+            ≡ ⟦<Metered<'static> as Bench>⟧.counted bench.old + heads_tails_cost (len + 1)
+            (⟦<Metered<'static> as Bench>⟧.shop bench.old).machines }
+        ensures shop { ⟦<Metered<'static> as Bench>⟧.shop bench.new ≡ ⟦<Metered<'static> as Bench>⟧.shop bench.old }
+    {
+        let jobs = len as u64;
+        let machines = bench.machines() as u64;
+        let tails = bench.count(jobs * machines);
+        let sums = bench.count((3 * jobs + 2) * machines);
+        Permits { tails, sums }
+    }
+}
 
 /// The first place of the least sum, and that sum.
 pub fn first_least(sums: &[u64]) -> Placed<u64>
@@ -60,7 +89,7 @@ pub fn first_least_key(sums: &[u16]) -> Placed<u64>
 
 /// The first place of the least sum of a job in a sequence, and that sum, from the skewed times of the sequence. Sums
 /// hold the makespans. There are as many steps more than jobs as `lanes` have machines. `sums` gets the sums from index
-/// 7 on.
+/// 7 on, and `spans` the first ones, as many as it has room for.
 #[inline(always)]
 pub fn best_place<V: Band, const N: usize>(
     permits: Permits,
@@ -70,6 +99,7 @@ pub fn best_place<V: Band, const N: usize>(
     job: &[V::Times],
     tails: &mut [V],
     sums: &mut [V::Number],
+    spans: &mut [u64],
 ) -> Placed<Paid>
     requires some { 1 ≤ N }
     requires some_lanes { 1 ≤ lanes }
@@ -81,18 +111,13 @@ pub fn best_place<V: Band, const N: usize>(
     requires job { length job.now ≡ N }
     requires tails { steps * N + N ≤ length tails.old }
     requires sums { steps + 7 ≤ length sums.old }
+    requires room { length spans.old + lanes ≤ steps + 1 }
     ensures tails { length tails.new ≡ length tails.old }
     ensures sums { length sums.new ≡ length sums.old }
-    ensures within { result.place + lanes ≤ steps }
-    ensures best { (shop : FlowShop) (jobs : List ℕ) (inserted : ℕ)
+    ensures found { (shop : FlowShop) (jobs : List ℕ) (inserted : ℕ)
         → IsInsertion V.Holds shop jobs inserted N lanes steps permits.tails permits.sums
         (map V.Times.lanes times.now) (map V.Times.lanes job.now)
-        → IsLeastHeld V.Holds (makespan_with shop jobs inserted) (length jobs + 1) result.place result.span }
-    ensures spans { (shop : FlowShop) (jobs : List ℕ) (inserted : ℕ)
-        → IsInsertion V.Holds shop jobs inserted N lanes steps permits.tails permits.sums
-        (map V.Times.lanes times.now) (map V.Times.lanes job.now)
-        → (place : ℕ) → place ≤ length jobs
-        → V.Holds (slice_index_or (map V.number sums.new) (7 + place) 0) (makespan_with shop jobs inserted place) }
+        → IsFound V.Holds shop jobs inserted result.place result.span (length spans.old) spans.new }
 {
     let Permits {
         tails: for_tails,
@@ -101,21 +126,12 @@ pub fn best_place<V: Band, const N: usize>(
     let tails = &mut tails[..steps * N + N];
     fill_tails::<V, N>(for_tails, steps, times, tails);
     let paid = fill_sums::<V, N>(for_sums, steps, times, tails, job, &mut sums[..steps + 7]);
+    for place in 0..spans.len() {
+        spans[place] = V::wide(sums[7 + place]);
+    }
     let found = V::first_least(&sums[7..steps + 8 - lanes]);
     Placed {
         place: found.place,
         span: paid.with(found.span),
-    }
-}
-
-/// Copies the first sums.
-#[inline(always)]
-pub fn copy_sums<V: Band>(sums: &[V::Number], spans: &mut [u64])
-    requires { length spans.old ≤ length sums.now }
-    ensures { (place : ℕ) → place < length spans.old
-        → slice_index_or spans.new place 0 ≡ slice_index_or (map V.number sums.now) place 0 }
-{
-    for place in 0..spans.len() {
-        spans[place] = V::wide(sums[place]);
     }
 }

@@ -1,16 +1,13 @@
 //! Insertions into sequences of an instance, in lanes of one size.
 ghost use Rattle.std.specs.Prelude.{◌≡◌, ℕ, ◌+◌, ◌*◌, ◌<◌, ◌≤◌, ◌^◌, length, IfOk};
-ghost use Rattle.std.specs.List.{All, slice_index_or};
+ghost use Rattle.std.specs.List.{All};
 ghost use Rattle.pfs_base.specs.FlowShop.{FlowShop};
-ghost use Rattle.pfs_insert.specs.Insertion.{makespan_with};
 ghost use Rattle.pfs_wave.specs.Private.Blocks.{HasShop, vectors_in};
-ghost use Rattle.pfs_wave.specs.Private.Least.{IsLeastHeld};
-ghost use Rattle.pfs_wave.specs.Private.Payment.{IsPaid};
+ghost use Rattle.pfs_wave.specs.Private.Payment.{IsFound, IsPaid};
 
 use crate::band::Band;
-use crate::best::{best_place, copy_sums};
+use crate::best::{Permits, best_place};
 use crate::hold::hold;
-use crate::permits::Permits;
 use crate::rows::{shop_rows, zero_vectors};
 use crate::vectors::zeros;
 use pfs_base::{Instance, MOST_JOBS, Paid};
@@ -163,15 +160,9 @@ impl<V: Band> Blocks<V> {
         requires few { length sequence.now ≤ self.old.jobs }
         requires job { job < self.old.jobs }
         requires room { length spans.old ≤ length sequence.now + 1 }
-        ensures within { result.place ≤ length sequence.now }
-        ensures best { (shop : FlowShop) → HasShop shop self.old
+        ensures found { (shop : FlowShop) → HasShop shop self.old
             → IsPaid permits.tails permits.sums (length sequence.now) shop.machines
-            → IsLeastHeld V.Holds (makespan_with shop sequence.now job) (length sequence.now + 1)
-            result.place result.span }
-        ensures spans { (shop : FlowShop) → HasShop shop self.old
-            → IsPaid permits.tails permits.sums (length sequence.now) shop.machines
-            → (place : ℕ) → place < length spans.old
-            → V.Holds (slice_index_or spans.new place 0) (makespan_with shop sequence.now job place) }
+            → IsFound V.Holds shop sequence.now job result.place result.span (length spans.old) spans.new }
         ensures same { self.new ≡ self.old }
     {
         match self.width {
@@ -201,15 +192,9 @@ impl<V: Band> Blocks<V> {
         requires few { length sequence.now ≤ self.old.jobs }
         requires job { job < self.old.jobs }
         requires room { length spans.old ≤ length sequence.now + 1 }
-        ensures within { result.place ≤ length sequence.now }
-        ensures best { (shop : FlowShop) → HasShop shop self.old
+        ensures found { (shop : FlowShop) → HasShop shop self.old
             → IsPaid permits.tails permits.sums (length sequence.now) shop.machines
-            → IsLeastHeld V.Holds (makespan_with shop sequence.now job) (length sequence.now + 1)
-            result.place result.span }
-        ensures spans { (shop : FlowShop) → HasShop shop self.old
-            → IsPaid permits.tails permits.sums (length sequence.now) shop.machines
-            → (place : ℕ) → place < length spans.old
-            → V.Holds (slice_index_or spans.new place 0) (makespan_with shop sequence.now job place) }
+            → IsFound V.Holds shop sequence.now job result.place result.span (length spans.old) spans.new }
         ensures same { self.new ≡ self.old }
     {
         self.start = hold::<V::Times, N>(
@@ -223,7 +208,7 @@ impl<V: Band> Blocks<V> {
         );
         self.len = sequence.len();
         let steps = sequence.len() + self.lanes;
-        let best = best_place::<V, N>(
+        best_place::<V, N>(
             permits,
             self.lanes,
             steps,
@@ -231,8 +216,7 @@ impl<V: Band> Blocks<V> {
             &self.rows[job * N..job * N + N],
             &mut self.tails,
             &mut self.sums,
-        );
-        copy_sums::<V>(&self.sums[7..], spans);
-        best
+            spans,
+        )
     }
 }

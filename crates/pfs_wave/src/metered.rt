@@ -1,34 +1,28 @@
-//! A bench over an instance that also computes in lanes.
-ghost use Rattle.std.specs.Prelude.{◌≡◌, ◌+◌, ◌<◌, ◌^◌, length, Contains};
+//! The fastest way to find the best place: a bench over an instance that also computes in lanes, and its inserter.
+ghost use Rattle.std.specs.Prelude.{◌≡◌, ◌+◌, ◌<◌, ◌^◌, length, Contains, false};
 ghost use Rattle.pfs_base.specs.Limits.{limits};
 ghost use Rattle.pfs_base.specs.FlowShop.{IsWithin};
 ghost use Rattle.pfs_insert.specs.Inserter.{IsBestPlace};
 ghost use Rattle.pfs_insert.specs.Insertion.{heads_tails_cost};
-ghost use Rattle.pfs_wave.specs.Private.Narrow.{HasNarrow};
-ghost use Rattle.pfs_wave.specs.Private.Payment.{IsPaid};
-ghost use Rattle.pfs_wave.specs.Private.Waves.{Serves};
+ghost use Rattle.pfs_wave.specs.Tables.{HasLanes};
 
-use crate::narrow::Narrow;
-use crate::permits::Permits;
+use crate::best::Permits;
 use crate::tables::{LaneTables, OfShop};
-use crate::wave::Wave;
-use pfs_base::{Bench, Instance, Length, Metered, Paid, Shop, Span};
-use pfs_insert::Placed;
+use pfs_base::{Bench, Instance, Length, Metered, Shop, Span};
+use pfs_insert::{InsertFault, Inserter, Placed};
 use pfs_order::Seq;
+use std::alloc::Global;
 use std::marker::Model;
 
-/// A metered bench over an instance, with its times in lanes. It computes in the narrow lanes,
-/// if there are any, the insertions whose makespans are known to fit in them.
+/// A metered bench over an instance, with the tables of its insertions in lanes.
 #[derive(Drop)]
 pub struct MeteredLanes<'a> {
     bench: Metered<'a>,
     instance: &'a Instance,
-    wave: Wave,
-    narrow: Option<Narrow>,
+    tables: LaneTables,
     ghost within: { IsWithin limits (⟦<Metered<'static> as Bench>⟧.shop bench) },
     ghost same: { instance.now.shop ≡ ⟦<Metered<'static> as Bench>⟧.shop bench },
-    ghost serves: { Serves (⟦<Metered<'static> as Bench>⟧.shop bench) wave },
-    ghost tables: { HasNarrow (⟦<Metered<'static> as Bench>⟧.shop bench) narrow },
+    ghost own: { HasLanes (⟦<Metered<'static> as Bench>⟧.shop bench) tables },
 }
 
 impl<'a> MeteredLanes<'a> {
@@ -41,8 +35,7 @@ impl<'a> MeteredLanes<'a> {
         MeteredLanes {
             bench: instance.metered(),
             instance,
-            wave: tables.wave,
-            narrow: tables.narrow,
+            tables,
         }
     }
 
@@ -50,32 +43,7 @@ impl<'a> MeteredLanes<'a> {
     pub fn into_tables(self) -> LaneTables
         ensures { ⟦<LaneTables as OfShop>⟧.is_of result (⟦<MeteredLanes<'a> as Bench>⟧.shop self.entry) }
     {
-        LaneTables {
-            wave: self.wave,
-            narrow: self.narrow,
-        }
-    }
-
-    /// The best place for a job in a sequence, and the makespan with the job there, in the narrow lanes where they serve
-    /// the insertion. The permits pay for its cells.
-    #[inline(always)]
-    pub(crate) fn find(&mut self, permits: Permits, seq: &Seq, job: usize) -> Placed<Paid>
-        requires size { seq.now.size ≡ (⟦<MeteredLanes<'a> as Bench>⟧.shop self.old).jobs }
-        requires job { job < (⟦<MeteredLanes<'a> as Bench>⟧.shop self.old).jobs }
-        requires absent { Contains seq.now.jobs job → ⊥ }
-        requires paid { IsPaid permits.tails permits.sums (length seq.now.jobs)
-            (⟦<MeteredLanes<'a> as Bench>⟧.shop self.old).machines }
-        ensures best { IsBestPlace (⟦<MeteredLanes<'a> as Bench>⟧.shop self.old) seq.now.jobs job
-            result.place result.span }
-        ensures counted { ⟦<MeteredLanes<'a> as Bench>⟧.counted self.new
-            ≡ ⟦<MeteredLanes<'a> as Bench>⟧.counted self.old }
-        ensures shop { ⟦<MeteredLanes<'a> as Bench>⟧.shop self.new
-            ≡ ⟦<MeteredLanes<'a> as Bench>⟧.shop self.old }
-    {
-        if let Some(narrow) = &mut self.narrow {
-            return narrow.best_or_wide(permits, &mut self.wave, self.instance, seq, job);
-        }
-        self.wave.best(permits, seq.as_slice(), job, &mut [])
+        self.tables
     }
 
     /// The best place for a job that is not in the sequence, and the makespan with the job there. It counts the cells
@@ -96,7 +64,7 @@ impl<'a> MeteredLanes<'a> {
             ≡ ⟦<MeteredLanes<'a> as Bench>⟧.shop self.old }
     {
         let permits = Permits::count(&mut self.bench, seq.len());
-        let best = self.find(permits, seq, job);
+        let best = self.tables.find(permits, self.instance, seq, job, &mut []);
         Placed {
             place: best.place,
             span: self.bench.length(best.span),
@@ -162,5 +130,48 @@ impl<'a> Bench for MeteredLanes<'a> {
 impl Shop for MeteredLanes<'_> {
     fn total(&self, job: usize) -> u64 {
         self.bench.total(job)
+    }
+}
+
+/// An inserter that computes heads and tails (Taillard, 1990) along the anti-diagonals of their tables, whose values
+/// don't depend on one another (Wozniak, 1997). One insertion counts (4k - 2)·m cells, where k jobs are in the
+/// order with the inserted one, on m machines. The bench has the memory, so `best` allocates nothing.
+#[derive(Drop)]
+pub struct Wavefront {
+    jobs: usize,
+    machines: usize,
+}
+
+impl Wavefront {
+    /// An inserter for shops of the bench's sizes.
+    pub fn new(bench: &MeteredLanes) -> Wavefront
+        ensures jobs { (⟦<Wavefront as Inserter<MeteredLanes<'static>>>⟧.sizes result).jobs
+            ≡ (⟦<MeteredLanes<'static> as Bench>⟧.shop bench.now).jobs }
+        ensures machines { (⟦<Wavefront as Inserter<MeteredLanes<'static>>>⟧.sizes result).machines
+            ≡ (⟦<MeteredLanes<'static> as Bench>⟧.shop bench.now).machines }
+    {
+        Wavefront {
+            jobs: bench.jobs(),
+            machines: bench.machines(),
+        }
+    }
+}
+
+impl<'a> Inserter<MeteredLanes<'a>> for Wavefront {
+    ghost sizes = { λ a. record { jobs = a.jobs; machines = a.machines } };
+
+    ghost cost = { heads_tails_cost };
+
+    ghost can_refuse = { false };
+
+    #[inline(always)]
+    fn best(
+        &mut self,
+        _alloc: Global,
+        bench: &mut MeteredLanes<'a>,
+        seq: &Seq,
+        job: usize,
+    ) -> Result<Placed<Span>, InsertFault> {
+        Ok(bench.best_place(seq, job))
     }
 }

@@ -91,14 +91,14 @@ impl Band for Short {
     }
 
     #[inline(always)]
-    fn up(self, carry: Short) -> Short {
-        let values = carry.values.shuffle(self.values, UP);
+    fn up(self) -> Short {
+        let values = u16x8::splat(0).shuffle(self.values, UP);
         Short { values }
     }
 
     #[inline(always)]
-    fn down(self, carry: Short) -> Short {
-        let values = self.values.shuffle(carry.values, DOWN);
+    fn down(self) -> Short {
+        let values = self.values.shuffle(u16x8::splat(0), DOWN);
         Short { values }
     }
 

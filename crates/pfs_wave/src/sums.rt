@@ -6,7 +6,7 @@ ghost use Rattle.pfs_wave.specs.Private.Payment.{AreTimesOf, IsNoneFrom};
 ghost use Rattle.pfs_wave.specs.Private.Recurrences.{AreSummed, AreTables, TablesOfCells};
 
 use crate::band::Band;
-use crate::vectors::{array_of, from_before, next_value, zeros};
+use crate::vectors::{array_of, next_value, zeros};
 use pfs_base::{Paid, Permit};
 
 /// What the last vector of a step leaves for the first vector of the next step.
@@ -40,9 +40,9 @@ fn step_sums<V: Band, const N: usize>(
         → AreSummed V.Holds N rows (suc step) t (vectors_of (map V.lanes heads.new)) (V.lanes result.inserted)
         (V.lanes result.sum) }
 {
-    let mut inserted = from_before(before.inserted);
-    let mut sum = from_before(before.sum);
-    let mut head = from_before(heads[N - 1]);
+    let mut inserted = before.inserted.up();
+    let mut sum = before.sum.up();
+    let mut head = heads[N - 1].up();
     for k in 0..N {
         let above = heads[k];
         inserted = next_value(inserted, above, job[k]);

@@ -1,15 +1,21 @@
 //! The tables of an instance's insertions in lanes.
-ghost use Rattle.std.specs.Prelude.{◌≡◌, ℕ, ◌+◌, ◌<◌, ◌≤◌, length, Contains, IfOk};
+ghost use Rattle.std.specs.Prelude.{◌≡◌, ℕ, ◌+◌, ◌-◌, ◌<◌, ◌≤◌, ◌^◌, length, Contains, IfOk};
 ghost use Rattle.std.specs.List.{slice_index_or};
+ghost use Rattle.pfs_base.specs.FlowShop.{FlowShop, IsWithin};
+ghost use Rattle.pfs_base.specs.Limits.{limits};
+ghost use Rattle.pfs_base.specs.Paths.{greatest};
 ghost use Rattle.pfs_insert.specs.Inserter.{IsBestPlace};
 ghost use Rattle.pfs_insert.specs.Insertion.{makespan_with};
+ghost use Rattle.pfs_wave.specs.Private.Blocks.{longest_path};
+ghost use Rattle.pfs_wave.specs.Private.Payment.{IsPaid};
 ghost use Rattle.pfs_wave.specs.Tables.{HasLanes};
-ghost use Rattle.pfs_base.specs.FlowShop.{FlowShop};
 
-use crate::narrow::{Narrow, narrow_lanes};
-use crate::permits::Permits;
-use crate::wave::Wave;
-use pfs_base::Instance;
+use crate::best::Permits;
+use crate::blocks::Blocks;
+use crate::long::{Long, LongTimes, Wide};
+use crate::mixed::Mixed;
+use crate::short::Short;
+use pfs_base::{Instance, Paid};
 use pfs_insert::Placed;
 use pfs_order::Seq;
 use std::alloc::{AllocError, Global};
@@ -20,16 +26,45 @@ pub trait OfShop {
     ghost is_of: { Self → FlowShop → Type 0 };
 }
 
-/// The times of an instance in lanes, with all memory of an insertion. It has narrow lanes, of
-/// 16 bits, where its own have more and all times fit in 16.
+/// The tables of insertions, in the smallest lanes that every path of an instance fits in: of 16, 32 or 64 bits. Where
+/// lanes of 32 bits have times of 16, they are mixed with lanes of 16.
+#[derive(Drop)]
+pub enum Wave {
+    Short(Blocks<Short>),
+    Mixed(Mixed),
+    Long(Blocks<Long<LongTimes>>),
+    Wide(Blocks<Wide>),
+}
+
+/// The times of an instance in lanes, with all memory of an insertion.
 #[derive(Drop)]
 pub struct LaneTables {
-    pub(crate) wave: Wave,
-    pub(crate) narrow: Option<Narrow>,
+    wave: Wave,
 }
 
 impl OfShop for LaneTables {
     ghost is_of = { λ tables shop. HasLanes shop tables };
+}
+
+// An upper bound on each path of n jobs on m machines: (n + m - 1) times the longest time.
+fn path_bound(instance: &Instance) -> u64
+    ensures value { result ≡ longest_path instance.now.shop }
+    ensures within { IsWithin limits instance.now.shop }
+    ensures small { result < 2 ^ 63 - 1 }
+{
+    let operations = (instance.jobs() + instance.machines() - 1) as u64;
+    operations * u64::from(longest_time(instance))
+}
+
+// The longest time of an instance.
+fn longest_time(instance: &Instance) -> u32
+    ensures { result ≡ greatest instance.now.shop.times }
+{
+    let mut longest = 0;
+    for time in instance.times() {
+        longest = longest.max(*time);
+    }
+    longest
 }
 
 impl LaneTables {
@@ -37,9 +72,18 @@ impl LaneTables {
     pub fn new(alloc: Global, instance: &Instance) -> Result<LaneTables, AllocError>
         ensures { IfOk result (λ made. ⟦<LaneTables as OfShop>⟧.is_of made instance.now.shop) }
     {
-        let wave = Wave::new(alloc, instance)?;
-        let narrow = narrow_lanes(alloc, instance)?;
-        Ok(LaneTables { wave, narrow })
+        let path = path_bound(instance);
+        let longest = longest_time(instance);
+        let wave = if path < 65_535 {
+            Wave::Short(Blocks::new(alloc, instance)?)
+        } else if longest <= 65_535 {
+            Wave::Mixed(Mixed::new(alloc, instance)?)
+        } else if path < 4_294_967_295 {
+            Wave::Long(Blocks::new(alloc, instance)?)
+        } else {
+            Wave::Wide(Blocks::new(alloc, instance)?)
+        };
+        Ok(LaneTables { wave })
     }
 
     /// The best place for a job that is not in the sequence, and the makespan with the job there. `spans` gets the
@@ -59,13 +103,43 @@ impl LaneTables {
         ensures best { IsBestPlace instance.now.shop seq.now.jobs job result.place result.span }
         ensures spans { (place : ℕ) → place < length spans.old
             → slice_index_or spans.new place 0 ≡ makespan_with instance.now.shop seq.now.jobs job place }
-        ensures same { self.new ≡ self.old }
+        ensures still { ⟦<LaneTables as OfShop>⟧.is_of self.new instance.now.shop }
     {
         let permits = Permits::count(&mut instance.metered(), seq.len());
-        let best = self.wave.best(permits, seq.as_slice(), job, spans);
+        let best = self.find(permits, instance, seq, job, spans);
         Placed {
             place: best.place,
             span: best.span.number(),
+        }
+    }
+
+    /// `best`, where the permits pay for its cells.
+    #[inline(always)]
+    pub(crate) fn find(
+        &mut self,
+        permits: Permits,
+        instance: &Instance,
+        seq: &Seq,
+        job: usize,
+        spans: &mut [u64],
+    ) -> Placed<Paid>
+        requires own { HasLanes instance.now.shop self.old }
+        requires size { seq.now.size ≡ instance.now.shop.jobs }
+        requires job { job < seq.now.size }
+        requires absent { Contains seq.now.jobs job → ⊥ }
+        requires room { length spans.old ≤ length seq.now.jobs + 1 }
+        requires paid { IsPaid permits.tails permits.sums (length seq.now.jobs) instance.now.shop.machines }
+        ensures best { IsBestPlace instance.now.shop seq.now.jobs job result.place result.span }
+        ensures spans { (place : ℕ) → place < length spans.old
+            → slice_index_or spans.new place 0 ≡ makespan_with instance.now.shop seq.now.jobs job place }
+        ensures still { HasLanes instance.now.shop self.new }
+    {
+        let jobs = seq.as_slice();
+        match &mut self.wave {
+            Wave::Short(blocks) => blocks.best(permits, jobs, job, spans),
+            Wave::Mixed(mixed) => mixed.best(permits, instance, seq, job, spans),
+            Wave::Long(blocks) => blocks.best(permits, jobs, job, spans),
+            Wave::Wide(blocks) => blocks.best(permits, jobs, job, spans),
         }
     }
 }

@@ -6,7 +6,7 @@ ghost use Rattle.pfs_wave.specs.Private.Payment.{AreTimesOf};
 ghost use Rattle.pfs_wave.specs.Private.Recurrences.{AreTails};
 
 use crate::band::Band;
-use crate::vectors::{from_after, next_value, second_value, zeros};
+use crate::vectors::{next_value, second_value, zeros};
 use pfs_base::Permit;
 
 // The second vector of a step, if there is one, from what the step after it leaves for the first vector.
@@ -78,7 +78,7 @@ fn step_tails<V: Band, const N: usize>(
 {
     let held = *now;
     let after = chosen::<V, N>(&held, after);
-    let mut tail = from_after(first);
+    let mut tail = first.down();
     let second = second_tail::<V, N>(tail, after, times);
     for passed in 0..N {
         let k = N - 1 - passed;

@@ -1,6 +1,5 @@
 //! What the passes do with the vectors of a step.
-ghost use Rattle.std.specs.Prelude.{◌≡◌, ℕ, suc, ◌<◌, length, map, slice_set};
-ghost use Rattle.std.specs.List.{slice_index_or};
+ghost use Rattle.std.specs.Prelude.{◌≡◌, ℕ, ◌<◌, length, map, slice_set};
 ghost use Rattle.pfs_wave.specs.Private.Blocks.{vectors_of};
 ghost use Rattle.pfs_wave.specs.Private.Lanes.{IsNext, IsSecond, zeros};
 
@@ -48,25 +47,6 @@ pub fn second_value<V: Band>(beside: V, above: V, time: V, next_above: V, next_t
     let both = time.sum(next_time);
     let without = next_above.sum(next_time);
     greater.sum(both).greater(without)
-}
-
-/// Each lane from the lane before it, and 0 in the first one.
-#[inline(always)]
-pub fn from_before<V: Band>(vector: V) -> V
-    ensures first { slice_index_or (V.lanes result) 0 0 ≡ 0 }
-    ensures next { (lane : ℕ) → suc lane < 8
-        → slice_index_or (V.lanes result) (suc lane) 0 ≡ slice_index_or (V.lanes vector) lane 0 }
-{
-    vector.up(zeros())
-}
-
-/// Each lane from the lane after it, and 0 in the last one.
-#[inline(always)]
-pub fn from_after<V: Band>(vector: V) -> V
-    ensures { (lane : ℕ) → lane < 8
-        → slice_index_or (V.lanes result) lane 0 ≡ slice_index_or (V.lanes vector) (suc lane) 0 }
-{
-    vector.down(zeros())
 }
 
 /// Writes one vector of a table.

@@ -1,8 +1,9 @@
 -- Blocks of machines. A step of a wavefront has `count` vectors of eight lanes. Lane l of vector k has machine
 -- l * count + k, so a lane has a block of `count` machines. At step x it has the cells of row x - l.
-use Rattle.std.specs.Prelude.{ℕ, ◌≡◌, ◌+◌, ◌*◌, ◌<◌, ◌≤◌, List, []}
+use Rattle.std.specs.Prelude.{ℕ, ◌≡◌, ◌+◌, ◌-◌, ◌*◌, ◌<◌, ◌≤◌, List, []}
 use Rattle.std.specs.List.{slice_index_or}
 use Rattle.pfs_base.specs.FlowShop.{FlowShop, time_of}
+use Rattle.pfs_base.specs.Paths.{greatest}
 use Rattle.pfs_wave.specs.Private.Lanes.{Holding}
 use Rattle.pfs_wave.specs.Private.Padded.{on_machine}
 use Rattle.pfs_wave.specs.declared.blocks.Width.{Width}
@@ -70,6 +71,15 @@ pub record HasShop (shop : FlowShop) (blocks : BlockRows) : Type 0 where
   pub some : 1 ≤ shop.machines
   pub few : shop.machines ≤ blocks.lanes * blocks.count
   pub rows : HasRows shop blocks.count blocks.rows
+
+-- an upper bound on the weight of each path of all n jobs on m machines: n + m - 1 operations, each of the longest time
+abbrev pub longest_path : FlowShop → ℕ
+longest_path shop = (shop.jobs + shop.machines - 1) * greatest shop.times
+
+-- the same of a shop none of whose paths is too long for lanes with this greatest value
+pub record FitsLanes (shop : FlowShop) (cap : ℕ) (blocks : BlockRows) : Type 0 where
+  pub has : HasShop shop blocks
+  pub short : longest_path shop < cap
 
 -- the number of vectors of a width
 abbrev pub vectors_in : Width → ℕ

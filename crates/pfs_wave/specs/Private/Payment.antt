@@ -1,8 +1,11 @@
 -- What the passes of an insertion are given, and what they are paid for.
-use Rattle.std.specs.Prelude.{ℕ, ◌≡◌, ◌+◌, ◌*◌, ◌≤◌, List, length}
+use Rattle.std.specs.Prelude.{ℕ, ◌≡◌, ◌+◌, ◌*◌, ◌<◌, ◌≤◌, List, length}
+use Rattle.std.specs.List.{slice_index_or}
 use Rattle.pfs_base.specs.FlowShop.{FlowShop, time_of}
+use Rattle.pfs_insert.specs.Insertion.{makespan_with}
 use Rattle.pfs_wave.specs.Private.Lanes.{Holding}
 use Rattle.pfs_wave.specs.Private.Blocks.{AreTimes, Cells, IsRow, vectors_of}
+use Rattle.pfs_wave.specs.Private.Least.{IsLeastHeld}
 use Rattle.pfs_wave.specs.Private.Padded.{on_machine, padded_time}
 
 -- the values from this number on are 0
@@ -30,3 +33,9 @@ pub record IsInsertion (Holds : Holding) (shop : FlowShop) (jobs : List ℕ) (jo
   pub paid : IsPaid tails sums (length jobs) shop.machines
   pub times_are : AreTimes Holds count steps (padded_time shop jobs) times
   pub job_is : IsRow count (on_machine shop (time_of shop job)) (vectors_of row)
+
+-- what the passes return: the first place of the least sum with that sum, and the first sums; sums hold the makespans
+pub record IsFound (Holds : Holding) (shop : FlowShop) (jobs : List ℕ) (job place least count : ℕ) (sums : List ℕ) :
+    Type 0 where
+  pub best : IsLeastHeld Holds (makespan_with shop jobs job) (length jobs + 1) place least
+  pub sums_hold : (at : ℕ) → at < count → Holds (slice_index_or sums at 0) (makespan_with shop jobs job at)

@@ -13,9 +13,10 @@ use Rattle.pfs_wave.proofs.TailCells.{changed}
 use Rattle.pfs_wave.proofs.TrueCells.{no_tail, true_cells, true_tables, true_tails, whole_sum}
 use Rattle.pfs_wave.proofs.best.best_place.Given as given
 use Rattle.pfs_wave.proofs.best.best_place.Goals as goal
+use Rattle.pfs_wave.proofs.best.best_place.Goals.{After-with}
 
 -- the sum of each place
-sums_are : (g : given.Over) (c : goal.After-with g) (shop : FlowShop) (jobs : List ℕ) (inserted : ℕ)
+sums_are : (g : given.Over) (c : After-with g) (shop : FlowShop) (jobs : List ℕ) (inserted : ℕ)
     → IsInsertion g.V.Band.Holds shop jobs inserted g.row.N c.args.lanes c.args.steps c.args.permits.tails
     c.args.permits.sums
     (map g.V.Times.Stored.lanes c.args.times.now) (map g.V.Times.Stored.lanes c.args.job.now)
@@ -56,7 +57,7 @@ sums_are g c shop jobs inserted is place le =
     (true_tables shop jobs some inserted) is.times_are backs is.job_is place (omega arith) (omega arith))
 
 -- the same in the whole list
-all_sums_are : (g : given.Over) (c : goal.After-with g) (shop : FlowShop) (jobs : List ℕ) (inserted : ℕ)
+all_sums_are : (g : given.Over) (c : After-with g) (shop : FlowShop) (jobs : List ℕ) (inserted : ℕ)
     → IsInsertion g.V.Band.Holds shop jobs inserted g.row.N c.args.lanes c.args.steps c.args.permits.tails
     c.args.permits.sums
     (map g.V.Times.Stored.lanes c.args.times.now) (map g.V.Times.Stored.lanes c.args.job.now)
@@ -76,11 +77,8 @@ all_sums_are g c shop jobs inserted is place le =
     ∙ get_or-append (map number summed) (map number rest) 0 (7 + place)
     (omega (arith, length-map summed number, long, all, le))) refl (sums_are g c shop jobs inserted is place le)
 
-pub returns-clause-spans : goal.returns-clause-spans
-returns-clause-spans g c = all_sums_are g c
-
-pub returns-clause-best : goal.returns-clause-best
-returns-clause-best g c shop jobs inserted is =
+pub returns-clause-found : goal.returns-clause-found
+returns-clause-found g c shop jobs inserted is =
     let all = is.all in
     let number = g.V.Band.number in
     let steps = c.args.steps in
@@ -94,10 +92,16 @@ returns-clause-best g c shop jobs inserted is =
     let count_is : length (take n part) ≡ length jobs + 1 =
     length-take-le n part (omega (arith, length-drop 7 (summed ++ rest), length-append summed rest, long))
     ∙ omega arith in
+    let room = c.requires.room in
     rw c.with.ensures (record {
-      number = λ place. get_or (map number (take n part)) place 0;
-      numbers_hold = λ place lt. changed g.V.Band.Holds
-          (number_of_part number (summed ++ rest) 7 n place (omega arith)) refl
-          (all_sums_are g c shop jobs inserted is place (omega arith));
-      least_is = rw count_is at c.first_least-found.ensures;
+      best = record {
+        number = λ place. get_or (map number (take n part)) place 0;
+        numbers_hold = λ place lt. changed g.V.Band.Holds
+            (number_of_part number (summed ++ rest) 7 n place (omega arith)) refl
+            (all_sums_are g c shop jobs inserted is place (omega arith));
+        least_is = rw count_is at c.first_least-found.ensures;
+      };
+      sums_hold = λ place lt. changed g.V.Band.Holds
+          (c.loop-place.invariant place (omega (arith, c.loop-place-test.false, lt))) refl
+          (all_sums_are g c shop jobs inserted is place (omega (arith, lt, room, some_lanes, all)));
     })

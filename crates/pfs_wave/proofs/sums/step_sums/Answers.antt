@@ -2,7 +2,7 @@ use Rattle.std.proofs.Common.{◌+◌, ◌-◌, map, get_or, ap, ◌∙◌, refl
 use Rattle.pfs_wave.specs.Private.Blocks.{vectors_of}
 use Rattle.pfs_wave.proofs.StepTables.{read, read_as}
 use Rattle.pfs_wave.proofs.TailCells.{changed}
-use Rattle.pfs_wave.proofs.SumCells.{step_sums_none, step_sums_more, step_summed}
+use Rattle.pfs_wave.proofs.SumCells.{moved_up, step_sums_none, step_sums_more, step_summed}
 use Rattle.pfs_wave.proofs.sums.step_sums.Goals as goal
 
 pub loop-k-init : goal.loop-k-init
@@ -14,16 +14,12 @@ loop-k-init g c =
     let last = c.index-heads.result in
     let some = c.requires.some in
     let long = c.type_inv.heads in
-    let inserted = c.from_before-inserted.ensures in
-    let sum = c.from_before-sum.ensures in
-    let head = c.from_before-head.ensures in
     step_sums_none g.V.Band.Holds g.V.Band.itself lanes g.row.N (vectors_of (map kept c.args.times.now))
     (vectors_of (map lanes c.args.tails.now)) (vectors_of (map lanes c.args.job.now)) some
     (vectors_of (map lanes heads)) (lanes before.inserted) (lanes before.sum) heads
-    (lanes (get_or heads (g.row.N - 1) last)) (lanes c.from_before-inserted.result) (lanes c.from_before-sum.result)
-    (lanes c.from_before-head.result) (read lanes heads (g.row.N - 1) last (omega arith))
-    (record { first = inserted.first; next = inserted.next }) (record { first = sum.first; next = sum.next })
-    (record { first = head.first; next = head.next }) long (λ k. refl)
+    (lanes (get_or heads (g.row.N - 1) last)) (lanes c.up-inserted.result) (lanes c.up-sum.result)
+    (lanes c.up-head.result) (read lanes heads (g.row.N - 1) last (omega arith))
+    (moved_up _ _ c.up-inserted.ensures) (moved_up _ _ c.up-sum.ensures) (moved_up _ _ c.up-head.ensures) long (λ k. refl)
 
 pub loop-k-preserved : goal.loop-k-preserved
 loop-k-preserved g c =

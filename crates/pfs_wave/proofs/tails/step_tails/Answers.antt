@@ -1,5 +1,6 @@
-use Rattle.std.proofs.Common.{suc, ◌≡◌, ◌-◌, map, length, subst, ap, ◌∙◌, refl, arith, inl, inr}
+use Rattle.std.proofs.Common.{suc, ◌≡◌, ◌-◌, map, get_or, length, subst, ap, ◌∙◌, refl, arith, inl, inr}
 use Rattle.pfs_wave.specs.Private.Blocks.{IsColumn, IsStep, vectors_of}
+use Rattle.pfs_wave.proofs.Steps.{down_next}
 use Rattle.pfs_wave.proofs.StepTables.{read_as}
 use Rattle.pfs_wave.proofs.TailCells.{step_tails_none, step_tails_more}
 use Rattle.pfs_wave.proofs.tails.step_tails.Goals as goal
@@ -11,7 +12,8 @@ loop-passed-init g c =
     step_tails_none g.V.Band.Holds g.V.Band.itself lanes g.row.N (vectors_of (map kept c.args.times.now))
     (vectors_of (map lanes c.chosen-after.result.now)) (lanes c.args.first) (g.met.V.Band.eight c.args.first)
     c.args.now.now
-    c.args.row.now (lanes c.from_after-tail.result) c.told-now c.requires.row c.from_after-tail.ensures
+    c.args.row.now (lanes c.down-tail.result) c.told-now c.requires.row
+    (λ lane lt. ap (λ l. get_or l lane 0) c.down-tail.ensures ∙ down_next 8 _ lane (g.met.V.Band.eight c.args.first) lt)
 
 pub loop-passed-preserved : goal.loop-passed-preserved
 loop-passed-preserved g c =
@@ -32,8 +34,9 @@ loop-passed-preserved g c =
     step_tails_more g.V.Band.Holds g.V.Band.itself lanes count (vectors_of (map kept times))
     (vectors_of (map lanes after)) (lanes first)
     (g.met.V.Band.eight first) c.loop-passed.now c.loop-passed.row (lanes c.loop-passed.tail) c.loop-passed.passed k
-    c.next_tail-tail.result (lanes c.from_after-tail.result) (lanes c.second_tail-second.result) so_far inside refl
-    c.from_after-tail.ensures c.second_tail-second.ensures c.next_tail-tail.ensures.second
+    c.next_tail-tail.result (lanes c.down-tail.result) (lanes c.second_tail-second.result) so_far inside refl
+    (λ lane lt. ap (λ l. get_or l lane 0) c.down-tail.ensures ∙ down_next 8 _ lane (g.met.V.Band.eight first) lt)
+    c.second_tail-second.ensures c.next_tail-tail.ensures.second
     (λ other. rw (above, time) at (c.next_tail-tail.ensures.next other))
 
 pub returns-clause-tails : goal.returns-clause-tails

@@ -5,10 +5,8 @@ use Rattle.pfs_wave.specs.Private.Blocks.{AreTimes, HasShop, vectors_in}
 use Rattle.pfs_wave.specs.Private.HeldRows.{part_from}
 use Rattle.pfs_wave.specs.Private.Padded.{padded_time}
 use Rattle.pfs_wave.specs.Private.Payment.{IsInsertion, IsPaid}
-use Rattle.pfs_wave.proofs.BestFound.{number_of_part}
 use Rattle.pfs_wave.proofs.HeldLemmas.{holding_times, times_first}
 use Rattle.pfs_wave.proofs.StepTables.{part_read}
-use Rattle.pfs_wave.proofs.TailCells.{changed}
 use Rattle.pfs_wave.proofs.blocks.Blocks.best_in.Given as given
 use Rattle.pfs_wave.proofs.blocks.Blocks.best_in.Goals as goal
 
@@ -19,16 +17,16 @@ invariant_of-self g c =
     let count : vectors_in inside.width ≡ g.row.N = ap (λ b. b.count) c.self.view_is ∙ c.requires.count in
     let order = c.hold-self-inside.new.order in
     let times = c.hold-self-inside.new.table in
-    let tails = c.best_place-best.new.tails in
-    let sums = c.best_place-best.new.sums in
+    let tails = c.best_place.new.tails in
+    let sums = c.best_place.new.sums in
     let order_long : length order ≡ inside.order.len =
     omega (arith, c.hold-self-inside.ensures.order, c.deref_mut.ensures.len) in
     let times_long : length times ≡ inside.times.len =
     omega (arith, c.hold-self-inside.ensures.table, c.deref_mut-2.ensures.len) in
     let tails_long : length tails ≡ inside.tails.len =
-    omega (arith, c.best_place-best.ensures.tails, c.deref_mut-3.ensures.len) in
+    omega (arith, c.best_place.ensures.tails, c.deref_mut-3.ensures.len) in
     let sums_long : length sums ≡ inside.sums.len =
-    omega (arith, c.best_place-best.ensures.sums, c.deref_mut-4.ensures.len) in
+    omega (arith, c.best_place.ensures.sums, c.deref_mut-4.ensures.len) in
     let holds = rw (c.deref.ensures.value) at c.hold-self-inside.ensures.holds in
     record {
       some = was.some;
@@ -45,9 +43,9 @@ invariant_of-self g c =
           (c.hold-self-inside.ensures.table ∙ ap length c.deref_mut-2.ensures.value ∙ was.times);
       start = c.hold-self-inside.ensures.start;
       tails = rw (take_at tails (drop (length tails) inside.tails.items) inside.tails.len tails_long)
-          (c.best_place-best.ensures.tails ∙ ap length c.deref_mut-3.ensures.value ∙ was.tails);
+          (c.best_place.ensures.tails ∙ ap length c.deref_mut-3.ensures.value ∙ was.tails);
       sums = rw (take_at sums (drop (length sums) inside.sums.items) inside.sums.len sums_long)
-          (c.best_place-best.ensures.sums ∙ ap length c.deref_mut-4.ensures.value ∙ was.sums);
+          (c.best_place.ensures.sums ∙ ap length c.deref_mut-4.ensures.value ∙ was.sums);
     }
 
 -- what the passes are given, of a shop that the blocks have
@@ -93,8 +91,8 @@ passed g c shop has paid =
           ∙ has_rows.jobs_are c.args.job (omega (arith, c.requires.job, has.jobs)) lane k lt k_lt;
     }
 
-pub returns-clause-best : goal.returns-clause-best
-returns-clause-best g c shop has paid =
+pub returns-clause-found : goal.returns-clause-found
+returns-clause-found g c shop has paid =
     let inside = c.self.inside in
     let times = c.hold-self-inside.new.table in
     let times_long : length times ≡ inside.times.len =
@@ -103,31 +101,5 @@ returns-clause-best g c shop has paid =
       c.deref-2.ensures.value,
       c.deref-3.ensures.value,
       take_at times (drop (length times) inside.times.items) inside.times.len times_long,
-    ) at c.best_place-best.ensures.best in
+    ) at c.best_place.ensures.found in
     found shop c.args.sequence.now c.args.job (passed g c shop has paid)
-
-pub returns-clause-spans : goal.returns-clause-spans
-returns-clause-spans g c shop has paid place lt =
-    let inside = c.self.inside in
-    let times = c.hold-self-inside.new.table in
-    let times_long : length times ≡ inside.times.len =
-    omega (arith, c.hold-self-inside.ensures.table, c.deref_mut-2.ensures.len) in
-    let found = rw (
-      c.deref-2.ensures.value,
-      c.deref-3.ensures.value,
-      take_at times (drop (length times) inside.times.items) inside.times.len times_long,
-    ) at c.best_place-best.ensures.spans in
-    let number = g.V.Band.number in
-    let sums = c.best_place-best.new.sums in
-    let room = c.requires.room in
-    let sums_long : length sums ≡ inside.sums.len =
-    omega (arith, c.best_place-best.ensures.sums, c.deref_mut-4.ensures.len) in
-    let copied = rw (
-      c.deref-4.ensures.value,
-      take_at sums (drop (length sums) inside.sums.items) inside.sums.len sums_long,
-    ) at c.copy_sums.ensures in
-    let long = c.best_place-best.ensures.sums ∙ ap length c.deref_mut-4.ensures.value ∙ c.self.invariant.sums in
-    let jobs_are = ap (λ b. b.jobs) c.self.view_is in
-    changed g.V.Band.Holds (copied place lt
-    ∙ number_of_part number sums 7 (length sums - 7) place (omega (arith, long, jobs_are, c.requires.few, lt, room)))
-    refl (found shop c.args.sequence.now c.args.job (passed g c shop has paid) place (omega arith))

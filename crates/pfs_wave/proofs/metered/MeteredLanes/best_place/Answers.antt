@@ -12,7 +12,7 @@ length-requires c =
     let few = length-lt-size seq.size c.args.job seq.jobs (omega (arith, c.requires.job, c.requires.size))
     c.requires.absent c.len.ensures.sequence in
     best_span shop seq.jobs c.args.job c.find-best.result.place c.find-best.result.span self.within
-    (omega (arith, few, c.requires.size)) (rw c.count-permits.ensures.shop at c.find-best.ensures.best)
+    (omega (arith, few, c.requires.size)) (rw self.same at c.find-best.ensures.best)
 
 pub returns-clause-best : goal.returns-clause-best
-returns-clause-best c = rw (c.length.ensures, ← c.count-permits.ensures.shop) c.find-best.ensures.best
+returns-clause-best c = rw c.length.ensures (rw c.args.self.now.same at c.find-best.ensures.best)

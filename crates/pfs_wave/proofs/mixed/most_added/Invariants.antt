@@ -1,0 +1,12 @@
+use Rattle.std.proofs.Common.{◌*◌, ◌≤◌}
+use Rattle.pfs_base.specs.FlowShop.{time_of}
+use Rattle.pfs_wave.proofs.PartLaws.{AreAlone}
+use Rattle.pfs_wave.proofs.mixed.most_added.Given as goal
+
+abbrev pub invariant-loop-machine : goal.invariant-loop-machine
+invariant-loop-machine l = record {
+  alone_small : l.alone ≤ l.machine * 1000000000;
+  both_small : l.both ≤ l.machine * 2000000000;
+  less : l.alone ≤ l.both;
+  are : AreAlone (time_of l.instance.shop l.last) (time_of l.instance.shop l.job) l.machine l.alone l.both;
+}

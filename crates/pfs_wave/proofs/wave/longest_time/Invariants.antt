@@ -1,6 +1,0 @@
-use Rattle.std.proofs.Common.{◌≡◌, take}
-use Rattle.pfs_base.specs.Paths.{greatest}
-use Rattle.pfs_wave.proofs.wave.longest_time.Given as goal
-
-abbrev pub invariant-loop-time : goal.invariant-loop-time
-invariant-loop-time l = l.longest ≡ greatest (take l.time-index l.time-items)
