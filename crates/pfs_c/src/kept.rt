@@ -59,12 +59,8 @@ impl Kept {
         ensures made { IfOk result (λ made. made ≡ instance.shop) }
         ensures memory { IfErr result (λ why. why ≡ CallFault.Memory) }
     {
-        let Ok(search) = Search::new(alloc, &instance) else {
-            return Err(CallFault::Memory);
-        };
-        let Ok(sequence) = Seq::new(alloc, instance.jobs()) else {
-            return Err(CallFault::Memory);
-        };
+        let search = Search::new(alloc, &instance).or(Err(CallFault::Memory))?;
+        let sequence = Seq::new(alloc, instance.jobs()).or(Err(CallFault::Memory))?;
         Ok(Kept {
             instance,
             search,
