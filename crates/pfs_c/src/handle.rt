@@ -49,7 +49,10 @@ fn kept_of(
     validate_shop(times, jobs, machines)?;
     let instance = instance_of(alloc, times, jobs, machines, NO_NOTES)?;
     let kept = Kept::new(alloc, instance)?;
-    Box::new(alloc, kept).or(Err(CallFault::Memory))
+    match Box::new(alloc, kept) {
+        Ok(kept) => Ok(kept),
+        Err(_) => Err(CallFault::Memory),
+    }
 }
 
 /// Releases an instance. The struct holds none after it.
