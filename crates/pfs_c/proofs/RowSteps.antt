@@ -117,8 +117,7 @@ module _ (shop : FlowShop) (jobs : List ℕ) (back : Bool) where
         → (over ≤ SPAN_MAX) × (before ≤ SPAN_MAX)
     cell_short count turn over before inside lt over_is before_is =
         let few = length-le-size shop.jobs jobs sequence in
-        let sizes = within.sizes in
-        (
+        let sizes = within.sizes in (
           omega (arith, head_le weigh LONGEST_TIME small count turn, over_is, few, sizes),
           omega (arith, head_before_le weigh LONGEST_TIME small count turn, before_is, few, sizes),
         )

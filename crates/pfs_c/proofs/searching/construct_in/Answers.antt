@@ -1,4 +1,4 @@
-use Rattle.std.proofs.Common.{◌++◌, ℕ, length, drop, refl, arith}
+use Rattle.std.proofs.Common.{ℕ, length, drop, refl, arith}
 use Rattle.std.proofs.lemmas.Bool.{eqb-true}
 use Rattle.std.proofs.lemmas.List.{length-append, length-drop, take_at}
 use Rattle.pfs_c.specs.Building.{visited}
