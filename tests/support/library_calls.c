@@ -40,7 +40,6 @@ static const uint32_t TIMES[6] = {3, 2, 2, 5, 4, 1}, BEST[3] = {1, 0, 2}, NUMBER
 static const uint32_t OUTSIDE[3] = {9, 9, 9}, TWICE[3] = {1, 1, 9};
 /* The first random words of seed 7. */
 static const uint32_t WORDS[5] = {2442223337, 414063806, 2743600285, 3524868804, 2371632060};
-static const struct pfs_notes NOTES = {7, 9, 8};
 static const struct pfs_block BLOCK = {3, 2, {7, 9, 8}};
 
 static void fresh(void) {
@@ -64,9 +63,10 @@ static void check(int line, int number, int returned) {
 
 #define CALL(number, call) check(__LINE__, number, call)
 
-static void due_list(const uint32_t *jobs, size_t count, uint64_t makespan) {
-    memcpy(due.list, jobs, count * sizeof *jobs);
-    due.makespan = makespan;
+/* After a call that returned `number`, the best order is due. */
+static int finds_best(int number) {
+    memcpy(due.list, BEST, sizeof BEST);
+    return due.makespan = 10, number;
 }
 
 /* A list that a call reads and overwrites. */
@@ -75,9 +75,9 @@ static uint32_t *in_place(const uint32_t *jobs) {
     return memcpy(out.list, jobs, 3 * sizeof *jobs);
 }
 
-static int rounds(const uint32_t *order, size_t length, uint32_t first, size_t take, uint32_t passes) {
+static int rounds(uint32_t *order, size_t length, uint32_t first, size_t take, uint32_t passes) {
     struct pfs_rounds_options options = {.seed = 7, .take = take, .first = first, .count = 1, .passes = passes};
-    return pfs_rounds(shop, &options, in_place(order), length, &out.makespan, &out.cells);
+    return pfs_rounds(shop, &options, order, length, &out.makespan, &out.cells);
 }
 
 #define TITLE "number of jobs, number of machines, initial seed, upper bound and lower bound :\n"
@@ -117,11 +117,9 @@ static int call_named(const char *name) {
                memcpy(due.ends, (uint64_t[]){2, 7, 5, 9, 9, 10}, 48),
                pfs_table(shop, BEST, 3, out.starts, 6, out.ends, 6);
     if (IS("neh"))
-        return due_list(BEST, 3, 10), due.cells = 36, pfs_neh(shop, out.list, 3, &out.makespan, &out.cells);
-    if (IS("rounds")) {
-        int number = rounds(NUMBERED, 3, 0, 1, 1);
-        return number == PFS_OK ? due_list(BEST, 3, 10), due.cells = 80, number : number;
-    }
+        return due.cells = 36, finds_best(pfs_neh(shop, out.list, 3, &out.makespan, &out.cells));
+    if (IS("rounds"))
+        return due.cells = 80, finds_best(rounds(in_place(NUMBERED), 3, 0, 1, 1));
     if (IS("insert"))
         return due.place = 2, due.makespan = 10, pfs_insert(shop, BEST, 2, 2, &out.place, &out.makespan);
     if (IS("insertions"))
@@ -130,13 +128,11 @@ static int call_named(const char *name) {
         return memcpy(due.starts, (uint64_t[]){4, 5, 7, 9}, 32), memcpy(due.ends, (uint64_t[]){9, 3, 5, 2}, 32),
                pfs_heads_tails(shop, (uint32_t[]){2, 0}, 2, out.starts, 4, out.ends, 4);
     if (IS("construct"))
-        return due_list(BEST, 3, 10), pfs_construct(shop, NUMBERED + 2, 1, NUMBERED, 2, out.list, 3, &out.makespan);
-    if (IS("local_search")) {
-        int number = pfs_local_search(shop, (uint32_t[]){1}, 1, 1, in_place(NUMBERED), 3, &out.makespan);
-        return due_list(BEST, 3, 10), number;
-    }
+        return finds_best(pfs_construct(shop, NUMBERED + 2, 1, NUMBERED, 2, out.list, 3, &out.makespan));
+    if (IS("local_search"))
+        return finds_best(pfs_local_search(shop, (uint32_t[]){1}, 1, 1, in_place(NUMBERED), 3, &out.makespan));
     if (IS("write"))
-        return DUE_TEXT(BY_JOB), pfs_write(shop, &NOTES, PFS_ORLIB, out.text, sizeof out.text, &out.length);
+        return DUE_TEXT(BY_JOB), pfs_write(shop, &BLOCK.notes, PFS_ORLIB, out.text, sizeof out.text, &out.length);
     if (IS("generate"))
         return due.list[0] = 54, due.list[1] = 83, pfs_generate(2, 1, 873654221, out.list, 2);
     if (IS("random"))
@@ -144,18 +140,16 @@ static int call_named(const char *name) {
     if (IS("read"))
         return due.block = BLOCK, memcpy(due.list, TIMES, sizeof TIMES), read_text(THREE_JOBS, PFS_TAILLARD, 1, 6);
     if (IS("read_order"))
-        return due.jobs = 3, due.machines = 2, due_list(BEST, 3, 10), read_order("order2 3 2\n2 1 3\nmakespan 10\n", 3);
+        return due.jobs = 3, due.machines = 2, finds_best(read_order("order2 3 2\n2 1 3\nmakespan 10\n", 3));
     if (IS("write_order"))
         return DUE_TEXT("order 3\n2 1 3\nmakespan 10\n"),
                pfs_write_order(BEST, 3, 0, 10, out.text, sizeof out.text, &out.length);
     if (IS("insert_large"))
         return due.place = 0, due.makespan = 7, pfs_insert(shop, NUMBERED, 2, 2, &out.place, &out.makespan);
     if (IS("search_large")) {
-        struct pfs_rounds_options options = {.seed = 7, .take = 4, .count = 1, .passes = 1};
         uint32_t order[40];
         int number = pfs_neh(shop, order, 40, &out.makespan, &out.cells);
-        due.makespan = 44, due.cells = 34640;
-        return number == PFS_OK ? pfs_rounds(shop, &options, order, 40, &out.makespan, &out.cells) : number;
+        return due.makespan = 44, due.cells = 34640, number == PFS_OK ? rounds(order, 40, 0, 4, 1) : number;
     }
     if (strncmp(name, "prepare", 7) != 0)
         exit(3);
@@ -176,11 +170,11 @@ static void wrong_calls(void) {
     CALL(PFS_LENGTH, pfs_table(shop, OUTSIDE, 3, out.starts, 6, out.ends, 7));
     CALL(PFS_JOB, pfs_table(shop, OUTSIDE, 3, out.starts, 6, out.ends, 6));
     CALL(PFS_LENGTH, pfs_neh(shop, out.list, 2, &out.makespan, &out.cells));
-    CALL(PFS_LENGTH, rounds(OUTSIDE, 2, 0, 0, 101));
-    CALL(PFS_REPEATED, rounds(TWICE, 3, 0, 0, 101));
-    CALL(PFS_TAKE, rounds(NUMBERED, 3, 0, 4, 101));
-    CALL(PFS_PASSES, rounds(NUMBERED, 3, 0, 3, 101));
-    CALL(PFS_ROUNDS, rounds(NUMBERED, 3, PFS_MOST_ROUNDS, 3, 100));
+    CALL(PFS_LENGTH, rounds(in_place(OUTSIDE), 2, 0, 0, 101));
+    CALL(PFS_REPEATED, rounds(in_place(TWICE), 3, 0, 0, 101));
+    CALL(PFS_TAKE, rounds(in_place(NUMBERED), 3, 0, 4, 101));
+    CALL(PFS_PASSES, rounds(in_place(NUMBERED), 3, 0, 3, 101));
+    CALL(PFS_ROUNDS, rounds(in_place(NUMBERED), 3, PFS_MOST_ROUNDS, 3, 100));
     CALL(PFS_JOB, pfs_insert(shop, OUTSIDE, 3, 9, &out.place, &out.makespan));
     CALL(PFS_REPEATED, pfs_insert(shop, BEST, 2, 0, &out.place, &out.makespan));
     CALL(PFS_LENGTH, pfs_insertions(shop, OUTSIDE, 2, 9, out.makespans, 2));
@@ -191,8 +185,8 @@ static void wrong_calls(void) {
     CALL(PFS_REPEATED, pfs_construct(shop, BEST, 2, (uint32_t[]){0, 3}, 2, out.list, 4, &out.makespan));
     CALL(PFS_JOB, pfs_local_search(shop, OUTSIDE, 3, 999, in_place(BEST), 2, &out.makespan));
     CALL(PFS_PASSES, pfs_local_search(shop, BEST, 3, PFS_MOST_PASSES + 1, in_place(BEST), 3, &out.makespan));
-    CALL(PFS_LAYOUT, pfs_write(shop, &NOTES, 2, out.text, 0, &out.length));
-    CALL(PFS_ROOM, (due.length = 47, pfs_write(shop, &NOTES, PFS_ORLIB, out.text, 46, &out.length)));
+    CALL(PFS_LAYOUT, pfs_write(shop, &BLOCK.notes, 2, out.text, 0, &out.length));
+    CALL(PFS_ROOM, (due.length = 47, pfs_write(shop, &BLOCK.notes, PFS_ORLIB, out.text, 46, &out.length)));
 }
 
 static void wrong_shops(void) {
@@ -230,7 +224,7 @@ static void no_lists(void) {
 
 /* An instance is prepared from a list that changes then. On none, each call that needs one reports that. */
 static void all(void) {
-    uint32_t passing[6];
+    uint32_t passing[6] = {3, 2, 2, 5, 4, 1};
     wrong_shops();
     for (size_t at = 0; at < ON_SHOP; ++at) {
         int number = call_named(NAMES[at]);
@@ -239,7 +233,6 @@ static void all(void) {
     }
     pfs_release(shop);
     CALL(PFS_OK, prepare_large());
-    memcpy(passing, TIMES, sizeof TIMES);
     CALL(PFS_OK, pfs_prepare(passing, 6, 3, 2, shop));
     memset(passing, 0, sizeof passing);
     for (int turn = 0; turn < 2; ++turn) {

@@ -2,6 +2,7 @@
 
 /// The seed that an instance was generated from, and the bounds of its makespan that were published with it.
 /// They are kept as they were read; nothing is computed from them.
+#[repr(C)]
 #[derive(Clone, Copy, Debug, PartialEq, Eq)]
 pub struct Notes {
     /// The generator's initial seed.

@@ -23,6 +23,13 @@ impl<W: Write> ToWrite<W> {
             failed: false,
         }
     }
+
+    /// The writer.
+    pub fn into_writer(self) -> W
+        ensures { W.contents result ≡ ⟦<ToWrite<W> as Sink>⟧.written self }
+    {
+        self.writer
+    }
 }
 
 impl<W: Write> Sink for ToWrite<W> {

@@ -34,12 +34,7 @@ sizes_right jobs machines h = record {
 
 right_sizes : (jobs machines : ℕ) → AreSizes limits jobs machines → ((nat_le 1 jobs && nat_le jobs MOST_JOBS)
     && (nat_le 1 machines && nat_le machines MOST_MACHINES)) ≡ true
-right_sizes jobs machines h =
-    let one = h.some_job in
-    let two = h.few_jobs in
-    let three = h.some_machine in
-    let four = h.few_machines in
-    grind (arith, nat_tests)
+right_sizes jobs machines h = grind (arith, nat_tests, h.some_job, h.few_jobs, h.some_machine, h.few_machines)
 
 pub shop_law : ShopLaw
 shop_law times jobs machines = (

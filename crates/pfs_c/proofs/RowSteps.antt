@@ -1,11 +1,13 @@
 -- Rows of heads and tails, as loops over the machines fill them. Tails are the heads of the reverse.
 use Rattle.std.proofs.Common.{◌≡◌, ◌≢◌, ℕ, zero, suc, ◌+◌, ◌-◌, ◌*◌, ◌<◌, ◌≤◌, max, Bool, true, false, List, length}
 use Rattle.std.proofs.Common.{get_or, set, take, replicate, refl, sym, ap, ◌∙◌, inl, inr, ◌⊎◌, add-one, arith, rules}
+use Rattle.std.proofs.Common.{length-set}
 use Rattle.std.proofs.Math.Nat.{mul-le-mul_right}
 use Rattle.std.proofs.lemmas.Bool.{cases_eq, cases_lt}
-use Rattle.std.proofs.lemmas.List.{get_or-set_same, get_or-set_other, get_or-replicate, get_or-take}
+use Rattle.std.proofs.lemmas.List.{get_or-set_same, get_or-set_other, get_or-replicate, get_or-take, length-replicate}
 use Rattle.std.proofs.lemmas.List.{length-take-le, places}
-use Rattle.pfs_base.specs.declared.limits.TheConstants.{MOST_JOBS, MOST_MACHINES, LONGEST_TIME}
+use Rattle.pfs_base.specs.declared.bench.TheConstants.{SPAN_MAX}
+use Rattle.pfs_base.specs.declared.limits.TheConstants.{LONGEST_TIME}
 use Rattle.pfs_base.specs.FlowShop.{FlowShop, IsWithin}
 use Rattle.pfs_base.specs.Limits.{limits}
 use Rattle.pfs_base.specs.Paths.{operation, makespan}
@@ -45,29 +47,32 @@ module _ (shop : FlowShop) (jobs : List ℕ) (back : Bool) where
 
   -- a row with the weights after `later` jobs at the first turns, and those after `count` jobs at the other ones
   pub record RowTo (count later turn : ℕ) (row : List ℕ) : Type 0 where
+    pub wide : shop.machines ≤ length row
     pub done : (t : ℕ) → t < turn → get_or row (in_turn back shop.machines t) 0 ≡ head weigh later t
     pub to_do : (t : ℕ) → turn ≤ t → t < shop.machines
         → get_or row (in_turn back shop.machines t) 0 ≡ head weigh count t
 
   pub row_first : (count later : ℕ) (row : List ℕ) → IsRow shop jobs back count row → RowTo count later 0 row
   row_first count later row holds = record {
+    wide = holds.wide;
     done = λ t lt. absurd (omega arith);
-    to_do = λ t low lt. holds t lt ∙ done_is count t;
+    to_do = λ t low lt. holds.each t lt ∙ done_is count t;
   }
 
   pub row_more : (count later turn machine : ℕ) (row : List ℕ) (new : ℕ) → RowTo count later turn row
-      → turn < shop.machines → machine ≡ in_turn back shop.machines turn → shop.machines ≤ length row
+      → turn < shop.machines → machine ≡ in_turn back shop.machines turn
       → new ≡ head weigh later turn → RowTo count later (turn + 1) (set row machine new)
-  row_more count later turn machine row new so_far inside is wide new_is =
+  row_more count later turn machine row new so_far inside is new_is =
       rw is
       let at = in_turn back shop.machines in
       let other : (t : ℕ) → t < shop.machines → t ≢ turn
       → get_or (set row (at turn) new) (at t) 0 ≡ get_or row (at t) 0 = λ t lt apart.
       get_or-set_other row (at turn) (at t) new 0 (in_turn_other back shop.machines t turn lt inside apart) in
       record {
+        wide = omega (arith, so_far.wide, length-set {A = ℕ});
         done = λ t lt. elim (cases_eq t turn) [
           | inl is ↦ rw is (get_or-set_same row (at turn) new 0
-              (omega (arith, in_turn_below back shop.machines turn inside)) ∙ new_is)
+              (omega (arith, in_turn_below back shop.machines turn inside, so_far.wide)) ∙ new_is)
           | inr apart ↦ other t (omega arith) apart ∙ so_far.done t (omega (arith, apart))
         ];
         to_do = λ t low lt. other t lt (omega arith) ∙ so_far.to_do t (omega arith) lt;
@@ -80,7 +85,10 @@ module _ (shop : FlowShop) (jobs : List ℕ) (back : Bool) where
 
   pub row_last : (count later turn : ℕ) (row : List ℕ) → RowTo count later turn row → shop.machines ≤ turn
       → IsRow shop jobs back later row
-  row_last count later turn row so_far all t lt = so_far.done t (omega arith) ∙ sym (done_is later t)
+  row_last count later turn row so_far all = record {
+    wide = so_far.wide;
+    each = λ t lt. so_far.done t (omega arith) ∙ sym (done_is later t);
+  }
 
   -- the weight that a step writes, from those that it reads
   pub weight_is : (count turn over before time : ℕ) → over ≡ head weigh count turn
@@ -91,37 +99,28 @@ module _ (shop : FlowShop) (jobs : List ℕ) (back : Bool) where
 
   -- before the first job all weights are 0
   pub row_none : (count : ℕ) → shop.machines ≤ count → IsRow shop jobs back 0 (replicate count 0)
-  row_none count few t lt =
-      get_or-replicate count (in_turn back shop.machines t) 0 0 (omega (arith, in_turn_below back shop.machines t lt))
+  row_none count few = record {
+    wide = omega (arith, length-replicate {A = ℕ});
+    each = λ t lt. get_or-replicate count (in_turn back shop.machines t) 0 0
+        (omega (arith, in_turn_below back shop.machines t lt));
+  }
 
   -- ---- no sum of a few weights is too long
-
-  abbrev pub most_head : ℕ
-  most_head = (MOST_JOBS + MOST_MACHINES) * LONGEST_TIME
 
   module _ (within : IsWithin limits shop) (sequence : IsSequence shop.jobs jobs) where
     small : (row machine : ℕ) → weigh row machine ≤ LONGEST_TIME
     small row machine =
         time_of-le shop within (get_or jobs (in_turn back (length jobs) row) 0) (in_turn back shop.machines machine)
 
-    pub head_short : (count turn : ℕ) → count ≤ length jobs → turn < shop.machines → head weigh count turn ≤ most_head
-    head_short count turn le lt = omega (
-      arith,
-      head_le weigh LONGEST_TIME small count turn,
-      length-le-size shop.jobs jobs sequence,
-      within.sizes.few_jobs,
-      within.sizes.few_machines,
-    )
-
-    pub before_short : (count turn : ℕ) → count ≤ length jobs → turn < shop.machines
-        → head_before weigh count turn ≤ most_head
-    before_short count turn le lt = omega (
-      arith,
-      head_before_le weigh LONGEST_TIME small count turn,
-      length-le-size shop.jobs jobs sequence,
-      within.sizes.few_jobs,
-      within.sizes.few_machines,
-    )
+    pub cell_short : (count turn over before : ℕ) → count < length jobs → turn < shop.machines
+        → over ≡ head weigh count turn → before ≡ head_before weigh count turn
+        → (over ≤ SPAN_MAX) × (before ≤ SPAN_MAX)
+    cell_short count turn over before inside lt over_is before_is =
+        let few = length-le-size shop.jobs jobs sequence in
+        let sizes = within.sizes in (
+          omega (arith, head_le weigh LONGEST_TIME small count turn, over_is, few, sizes),
+          omega (arith, head_before_le weigh LONGEST_TIME small count turn, before_is, few, sizes),
+        )
 
 -- ---- what the rows are
 
@@ -130,7 +129,7 @@ module _ (shop : FlowShop) (jobs : List ℕ) where
   pub heads_makespan : (row : List ℕ) → 1 ≤ shop.machines → IsRow shop jobs false (length jobs) row
       → get_or row (shop.machines - 1) 0 ≡ makespan shop jobs
   heads_makespan row some holds =
-      holds (shop.machines - 1) (omega arith) ∙ done_is shop jobs false (length jobs) (shop.machines - 1)
+      holds.each (shop.machines - 1) (omega arith) ∙ done_is shop jobs false (length jobs) (shop.machines - 1)
       ∙ sym (makespan_is shop jobs)
 
   -- a tail is a head of the reverse
@@ -142,34 +141,20 @@ module _ (shop : FlowShop) (jobs : List ℕ) where
       let same_machine : shop.machines - 1 - turn ≡ machine = omega arith in
       rw (same_row, same_machine) refl
 
-  tail_is : (count turn row machine : ℕ) → row + suc count ≡ length jobs → machine + suc turn ≡ shop.machines
-      → heaviest_back shop jobs row machine ≡ head (turned shop jobs true) (suc count) turn
-  tail_is zero zero row machine rows machines = omega (
-    arith,
-    head_step (turned shop jobs true) 0 0,
-    tail_weigh 0 0 row machine rows machines,
-    back_last shop jobs row machine (omega arith) (omega arith),
-    back_none shop jobs (suc row) machine (omega arith),
-  )
+  tail_is : (count turn row machine : ℕ) → row + count ≡ length jobs → machine + suc turn ≡ shop.machines
+      → heaviest_back shop jobs row machine ≡ head (turned shop jobs true) count turn
+  tail_is zero turn row machine rows machines = back_none shop jobs row machine (omega arith)
   tail_is (suc count) zero row machine rows machines = omega (
     arith,
-    head_step (turned shop jobs true) (suc count) 0,
-    tail_weigh (suc count) 0 row machine rows machines,
+    head_step (turned shop jobs true) count 0,
+    tail_weigh count 0 row machine rows machines,
     back_last shop jobs row machine (omega arith) (omega arith),
     tail_is count zero (suc row) machine (omega arith) machines,
   )
-  tail_is zero (suc turn) row machine rows machines = omega (
-    arith,
-    head_step (turned shop jobs true) 0 (suc turn),
-    tail_weigh 0 (suc turn) row machine rows machines,
-    back_more shop jobs row machine (omega arith) (omega arith),
-    back_none shop jobs (suc row) machine (omega arith),
-    tail_is zero turn row (suc machine) rows (omega arith),
-  )
   tail_is (suc count) (suc turn) row machine rows machines = omega (
     arith,
-    head_step (turned shop jobs true) (suc count) (suc turn),
-    tail_weigh (suc count) (suc turn) row machine rows machines,
+    head_step (turned shop jobs true) count (suc turn),
+    tail_weigh count (suc turn) row machine rows machines,
     back_more shop jobs row machine (omega arith) (omega arith),
     tail_is count (suc turn) (suc row) machine (omega arith) machines,
     tail_is (suc count) turn row (suc machine) rows (omega arith),
@@ -195,22 +180,22 @@ module _ (shop : FlowShop) (jobs : List ℕ) (back : Bool) where
 
   -- one more row is copied to its place
   pub rows_more : (count place n : ℕ) (table row part : List ℕ) → RowsTo count table → count < length jobs
-      → IsRow shop jobs back (count + 1) row → shop.machines ≤ length row → length table ≡ length jobs * shop.machines
+      → IsRow shop jobs back (count + 1) row → length table ≡ length jobs * shop.machines
       → place ≡ in_turn back (length jobs) count → n ≡ shop.machines → part ≡ take shop.machines row
       → RowsTo (count + 1) (put_mid (place * shop.machines) n table part)
-  rows_more count place n table row part so_far inside holds wide all is same_n same_part r turn lt in_row =
+  rows_more count place n table row part so_far inside holds all is same_n same_part r turn lt in_row =
       let machine = in_turn back shop.machines turn in
       let below = in_turn_below back shop.machines turn in_row in
       let place_below : place < length jobs = rw is (in_turn_below back (length jobs) count inside) in
       let fits : (place + 1) * shop.machines ≤ length jobs * shop.machines =
       mul-le-mul_right shop.machines (omega (arith, place_below)) in
-      let long : length part ≡ n = rw (same_part, same_n) (length-take-le shop.machines row wide) in
+      let long : length part ≡ n = rw (same_part, same_n) (length-take-le shop.machines row holds.wide) in
       let room : place * shop.machines + n ≤ length table = omega (arith, fits, all, same_n) in
       elim (cases_eq r count) [
         | inl same ↦ rw (same, ← is)
             (put_in (place * shop.machines) n machine table part long room (omega (arith, below, same_n))
             ∙ rw same_part (get_or-take shop.machines row machine 0 below)
-            ∙ holds turn in_row ∙ done_is shop jobs back (count + 1) turn
+            ∙ holds.each turn in_row ∙ done_is shop jobs back (count + 1) turn
             ∙ ap (λ k. head (weigh shop jobs back) k turn) (add-one count))
         | inr other ↦
             let there = in_turn back (length jobs) r in
@@ -240,4 +225,4 @@ rows_all shop jobs true count table so_far all = λ row machine inside lt.
     let same_row = in_turn_twice true (length jobs) row inside in
     let same_machine = in_turn_twice true shop.machines machine lt in
     rw (same_row, same_machine) at (so_far r turn (omega arith) (omega arith))
-    ∙ sym (tail_is shop jobs r turn row machine (omega arith) (omega arith))
+    ∙ sym (tail_is shop jobs (suc r) turn row machine (omega arith) (omega arith))

@@ -55,37 +55,39 @@ moved_kept shop size job jobs sequence (place, within, is) =
 
 -- ---- a list of jobs
 
-pub visited_kept : (shop : FlowShop) (size : ℕ) (list jobs : List ℕ) → IsSequence size jobs
+kept_refl : (shop : FlowShop) (jobs : List ℕ) → IsNoLongerThan shop jobs jobs
+kept_refl shop jobs = record { same = IsPermutation-refl jobs; shorter = omega arith }
+
+kept_trans : (shop : FlowShop) (a b c : List ℕ) → IsNoLongerThan shop a b → IsNoLongerThan shop b c
+    → IsNoLongerThan shop a c
+kept_trans shop a b c once rest = record {
+  same = IsPermutation-trans a b c once.same rest.same;
+  shorter = omega (arith, once.shorter, rest.shorter);
+}
+
+still : (shop : FlowShop) (list old new : List ℕ) → IsNoLongerThan shop old new
+    → All (λ job. Contains old job) list → All (λ job. Contains new job) list
+still shop list old new once among k d lt = Contains-permutation old new (get_or list k d) once.same (among k d lt)
+
+visited_kept : (shop : FlowShop) (size : ℕ) (list jobs : List ℕ) → IsSequence size jobs
     → All (λ job. Contains jobs job) list → IsNoLongerThan shop jobs (visited shop list jobs)
-visited_kept shop size [] jobs sequence among =
-    record { same = IsPermutation-refl jobs; shorter = omega arith }
+visited_kept shop size [] jobs sequence among = kept_refl shop jobs
 visited_kept shop size (job ∷ list) jobs sequence among =
-    let here = All-head (λ j. Contains jobs j) job list among in
-    let later = All-tail (λ j. Contains jobs j) job list among in
     let new : List ℕ = moved shop jobs job in
-    let once = moved_kept shop size job jobs sequence here in
-    let there : All (λ j. Contains new j) list =
-    λ k d lt. Contains-permutation jobs new (get_or list k d) once.same (later k d lt) in
-    let rest = visited_kept shop size list new (IsSequence-permutation size jobs new once.same sequence) there in
-    record {
-      same = IsPermutation-trans jobs new (visited shop list new) once.same rest.same;
-      shorter = omega (arith, once.shorter, rest.shorter);
-    }
+    let once = moved_kept shop size job jobs sequence (All-head (λ j. Contains jobs j) job list among) in
+    kept_trans shop jobs new (visited shop list new) once
+    (visited_kept shop size list new (IsSequence-permutation size jobs new once.same sequence)
+    (still shop list jobs new once (All-tail (λ j. Contains jobs j) job list among)))
 
 pub visits_kept : (shop : FlowShop) (size : ℕ) (list : List ℕ) (passes : ℕ) (jobs : List ℕ) → IsSequence size jobs
     → All (λ job. Contains jobs job) list → IsNoLongerThan shop jobs (after_visits shop list passes jobs)
-visits_kept shop size list zero jobs sequence among =
-    record { same = IsPermutation-refl jobs; shorter = omega arith }
+visits_kept shop size list zero jobs sequence among = kept_refl shop jobs
 visits_kept shop size list (suc passes) jobs sequence among =
     let new : List ℕ = visited shop list jobs in
     let once = visited_kept shop size list jobs sequence among in
-    let there : All (λ j. Contains new j) list =
-    λ k d lt. Contains-permutation jobs new (get_or list k d) once.same (among k d lt) in
-    let rest = visits_kept shop size list passes new (IsSequence-permutation size jobs new once.same sequence) there in
-    record {
-      same = IsPermutation-trans jobs new (after_visits shop list passes new) once.same rest.same;
-      shorter = omega (arith, once.shorter, rest.shorter);
-    }
+    kept_trans shop jobs new (after_visits shop list passes new) once
+    (visits_kept shop size list passes new (IsSequence-permutation size jobs new once.same sequence)
+    (still shop list jobs new once among))
 
 -- absent jobs are inserted
 pub visited_absent : (shop : FlowShop) (size : ℕ) (more jobs : List ℕ) → IsSequence size (more ++ jobs)

@@ -26,17 +26,12 @@ use Rattle.pfs_c.specs.Numbers.{fault_number, number_returned}
 use Rattle.pfs_c.specs.declared.numbers.CallFault.{CallFault}
 use Rattle.pfs_c.specs.declared.numbers.CallFault.TheVariants as faults
 use Rattle.pfs_c.specs.declared.texts.PfsBlock.{PfsBlock}
-use Rattle.pfs_c.specs.declared.texts.PfsNotes.{PfsNotes}
 
 -- ---- arguments, as C passes them
 
 -- the layout that a number names
 abbrev pub layout_named : ℕ → Option Layout
 layout_named number = if number == 0 then Some Taillard else (if number == 1 then Some OrLib else None)
-
--- the notes in a struct of C
-abbrev pub notes_of : PfsNotes → Notes
-notes_of notes = record { seed = notes.seed; upper = notes.upper; lower = notes.lower }
 
 -- the number of machines that an order file states, where 0 means that it states none
 abbrev pub machines_stated : ℕ → Option ℕ
@@ -45,7 +40,7 @@ machines_stated machines = if machines == 0 then None else Some machines
 -- a problem and an order file from their parts, as C receives and passes them
 abbrev pub given_problem : PfsBlock → List ℕ → Problem
 given_problem block times =
-    record { shop = shop_of times block.jobs block.machines; notes = notes_of block.notes }
+    record { shop = shop_of times block.jobs block.machines; notes = block.notes }
 
 abbrev pub order_file_of : List ℕ → ℕ → ℕ → StatedOrder
 order_file_of jobs machines makespan =
@@ -175,9 +170,9 @@ abbrev pub text_in : ℕ → Problem → List ℕ
 text_in layout problem = option_map_or (λ named. canonical_text named problem) (layout_named layout) []
 
 -- the text of the flow shop that a handle holds, with these notes
-abbrev pub written : Option FlowShop → ℕ → PfsNotes → List ℕ
+abbrev pub written : Option FlowShop → ℕ → Notes → List ℕ
 written None layout notes = []
-written (Some shop) layout notes = text_in layout (record { shop = shop; notes = notes_of notes })
+written (Some shop) layout notes = text_in layout (record { shop = shop; notes = notes })
 
 -- a list whose front was overwritten with another list
 abbrev pub put_in_front : {A : Type 0} → List A → List A → List A

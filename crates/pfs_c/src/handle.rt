@@ -9,7 +9,7 @@ ghost use Rattle.pfs_c.specs.Private.Outcomes.{Rejects};
 use crate::given::{NO_NOTES, instance_of, validate_shop};
 use crate::kept::Kept;
 use crate::numbers::{CallFault, PFS_OK};
-use std::alloc::{Allocator, Global};
+use std::alloc::Global;
 use std::marker::Model;
 use std::mem::replace;
 use std::ptr::null_mut;
@@ -60,9 +60,7 @@ fn kept_of(
 pub extern "C" fn pfs_release(alloc: Global, instance: &mut Prepared)
     ensures { instance.new.shop ≡ None }
 {
-    if let Some(kept) = instance.take(alloc) {
-        drop(kept);
-    }
+    drop(instance.take(alloc));
 }
 
 /// The struct `pfs_instance` of C: the address of a prepared instance in a box, or null. `Global` takes no bytes. A type
@@ -94,29 +92,25 @@ impl Prepared {
     }
 
     // Makes a handle that holds a kept instance.
-    fn of(kept: OpenBox<Kept, Global>) -> Prepared
-        ensures { result.shop ≡ Some kept.content }
+    fn of(kept: Box<Kept>) -> Prepared
+        ensures { result.shop ≡ Some kept.value }
     {
-        let OpenBox { pointer, allocator } = kept;
+        let (at, alloc) = Box::into_raw_with_allocator(kept);
         Prepared {
-            at: pointer as *mut u8,
-            alloc: allocator,
+            at: at as *mut u8,
+            alloc,
         }
     }
 
     // Returns the instance, or `None` if the handle holds none.
-    fn into_kept(self) -> Option<OpenBox<Kept, Global>>
-        ensures { MatchOption result (self.shop ≡ None) (λ kept. self.shop ≡ Some kept.content) }
+    fn into_box(self) -> Option<Box<Kept>>
+        ensures { MatchOption result (self.shop ≡ None) (λ kept. self.shop ≡ Some kept.value) }
     {
         let Prepared { at, alloc } = self;
         if at.is_null() {
-            None
-        } else {
-            Some(OpenBox {
-                pointer: at as *mut Kept,
-                allocator: alloc,
-            })
+            return None;
         }
+        Some(unsafe { Box::from_raw(alloc, at as *mut Kept) })
     }
 
     /// Takes the instance out, after which the handle holds none. Returns `None` if it holds none before.
@@ -124,48 +118,13 @@ impl Prepared {
         ensures none { self.new.shop ≡ None }
         ensures taken { MatchOption result (self.old.shop ≡ None) (λ kept. self.old.shop ≡ Some kept.value) }
     {
-        let kept = replace(self, Prepared::none(alloc)).into_kept()?;
-        Some(kept.into_box())
+        replace(self, Prepared::none(alloc)).into_box()
     }
 
     /// Puts an instance in. One that the handle holds is released.
     pub(crate) fn put(&mut self, kept: Box<Kept>)
         ensures { self.new.shop ≡ Some kept.value }
     {
-        if let Some(old) = replace(self, Prepared::of(OpenBox::from_box(kept))).into_kept() {
-            drop(old.into_box());
-        }
-    }
-}
-
-/// A box that is taken apart, so that C can hold the pointer. It owns the content and the right to free the memory. It
-/// has no drop, so the compiler rejects a function that forgets one.
-pub(crate) struct OpenBox<T, A: Allocator> {
-    pointer: *mut T,
-    allocator: A,
-    ghost content: { T },
-}
-
-impl<T, A: Allocator> Model for OpenBox<T, A> {
-    ghost use Rattle.std.specs.Box.Ownership.{box_owns};
-
-    ghost also_owns = { λ open_box. box_owns (A.dealloc_token open_box.allocator) T.row open_box.pointer open_box.content };
-}
-
-impl<T: Drop, A: Allocator> OpenBox<T, A> {
-    // Takes a box apart.
-    fn from_box(closed: Box<T, A>) -> OpenBox<T, A>
-        ensures { result.content ≡ closed.value }
-    {
-        let (pointer, allocator) = Box::into_raw_with_allocator(closed);
-        OpenBox { pointer, allocator }
-    }
-
-    // Puts the box together again.
-    fn into_box(self) -> Box<T, A>
-        ensures { result.value ≡ self.content }
-    {
-        let OpenBox { pointer, allocator } = self;
-        unsafe { Box::from_raw(allocator, pointer) }
+        drop(replace(self, Prepared::of(kept)).into_box());
     }
 }

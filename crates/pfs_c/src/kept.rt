@@ -18,7 +18,7 @@ use crate::given::{copy_sequence, has_jobs, validate, validate_insertion, valida
 use crate::numbers::CallFault;
 use crate::rows::span_of;
 use crate::searching::RoundsOptions;
-use pfs_base::{Bench, Instance, MOST_PASSES, MOST_ROUNDS};
+use pfs_base::{Bench, Instance, MOST_JOBS, MOST_PASSES, MOST_ROUNDS};
 use pfs_order::Seq;
 use pfs_search::{Rounds, Search};
 use std::alloc::Global;
@@ -79,6 +79,14 @@ impl Kept {
         ensures within { IsWithin limits self.now }
     {
         &self.instance
+    }
+
+    /// The number of jobs.
+    pub(crate) fn jobs(&self) -> usize
+        ensures value { result ≡ self.now.jobs }
+        ensures few { result ≤ MOST_JOBS }
+    {
+        self.instance.jobs()
     }
 
     /// Writes NEH's order and the number of cells, and returns the order's makespan.

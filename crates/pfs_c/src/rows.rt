@@ -1,5 +1,5 @@
 //! Rows of heads and tails.
-ghost use Rattle.std.specs.Prelude.{◌≡◌, ℕ, ◌+◌, ◌*◌, ◌<◌, ◌≤◌, length, max, slice_index, false, true};
+ghost use Rattle.std.specs.Prelude.{◌≡◌, ℕ, ◌+◌, ◌*◌, ◌<◌, ◌≤◌, length, max, slice_index, false};
 ghost use Rattle.pfs_base.specs.FlowShop.{time_of};
 ghost use Rattle.pfs_base.specs.Paths.{makespan};
 ghost use Rattle.pfs_order.specs.Sequence.{IsSequence};
@@ -20,16 +20,15 @@ fn times_of(instance: &Instance, job: usize) -> &[u32]
     &instance.times()[first..first + machines]
 }
 
-// The greater of two lengths. They are compared as signed numbers, since x86-64 selects by that order in one step
-// (`cmovg`), and by the order of unsigned numbers in two (`cmova`).
+// The greater of two lengths, plus a time. They are compared as signed numbers, since x86-64 selects by that order in
+// one step (`cmovg`), and by the order of unsigned numbers in two (`cmova`).
 #[inline(always)]
-fn greater(a: u64, b: u64) -> u64
-    requires a { a ≤ SPAN_MAX }
-    requires b { b ≤ SPAN_MAX }
-    ensures value { result ≡ max a b }
-    ensures short { result ≤ SPAN_MAX }
+fn end_after(a: u64, b: u64, time: u32) -> u64
+    requires { (a ≤ SPAN_MAX) × (b ≤ SPAN_MAX) }
+    ensures { result ≡ max a b + time }
 {
-    if (a as i64) < (b as i64) { b } else { a }
+    let start = if (a as i64) < (b as i64) { b } else { a };
+    start + u64::from(time)
 }
 
 // The index, below `count`, that comes at a turn: they go from 0 on, or with `back` from the last one down.
@@ -41,74 +40,43 @@ fn index_in_turn(count: usize, turn: usize, back: bool) -> usize
     if back { count - 1 - turn } else { turn }
 }
 
-// Turns the row of heads before the job at a place into the row after it.
-#[inline(always)]
-fn add_head(instance: &Instance, sequence: &[u32], place: usize, heads: &mut [u64])
-    requires sequence { IsSequence instance.now.shop.jobs sequence.now }
-    requires place { place < length sequence.now }
-    requires wide { instance.now.shop.machines ≤ length heads.old }
-    requires heads { IsRow instance.now.shop sequence.now false place heads.old }
-    ensures { IsRow instance.now.shop sequence.now false (place + 1) heads.new }
-{
-    let times = times_of(instance, sequence[place] as usize);
-    let mut before = 0;
-    for machine in 0..instance.machines() {
-        before = greater(heads[machine], before) + u64::from(times[machine]);
-        heads[machine] = before;
-    }
-}
-
-// The same for two jobs. The cells of the second job wait for other cells than those of the first, so the
-// processor computes both at once.
-#[inline(always)]
-fn add_two_heads(instance: &Instance, sequence: &[u32], place: usize, heads: &mut [u64])
-    requires sequence { IsSequence instance.now.shop.jobs sequence.now }
-    requires place { place + 1 < length sequence.now }
-    requires wide { instance.now.shop.machines ≤ length heads.old }
-    requires heads { IsRow instance.now.shop sequence.now false place heads.old }
-    ensures { IsRow instance.now.shop sequence.now false (place + 2) heads.new }
-{
-    let times = times_of(instance, sequence[place] as usize);
-    let times_after = times_of(instance, sequence[place + 1] as usize);
-    let mut before = 0;
-    let mut before_after = 0;
-    for machine in 0..instance.machines() {
-        before = greater(heads[machine], before) + u64::from(times[machine]);
-        before_after = greater(before, before_after) + u64::from(times_after[machine]);
-        heads[machine] = before_after;
-    }
-}
-
-// Turns the row of tails of the last `count` jobs into that of one more.
-#[inline(always)]
-fn add_tail(instance: &Instance, sequence: &[u32], count: usize, tails: &mut [u64])
-    requires sequence { IsSequence instance.now.shop.jobs sequence.now }
-    requires count { count < length sequence.now }
-    requires wide { instance.now.shop.machines ≤ length tails.old }
-    requires tails { IsRow instance.now.shop sequence.now true count tails.old }
-    ensures { IsRow instance.now.shop sequence.now true (count + 1) tails.new }
-{
-    let times = times_of(instance, sequence[sequence.len() - 1 - count] as usize);
-    let mut after = 0;
-    for machine in (0..instance.machines()).rev() {
-        after = greater(tails[machine], after) + u64::from(times[machine]);
-        tails[machine] = after;
-    }
-}
-
-// Adds a job to a row of heads, or with `back` to a row of tails.
+// Adds a job to the row of heads of the first `count` jobs, or with `back` to the row of tails of the last ones.
 #[inline(always)]
 fn add_job(instance: &Instance, sequence: &[u32], count: usize, row: &mut [u64], back: bool)
     requires sequence { IsSequence instance.now.shop.jobs sequence.now }
     requires count { count < length sequence.now }
-    requires wide { instance.now.shop.machines ≤ length row.old }
     requires row { IsRow instance.now.shop sequence.now back count row.old }
     ensures { IsRow instance.now.shop sequence.now back (count + 1) row.new }
 {
-    if back {
-        add_tail(instance, sequence, count, row);
-    } else {
-        add_head(instance, sequence, count, row);
+    let machines = instance.machines();
+    let job = sequence[index_in_turn(sequence.len(), count, back)];
+    let times = times_of(instance, job as usize);
+    let mut before = 0;
+    for turn in 0..machines {
+        let machine = index_in_turn(machines, turn, back);
+        before = end_after(row[machine], before, times[machine]);
+        row[machine] = before;
+    }
+}
+
+// Adds two jobs to a row of heads. The cells of the second job wait for other cells than those of the first, so the
+// processor computes both at once.
+#[inline(always)]
+fn add_two_jobs(instance: &Instance, sequence: &[u32], count: usize, heads: &mut [u64])
+    requires sequence { IsSequence instance.now.shop.jobs sequence.now }
+    requires count { count + 1 < length sequence.now }
+    requires row { IsRow instance.now.shop sequence.now false count heads.old }
+    ensures { IsRow instance.now.shop sequence.now false (count + 2) heads.new }
+{
+    let machines = instance.machines();
+    let times = times_of(instance, sequence[count] as usize);
+    let times_after = times_of(instance, sequence[count + 1] as usize);
+    let mut before = 0;
+    let mut before_after = 0;
+    for machine in 0..machines {
+        before = end_after(heads[machine], before, times[machine]);
+        before_after = end_after(before, before_after, times_after[machine]);
+        heads[machine] = before_after;
     }
 }
 
@@ -123,10 +91,10 @@ pub(crate) fn span_of(instance: &Instance, sequence: &[u32]) -> u64
     let mut heads = [0; MOST_MACHINES];
     let len = sequence.len();
     for pair in 0..len / 2 {
-        add_two_heads(instance, sequence, 2 * pair, &mut heads);
+        add_two_jobs(instance, sequence, 2 * pair, &mut heads);
     }
     if len % 2 == 1 {
-        add_head(instance, sequence, len - 1, &mut heads);
+        add_job(instance, sequence, len - 1, &mut heads, false);
     }
     heads[machines - 1]
 }

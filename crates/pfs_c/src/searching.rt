@@ -37,7 +37,7 @@ pub extern "C" fn pfs_neh(
     let Some(mut kept) = instance.take(alloc) else {
         return CallFault::NotPrepared.number();
     };
-    let valid = validate(order.len() == kept.instance().jobs(), CallFault::Length);
+    let valid = validate(order.len() == kept.jobs(), CallFault::Length);
     if valid.is_ok() {
         *span = kept.neh(alloc, order, cells);
     }
@@ -130,7 +130,7 @@ fn construct_in(
     ensures kept_order { IfErr result (λ _. order.new ≡ order.old) }
     ensures kept_span { IfErr result (λ _. span.new ≡ span.old) }
 {
-    let jobs = kept.instance().jobs();
+    let jobs = kept.jobs();
     let all = sequence.len() + more.len();
     validate(order.len() == all, CallFault::Length)?;
     validate_jobs(jobs, sequence)?;
@@ -180,7 +180,7 @@ fn local_search_in(
     ensures kept_sequence { IfErr result (λ _. sequence.new ≡ sequence.old) }
     ensures kept_span { IfErr result (λ _. span.new ≡ span.old) }
 {
-    let jobs = kept.instance().jobs();
+    let jobs = kept.jobs();
     validate_jobs(jobs, sequence)?;
     validate_jobs(jobs, list)?;
     validate_members(sequence, list)?;

@@ -40,7 +40,7 @@ pub extern "C" fn pfs_makespan(
     let Some(kept) = instance.take(alloc) else {
         return CallFault::NotPrepared.number();
     };
-    let valid = validate_jobs(kept.instance().jobs(), sequence);
+    let valid = validate_jobs(kept.jobs(), sequence);
     if valid.is_ok() {
         *span = span_of(kept.instance(), sequence);
     }
@@ -84,7 +84,7 @@ pub extern "C" fn pfs_makespans(
     let Some(kept) = instance.take(alloc) else {
         return CallFault::NotPrepared.number();
     };
-    let valid = validate_many(kept.instance().jobs(), sequences, len, makespans.len());
+    let valid = validate_many(kept.jobs(), sequences, len, makespans.len());
     if valid.is_ok() {
         fill_makespans(kept.instance(), sequences, len, makespans);
     }

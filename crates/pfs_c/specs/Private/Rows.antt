@@ -1,5 +1,5 @@
 -- Rows of heads and tails, as a loop over the machines fills them.
-use Rattle.std.specs.Prelude.{◌≡◌, ℕ, zero, suc, ◌-◌, ◌<◌, List, Bool, true, false, length, slice_index}
+use Rattle.std.specs.Prelude.{◌≡◌, ℕ, zero, suc, ◌-◌, ◌<◌, ◌≤◌, List, Bool, true, false, length, slice_index}
 use Rattle.pfs_base.specs.FlowShop.{FlowShop}
 use Rattle.pfs_base.specs.Paths.{heaviest, operation}
 use Rattle.pfs_c.specs.HeadsTails.{AreRowHeads, AreRowTails}
@@ -20,9 +20,10 @@ done_before weigh zero machine = 0
 done_before weigh (suc row) machine = heaviest weigh 0 0 row machine
 
 -- a row has these weights for the first `count` jobs, or for the last ones
-abbrev pub IsRow : FlowShop → List ℕ → Bool → ℕ → List ℕ → Type 0
-IsRow shop jobs back count row = (turn : ℕ) → turn < shop.machines
-    → slice_index row (in_turn back shop.machines turn) ≡ done_before (turned shop jobs back) count turn
+pub record IsRow (shop : FlowShop) (jobs : List ℕ) (back : Bool) (count : ℕ) (row : List ℕ) : Type 0 where
+  pub wide : shop.machines ≤ length row
+  pub each : (turn : ℕ) → turn < shop.machines
+      → slice_index row (in_turn back shop.machines turn) ≡ done_before (turned shop jobs back) count turn
 
 -- a table has the rows of all jobs
 abbrev pub AreRows : FlowShop → List ℕ → Bool → List ℕ → Type 0

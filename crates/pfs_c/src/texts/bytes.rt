@@ -1,11 +1,10 @@
-//! Bytes in memory as a source and as a sink.
-ghost use Rattle.std.specs.Prelude.{◌≡◌, ◌≢◌, length, Some, [], false};
+//! Bytes in memory as a source, and a text that is returned.
+ghost use Rattle.std.specs.Prelude.{◌≡◌, ◌≢◌, length, Some, false};
 ghost use Rattle.pfs_c.specs.Numbers.{number_returned};
 ghost use Rattle.pfs_c.specs.Texts.{put_in_front, room_fault};
 
 use crate::numbers::{CallFault, PFS_OK};
-use pfs_base::{Sink, Source};
-use std::alloc::{AllocError, Global};
+use pfs_base::Source;
 
 /// A source of bytes in memory, which never fails.
 #[derive(Drop)]
@@ -47,53 +46,6 @@ impl Source for Bytes<'_> {
 
     fn failed(&self) -> bool {
         false
-    }
-}
-
-/// A sink that collects a text in a buffer. It fails if the allocation for more bytes fails.
-#[derive(Drop)]
-pub(super) struct Text {
-    bytes: Vec<u8>,
-    failed: bool,
-}
-
-impl Text {
-    /// Makes an empty sink.
-    pub(super) fn new(alloc: Global) -> Text
-        ensures written { ⟦<Text as Sink>⟧.written result ≡ Some [] }
-        ensures working { ⟦<Text as Sink>⟧.has_failed result ≡ false }
-    {
-        Text {
-            bytes: Vec::new(alloc),
-            failed: false,
-        }
-    }
-
-    /// Returns the bytes that were written to it.
-    pub(super) fn into_bytes(self) -> Vec<u8>
-        ensures { Some result.items ≡ ⟦<Text as Sink>⟧.written self }
-    {
-        self.bytes
-    }
-}
-
-impl Sink for Text {
-    ghost written = { λ t. Some t.bytes.items };
-
-    ghost has_failed = { λ t. t.failed };
-
-    fn write(&mut self, bytes: &[u8]) -> Option<usize> {
-        match self.bytes.extend_from_slice(bytes) {
-            Ok(()) => Some(bytes.len()),
-            Err(AllocError) => {
-                self.failed = true;
-                None
-            }
-        }
-    }
-
-    fn failed(&self) -> bool {
-        self.failed
     }
 }
 

@@ -14,7 +14,7 @@ ghost use Rattle.pfs_c.specs.Texts.{HoldsProblem, HasFault, NeedsMemory, Returns
 use crate::given::copy_sequence;
 use crate::numbers::{CallFault, PFS_NO_BLOCK, PFS_OK, PFS_ROOM, PFS_SYNTAX};
 use crate::texts::bytes::Bytes;
-use crate::texts::{PfsBlock, PfsNotes, layout_of};
+use crate::texts::{PfsBlock, layout_of};
 use pfs_base::{Instance, MOST_BLOCKS};
 use pfs_layout::{Layout, LayoutFault, read_block};
 use pfs_order::{OrderFault, OrderFile, read_order};
@@ -69,7 +69,7 @@ pub extern "C" fn pfs_read(
     *found = PfsBlock {
         jobs: instance.jobs(),
         machines: instance.machines(),
-        notes: PfsNotes::from_notes(instance.notes()),
+        notes: instance.notes(),
     };
     let read = instance.times();
     if times.len() < read.len() {

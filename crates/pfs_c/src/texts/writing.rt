@@ -2,16 +2,16 @@
 ghost use Rattle.std.specs.Prelude.{◌≡◌, ◌≢◌, length, IfOk};
 ghost use Rattle.pfs_order.specs.OrderText.{file_text};
 ghost use Rattle.pfs_c.specs.Private.Outcomes.{Rejects};
-ghost use Rattle.pfs_c.specs.Texts.{layout_fault, machines_stated, notes_of, put_in_front, text_in, written};
+ghost use Rattle.pfs_c.specs.Texts.{layout_fault, machines_stated, put_in_front, text_in, written};
 ghost use Rattle.pfs_c.specs.Texts.{write_order_fault, ReturnsWrite};
 ghost use Rattle.pfs_c.specs.Validation.{on_shop};
 
 use crate::given::{instance_of, order_of, validate_jobs};
 use crate::handle::Prepared;
 use crate::numbers::{CallFault, PFS_OK, PFS_ROOM};
-use crate::texts::bytes::{Text, return_text};
-use crate::texts::{PfsNotes, layout_of};
-use pfs_base::{Instance, MOST_JOBS, MOST_MACHINES};
+use crate::texts::bytes::return_text;
+use crate::texts::layout_of;
+use pfs_base::{Instance, MOST_JOBS, MOST_MACHINES, Notes, ToWrite};
 use pfs_layout::write_block;
 use pfs_order::write_order;
 use std::alloc::Global;
@@ -28,7 +28,7 @@ const MOST_MAKESPAN: u64 = 999_999_999_999_999_999;
 pub extern "C" fn pfs_write(
     alloc: Global,
     instance: &mut Prepared,
-    notes: &PfsNotes,
+    notes: &Notes,
     layout: u32,
     text: &mut [u8],
     len: &mut usize,
@@ -57,20 +57,20 @@ pub extern "C" fn pfs_write(
 fn file_in(
     alloc: Global,
     instance: &Instance,
-    notes: &PfsNotes,
+    notes: &Notes,
     layout: u32,
 ) -> Result<Vec<u8>, CallFault>
     ensures rejected { Rejects result (layout_fault layout) }
     ensures text { IfOk result (λ file.
-        file.items ≡ text_in layout (record { shop = instance.now.shop; notes = notes_of notes.now })) }
+        file.items ≡ text_in layout (record { shop = instance.now.shop; notes = notes.now })) }
     ensures room { result ≢ Err CallFault.Room }
 {
     let named = layout_of(layout).ok_or(CallFault::Layout)?;
     let (times, jobs, machines) = (instance.times(), instance.jobs(), instance.machines());
-    let noted = instance_of(alloc, times, jobs, machines, notes.notes())?;
-    let mut text = Text::new(alloc);
+    let noted = instance_of(alloc, times, jobs, machines, *notes)?;
+    let mut text = ToWrite::new(Vec::new(alloc));
     write_block(&mut text, &noted, named).or(Err(CallFault::Memory))?;
-    Ok(text.into_bytes())
+    Ok(text.into_writer())
 }
 
 /// Writes an order of all jobs and a makespan as an order file into the front of `text`: a file of version 1 if
@@ -122,7 +122,7 @@ fn order_file_in(
     }
     let order = order_of(alloc, order)?;
     let stated = if machines == 0 { None } else { Some(machines) };
-    let mut text = Text::new(alloc);
+    let mut text = ToWrite::new(Vec::new(alloc));
     write_order(&mut text, &order, stated, makespan).or(Err(CallFault::Memory))?;
-    Ok(text.into_bytes())
+    Ok(text.into_writer())
 }

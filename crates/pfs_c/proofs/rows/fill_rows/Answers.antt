@@ -18,7 +18,6 @@ loop-count-preserved c =
       row = c.add_job.ensures;
       done = rw wide.value (rows_more c.args.instance.now.shop c.args.sequence.now c.args.back at.count _ _ at.table
           c.add_job.new.row c.copy_from_slice.new.self at.invariant.done c.loop-count-test.true c.add_job.ensures
-          (omega (arith, c.add_job.auto.row, wide.within.sizes.few_machines))
           (omega (arith, at.auto.table, c.requires.long))
           c.index_in_turn.ensures (omega (arith, wide.value)) (rw wide.value at c.copy_from_slice.ensures.after));
     }

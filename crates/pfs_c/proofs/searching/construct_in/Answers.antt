@@ -1,26 +1,21 @@
-use Rattle.std.proofs.Common.{◌++◌, ℕ, length, drop, ap, refl, subst, ◌∙◌, arith}
+use Rattle.std.proofs.Common.{ℕ, length, drop, refl, arith}
 use Rattle.std.proofs.lemmas.Bool.{eqb-true}
 use Rattle.std.proofs.lemmas.List.{length-append, length-drop, take_at}
-use Rattle.pfs_base.specs.FlowShop.{FlowShop}
-use Rattle.pfs_order.specs.Sequence.{IsSequence}
 use Rattle.pfs_c.specs.Building.{visited}
 use Rattle.pfs_c.proofs.Gathered.{construct_is, more_small}
 use Rattle.pfs_c.proofs.searching.construct_in.Goals as goal
 
 pub visit-requires-clause-small : goal.visit-requires-clause-small
 visit-requires-clause-small c =
-    let shop = c.args.kept.now in
-    let same = c.jobs-jobs.ensures.value ∙ ap (λ (s : FlowShop). s.jobs) c.instance.ensures.value in
-    more_small shop.jobs c.args.sequence.now c.args.more.now
-    (subst (λ n. IsSequence n (c.args.sequence.now ++ c.args.more.now)) same c.in_ok-validate_more.ensures.together)
+    more_small c.args.kept.now.jobs c.args.sequence.now c.args.more.now
+    (rw c.jobs-jobs.ensures.value at c.in_ok-validate_more.ensures.together)
 
 pub visit-requires-clause-long : goal.visit-requires-clause-long
 visit-requires-clause-long c =
     let shop = c.args.kept.now in
     let sequence = c.args.sequence.now in
-    let same = c.jobs-jobs.ensures.value ∙ ap (λ (s : FlowShop). s.jobs) c.instance.ensures.value in
     let found = construct_is shop sequence c.args.more.now (visited shop c.args.more.now sequence)
-    (subst (λ n. IsSequence n (sequence ++ c.args.more.now)) same c.in_ok-validate_more.ensures.together) refl in
+    (rw c.jobs-jobs.ensures.value at c.in_ok-validate_more.ensures.together) refl in
     rw (
       c.copy_from_slice.ensures.after,
       take_at sequence (drop (length sequence) c.args.order.now) (length sequence) refl,
@@ -35,12 +30,10 @@ visit-requires-clause-long c =
 
 pub returns-clause-done : goal.returns-clause-done
 returns-clause-done c =
-    let shop = c.args.kept.now in
     let sequence = c.args.sequence.now in
-    let same = c.jobs-jobs.ensures.value ∙ ap (λ (s : FlowShop). s.jobs) c.instance.ensures.value in
     let is = rw (
       c.copy_from_slice.ensures.after,
       take_at sequence (drop (length sequence) c.args.order.now) (length sequence) refl,
     ) at c.visit.ensures.order in
-    rw c.visit.ensures.span (construct_is shop sequence c.args.more.now c.visit.new.order
-    (subst (λ n. IsSequence n (sequence ++ c.args.more.now)) same c.in_ok-validate_more.ensures.together) is)
+    rw c.visit.ensures.span (construct_is c.args.kept.now sequence c.args.more.now c.visit.new.order
+    (rw c.jobs-jobs.ensures.value at c.in_ok-validate_more.ensures.together) is)

@@ -1,7 +1,5 @@
-use Rattle.std.proofs.Common.{ap, refl, subst, sym, ◌∙◌}
+use Rattle.std.proofs.Common.{refl, sym}
 use Rattle.std.proofs.Math.Seq.{take-length}
-use Rattle.pfs_base.specs.FlowShop.{FlowShop}
-use Rattle.pfs_order.specs.Sequence.{IsSequence}
 use Rattle.pfs_c.specs.Building.{after_visits}
 use Rattle.pfs_c.proofs.Gathered.{search_is}
 use Rattle.pfs_c.proofs.searching.local_search_in.Goals as goal
@@ -10,19 +8,16 @@ pub visit-requires-clause-long : goal.visit-requires-clause-long
 visit-requires-clause-long c =
     let shop = c.args.kept.now in
     let sequence = c.args.sequence.now in
-    let same = c.jobs-jobs.ensures.value ∙ ap (λ (s : FlowShop). s.jobs) c.instance.ensures.value in
     let found = search_is shop sequence c.args.list.now c.args.passes
     (after_visits shop c.args.list.now c.args.passes sequence)
-    (subst (λ n. IsSequence n sequence) same (c.in_ok-validate_jobs.ensures.sequence.0 refl))
+    (rw c.jobs-jobs.ensures.value at (c.in_ok-validate_jobs.ensures.sequence.0 refl))
     c.in_ok-validate_members.ensures.members refl in
     rw (take-length sequence) (sym found.long)
 
 pub returns-clause-done : goal.returns-clause-done
 returns-clause-done c =
-    let shop = c.args.kept.now in
     let sequence = c.args.sequence.now in
-    let same = c.jobs-jobs.ensures.value ∙ ap (λ (s : FlowShop). s.jobs) c.instance.ensures.value in
     let is = rw (take-length sequence) at c.visit.ensures.order in
-    rw c.visit.ensures.span (search_is shop sequence c.args.list.now c.args.passes c.visit.new.order
-    (subst (λ n. IsSequence n sequence) same (c.in_ok-validate_jobs.ensures.sequence.0 refl))
+    rw c.visit.ensures.span (search_is c.args.kept.now sequence c.args.list.now c.args.passes c.visit.new.order
+    (rw c.jobs-jobs.ensures.value at (c.in_ok-validate_jobs.ensures.sequence.0 refl))
     c.in_ok-validate_members.ensures.members is)

@@ -1,0 +1,186 @@
+-- The memory of a handle goes to a box, if the pointer is not null.
+use mathlib.Core.Path.{◌≡◌, refl, sym, ap}
+use mathlib.Core.List.{List, [], ◌∷◌}
+use lib.Dec.{lit<}
+use seplogic.Ra.Ura.{Ura}
+use mir.Raw.{raw as bare}
+use mir.Syntax.{a_type, dcons, dnil}
+use mir.Val.{Val, of_list, vptr}
+use base.Fml.{Fml, flft, ftrue}
+use base.Fraction.{full_share}
+use base.Logic.{SProp, emp, ent, sep, guard, guard_i, fst∗, never, snd∗, via, id⊢}
+use prog.Model.{Model}
+use prog.Wp.{WpFn}
+use contract.BorrowLft.{◌⊑◌, ⊑_static}
+use contract.Lifetimes.{Lfts, Shares, AllOutlive}
+use contract.Monad.{fact, fact_i, fact_use}
+use contract.Running.{Running, MachineTables, tables}
+use types.Logic.{Logic, sem}
+use types.Kit.{‵, raw, ◌⊛◌, some, later, given, prop, at_ret, ◌$◌, ◌∵◌, !, qed, use0, use1, use2, await, pick, split, join}
+use types.Kit.{fsplit, fpick, feq_i, learn, regoal, suffices, keep, move, drop, done}
+use types.Match.{live}
+use types.Part.{agg, sub, whole}
+use types.Run.{enter, of_opd, bin, lit, and_then, no_more, first, blocks, branches, skips, exec, returns, returns_within}
+use types.Run.{fld, stop}
+use types.ByLocal.{alloc_all, pass_all, free_all, look_at, get, get_in, sets, lands_last, env}
+use denote.Exit.{yes}
+use denote.Laws.{Is, shows}
+use denote.Memory.{lone}
+use denote.Param.{bounded}
+use denote.Param.NoDrop.{glues}
+use denote.RawPtr.{Ptr, block_ptr, null_ptr, in_a_block, Testable, tests_null, rawptr_Lawful}
+use denote.Signature.{plain}
+use denote.Steps.{heard, nothing, owned, peeks}
+use denote.Triple.Call.{calls_at_last}
+use denote.Triple.Clauses.{Clauses, Ended, Lasts, lasts}
+use denote.Triple.Entry.{on_entry}
+use denote.Triple.Spec.{triple_of}
+use denote.Triple.Statement.{Contract, Triple}
+use denote.Triple.Table.{framed}
+use denote.Triple.Walked.{Stays, walk_of, stay_dropped, Goes-dropped, ends_at, says}
+use Rattle.core.specs.Ptr.{points_to}
+use Rattle.core.proofs.option.Made.{Some-of, none_of}
+use Rattle.core.specs.contracts.option.Option as option
+use Rattle.std.proofs.raw_atomic.Walks.{proved}
+use Rattle.std.specs.Prelude.{Option, None, Some}
+use Rattle.std_alloc.specs.Box.Ownership.{box_owns}
+use Rattle.std_alloc.proofs.ResultValues.{and_tt}
+use Rattle.std_alloc.specs.contracts.boxed.Box.from_raw as g
+use Rattle.std_alloc.proofs.boxed.Box.from_raw.Met.{met as raw-met}
+use Rattle.std_heap.specs.declared.Global.{Global}
+use Rattle.std_heap.specs.contracts.Global.{the_row as global}
+use Rattle.std_heap.specs.contracts.GlobalAllocator.TheImpl.{ghosts, dict}
+use Rattle.std_heap.proofs.Global.TheLaws as of-global
+use Rattle.std_heap.proofs.GlobalAllocator.TheImpl.Met.{passed}
+use Rattle.std_heap.proofs.GlobalToken.{dealloc_token-Testable}
+use Rattle.pfs_c.specs.contracts.kept.Kept.{the_row as kept}
+use Rattle.pfs_c.specs.contracts.handle.Prepared.{the_row as handle}
+use Rattle.pfs_c.specs.declared.handle.Prepared.{Prepared}
+use Rattle.pfs_c.proofs.handle.Prepared.TheLaws.{lowered, lowers}
+use Rattle.pfs_c.specs.contracts.handle.Prepared.into_box as f
+use Rattle.pfs_c.proofs.handle.Prepared.into_box.Statement.{statement}
+use Rattle.pfs_c.proofs.handle.Prepared.into_box.Code as code
+use Rattle.pfs_c.proofs.HandleValues.{A, A-laws, T, T-laws, boxed, boxed-laws, drops-a, global-is, global-made}
+use Rattle.pfs_c.proofs.HandleValues.{global-typed, handle-typed, κs-static, tokens}
+
+abbrev stayed : Stays f.ended.signature.params f.ended.kept
+stayed = (stay_dropped _ yes, tt)
+
+abbrev given-back : Ended
+given-back = g.ended T A ghosts dict drops-a
+
+abbrev owned-by : Global → Ptr → kept.Denot → Fml
+owned-by alloc at x = box_owns (ghosts.dealloc_token alloc) kept at x
+
+module _ {M : Type 1} (𝓤 : Ura M) (𝓛 : Logic 𝓤) (𝓜 : Model 𝓤 𝓛.H) (𝓡 : Running 𝓤 𝓛.H 𝓜) where
+  abbrev 𝓣 : MachineTables 𝓤 𝓛.H 𝓜
+  𝓣 = tables 𝓤 𝓛.H 𝓜 𝓡 𝓡.env
+
+  abbrev c : Clauses 𝓤 f.ended
+  c = f.clauses 𝓛 𝓜.mem 𝓡.returns
+
+  abbrev G : Contract 𝓤
+  G = triple_of 𝓛 (g.signature T A ghosts dict drops-a) (g.spec T A ghosts dict drops-a 𝓛 𝓜.mem 𝓡.returns)
+
+  -- Who may free a block may compare its address with null.
+  testable : (alloc : Global) (at : Ptr) (x : kept.Denot)
+      → ent 𝓤 (sem 𝓛 (owned-by alloc at x)) (guard 𝓤 (Testable at) (sem 𝓛 (owned-by alloc at x)))
+  testable alloc at x =
+      let token = sem 𝓛 (ghosts.dealloc_token alloc (bare (lone kept.mir)) at) in
+      fact_use 𝓤 (Testable at) (via 𝓤 token (snd∗ 𝓤 (sem 𝓛 (points_to kept at x)) token)
+      (dealloc_token-Testable 𝓛 alloc (bare (lone kept.mir)) at))
+      (λ may. guard_i 𝓤 (Testable at) (sem 𝓛 (owned-by alloc at x)) may)
+
+  module _ (κs : Lfts 0) (qs : Shares 0) (bounds : AllOutlive 0 f.signature.outlives κs)
+      (meets : Triple 𝓤 (𝓣.C (g.Key.name (bounded (a_type ∷ a_type ∷ []) (T, (A, tt)) (dcons dict (dcons drops-a
+      dnil))))) G) where
+    abbrev y : Prepared → (walk_of 𝓛 f.ended stayed c).Ghost
+    y h = ((κs, qs, bounds, (h, tt), (lowered h ∷ [], tt)), tt)
+
+    abbrev post : Prepared → Val → SProp 𝓤
+    post h = (walk_of 𝓛 f.ended stayed c).post (y h)
+
+    abbrev Runs : Prepared → SProp 𝓤
+    Runs h = WpFn 𝓤 𝓛.H 𝓣.C 𝓣.Λ code.function (lowered h ∷ []) (post h)
+
+    abbrev Walk : Prepared → Type 1
+    Walk h = ent 𝓤 (sep 𝓤 (on_entry 𝓛 f.signature κs qs (h, tt) (lowered h ∷ [], tt)) (sem 𝓛 ftrue)) (Runs h)
+
+    walk : (at : Ptr) (alloc : Global) (shop : Option kept.Denot) → Walk (record {
+      at = at;
+      alloc = alloc;
+      shop = shop;
+    })
+    walk at alloc None =
+        let h : Prepared = record { at = at; alloc = alloc; shop = None } in
+        let none : Prepared = record { at = null_ptr; alloc = alloc; shop = None } in
+        qed 𝓛 ((‵ ftrue ⊛ ‵ (handle.own_val h (lowered h ∷ [])) ⊛ ‵ ftrue) ∷ ‵ ftrue ∷ []) ∵
+        split ! $ drop ! $ split ! $ fsplit ! $ move ! (1 ∷ []) $ fpick ! (λ is_null. drop ! $ drop ! $ drop ! $ drop ! $
+        regoal ! (λ (p : Ptr). prop (Runs (record h { at = p }))) is_null refl $
+        enter ! _ _ _ _ _ $ alloc_all ! (λ l. pass_all ! refl (handle-typed 𝓛 none) $
+        sets ! (of_opd ! (get_in ! (fld ! refl (stop !)) (sub ! 0 refl (whole !)))) refl ((rawptr_Lawful 𝓛).typed null_ptr _ refl).0 $
+        sets ! (of_opd ! (get_in ! (fld ! refl (stop !)) (sub ! 1 refl (whole !)))) refl (global-typed 𝓛 alloc).0 $
+        sets ! (of_opd ! (get ! refl)) refl ((rawptr_Lawful 𝓛).typed null_ptr _ refl).0 $
+        sets ! (bin ! (get ! refl) (lit ! tt) (tests_null null_ptr (lit< tt))) refl (tt, tt) $
+        first ! $ branches ! (get ! refl)
+        (λ _. sets ! (agg ! (and_then ! (lit ! tt) (no_more !))) refl (tt, (record { fits = lit< tt }, tt)) $
+        returns_within ! (post none) refl (look_at ! 0 refl) $ free_all ! refl $
+        use0 𝓛 (‵ ((option.the_row boxed).own_val None (live 0 (of_list []) ∷ []))) (none_of 𝓛 boxed) $
+        suffices ! _ (ends_at 𝓛 f.ended stayed c (y none) (live 0 (of_list [])) None (tt, tt) (tt, tt)) $ says ! refl $
+        nothing ! $ nothing ! $ join ! $ nothing ! $ done !)
+        (λ holds. absurd holds)))
+    walk at alloc (Some x) =
+        let h : Prepared = record { at = at; alloc = alloc; shop = Some x } in
+        qed 𝓛 ((‵ ftrue ⊛ ‵ (handle.own_val h (lowered h ∷ [])) ⊛ ‵ ftrue) ∷ ‵ ftrue ∷ []) ∵
+        split ! $ drop ! $ split ! $ fsplit ! $ keep ! (1 ∷ []) $
+        in_a_block ! at (λ p. owned-by alloc p x) (fst∗ 𝓤 (never 𝓤) (sem 𝓛 (ghosts.dealloc_token alloc (bare (lone kept.mir)) null_ptr))) (λ b o is_block.
+        let there : Prepared = record h { at = block_ptr b o } in
+        let word : List Val = vptr b o ∷ [] in
+        let args : Global × (Ptr × Unit {0}) = (alloc, (block_ptr b o, tt)) in
+        let z : G.Ghost = ((κs-static, (full_share, (full_share, tt)), tt, args, (of-global.lowered alloc ∷ [], (word, tt))), x) in
+        regoal ! (λ (p : Ptr). prop (Runs (record h { at = p }))) is_block refl $
+        use1 𝓛 (given (Testable (block_ptr b o)) (‵ (owned-by alloc (block_ptr b o) x))) (testable alloc (block_ptr b o) x) $ learn ! (λ may.
+        enter ! _ _ _ _ _ $ alloc_all ! (λ l. pass_all ! refl (handle-typed 𝓛 there) $
+        sets ! (of_opd ! (get_in ! (fld ! refl (stop !)) (sub ! 0 refl (whole !)))) refl (tt, tt) $
+        sets ! (of_opd ! (get_in ! (fld ! refl (stop !)) (sub ! 1 refl (whole !)))) refl (global-typed 𝓛 alloc).0 $
+        sets ! (of_opd ! (get ! refl)) refl (tt, tt) $
+        sets ! (bin ! (get ! refl) (lit ! tt) (tests_null (block_ptr b o) may)) refl (tt, tt) $
+        first ! $ branches ! (get ! refl)
+        (λ holds. absurd holds)
+        (λ _. skips ! $ exec ! 𝓣.C 𝓣.Λ (env code.Mir.locals l) code.Mir.t-6 (at_ret (env code.Mir.locals l) (post there)) $
+        first ! $ blocks ! $ sets ! (of_opd ! (get ! refl)) refl (global-typed 𝓛 alloc).0 $
+        sets ! (of_opd ! (get ! refl)) refl (tt, tt) $ sets ! (of_opd ! (get ! refl)) refl (tt, tt) $
+        nothing ! $ feq_i ! (List Val) word word refl $ join ! $
+        owned ! global (Is global) (global-made 𝓛) alloc (of-global.lowered alloc ∷ []) (global-is alloc) $ join ! $
+        nothing ! $ use0 𝓛 (‵ (flft [] full_share)) (𝓛.lfts.lft-nil full_share) $ join ! $
+        use0 𝓛 (‵ (flft [] full_share)) (𝓛.lfts.lft-nil full_share) $ join ! $ join ! $ move ! (1 ∷ []) $
+        use0 𝓛 (raw (fact 𝓤 ([] ⊑ A.lives))) (fact_i 𝓤 ([] ⊑ A.lives) (emp 𝓤) (⊑_static [])) $ join ! $
+        use0 𝓛 (raw (fact 𝓤 ([] ⊑ T.lives))) (fact_i 𝓤 ([] ⊑ T.lives) (emp 𝓤) (⊑_static [])) $ join ! $ move ! (1 ∷ []) $
+        use2 𝓛 (raw (G.pre z)) (id⊢ 𝓤 _) $
+        calls_at_last ! (framed 𝓤 𝓛.H 𝓜 𝓣) G meets z (and_then ! (get ! refl) (and_then ! (get ! refl) (no_more !))) (λ w.
+        use1 𝓛 (later (some (λ (r : boxed.Denot). (‵ tokens ⊛ ‵ (boxed.own_val r (w ∷ []))) ⊛
+        some (λ (ws : Lasts given-back κs-static args). ‵ (lasts given-back κs-static args ws) ⊛ raw (fact 𝓤 (r.value ≡ x)) ⊛ raw (fact 𝓤 (r.alloc ≡ alloc)))))) (id⊢ 𝓤 _) $
+        await ! tt $ pick ! (λ r. split ! $ split ! $ drop ! $ peeks ! boxed (Is boxed) (shows 𝓛 boxed) r (w ∷ []) (λ is.
+        let fits = (boxed-laws.lawful 𝓛).typed r (w ∷ []) is in
+        move ! (1 ∷ []) $ pick ! (λ ws. split ! $ drop ! $ split ! $ heard ! _ (λ is_value. drop ! $
+        lands_last ! refl fits.0 $
+        exec ! 𝓣.C 𝓣.Λ (env code.Mir.locals l) code.Mir.t-7 (at_ret (env code.Mir.locals l) (post there)) $
+        sets ! (of_opd ! (get ! refl)) refl fits.0 $
+        sets ! (agg ! (and_then ! (lit ! tt) (and_then ! (get ! refl) (no_more !)))) refl
+        (and_tt _ fits.0.0, (record { fits = lit< tt }, (fits.0.1, tt))) $
+        returns ! (look_at ! 0 refl) $ free_all ! refl $
+        use1 𝓛 (‵ ((option.the_row boxed).own_val (Some r) (live 1 (of_list (w ∷ [])) ∷ []))) (Some-of 𝓛 boxed r w) $
+        suffices ! _ (ends_at 𝓛 f.ended stayed c (y there) (live 1 (of_list (w ∷ []))) (Some r) (tt, tt) (tt, tt)) $ says ! (ap Some (sym is_value)) $
+        nothing ! $ nothing ! $ join ! $ nothing ! $ done !)))))))))
+
+pub into_box_spec : {M : Type 1} → statement M
+unfolding Rattle.pfs_c.proofs.Destruct++none.drop.Code.code
+into_box_spec 𝓤 𝓛 𝓜 𝓡 wired =
+    let γ = 𝓡.env in
+    let meets = raw-met 𝓤 𝓛 𝓜 𝓡 (code.calls-std_alloc::boxed::Box::from_raw γ wired) T A T-laws A-laws ghosts dict drops-a
+    (passed γ (code.calls-std_heap::GlobalAllocator::allocate γ wired) (code.calls-std_heap::GlobalAllocator::deallocate γ wired) (code.calls-std_heap::GlobalAllocator::grow γ wired) (code.calls-std_heap::GlobalAllocator::shrink γ wired) _ 𝓤 𝓛 𝓜 𝓡)
+    (glues "pfs_c::Destruct++none::drop" γ (code.calls-pfs_c::Destruct++none::drop γ wired) A A-laws _ 𝓤 𝓛 𝓜 𝓡) in
+    proved 𝓛 f.ended stayed (c 𝓤 𝓛 𝓜 𝓡) 𝓜 𝓡 (Goes-dropped 𝓛 0 (plain (λ _. handle)) yes (λ κs x w. refl), tt)
+    f.Key.name code.function (code.unfolded 𝓤 𝓛.H 𝓜 𝓡 wired)
+    (λ κs. ((λ h. lowered h ∷ []), tt)) (λ κs. (lowers.val_is, tt)) (λ κs qs bounds a _ are.
+    walk 𝓤 𝓛 𝓜 𝓡 κs qs bounds meets a.0.at a.0.alloc a.0.shop)
