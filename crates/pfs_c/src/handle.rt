@@ -125,6 +125,8 @@ impl Prepared {
     pub(crate) fn put(&mut self, kept: Box<Kept>)
         ensures { self.new.shop ≡ Some kept.value }
     {
-        drop(replace(self, Prepared::of(kept)).into_box());
+        if let Some(old) = replace(self, Prepared::of(kept)).into_box() {
+            drop(old);
+        }
     }
 }

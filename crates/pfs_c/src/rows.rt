@@ -40,6 +40,15 @@ fn index_in_turn(count: usize, turn: usize, back: bool) -> usize
     if back { count - 1 - turn } else { turn }
 }
 
+// The machine that comes at a turn, if `left` machines come after it. A loop that computes it from the number of all is
+// slower.
+#[inline(always)]
+fn machine_at(turn: usize, left: usize, back: bool) -> usize
+    ensures { result ≡ in_turn back (turn + 1 + left) turn }
+{
+    if back { left } else { turn }
+}
+
 // Adds a job to the row of heads of the first `count` jobs, or with `back` to the row of tails of the last ones.
 #[inline(always)]
 fn add_job(instance: &Instance, sequence: &[u32], count: usize, row: &mut [u64], back: bool)
@@ -52,8 +61,10 @@ fn add_job(instance: &Instance, sequence: &[u32], count: usize, row: &mut [u64],
     let job = sequence[index_in_turn(sequence.len(), count, back)];
     let times = times_of(instance, job as usize);
     let mut before = 0;
+    let mut left = machines;
     for turn in 0..machines {
-        let machine = index_in_turn(machines, turn, back);
+        left -= 1;
+        let machine = machine_at(turn, left, back);
         before = end_after(row[machine], before, times[machine]);
         row[machine] = before;
     }
