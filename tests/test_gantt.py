@@ -10,6 +10,7 @@ import struct
 from typing import Any, NamedTuple
 from unittest import mock
 
+import numpy
 import pytest
 from pfs import _drawing, _gantt
 from support import second_program
@@ -130,7 +131,7 @@ def drawn(folder: pathlib.Path, *words: str, text: str = THREE, said: str = "") 
         kept.append(figure)
         return b""
 
-    with mock.patch.object(_drawing, "picture_of", keep):
+    with mock.patch.object(_gantt, "picture_of", keep):
         assert gantt(folder, *words, "table", "picture.svg", text=text) == Done(0, "", said)
     return Picture(kept[0])
 
@@ -456,8 +457,9 @@ def test_from_this_number_of_operations_on_the_rows_are_an_image() -> None:
     for count in (most, most + 1):
         machines = max(each for each in range(1, 201) if count % each == 0)
         times = [[0] * machines] * (count // machines)
-        table = _drawing.table_of([*range(1, len(times) + 1)], times, times)
-        assert _drawing.is_image(table, _drawing.Look()) == (count > most), f"{count:,} operations"
+        spans = numpy.array(times)
+        chart = _drawing.Chart([*range(1, len(times) + 1)], spans, spans, ["a"] * len(times), ["b"] * machines)
+        assert chart.is_image == (count > most), f"{count:,} operations"
 
 
 @pytest.fixture(scope="module")
