@@ -201,7 +201,7 @@ def test_the_bars_are_at_their_times_in_the_colours_of_the_picture(seen: dict[st
     assert_bars(whole, made)
     assert len({bar.colour for bar in whole.bars}) == 4
     assert seen["scale"] == 1, "the chart is stretched: pointing at an operation finds another one"
-    got = dict(zip(((machine, int(made.starts[place, machine])) for place in range(3) for machine in range(3)),
+    got = dict(zip(((machine, float(made.starts[place, machine])) for place in range(3) for machine in range(3)),
                    seen["pixels"]))
     assert {at: got[at] for at in due} == due
 

@@ -333,9 +333,9 @@ LEFT: list[tuple[float | None, int, int, int, float, str]] = [
 def test_the_time_that_is_left(monkeypatch: pytest.MonkeyPatch, limit: float | None, rounds: int, begun: int, done: int,
                                spent: float, left: str) -> None:
     now, lines = [0.0], list[str]()
-    for module in (_commands, _search):
-        monkeypatch.setattr(module, "time", types.SimpleNamespace(monotonic=lambda: now[0]))
-    progress = _commands.ProgressLine(pfs.taillard(1), rounds, _search.Pace(limit))
+    monkeypatch.setattr(_commands, "time", types.SimpleNamespace(monotonic=lambda: now[0]))
+    search = _search.Search(pfs.taillard(1), None, begun, None, 0, 0)
+    progress = _commands.ProgressLine(search, rounds, limit)
     monkeypatch.setattr(progress, "shown", True)
     monkeypatch.setattr(progress, "show", lines.append)
     progress.update(begun, 1278)
