@@ -14,7 +14,7 @@ import numpy
 import pytest
 from pfs import _drawing, _gantt
 from support import second_program
-from support.colours import contrast, least_difference
+from support.colours import contrast, hexadecimal, least_difference
 from support.files import generated
 from support.large import run_limited
 from support.needs import tool
@@ -102,7 +102,7 @@ class Picture:
         """The bars of a group, in the order in which they were drawn."""
         group = self.groups.get(name)
         boxes = [path.get_extents() for path in group.get_paths()] if group else []
-        fills = [hexadecimal(255 * colour[:3]) for colour in group.get_facecolors()] if group else []
+        fills = [hexadecimal(colour[:3]) for colour in group.get_facecolors()] if group else []
         return [Bar(box.x0, box.x1, (box.y0 + box.y1) / 2, box.height, fill)
                 for box, fill in zip(boxes, fills or ["none"] * len(boxes), strict=True)]
 
@@ -117,10 +117,6 @@ class Picture:
                  (*axis.get_xticklabels(), *axis.get_yticklabels())]
         labels = (self.axis.title, self.axis.xaxis.label, self.axis.yaxis.label)
         return [text for text in (*self.axis.texts, *ticks, *labels) if text.get_text() and text.get_visible()]
-
-
-def hexadecimal(colour: Any) -> str:
-    return "#" + "".join(f"{round(float(part)):02x}" for part in colour)
 
 
 def drawn(folder: pathlib.Path, *words: str, text: str = THREE, said: str = "") -> Picture:
@@ -436,7 +432,7 @@ def test_a_pixel_of_an_image_has_the_mean_of_the_colours_at_its_time(folder: pat
             "dots per inch\n")
     image, = STEPS.drawn(folder, "--dpi", "100", said=said).axis.images
     assert tuple(image.get_extent()) == (0, 2600, 2.5, 0.5)
-    pixels = [[hexadecimal(pixel) for pixel in line] for line in image.get_array()]
+    pixels = [[hexadecimal(pixel / 255) for pixel in line] for line in image.get_array()]
     assert len(pixels[0]) == 1050, "pixels from left to right: 12 inches but for 1.5, at 100 an inch"
     each = len(pixels) // 2
     for machine in STEPS.machines():

@@ -15,6 +15,7 @@ import pfs
 import pytest
 from browser import PEN, looked_at, printed, with_script
 from pfs import _drawing
+from support.colours import hexadecimal
 
 IDLE = "#d9d9d9"
 TIMES = [[30, 25, 0], [20, 50, 15], [40, 10, 20]]
@@ -83,10 +84,6 @@ def schedule() -> pfs.Schedule:
     return shop.schedule([1, 0, 2])
 
 
-def hexadecimal(colour: Sequence[float]) -> str:
-    return "#" + "".join(f"{round(255 * part):02x}" for part in colour[:3])
-
-
 def bars_due(made: pfs.Schedule) -> list[Bar]:
     """Each operation that takes time, in the colour that its bar has in the picture by matplotlib."""
     found = []
@@ -94,7 +91,7 @@ def bars_due(made: pfs.Schedule) -> list[Bar]:
         if each.get_gid().startswith("machine-"):
             machine = int(each.get_gid().removeprefix("machine-")) - 1
             places = [place for place, busy in enumerate((made.ends - made.starts)[:, machine]) if busy]
-            colours = map(hexadecimal, itertools.cycle(each.get_facecolor()))
+            colours = map(hexadecimal, itertools.cycle(each.get_facecolor()[:, :3]))
             found += [Bar(machine, int(made.starts[place, machine]), int(made.ends[place, machine]), colour)
                       for place, colour in zip(places, colours)]
     return found

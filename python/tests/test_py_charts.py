@@ -156,22 +156,33 @@ def test_frames_of_pictures_that_are_rejected(tmp_path: pathlib.Path, words: dic
 
 # The key of bars that are too short for a name
 
-def texts_of(made: pfs.Schedule, **more: Any) -> tuple[list[str], list[str], Any]:
-    """The texts on bars, and those of the key."""
+def texts_of(made: pfs.Schedule, **more: Any) -> tuple[dict[int, list[str]], list[str], Any]:
+    """The texts on bars by place, each inside of its bar, those of the key, and the figure."""
     figure = made.plot(**more)
     figure.draw_without_rendering()
     texts = [text.get_text() for text in figure.texts]
     key = [text for text in texts if text != "\u25a0"]
     assert len(texts) == 2 * len(key), "a square for each job"
-    return [text.get_text() for text in figure.axes[0].texts if text.get_text() != "idle"], key, figure
+    axis, bars = figure.axes[0], dict[int, list[str]]()
+    spans = {((start + end) / 2, machine + 1): (place, start, end) for machine in range(made.instance.machines)
+             for place, (start, end) in enumerate(zip(made.starts[:, machine].tolist(), made.ends[:, machine].tolist()))
+             if start < end}
+    for text in axis.texts:
+        if text.get_text() != "idle":
+            place, *span = spans[text.get_position()]
+            (left, _), (right, _) = axis.transData.transform([(at, 0) for at in span])
+            assert left <= text.get_window_extent().x0 and text.get_window_extent().x1 <= right, text
+            bars.setdefault(place, []).append(text.get_text())
+    return bars, key, figure
 
 
 @pytest.mark.parametrize(("names", "sign"), [(NAMES, ""), (["4711", *NAMES[1:]], "#")])
 def test_bars_of_pictures_have_names_or_places_of_a_key(names: list[str], sign: str) -> None:
     bars, key, figure = texts_of(plan(names))
     assert key == [f"{sign}{place} {names[job]}" for place, job in enumerate(ORDER, 1)]
-    assert bars.count(names[0]) == 3 and {f"{sign}2", f"{sign}3", f"{sign}4"} <= set(bars)
-    assert set(bars) <= set(names) | {f"{sign}{place}" for place in range(1, 6)}
+    assert bars[0] == [names[0]] * 3
+    for place in (1, 2, 3, 4):
+        assert {*bars[place]} - {names[ORDER[place]]} == {f"{sign}{place + 1}"}, f"names or the place {place + 1}"
     fills, = [each.get_facecolor()[:, :3] for each in figure.axes[0].collections if each.get_gid() == "machine-1"]
     assert [text.get_color() for text in figure.texts[::2]] == [tuple(fill) for fill in fills], "squares of the key"
     # The key is inside the picture, below the title of the scale.
@@ -185,11 +196,11 @@ def test_pictures_without_a_key_and_with_names_that_are_cut_in_it() -> None:
     for made in (plan([*"abcde"], [[100, 100, 100]] * 5), plan(None)):
         assert texts_of(made)[1] == []
     many = pfs.Instance([[10 + at % 3] * 100 for at in range(5)], job_names=NAMES).schedule(ORDER)
-    assert texts_of(many)[:2] == ([], [])
+    assert texts_of(many)[:2] == ({}, [])
     bars, key, _ = texts_of(plan(), ax=matplotlib.figure.Figure(figsize=(12, 3)).subplots())
-    assert key == [] and set(bars) <= set(NAMES), "no place without a key"
+    assert key == [] and {name for each in bars.values() for name in each} <= {*NAMES}, "no place without a key"
     narrow = matplotlib.figure.Figure(figsize=(4, 3)).subplots()
-    assert texts_of(plan(["a table of oak for twelve", *NAMES[1:]]), ax=narrow)[0] == [], "wider than their bars"
+    assert texts_of(plan(["a table of oak for twelve", *NAMES[1:]]), ax=narrow)[0] == {}, "wider than their bars"
     names = ["x" * 300, *NAMES[1:]]
     _, key, figure = texts_of(plan(names), width=4)
     assert key[0].startswith("1 xxx") and key[0].endswith("x\u2026") and len(key[0]) < 100
@@ -199,14 +210,6 @@ def test_pictures_without_a_key_and_with_names_that_are_cut_in_it() -> None:
 
 def test_names_fit_the_bars_next_to_long_names_of_machines() -> None:
     made = pfs.Instance(LENGTHS, job_names=["0815-" * 30, *NAMES[1:]], machine_names=[*MACHINES[:2], "oven " * 30])
-    schedule = made.schedule(ORDER)
-    bars, _, figure = texts_of(schedule)
-    axis = figure.axes[0]
-    assert axis.get_yticklabels()[2].get_text() == ("oven " * 30)[:41] + "\u2026"
-    assert bars[0].startswith("1 0815-") and bars[0].endswith("\u2026")
-    spans = {((start + end) / 2, machine + 1): (start, end) for starts, ends in zip(schedule.starts, schedule.ends)
-             for machine, (start, end) in enumerate(zip(starts.tolist(), ends.tolist()))}
-    for text in axis.texts:
-        if text.get_text() != "idle":
-            (left, _), (right, _) = axis.transData.transform([(at, 0) for at in spans[text.get_position()]])
-            assert left <= text.get_window_extent().x0 and text.get_window_extent().x1 <= right, text
+    bars, _, figure = texts_of(made.schedule(ORDER))
+    assert figure.axes[0].get_yticklabels()[2].get_text() == ("oven " * 30)[:41] + "\u2026"
+    assert all(text.startswith("1 0815-") and text.endswith("\u2026") for text in bars[0])

@@ -2,6 +2,7 @@
 with all cones and for those without the red ones (protanopia) or the green ones (deuteranopia), as Machado, Oliveira
 and Fernandes (2009) compute what these see."""
 import math
+from collections.abc import Iterable
 from typing import Any
 
 import numpy as np
@@ -20,6 +21,11 @@ EYES = {
 # From linear sRGB to XYZ.
 XYZ = np.array([[0.4124564, 0.3575761, 0.1804375], [0.2126729, 0.7151522, 0.0721750],
                 [0.0193339, 0.1191920, 0.9503041]])
+
+
+def hexadecimal(parts: Iterable[float]) -> str:
+    """A colour of parts from 0 to 1 as #rrggbb."""
+    return "#" + "".join(f"{round(255 * float(part)):02x}" for part in parts)
 
 
 def seen(colour: str, eyes: str) -> Lab:
