@@ -119,7 +119,8 @@ class Chart:
         if self.title and isinstance(self.title, str):
             return self.title
         unit = f" {self.unit}" if has_unit and self.unit not in (UNIT, CLOCK) else ""
-        title = f"{len(self.jobs)} jobs on {len(self.machines)} machines: makespan {self.formatted(self.makespan)}{unit}"
+        title = f"{len(self.jobs)} jobs on {len(self.machines)} machines: "
+        title += f"makespan {self.formatted(self.makespan)}{unit}"
         title += f", end {self.end}" if self.end else ""
         title += f", bound {self.formatted(self.bound)} (dashed)" if self.bound is not None else ""
         return title + (", critical path outlined" if self.critical else "")

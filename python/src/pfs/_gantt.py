@@ -114,8 +114,8 @@ def draw_picture() -> None:
     if chart.bound is not None and chart.bound > chart.makespan:
         raise GanttError(f"the bound {chart.bound} exceeds the makespan {chart.makespan}")
     if chart.width * chart.height * chart.dpi ** 2 > MOST_PIXELS:
-        raise GanttError(f"a picture of {chart.width:g} by {chart.height:g} inches at {chart.dpi} dots per inch has too "
-                         "many pixels")
+        raise GanttError(f"a picture of {chart.width:g} by {chart.height:g} inches at {chart.dpi} dots per inch has "
+                         "too many pixels")
     atomic_write(picture, picture_of(draw(chart), extension, chart.dpi))
     if chart.is_image:
         print(f"pfs-gantt: {starts.size:,} operations are too many or too short to draw one by one: the rows are an "
