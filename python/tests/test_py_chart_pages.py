@@ -113,7 +113,7 @@ TOGETHER = pytest.mark.xdist_group("drawn page")
 TIP = "job table\nmachine saw\nstart 2.0\nend 5.0"
 TIP_OF_DRILL = "job table\nmachine drill\nstart 7.0\nend 9.5"
 FAR_IN, LEAVE, IN = 'press("+", "+", "+"); ', '; send("pointerleave", PointerEvent, 5, -5)', math.exp(-0.25)
-# What is done with the whole chart, of 125 units, the times that are seen then, and what is told. A zoom by a key keeps
+# What is done with the whole chart, of 125 units, the times that are seen then, and the text of the tip. A zoom by a key keeps
 # the middle, one by the wheel what is under the pointer, and one by two fingers the times under them; an arrow moves by
 # an eighth of what is seen. A finger is at the place that a time has in the whole chart.
 MOVES: dict[str, tuple[tuple[float, float], str]] = {
@@ -252,8 +252,8 @@ def test_the_bound_is_a_dashed_line_and_the_critical_path_is_outlined(whole: She
 @TOGETHER
 @pytest.mark.parametrize("move", MOVES)
 def test_what_hands_do_with_a_chart(seen: dict[str, Any], move: str) -> None:
-    """The bars are where the scale says. The operation that one points at is told, outlined by a wide line, and its
-    job's other operations by a narrower one."""
+    """The bars are where the scale says. The operation that one points at has a tip and a wide outline, and its
+    job's other operations have narrower ones."""
     made, drawn, (view, tip) = schedule(), seen["moved"][move], MOVES[move]
     sheet = Sheet(drawn, made.instance)
     assert (drawn["from"], drawn["to"]) == pytest.approx(view, abs=0.05)
