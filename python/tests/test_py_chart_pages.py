@@ -114,8 +114,8 @@ TIP = "job table\nmachine saw\nstart 2.0\nend 5.0"
 TIP_OF_DRILL = "job table\nmachine drill\nstart 7.0\nend 9.5"
 FAR_IN, LEAVE, IN = 'press("+", "+", "+"); ', '; send("pointerleave", PointerEvent, 5, -5)', math.exp(-0.25)
 # What is done with the whole chart, of 125 units, the times that are seen then, and the text of the tip. A zoom by a
-# key keeps the middle, one by the wheel what is under the pointer, and one by two fingers the times under them; an arrow
-# moves by an eighth of what is seen. A finger is at the place that a time has in the whole chart.
+# key keeps the middle, one by the wheel what is under the pointer, and one by two fingers the times under them. An
+# arrow moves by an eighth of what is seen. A finger is at the place that a time has in the whole chart.
 MOVES: dict[str, tuple[tuple[float, float], str]] = {
     'press("+")': ((12.5, 112.5), ""), 'press("+", "+", "+", "-")': ((22.5, 102.5), ""),
     'press("+", "+", "0")': ((0, 125), ""), 'press("x", "Enter", "1")': ((0, 125), ""),
