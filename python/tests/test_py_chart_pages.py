@@ -617,6 +617,7 @@ def test_the_sheet_of_a_day_has_its_jobs(chromium: str, tmp_path: pathlib.Path) 
     beginPrint();
     seen.sheets = [...sheets.children].map(sheet => [sheet.querySelector("h2").textContent,
       [...sheet.querySelectorAll("li")].map(item => item.textContent), sheet.querySelector("canvas").width]);
+    seen.charts = document.querySelectorAll("#chart").length;
     endPrint();
     tell({...seen, after: [from, to], left: sheets.children.length, names: drawnBy(() => show(10, 50)).texts
       .filter(({x}) => x > left && x < width - RIGHT).map(({text}) => text)});
@@ -624,6 +625,7 @@ def test_the_sheet_of_a_day_has_its_jobs(chromium: str, tmp_path: pathlib.Path) 
     made = plan()
     seen = seen_of(chromium, made, tmp_path, CHOSEN % '{"print": "days"}' + script, calendar=DATES)
     assert seen["before"] == seen["after"] and seen["left"] == 0, "the page is as it was"
+    assert seen["charts"] == 1, "what paper hides of the chart hides its sheets too"
     assert "table" in seen["names"], "a bar whose middle isn't shown has a name"
     names = ["Thu 2026-12-03", "Sat 2026-12-05", "Sun 2026-12-06", "Mon 2026-12-07", "Tue 2026-12-08", "Wed 2026-12-09"]
     assert [name for name, _, _ in seen["sheets"]] == names[:-(-made.makespan // 240)]
