@@ -10,10 +10,11 @@ import struct
 from typing import Any, NamedTuple
 from unittest import mock
 
+import numpy
 import pytest
 from pfs import _drawing, _gantt
 from support import second_program
-from support.colours import contrast, least_difference
+from support.colours import contrast, hexadecimal, least_difference
 from support.files import generated
 from support.large import run_limited
 from support.needs import tool
@@ -101,7 +102,7 @@ class Picture:
         """The bars of a group, in the order in which they were drawn."""
         group = self.groups.get(name)
         boxes = [path.get_extents() for path in group.get_paths()] if group else []
-        fills = [hexadecimal(255 * colour[:3]) for colour in group.get_facecolors()] if group else []
+        fills = [hexadecimal(colour[:3]) for colour in group.get_facecolors()] if group else []
         return [Bar(box.x0, box.x1, (box.y0 + box.y1) / 2, box.height, fill)
                 for box, fill in zip(boxes, fills or ["none"] * len(boxes), strict=True)]
 
@@ -118,10 +119,6 @@ class Picture:
         return [text for text in (*self.axis.texts, *ticks, *labels) if text.get_text() and text.get_visible()]
 
 
-def hexadecimal(colour: Any) -> str:
-    return "#" + "".join(f"{round(float(part)):02x}" for part in colour)
-
-
 def drawn(folder: pathlib.Path, *words: str, text: str = THREE, said: str = "") -> Picture:
     """What is drawn with these words, and a message."""
     kept: list[Any] = []
@@ -130,7 +127,7 @@ def drawn(folder: pathlib.Path, *words: str, text: str = THREE, said: str = "") 
         kept.append(figure)
         return b""
 
-    with mock.patch.object(_drawing, "picture_of", keep):
+    with mock.patch.object(_gantt, "picture_of", keep):
         assert gantt(folder, *words, "table", "picture.svg", text=text) == Done(0, "", said)
     return Picture(kept[0])
 
@@ -435,7 +432,7 @@ def test_a_pixel_of_an_image_has_the_mean_of_the_colours_at_its_time(folder: pat
             "dots per inch\n")
     image, = STEPS.drawn(folder, "--dpi", "100", said=said).axis.images
     assert tuple(image.get_extent()) == (0, 2600, 2.5, 0.5)
-    pixels = [[hexadecimal(pixel) for pixel in line] for line in image.get_array()]
+    pixels = [[hexadecimal(pixel / 255) for pixel in line] for line in image.get_array()]
     assert len(pixels[0]) == 1050, "pixels from left to right: 12 inches but for 1.5, at 100 an inch"
     each = len(pixels) // 2
     for machine in STEPS.machines():
@@ -456,8 +453,9 @@ def test_from_this_number_of_operations_on_the_rows_are_an_image() -> None:
     for count in (most, most + 1):
         machines = max(each for each in range(1, 201) if count % each == 0)
         times = [[0] * machines] * (count // machines)
-        table = _drawing.table_of([*range(1, len(times) + 1)], times, times)
-        assert _drawing.is_image(table, _drawing.Look()) == (count > most), f"{count:,} operations"
+        spans = numpy.array(times)
+        chart = _drawing.Chart([*range(1, len(times) + 1)], spans, spans, ["a"] * len(times), ["b"] * machines)
+        assert chart.is_image == (count > most), f"{count:,} operations"
 
 
 @pytest.fixture(scope="module")

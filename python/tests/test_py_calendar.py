@@ -326,7 +326,8 @@ seen.lines = cells.filter(cell => !cell.textContent.includes(" ")).map(cell => {
 tell(seen);
 """
 PAGES: dict[str, tuple[str, dict[str, Any], str]] = {
-    "shifts": ("2026-11-30T12:00", EARLY, "min"), "nights": ("2026-12-04T20:00", NIGHT, "min"),
+    "shifts": ("2026-11-30T12:00", EARLY, "min"), "an end with a shift": ("2026-11-30T10:40", EARLY, "min"),
+    "nights": ("2026-12-04T20:00", NIGHT, "min"),
     "breaks": ("2026-12-04T08:00:30", BREAK, "min"), "always": ("2026-12-30T12:00", ALWAYS, "h"),
     "seconds": ("1969-12-31T23:59:50", {"shifts": "23:59-00:01"}, "s"),
     "Sunday": ("2026-12-06T23:00", NIGHT | {"days": "sun"}, "min"),

@@ -104,8 +104,6 @@ def test_search_from_an_order_of_ones_own(folder: pathlib.Path, program: str) ->
     assert printed == shop.solve(50, start=order).to_text()
     printed = run([*LONG, "--start", "order", "--rounds", "0"], folder)
     assert printed == plainly.order_file(order, 10, shop.makespan(order))
-    error = "pfs: state: the state of a search with another start\n"
-    run([*LONG, "--rounds", "60", "--state", "state"], folder, 2, error)
 
 
 @pytest.mark.parametrize("number", [signal.SIGINT, signal.SIGTERM])
@@ -135,11 +133,11 @@ def test_a_signal_ends_it_with_the_best_order(folder: pathlib.Path, program: str
 @pytest.mark.parametrize("numbers", [(signal.SIGINT, signal.SIGTERM), (signal.SIGTERM, signal.SIGINT),
                                      (signal.SIGINT, signal.SIGTERM, signal.SIGTERM)])
 def test_the_status_is_that_of_the_first_signal(numbers: tuple[signal.Signals, ...]) -> None:
-    with _commands.Stop() as stop:
-        assert stop.status() == 0
+    with _commands.signals() as caught:
+        assert _commands.status_of(caught) == 0
         for number in numbers:
             signal.raise_signal(number)
-        assert stop.status() == 128 + numbers[0], "the status isn't that of the first signal"
+        assert _commands.status_of(caught) == 128 + numbers[0], "the status isn't that of the first signal"
     assert signal.getsignal(signal.SIGINT) is signal.default_int_handler
     assert signal.getsignal(signal.SIGTERM) == signal.SIG_DFL
 
@@ -210,32 +208,25 @@ def test_other_states_are_rejected(folder: pathlib.Path, case: str) -> None:
     assert {path.name for path in folder.iterdir()} == {"shop", "state"}
 
 
+OTHER = "the state of a search with "
+
+
 @pytest.mark.parametrize(("before", "after", "why"), [
-    ([], ["--seed", "7"], "seed 0, not 7"), (["--seed", "7"], [], "seed 7, not 0"),
-    ([], ["--take", "5"], "take 4, not 5"), (["--take", "5"], [], "take 5, not 4"),
-    ([], ["--passes", "1"], "passes 0, not 1"), (["--passes", "1"], [], "passes 1, not 0"),
-    (["--start", "order"], [], "another start"), ([], ["--start", "order"], "another start"),
-    ([], ["--block", "2"], "another instance"),
-])
-def test_a_state_is_for_the_options_of_its_search(folder: pathlib.Path, before: list[str], after: list[str],
-                                                  why: str) -> None:
+    ("", "--seed 7", OTHER + "seed 0, not 7"), ("--seed 7", "", OTHER + "seed 7, not 0"),
+    ("", "--take 5", OTHER + "take 4, not 5"), ("--take 5", "", OTHER + "take 5, not 4"),
+    ("", "--passes 1", OTHER + "passes 0, not 1"), ("--passes 1", "", OTHER + "passes 1, not 0"),
+    ("--start order", "", OTHER + "another start"), ("", "--start order", OTHER + "another start"),
+    ("", "--block 2", OTHER + "another instance"),
+    ("--rounds 30", "--rounds 29", "the search has already made 30 rounds, more than 29")])
+def test_a_state_is_for_the_options_of_its_search(folder: pathlib.Path, before: str, after: str, why: str) -> None:
+    """A default is the option's value, and a search whose rounds are made prints its order again."""
     (folder / "order").write_text(plainly.order_file(range(60), 10, 1))
     (folder / "shop").write_text(shop_in(folder).to_text() + pfs.generate(60, 10, 5).to_text())
-    run([*LONG, *before, "--rounds", "5", "--state", "state"], folder)
-    kept = (folder / "state").read_bytes()
-    error = f"pfs: state: the state of a search with {why}\n"
-    run([*LONG, *after, "--rounds", "9", "--state", "state"], folder, 2, error)
+    words = [*LONG, "--state", "state", "--rounds", "5", *before.split()]
+    printed, kept = run(words, folder), (folder / "state").read_bytes()
+    run([*LONG, "--state", "state", "--rounds", "9", *after.split()], folder, 2, f"pfs: state: {why}\n")
     assert (folder / "state").read_bytes() == kept
-    # The default is the option's value.
-    if "--take" in before or "--take" in after:
-        run([*LONG, *before, "--take", (before or ["", "4"])[1], "--rounds", "9", "--state", "state"], folder)
-
-
-def test_a_state_with_more_rounds_than_are_due(folder: pathlib.Path) -> None:
-    printed = run([*LONG, "--rounds", "30", "--state", "state"], folder)
-    error = "pfs: state: the search has already made 30 rounds, more than 29\n"
-    run([*LONG, "--rounds", "29", "--state", "state"], folder, 2, error)
-    assert run([*LONG, "--rounds", "30", "--state", "state"], folder) == printed
+    assert run([*words, *([] if "--take" in before else ["--take", "4"])], folder) == printed
 
 
 @pytest.mark.parametrize(("words", "error"), [
@@ -342,9 +333,9 @@ LEFT: list[tuple[float | None, int, int, int, float, str]] = [
 def test_the_time_that_is_left(monkeypatch: pytest.MonkeyPatch, limit: float | None, rounds: int, begun: int, done: int,
                                spent: float, left: str) -> None:
     now, lines = [0.0], list[str]()
-    for module in (_commands, _search):
-        monkeypatch.setattr(module, "time", types.SimpleNamespace(monotonic=lambda: now[0]))
-    progress = _commands.ProgressLine(pfs.taillard(1), rounds, _search.Pace(limit))
+    monkeypatch.setattr(_commands, "time", types.SimpleNamespace(monotonic=lambda: now[0]))
+    search = _search.Search(pfs.taillard(1), None, begun, None, 0, 0)
+    progress = _commands.ProgressLine(search, rounds, limit)
     monkeypatch.setattr(progress, "shown", True)
     monkeypatch.setattr(progress, "show", lines.append)
     progress.update(begun, 1278)
@@ -541,16 +532,6 @@ def test_an_order_that_was_changed_by_hand(folder: pathlib.Path) -> None:
         assert lines[-4:] == [f"{place} {name}" for place, name in enumerate(names, 1)]
 
 
-@pytest.mark.parametrize(("text", "error"), [
-    ("1 b\n2 b\n3 a\n", "line 2, the job 'b' is in line 1 too"), ("d\nb\nd\n", "line 3, the job 'd' is in line 1 too"),
-    ("", "line 1, no job of the table is named: write the names of the jobs, one in a line"),
-    ("\u00e4\nc\n", "line 1, no job of the table is named: write the names of the jobs, one in a line")])
-def test_orders_that_are_rejected(folder: pathlib.Path, text: str, error: str) -> None:
-    (folder / "times.csv").write_text("job,saw\na,3\nb,2\n2 c,1\n")
-    (folder / "order").write_text(text, "utf-8")
-    assert run(["plan", "times.csv", "--order", "order"], folder, 2, f"pfs: order: {error}\n") == ""
-
-
 # Held jobs, and the order of the day before
 
 def planned(folder: pathlib.Path, words: str) -> tuple[list[str], int, str]:
@@ -632,70 +613,99 @@ def test_a_plan_on_a_calendar(folder: pathlib.Path) -> None:
         "end 2026-12-02 13:10\n", "")
 
 
-PLAN, BEGIN = ["plan", "times.csv"], ["--begin", "2026-11-30T06:00"]
+# What is rejected before the search, and why
+
+SEARCH, PLAN, BEGIN = " ".join(LONG), "plan times.csv", "--begin 2026-11-30T06:00"
 NOT_THERE = ": No such file or directory"
-# Options whose texts are read as the parameters of a calendar are.
-NO_CALENDARS = {"--begin tomorrow": "'tomorrow' is not a local date and time such as 2026-11-30T06:00",
-                "--shift 6-14": "'6-14' is not a shift such as 06:00-14:00",
-                "--days mo-fr": "'mo-fr' is not a day of the week such as mon, or days such as mon-fri",
-                "--closed 24.12.": "'24.12.' is not a date such as 2026-12-24, or dates such as 2026-12-24..2027-01-01"}
-
-
-@pytest.mark.parametrize(("words", "status", "error"), [
-    ([*PLAN, "--hold", "1"], 3, "--hold needs --order, which says where the jobs are"),
-    ([*PLAN, "--keep"], 3, "--keep needs --order, which says where the jobs are"),
-    ([*PLAN, "--first", "lamp"], 3, "--first: 'lamp' isn't the name of a job of the table"),
-    ([*PLAN, "--schedule", "times.csv"], 3, "times.csv is read, and writing would replace it: name another file"),
-    ([*PLAN, "--schedule", "./link.csv"], 3, "./link.csv is read, and writing would replace it: name another file"),
-    ([*PLAN, "--order", "order.html", "--chart", "order.html"], 3,
-     "order.html is read, and writing would replace it: name another file"),
-    ([*PLAN, "--compare", "order.html", "--chart", "order.html"], 3,
-     "order.html is read, and writing would replace it: name another file"),
-    ([*PLAN, "--schedule", "out.ods"], 3, "out.ods: the name of a schedule ends with .csv or .xlsx"),
-    ([*PLAN, "--schedule", "out.html"], 3, "out.html: the name of a schedule ends with .csv or .xlsx"),
-    ([*PLAN, "--schedule", "none/out.csv"], 4, "none/out.csv" + NOT_THERE),
-    ([*PLAN, "--chart", "none/out.svg"], 4, "none/out.svg" + NOT_THERE),
-    ([*PLAN, "--chart", "ok.html", "--chart", "none/out.html"], 4, "none/out.html" + NOT_THERE),
-    ([*PLAN, "--chart", "ok.html", "--chart", "x.jpg"], 3,
-     "x.jpg: the name of a chart ends with .svg, .png, .pdf or .html"),
-    ([*PLAN, "--chart", "x.svg"], 4, "plot needs matplotlib (Debian: python3-matplotlib; pip install 'pfs[charts]')"),
-    ([*LONG, "--state", "state", "--start", "none"], 4, "none" + NOT_THERE),
-    (["search", "none", "--layout", "taillard"], 4, "none" + NOT_THERE),
-    (["search", "shop", "--layout", "orlib"], 2, "size line 2 has a wrong count"),
-    ([*LONG, "--block", "2"], 2, "no block, found 1"), ([*LONG, "--start", "shop"], 2, "order file syntax at 0"),
-    ([*LONG, "--start", "for_nine"], 3, "for_nine: an order for 9 machines, and the instance has 10"),
-    ([*LONG, "--start", "two"], 3, "--start has 2 jobs, but the instance has 60"),
-    (["plan", "bad.csv"], 2, "bad.csv: cell B3, column 'saw': 'x' isn't a time: leave the column out if it is no "
-     "machine, or say which columns are machines (--machines)\n"
-     "pfs: bad.csv: cell C3, column 'drill': '-1' isn't a time"),
-    ([*LONG, "--state", "order.html"], 2, "order.html: not the state of a search"),
-    ([*LONG, "--take", "61"], 3, "--take must be from 1 to 60, not 61"),
-    *(([*PLAN, *BEGIN, *words.split()], 3, f"argument {words.split()[0]}: {why} (python3 -m pfs plan --help lists what "
-       "there is)") for words, why in NO_CALENDARS.items()),
-    *(([*PLAN, *words.split()], 3, f"{words.split()[0]} needs --begin, which says when the work begins")
-      for words in ("--shift 06:00-14:00", "--days mon-fri", "--closed 2026-12-24")),
-    ([*PLAN, *BEGIN, "--shift", "06:00-14:00,13:00-20:00"], 3, "shifts overlap on Mon 2026-11-30 at 13:00"),
-    (["plan", "plain.csv", *BEGIN], 3, "the times have no unit, which dates need: write min, h, s or d in brackets "
+READ = "is read, and writing would replace it: name another file"
+HELP = "(python3 -m pfs plan --help lists what there is)"
+NO_JOB = "order: line 1, no job of the table is named: write the names of the jobs, one in a line"
+JOBS = "job,saw\na,3\nb,2\n2 c,1\n"
+# What is rejected, with which status and message. Messages name options, where the package for Python has arguments.
+REJECTED = [
+    (f"{PLAN} --hold 1", 3, "--hold needs --order, which says where the jobs are"),
+    (f"{PLAN} --keep", 3, "--keep needs --order, which says where the jobs are"),
+    (f"{PLAN} --first lamp", 3, "--first: 'lamp' isn't the name of a job of the table"),
+    (f"{PLAN} --schedule times.csv", 3, f"times.csv {READ}"),
+    (f"{PLAN} --schedule ./link.csv", 3, f"./link.csv {READ}"),
+    (f"{PLAN} --order order.html --chart order.html", 3, f"order.html {READ}"),
+    (f"{PLAN} --compare order.html --chart order.html", 3, f"order.html {READ}"),
+    (f"{PLAN} --schedule out.ods", 3, "out.ods: the name of a schedule ends with .csv or .xlsx"),
+    (f"{PLAN} --schedule out.html", 3, "out.html: the name of a schedule ends with .csv or .xlsx"),
+    (f"{PLAN} --schedule none/out.csv", 4, "none/out.csv" + NOT_THERE),
+    (f"{PLAN} --chart none/out.svg", 4, "none/out.svg" + NOT_THERE),
+    (f"{PLAN} --chart ok.html --chart none/out.html", 4, "none/out.html" + NOT_THERE),
+    (f"{PLAN} --chart ok.html --chart x.jpg", 3, "x.jpg: the name of a chart ends with .svg, .png, .pdf or .html"),
+    (f"{PLAN} --chart x.svg", 4, "plot needs matplotlib (Debian: python3-matplotlib; pip install 'pfs[charts]')"),
+    (f"{SEARCH} --state state --start none", 4, "none" + NOT_THERE),
+    ("search none --layout taillard", 4, "none" + NOT_THERE),
+    ("search shop --layout orlib", 2, "size line 2 has a wrong count"),
+    (f"{SEARCH} --block 2", 2, "no block, found 1"), (f"{SEARCH} --start shop", 2, "order file syntax at 0"),
+    (f"{SEARCH} --start nine", 3, "nine: an order for 9 machines, and the instance has 10"),
+    (f"{SEARCH} --start two", 3, "--start has 2 jobs, but the instance has 60"),
+    (f"{SEARCH} --state order.html", 2, "order.html: not the state of a search"),
+    (f"{SEARCH} --take 61", 3, "--take must be from 1 to 60, not 61"),
+    (f"{PLAN} {BEGIN} --begin tomorrow", 3,
+     f"argument --begin: 'tomorrow' is not a local date and time such as 2026-11-30T06:00 {HELP}"),
+    (f"{PLAN} {BEGIN} --shift 6-14", 3, f"argument --shift: '6-14' is not a shift such as 06:00-14:00 {HELP}"),
+    (f"{PLAN} {BEGIN} --days mo-fr", 3,
+     f"argument --days: 'mo-fr' is not a day of the week such as mon, or days such as mon-fri {HELP}"),
+    (f"{PLAN} {BEGIN} --closed 24.12.", 3,
+     f"argument --closed: '24.12.' is not a date such as 2026-12-24, or dates such as 2026-12-24..2027-01-01 {HELP}"),
+    (f"{PLAN} --shift 06:00-14:00", 3, "--shift needs --begin, which says when the work begins"),
+    (f"{PLAN} --days mon-fri", 3, "--days needs --begin, which says when the work begins"),
+    (f"{PLAN} --closed 2026-12-24", 3, "--closed needs --begin, which says when the work begins"),
+    (f"{PLAN} {BEGIN} --shift 06:00-14:00,13:00-20:00", 3, "shifts overlap on Mon 2026-11-30 at 13:00"),
+    (f"plan plain.csv {BEGIN}", 3, "the times have no unit, which dates need: write min, h, s or d in brackets "
      "into the first cell of the table, as in 'job [min]', or set --unit"),
-    (["plan", "plain.csv", *BEGIN, "--days", "mon-fri", "--unit", "days"], 3,
+    (f"plan plain.csv {BEGIN} --days mon-fri --unit days", 3,
      "a day of work may be 24 hours or the shifts of a day: write the times in hours"),
-])
-def test_what_is_rejected_before_the_search(folder: pathlib.Path, monkeypatch: pytest.MonkeyPatch, words: list[str],
-                                            status: int, error: str) -> None:
+]
+# The same of a table, and of an order for a table.
+BAD_TABLES = [
+    ("job,saw,drill\n\ntable,x,-1\n", "", "cell B3, column 'saw': 'x' isn't a time: leave the column out if it is no "
+     "machine, or say which columns are machines (--machines)\n"
+     "pfs: times.csv: cell C3, column 'drill': '-1' isn't a time"),
+    ("job;saw\na;1.000\n", "", "cell B2, column 'saw': '1.000' may be 1000, or have decimals: leave out thousands "
+     "separators, or say which decimal sign the table has (--decimal point or --decimal comma)"),
+    ("job [min];saw\na;1\n", "--unit h", "cell A1: the times are in min, and --unit is h: use one unit"),
+    ("job [min];saw\na;1:30\n", "", "cell A1: times such as 1:30 may be hours and minutes, or minutes and "
+     "seconds: write [h:mm] instead of min, or numbers"),
+    ("job;saw;eta\na;1;soon\n", "", "cell C2, column 'eta': 'soon' isn't a time: leave the column out if it is no "
+     "machine, or say which columns are machines (--machines)"),
+    ("job;saw;drill;all\na;1;2;3\nb;3;4;7\n", "", "cell D1: the column 'all' has the sums of the columns "
+     "before: leave it out, or allow totals (--allow-totals)"),
+]
+BAD_ORDERS = [("1 b\n2 b\n3 a\n", "order: line 2, the job 'b' is in line 1 too"), ("", NO_JOB), ("\u00e4\nc\n", NO_JOB),
+              ("d\nb\nd\n", "order: line 3, the job 'd' is in line 1 too")]
+CASES = [*((words, status, error, TABLE, "") for words, status, error in REJECTED),
+         *((f"{PLAN} {words}", 2, f"times.csv: {error}", table, "") for table, words, error in BAD_TABLES),
+         *((f"{PLAN} --order order", 2, error, JOBS, order) for order, error in BAD_ORDERS)]
+
+
+@pytest.mark.parametrize(("words", "status", "error", "table", "order"), CASES)
+def test_what_is_rejected_before_the_search(folder: pathlib.Path, monkeypatch: pytest.MonkeyPatch, words: str,
+                                            status: int, error: str, table: str, order: str) -> None:
     """No file changes. There is no matplotlib here."""
     modules: dict[str, Any] = sys.modules
     monkeypatch.setitem(modules, "matplotlib", None)
     monkeypatch.setattr(_commands, "searched", None)
-    (folder / "times.csv").write_text(TABLE)
-    (folder / "plain.csv").write_text(TABLE.replace(" [h]", ""))
     (folder / "link.csv").symlink_to("times.csv")
-    (folder / "order.html").write_text("table\n")
-    (folder / "bad.csv").write_text("job,saw,drill\n\ntable,x,-1\n")
-    (folder / "for_nine").write_text(plainly.order_file(range(60), 9, 1))
-    (folder / "two").write_text("order 2\n1 2\nmakespan 1\n")
+    files = {"times.csv": table, "plain.csv": TABLE.replace(" [h]", ""), "order": order, "order.html": "table\n",
+             "nine": plainly.order_file(range(60), 9, 1), "two": "order 2\n1 2\nmakespan 1\n"}
+    for name, text in files.items():
+        (folder / name).write_text(text, "utf-8")
     before = {path: path.read_bytes() for path in folder.iterdir()}
-    assert run(words, folder, status, f"pfs: {error}\n") == ""
+    assert run(words.split(), folder, status, f"pfs: {error}\n") == ""
     assert {path: path.read_bytes() for path in folder.iterdir()} == before
+
+
+def test_what_the_messages_propose_is_taken(folder: pathlib.Path) -> None:
+    for table, words in (("job;saw\na;1.000\n", "--decimal comma"), ("job [min];saw\na;1\n", "--unit minutes"),
+                         ("job;saw;drill\na;1;2\nb;3;4\nc;4;6\n", "--allow-totals"), ("job [h:mm];saw\na;1:30\n", ""),
+                         ("job;1;2\nb;20;5\n", ""), ("job;saw;eta\na;1;soon\n", "--machines saw")):
+        (folder / "times.csv").write_text(table)
+        run(["plan", "times.csv", "--rounds", "0", *words.split()], folder)
 
 
 def test_a_workbook_is_planned(folder: pathlib.Path) -> None:
@@ -895,34 +905,3 @@ def test_settings_of_matplotlib_in_the_current_folder_change_no_picture(tmp_path
         assert plainly.python(*words, cwd=tmp_path).returncode == 0
         made.add((tmp_path / "made.png").read_bytes())
     assert len(made) == 1
-
-
-# A table that is rejected, options, and what is said of it: with options, where the package for Python has arguments.
-MESSAGES = [
-    ("job;saw\na;1.000\n", [], "cell B2, column 'saw': '1.000' may be 1000, or have decimals: leave out thousands "
-     "separators, or say which decimal sign the table has (--decimal point or --decimal comma)"),
-    ("job [min];saw\na;1\n", ["--unit", "h"], "cell A1: the times are in min, and --unit is h: use one unit"),
-    ("job [min];saw\na;1:30\n", [], "cell A1: times such as 1:30 may be hours and minutes, or minutes and "
-     "seconds: write [h:mm] instead of min, or numbers"),
-    ("job;saw;eta\na;1;soon\n", [], "cell C2, column 'eta': 'soon' isn't a time: leave the column out if it is no "
-     "machine, or say which columns are machines (--machines)"),
-    ("job;saw;drill;all\na;1;2;3\nb;3;4;7\n", [], "cell D1: the column 'all' has the sums of the columns "
-     "before: leave it out, or allow totals (--allow-totals)"),
-]
-
-
-@pytest.mark.parametrize(("table", "words", "error"), MESSAGES)
-def test_messages_name_options(folder: pathlib.Path, table: str, words: list[str], error: str) -> None:
-    (folder / "times.csv").write_text(table)
-    assert run(["plan", "times.csv", *words], folder, 2, f"pfs: times.csv: {error}\n") == ""
-
-
-def test_what_the_messages_propose_is_taken(folder: pathlib.Path) -> None:
-    proposed: dict[str, list[str]] = {
-        "job;saw\na;1.000\n": ["--decimal", "comma"], "job [min];saw\na;1\n": ["--unit", "minutes"],
-        "job;saw;drill\na;1;2\nb;3;4\nc;4;6\n": ["--allow-totals"], "job [h:mm];saw\na;1:30\n": [],
-        "job;1;2\nb;20;5\n": [], "job;saw;eta\na;1;soon\n": ["--machines", "saw"],
-    }
-    for table, words in proposed.items():
-        (folder / "times.csv").write_text(table)
-        run(["plan", "times.csv", "--rounds", "0", *words], folder)

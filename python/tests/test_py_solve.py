@@ -240,7 +240,7 @@ def test_parts_take_a_tenth_of_a_second_and_the_last_one_ends_by_the_limit(monke
     clock.parts.clear()
     ends: list[int] = []
     search = _search.Search(shop, None, 0, None, 0, 0)
-    best, fault = _commands.searched(search, 1_000_000, limit / 1024, _commands.Stop(),
+    best, fault = _commands.searched(search, 1_000_000, limit / 1024, [],
                                      lambda kept: ends.append(kept.rounds))
     assert clock.parts == LIMITS[limit] and ends == [0, *got] and (best.rounds, fault) == (found.rounds, None)
 

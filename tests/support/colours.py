@@ -2,51 +2,43 @@
 with all cones and for those without the red ones (protanopia) or the green ones (deuteranopia), as Machado, Oliveira
 and Fernandes (2009) compute what these see."""
 import math
+from collections.abc import Iterable
+from typing import Any
+
+import numpy as np
 
 # Lightness, and how far from grey towards red and towards yellow (CIELAB).
 Lab = tuple[float, float, float]
-Matrix = tuple[Lab, Lab, Lab]
 
 # On linear parts of red, green and blue.
-EYES: dict[str, Matrix] = {
-    "all cones": ((1, 0, 0), (0, 1, 0), (0, 0, 1)),
-    "protanopia": ((0.152286, 1.052583, -0.204868), (0.114503, 0.786281, 0.099216), (-0.003882, -0.048116, 1.051998)),
-    "deuteranopia": ((0.367322, 0.860646, -0.227968), (0.280085, 0.672501, 0.047413), (-0.011820, 0.042940, 0.968881)),
+EYES = {
+    "all cones": np.eye(3),
+    "protanopia": np.array([[0.152286, 1.052583, -0.204868], [0.114503, 0.786281, 0.099216],
+                            [-0.003882, -0.048116, 1.051998]]),
+    "deuteranopia": np.array([[0.367322, 0.860646, -0.227968], [0.280085, 0.672501, 0.047413],
+                              [-0.011820, 0.042940, 0.968881]]),
 }
 # From linear sRGB to XYZ.
-XYZ: Matrix = ((0.4124564, 0.3575761, 0.1804375), (0.2126729, 0.7151522, 0.0721750), (0.0193339, 0.1191920, 0.9503041))
+XYZ = np.array([[0.4124564, 0.3575761, 0.1804375], [0.2126729, 0.7151522, 0.0721750],
+                [0.0193339, 0.1191920, 0.9503041]])
 
 
-def times(matrix: Matrix, parts: Lab) -> Lab:
-    first, second, third = (sum(one * other for one, other in zip(row, parts)) for row in matrix)
-    return first, second, third
+def hexadecimal(parts: Iterable[float]) -> str:
+    """A colour of parts from 0 to 1 as #rrggbb."""
+    return "#" + "".join(f"{round(255 * float(part)):02x}" for part in parts)
 
 
 def seen(colour: str, eyes: str) -> Lab:
     """What these eyes see of a colour, which is written as #rrggbb."""
-    linear = times(EYES[eyes], parts_of(colour))
-    x, y, z = times(XYZ, (clipped(linear[0]), clipped(linear[1]), clipped(linear[2])))
-    white = times(XYZ, (1, 1, 1))
-    f, g, h = (bent(part / full) for part, full in zip((x, y, z), white))
+    parts = XYZ @ np.clip(EYES[eyes] @ linear(colour), 0, 1) / XYZ.sum(axis=1)
+    f, g, h = np.where(parts > 216 / 24389, np.cbrt(parts), (24389 / 27 * parts + 16) / 116).tolist()
     return 116 * g - 16, 500 * (f - g), 200 * (g - h)
 
 
-def parts_of(colour: str) -> Lab:
+def linear(colour: str) -> Any:
     """The linear parts of red, green and blue of a colour."""
-    red, green, blue = (from_srgb(int(colour[at:at + 2], 16) / 255) for at in (1, 3, 5))
-    return red, green, blue
-
-
-def from_srgb(part: float) -> float:
-    return part / 12.92 if part <= 0.04045 else float(((part + 0.055) / 1.055) ** 2.4)
-
-
-def clipped(part: float) -> float:
-    return min(1.0, max(0.0, part))
-
-
-def bent(part: float) -> float:
-    return float(part ** (1 / 3)) if part > 216 / 24389 else (24389 / 27 * part + 16) / 116
+    parts = np.array([int(colour[at:at + 2], 16) / 255 for at in (1, 3, 5)])
+    return np.where(parts <= 0.04045, parts / 12.92, ((parts + 0.055) / 1.055) ** 2.4)
 
 
 def turn(first: float, second: float) -> float:
@@ -81,5 +73,5 @@ def least_difference(first: str, second: str) -> float:
 
 def contrast(first: str, second: str) -> float:
     """The contrast ratio of two colours, from 1 to 21 (WCAG)."""
-    less, more = sorted(times(XYZ, parts_of(colour))[1] for colour in (first, second))
+    less, more = sorted(float(XYZ[1] @ linear(colour)) for colour in (first, second))
     return (more + 0.05) / (less + 0.05)

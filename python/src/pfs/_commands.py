@@ -3,15 +3,17 @@ terminal."""
 from __future__ import annotations
 
 import argparse
+import contextlib
 import errno
 import os
 import re
 import signal
 import sys
 import time
-from collections.abc import Callable, Sequence
+from collections.abc import Callable, Iterator, Sequence
 from difflib import SequenceMatcher
 from functools import partial
+from types import SimpleNamespace
 from typing import Any, NoReturn, TextIO
 
 from pfs import _library as c
@@ -23,7 +25,7 @@ from pfs._instance import Instance
 from pfs._names import CLOCK, amount, shown
 from pfs._optional import optional
 from pfs._orders import FoundOrder, numbers_by_name, order_in
-from pfs._search import ROUNDS, HeldSearch, Pace, Search, by_total, insert_after, limit_of
+from pfs._search import ROUNDS, HeldSearch, Search, by_total, insert_after, limit_of, solve
 from pfs._solution import Solution
 from pfs._state import State, StateFault
 from pfs._tables import described, table_of
@@ -51,57 +53,46 @@ class CommandLine(argparse.ArgumentParser):
         sys.exit(report(f"pfs: {shown(message)} ({self.prog} --help lists what there is)", USAGE))
 
 
-class Stop:
-    """Records the first signal that ends the search. The search checks it between two parts."""
+@contextlib.contextmanager
+def signals() -> Iterator[list[int]]:
+    """Notes the signals that end the search, which looks at them between two parts."""
+    caught: list[int] = []
+    before = [signal.signal(each, lambda number, _: caught.append(number)) for each in SIGNALS]
+    try:
+        yield caught
+    finally:
+        for each, handler in zip(SIGNALS, before):
+            signal.signal(each, handler)
 
-    def __init__(self) -> None:
-        self.signal = 0
 
-    def __enter__(self) -> Stop:
-        self.before = [signal.signal(each, self.note) for each in SIGNALS]
-        return self
-
-    def __exit__(self, *_: object) -> None:
-        for each, before in zip(SIGNALS, self.before):
-            signal.signal(each, before)
-
-    def note(self, caught: int, _: object) -> None:
-        self.signal = self.signal or caught
-
-    def status(self) -> int:
-        """Return the exit status that a shell reports for a program that the signal killed."""
-        return 128 + self.signal if self.signal else 0
+def status_of(caught: list[int]) -> int:
+    """Return the exit status that a shell reports for a program that the first of these signals killed."""
+    return 128 + caught[0] if caught else 0
 
 
 class ProgressLine:
     """The progress line of a search, on a terminal."""
 
-    def __init__(self, shop: Instance, rounds: int, pace: Pace) -> None:
+    def __init__(self, search: Search, rounds: int, seconds: float | None) -> None:
         self.shown = sys.stderr is not None and sys.stderr.isatty()
-        self.shop, self.rounds, self.pace = shop, rounds, pace
-        self.bound = shop.bound() if self.shown else 0
-        self.begun, self.first = time.monotonic(), -1
+        self.shop, self.first, self.rounds = search.shop, search.first, rounds
+        self.limit = float("inf") if seconds is None else seconds
+        self.bound = search.shop.bound() if self.shown else 0
+        self.begun = time.monotonic()
 
     def update(self, rounds: int, makespan: int) -> None:
         """Show the progress of the search."""
         if not self.shown:
             return
-        self.first = rounds if self.first < 0 else self.first
         made, seconds = rounds - self.first, time.monotonic() - self.begun
-        left = min(self.pace.left(), (self.rounds - rounds) * seconds / made if made else float("inf"))
+        left = min(self.limit - seconds, (self.rounds - rounds) * seconds / made if made else float("inf"))
         spans = [amount(span, self.shop.decimals, self.shop.unit) for span in (makespan, self.bound)]
         line = f"round {rounds:,} of {self.rounds:,}, makespan {spans[0]}, bound {spans[1]}"
-        line += f", {clock(left)} left" if left < 10**7 else ""
-        self.show(line)
-
-    def end(self) -> None:
-        """Clear the line."""
-        if self.shown:
-            self.show("")
+        self.show(line + (f", {clock(left)} left" if left < 10**7 else ""))
 
     def show(self, line: str) -> None:
         """Replace the line. If the terminal is closed, the search continues."""
-        self.shown = written(sys.stderr, f"\r{line}\x1b[K")
+        self.shown = self.shown and written(sys.stderr, f"\r{line}\x1b[K")
 
 
 def clock(seconds: float) -> str:
@@ -114,29 +105,26 @@ def clock(seconds: float) -> str:
     return f"{whole // 3600}:{whole // 60 % 60:02}:{whole % 60:02}"
 
 
-def searched(search: Search, rounds: int, seconds: float | None, stop: Stop,
+def searched(search: Search, rounds: int, seconds: float | None, caught: list[int],
              keep: Callable[[Solution], None]) -> tuple[Solution, Exception | None]:
-    """Search up to a round, in parts, and call `keep` with the best order after each of them. Return the best order,
+    """Search up to a round, and call `keep` with the best order at first and after each part. Return the best order,
     and the error that ended the search early."""
-    pace = Pace(seconds)
-    progress = ProgressLine(search.shop, rounds, pace)
-    search.begin()
-    best = search.solution()
+    progress = ProgressLine(search, rounds, seconds)
+
+    def is_set() -> bool:
+        best = search.solution()
+        keep(best)
+        progress.update(best.rounds, best.makespan)
+        return bool(caught)
+
     try:
-        while True:
-            keep(best)
-            progress.update(best.rounds, best.makespan)
-            count = 0 if stop.signal or best.rounds >= rounds else pace.next(rounds - best.rounds)
-            if count == 0:
-                return best, None
-            begun = time.perf_counter()
-            search.run_rounds(count)
-            pace.took(count, time.perf_counter() - begun)
-            best = search.solution()
+        return solve(search, rounds - search.first, None, seconds, stop=SimpleNamespace(is_set=is_set)), None
     except (OSError, MemoryError) as fault:
-        return best, fault
+        if search.last is None:
+            raise
+        return search.solution(), fault
     finally:
-        progress.end()
+        progress.show("")
 
 
 def search_command(given: argparse.Namespace) -> int:
@@ -146,15 +134,15 @@ def search_command(given: argparse.Namespace) -> int:
     if start is not None and start.machines not in (0, shop.machines):
         raise ValueError(f"{given.start}: an order for {start.machines} machines, and the instance has {shop.machines}")
     search = Search(shop, start, 0, given.take, given.passes, given.seed)
-    with Stop() as stop, State(given.state, shop, search) as state:
+    with signals() as caught, State(given.state, shop, search) as state:
         before = state.read(given.rounds)
         if before is not None:
             search = Search(shop, before, before.rounds, given.take, given.passes, given.seed)
-        best, fault = searched(search, given.rounds, given.seconds, stop, state.write)
+        best, fault = searched(search, given.rounds, given.seconds, caught, state.write)
         printed(best.to_text())
         if fault is not None:
             raise fault
-    return stop.status()
+    return status_of(caught)
 
 
 def plan_command(given: argparse.Namespace) -> int:
@@ -169,8 +157,8 @@ def plan_command(given: argparse.Namespace) -> int:
     written(sys.stderr, f"{shown(described(shop))}\n")
     search = plan_search(given, shop)
     other = FoundOrder([], []) if given.compare is None else order_in(given.compare, shop)
-    with Stop() as stop:
-        best, fault = searched(search, given.rounds, given.seconds, stop, lambda _: None)
+    with signals() as caught:
+        best, fault = searched(search, given.rounds, given.seconds, caught, lambda _: None)
         outputs: list[Callable[[], object]] = [lambda: printed(listed(shop, best, clock))]
         if given.schedule is not None and given.schedule.lower().endswith(".xlsx"):
             outputs.append(lambda: shop.schedule(best).to_xlsx(given.schedule, calendar=calendar))
@@ -186,7 +174,7 @@ def plan_command(given: argparse.Namespace) -> int:
             except (OSError, MemoryError, ImportError, ValueError) as failure:
                 faults.append(failure)
     statuses = [report(line_of(each), SYSTEM) for each in faults]
-    return statuses[0] if statuses else stop.status()
+    return statuses[0] if statuses else status_of(caught)
 
 
 def plan_search(given: argparse.Namespace, shop: Instance) -> Search:
@@ -329,75 +317,72 @@ def checked(reader: Callable[[str], object]) -> Callable[[str], str]:
 def search_words() -> CommandLine:
     """Return the options of all searches."""
     options = CommandLine(add_help=False)
-    options.add_argument("--rounds", type=number(0, c.MOST_ROUNDS), metavar="R",
-                         help="up to which round; else 1,000,000, and of a plan without a time limit 1,000")
-    options.add_argument("--seconds", type=seconds_of, metavar="S", help="a time limit")
-    options.add_argument("--take", type=number(1, c.MOST_JOBS), metavar="D", help="the destruction size, else 4")
-    options.add_argument("--passes", type=number(0, c.MOST_PASSES), default=0, metavar="P", help="0 to 100, else 0")
-    options.add_argument("--seed", type=number(0, c.MOST_SEED), default=0, metavar="S", help="of 64 bits, else 0")
+    add = options.add_argument
+    add("--rounds", type=number(0, c.MOST_ROUNDS), metavar="R",
+        help="up to which round; else 1,000,000, and of a plan without a time limit 1,000")
+    add("--seconds", type=seconds_of, metavar="S", help="a time limit")
+    add("--take", type=number(1, c.MOST_JOBS), metavar="D", help="the destruction size, else 4")
+    add("--passes", type=number(0, c.MOST_PASSES), default=0, metavar="P", help="0 to 100, else 0")
+    add("--seed", type=number(0, c.MOST_SEED), default=0, metavar="S", help="of 64 bits, else 0")
     return options
 
 
 def add_plan_words(plan: argparse.ArgumentParser) -> None:
     """Add the arguments of `plan`."""
+    plan.set_defaults(run=plan_command)
     plan.add_argument("--version", **VERSION_OPTION)
     plan.add_argument("table", metavar="TIMES.csv", help="a row for each job, a column for each machine, with names; "
                       "also a workbook .xlsx")
-    add_input_words(plan)
-    add_output_words(plan)
-    plan.set_defaults(run=plan_command)
+    add = plan.add_argument_group("the table").add_argument
+    add("--unit", default="", help="of the times; else what stands in brackets in the first cell")
+    add("--decimal", choices=tuple(DECIMAL_SIGNS),
+        help="the decimal sign of the times; the other sign may then group thousands; else the sign that the table "
+        "uses, if that is clear")
+    add("--machines", metavar="NAMES",
+        help="the columns that are machines, by their names, with commas, in the order of the machines; other columns "
+        "are skipped")
+    add("--allow-totals", action="store_true",
+        help="take rows and columns with the names of sums, means or quantities, and a last one with the sums of the "
+        "others, as jobs and machines")
+    add_order_words(plan.add_argument_group("the order").add_argument)
+    add_date_words(plan.add_argument_group("dates and shifts").add_argument)
+    add = plan.add_argument_group("what is written").add_argument
+    add("--schedule", metavar="OUT.csv", help="when each operation starts and ends, as .csv or .xlsx")
+    add("--chart", metavar="OUT.svg", action="append", default=[],
+        help="the chart, as .svg, .png, .pdf or a page .html; may be given more than once")
+    add("--title", default=True, metavar="TEXT", help="the title of charts, else what they show")
 
 
-def add_input_words(parser: argparse.ArgumentParser) -> None:
-    """Add the options that say how a table is read, and those about orders and held jobs."""
-    plan = parser.add_argument_group("the table")
-    plan.add_argument("--unit", default="", help="of the times; else what stands in brackets in the first cell")
-    plan.add_argument("--decimal", choices=tuple(DECIMAL_SIGNS),
-                      help="the decimal sign of the times; the other sign may then group thousands; else the sign that "
-                      "the table uses, if that is clear")
-    plan.add_argument("--machines", metavar="NAMES",
-                      help="the columns that are machines, by their names, with commas, in the order of the machines; "
-                      "other columns are skipped")
-    plan.add_argument("--allow-totals", action="store_true",
-                      help="take rows and columns with the names of sums, means or quantities, and a last one with the "
-                      "sums of the others, as jobs and machines")
-    plan = parser.add_argument_group("the order")
-    plan.add_argument("--order", metavar="FILE",
-                      help="an order to begin with: the names of the jobs, one in a line, or what plan printed, or its "
-                      "schedule. Jobs that the table lacks are left out, and jobs that the order lacks are inserted at "
-                      "their best places. It is only evaluated if neither --rounds, --seconds nor an option that holds "
-                      "jobs is there")
-    plan.add_argument("--first", metavar="NAME", action="append", default=[],
-                      help="a job that has the first place; given more than once, these jobs come first in this order")
-    plan.add_argument("--hold", type=number(1, c.MOST_JOBS), default=0, metavar="K",
-                      help="the first K jobs of --order that the table has keep the first places")
-    plan.add_argument("--keep", action="store_true",
-                      help="the jobs of --order keep their order; only new ones are moved")
-    plan.add_argument("--compare", metavar="FILE",
-                      help="another order, as for --order: standard error says how the plan ends and which jobs moved")
+def add_order_words(add: Callable[..., object]) -> None:
+    """Add the options about orders and held jobs."""
+    add("--order", metavar="FILE",
+        help="an order to begin with: the names of the jobs, one in a line, or what plan printed, or its schedule. "
+        "Jobs that the table lacks are left out, and jobs that the order lacks are inserted at their best places. It "
+        "is only evaluated if neither --rounds, --seconds nor an option that holds jobs is there")
+    add("--first", metavar="NAME", action="append", default=[],
+        help="a job that has the first place; given more than once, these jobs come first in this order")
+    add("--hold", type=number(1, c.MOST_JOBS), default=0, metavar="K",
+        help="the first K jobs of --order that the table has keep the first places")
+    add("--keep", action="store_true", help="the jobs of --order keep their order; only new ones are moved")
+    add("--compare", metavar="FILE",
+        help="another order, as for --order: standard error says how the plan ends and which jobs moved")
 
 
-def add_output_words(parser: argparse.ArgumentParser) -> None:
-    """Add the options that say when there is work, and those that name files to write."""
-    plan = parser.add_argument_group("dates and shifts")
-    plan.add_argument("--begin", type=checked(begin_of), metavar="DATETIME",
-                      help="when the work begins, such as 2026-11-30T06:00; the schedule and the chart then have local "
-                      "dates and times of day, for which times need the unit min, h, s or d")
-    plan.add_argument("--shift", type=checked(shifts_of), action="append", default=[], metavar="FROM-TO",
-                      help="when there is work, such as 06:00-14:00, also across midnight; several with commas, or "
-                      "the option more than once; by default around the clock. A day of the week or a date has other "
-                      "shifts by fri:06:00-12:00 or 2026-12-05:06:00-12:00. Operations stop at the end of a shift "
-                      "and continue with the next one; this changes neither the order nor the makespan")
-    plan.add_argument("--days", type=checked(days_of), action="append", default=[], metavar="DAYS",
-                      help="the days on which the other shifts start, such as mon-fri or mon,wed,fri; by default all")
-    plan.add_argument("--closed", type=checked(dates_of), action="append", default=[], metavar="DATES",
-                      help="dates on which no shift starts, such as 2026-12-24..2027-01-01; several with commas, or "
-                      "the option more than once")
-    plan = parser.add_argument_group("what is written")
-    plan.add_argument("--schedule", metavar="OUT.csv", help="when each operation starts and ends, as .csv or .xlsx")
-    plan.add_argument("--chart", metavar="OUT.svg", action="append", default=[],
-                      help="the chart, as .svg, .png, .pdf or a page .html; may be given more than once")
-    plan.add_argument("--title", default=True, metavar="TEXT", help="the title of charts, else what they show")
+def add_date_words(add: Callable[..., object]) -> None:
+    """Add the options that say when there is work."""
+    add("--begin", type=checked(begin_of), metavar="DATETIME",
+        help="when the work begins, such as 2026-11-30T06:00; the schedule and the chart then have local dates and "
+        "times of day, for which times need the unit min, h, s or d")
+    add("--shift", type=checked(shifts_of), action="append", default=[], metavar="FROM-TO",
+        help="when there is work, such as 06:00-14:00, also across midnight; several with commas, or the option more "
+        "than once; by default around the clock. A day of the week or a date has other shifts by fri:06:00-12:00 or "
+        "2026-12-05:06:00-12:00. Operations stop at the end of a shift and continue with the next one; this changes "
+        "neither the order nor the makespan")
+    add("--days", type=checked(days_of), action="append", default=[], metavar="DAYS",
+        help="the days on which the other shifts start, such as mon-fri or mon,wed,fri; by default all")
+    add("--closed", type=checked(dates_of), action="append", default=[], metavar="DATES",
+        help="dates on which no shift starts, such as 2026-12-24..2027-01-01; several with commas, or the option more "
+        "than once")
 
 
 def plan_words() -> CommandLine:

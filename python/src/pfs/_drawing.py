@@ -1,5 +1,5 @@
-"""Draws a time table as a Gantt chart: a row for each machine, a colour for each job, idle time in grey. A `Table` is
-drawn on a figure of matplotlib. This needs matplotlib, and not the library."""
+"""What a Gantt chart shows, and its picture by matplotlib: a row for each machine, a colour for each job, idle time in
+grey. A page shows the same `Chart`. This needs NumPy, for pictures matplotlib, and not the library."""
 from __future__ import annotations
 
 import importlib
@@ -9,11 +9,15 @@ import logging
 import math
 import textwrap
 from collections.abc import Sequence
-from typing import Any, NamedTuple
+from dataclasses import dataclass
+from functools import cached_property
+from typing import Any
 
 from pfs._names import CLOCK, amount
 
 # Sizes are in inches, those of letters in points.
+WIDTH, DPI = 12.0, 110
+UNIT = "units of the instance"
 LETTERS = 8
 DIGIT = 0.66 * LETTERS / 72
 HIGHEST_ROWS = 12
@@ -48,63 +52,127 @@ Axis = Any
 Array = Any
 
 
-class Table(NamedTuple):
-    """The order of the jobs, numbered from 1, and the start and the end of each operation, by place in the order and by
-    machine. The names are optional; those of the jobs are in the order of their numbers."""
-    order: list[int]
+@dataclass
+class Chart:
+    """A time table, and how it is drawn.
+
+    `order` has the jobs, numbered from 1, and `jobs` their names, both by place; `starts` and `ends` have a row for
+    each place and a column for each machine. The width is in inches, and `dpi` is dots per inch. `decimals` is the
+    number of decimals of the times. The title is this text, or says what is drawn. A scale of dates has a title,
+    `scale`, and marks, each a time and its text. With `key`, a bar that is too short for its job's name has the job's
+    place in the order, and a key below the rows has the names. Shifts and days begin at `breaks`, each a time and the
+    day or an empty text. `end` is the date of the end."""
+    order: Sequence[int]
     starts: Array
     ends: Array
-    job_names: Sequence[str] = ()
-    machine_names: Sequence[str] = ()
-
-    @property
-    def jobs(self) -> int:
-        return len(self.order)
-
-    @property
-    def machines(self) -> int:
-        return int(self.starts.shape[1])
-
-    @property
-    def makespan(self) -> int:
-        return int(self.ends[-1, -1])
-
-    def label(self, job: int) -> str:
-        return self.job_names[job - 1] if self.job_names else str(job)
-
-
-class Look(NamedTuple):
-    """How a table is drawn. The width is in inches, and `dpi` is dots per inch. `decimals` is the number of decimals of
-    the times. The title is this text, or says what is drawn. A scale of dates has a title, `scale`, and marks, each a
-    time and its text. With `key`, a bar that is too short for its job's name has the job's place in the order, and a
-    key below the rows has the names. Shifts and days begin at `breaks`, each a time and the day or an empty text. `end`
-    is the date of the end. `beside` is the space next to the rows."""
-    width: float = 12.0
-    dpi: int = 110
+    jobs: Sequence[str]
+    machines: Sequence[str]
+    width: float = WIDTH
+    dpi: int = DPI
     title: bool | str = True
     critical: bool = False
     bound: int | None = None
-    unit: str = "units of the instance"
+    unit: str = UNIT
     decimals: int = 0
     scale: str = ""
     marks: Sequence[tuple[float, str]] = ()
     key: bool = False
     breaks: Sequence[tuple[float, str]] = ()
     end: str = ""
-    beside: float = BESIDE
+
+    def __post_init__(self) -> None:
+        self.makespan = int(self.ends[-1, -1])
+        self.fills = colours(self.order)
+        # What a picture shows of the names of machines, and the space next to its rows.
+        self.names = [shortened(name, int(self.width / 4 / NAME_DIGIT)) for name in self.machines]
+        self.beside = BESIDE + NAME_DIGIT * max(0, max(map(len, self.names)) - NAME)
+        # The sign before the number of a place, which is empty unless a name is a number.
+        self.sign = "#" if any(name.isdecimal() for name in self.jobs) else ""
 
     @property
     def plot_width(self) -> float:
         return max(0.5, self.width - self.beside)
 
+    @property
+    def row_height(self) -> float:
+        return min(0.42, max(0.05, HIGHEST_ROWS / len(self.machines)))
+
+    @property
+    def height(self) -> float:
+        """The height of a picture but for its key."""
+        return 1.3 + self.row_height * len(self.machines)
+
+    @property
+    def is_image(self) -> bool:
+        """Whether the rows are drawn as an image: there are very many operations, or more jobs than pixels in a row."""
+        return self.starts.size > MANY or len(self.order) > self.plot_width * self.dpi
+
+    def inches(self, time: int) -> float:
+        """The length of a time in the picture."""
+        return self.plot_width / max(1, self.makespan) * time
+
     def formatted(self, time: float) -> str:
         return amount(round(time), self.decimals, self.unit)
 
+    def heading(self, has_unit: bool) -> str:
+        """The given title, or else what is drawn, on request with the unit of the makespan."""
+        if self.title and isinstance(self.title, str):
+            return self.title
+        unit = f" {self.unit}" if has_unit and self.unit not in (UNIT, CLOCK) else ""
+        title = f"{len(self.jobs)} jobs on {len(self.machines)} machines: "
+        title += f"makespan {self.formatted(self.makespan)}{unit}"
+        title += f", end {self.end}" if self.end else ""
+        title += f", bound {self.formatted(self.bound)} (dashed)" if self.bound is not None else ""
+        return title + (", critical path outlined" if self.critical else "")
 
-def table_of(order: list[int], starts: Any, ends: Any) -> Table:
-    """Return the table of these lists, which have a row for each job."""
-    numpy = importlib.import_module("numpy")
-    return Table(order, numpy.asarray(starts, dtype="int64"), numpy.asarray(ends, dtype="int64"))
+    def shares(self) -> list[str]:
+        """The share of idle time of each machine; empty if nothing takes time."""
+        busy = (self.ends - self.starts).sum(axis=0).tolist()
+        return [f"{100 - 100 * time / self.makespan:.0f} %" if self.makespan else "" for time in busy]
+
+    def outlines(self) -> list[tuple[int, int, int]]:
+        """The machines of a critical path, each with the first and the last place of its operations on the path, which
+        follow each other without a wait; none if the path isn't drawn."""
+        path = critical_path(self.starts, self.ends) if self.critical else []
+        groups = [[*group] for _, group in itertools.groupby(path, lambda operation: operation[1])]
+        return [(group[0][1], group[0][0], group[-1][0]) for group in groups]
+
+    @cached_property
+    def labels(self) -> list[tuple[int, int, str, int]]:
+        """The texts on bars: machine, place, text and the size of its letters."""
+        if self.is_image or self.row_height <= SMALLEST_ROW:
+            return []
+        lengths = enumerate((self.ends - self.starts).T.tolist())
+        labels = [(machine, place, *self.label_of(place, length)) for machine, row in lengths
+                  for place, length in enumerate(row)]
+        return [label for label in labels if label[2]]
+
+    def label_of(self, place: int, length: int) -> tuple[str, int]:
+        """Return the label of a bar of this length and the size of its letters: the job's name, or in smaller letters
+        its place in the key with the beginning of its name, or its name if there is no key, or an empty text."""
+        room, name = self.inches(length), self.jobs[place]
+        if room > DIGIT * len(name) + 0.03:
+            return name, LETTERS
+        text, most = f"{self.sign}{place + 1}" if self.key else name, int((room - 0.03) / KEY_DIGIT)
+        if self.key and most >= len(text) + 6:
+            text = shortened(f"{text} {name}", most)
+        return text if room > KEY_DIGIT * len(text) + 0.02 else "", KEY_LETTERS
+
+    @cached_property
+    def key_columns(self) -> list[list[str]]:
+        """The places and names of all jobs, in columns of equal width; none if no bar has a place instead of a name."""
+        if not self.key or all(letters == LETTERS for *_, letters in self.labels):
+            return []
+        most = max(8, int((self.width - 0.4) / KEY_DIGIT) - 4)
+        items = [shortened(f"{self.sign}{place} {name}", most) for place, name in enumerate(self.jobs, 1)]
+        columns = max(1, min(len(items), int((self.width - 0.4) / (KEY_DIGIT * (4 + max(map(len, items)))))))
+        rows = math.ceil(len(items) / columns)
+        return [items[at:at + rows] for at in range(0, len(items), rows)]
+
+    @property
+    def key_height(self) -> float:
+        """The height of the key, in inches; 0 if there is none."""
+        return 0.2 + KEY_LINE * len(self.key_columns[0]) if self.key_columns else 0
 
 
 def critical_path(starts: Array, ends: Array) -> list[tuple[int, int]]:
@@ -121,9 +189,14 @@ def critical_path(starts: Array, ends: Array) -> list[tuple[int, int]]:
     return path[::-1]
 
 
+def shortened(text: str, most: int) -> str:
+    """Return the text, cut if it is longer than this."""
+    return text if len(text) <= most else f"{text[:most - 1].rstrip()}\u2026"
+
+
 # Colours
 
-def colours(order: list[int]) -> list[Colour]:
+def colours(order: Sequence[int]) -> list[Colour]:
     """Return the colour of each job of the order. Few jobs have the colours of the palette, by their numbers. For many
     jobs the hue changes along the order, and neighbours differ in their lightness."""
     if len(order) <= FEW:
@@ -158,232 +231,134 @@ def ink(background: Colour) -> str:
 
 # The picture
 
-def new_figure(table: Table, look: Look) -> Figure:
-    """Return an empty figure that is large enough for the rows and the key."""
-    logging.getLogger("matplotlib").setLevel(logging.ERROR)
+def draw(chart: Chart, axis: Axis | None = None) -> Figure:
+    """Draw a chart on a new figure that is large enough for the rows and the key, or on axes of a caller."""
     matplotlib = importlib.import_module("matplotlib")
+    logging.getLogger("matplotlib").setLevel(logging.ERROR)
     matplotlib.rcParams.update({"svg.fonttype": "none", "svg.hashsalt": "pfs", "pdf.fonttype": 42, "font.size": 9})
-    height = 1.3 + row_height(table) * table.machines
-    key = key_height(table, look)
-    figure = importlib.import_module("matplotlib.figure").Figure(figsize=(look.width, height + key),
-                                                                 layout="constrained")
-    if key:
-        figure.get_layout_engine().set(rect=(0, key / (height + key), 1, height / (height + key)))
-    return figure
+    if axis is None:
+        height, key = chart.height, chart.key_height
+        figure = importlib.import_module("matplotlib.figure").Figure((chart.width, height + key), layout="constrained")
+        if key:
+            figure.get_layout_engine().set(rect=(0, key / (height + key), 1, height / (height + key)))
+        axis = figure.subplots()
+    else:
+        chart.width = axis.get_window_extent().width / axis.figure.dpi + chart.beside
+    if chart.is_image:
+        draw_image(axis, chart)
+    else:
+        draw_bars(axis, chart)
+    draw_lines(axis, chart)
+    draw_outlines(axis, chart)
+    draw_key(axis.figure, chart)
+    if chart.title:
+        size = 11 if chart.width > NARROW else 9
+        most = max(20, int(72 * (chart.width - 0.9) / (0.56 * size)))
+        axis.set_title(textwrap.fill(chart.heading(bool(chart.scale)), most), fontsize=size, linespacing=1.3,
+                       parse_math=False)
+    draw_scales(axis, chart)
+    return axis.figure
 
 
-def row_height(table: Table) -> float:
-    return min(0.42, max(0.05, HIGHEST_ROWS / table.machines))
-
-
-def beside(names: Sequence[str]) -> float:
-    """Return the space next to the rows of machines with these names."""
-    return BESIDE + NAME_DIGIT * max(0, max(map(len, names)) - NAME)
-
-
-def inches(table: Table, look: Look) -> float:
-    """Return the length of a unit of time in the picture."""
-    return look.plot_width / max(1, table.makespan)
-
-
-def is_image(table: Table, look: Look) -> bool:
-    """Whether the rows are drawn as an image: there are very many operations, or more jobs than pixels in a row."""
-    return table.jobs * table.machines > MANY or table.jobs > look.plot_width * look.dpi
-
-
-def draw(figure: Figure, table: Table, look: Look, axis: Axis | None = None) -> None:
-    """Draw the whole picture on an empty figure, or on axes of a caller."""
-    axis = figure.subplots() if axis is None else axis
-    fills = colours(table.order)
-    if is_image(table, look):
-        draw_image(axis, table, look, fills)
-    for machine in range(0 if is_image(table, look) else table.machines):
-        draw_machine(axis, table, look, machine, fills)
-        draw_numbers(axis, table, look, machine, fills)
-    draw_breaks(axis, look)
-    if look.bound is not None:  # a dashed line with a white edge, not clipped at the end of the axis
-        axis.axvline(look.bound, color="white", linewidth=2.4, zorder=3.5, clip_on=False, gid="beside-bound")
-        axis.axvline(look.bound, color="black", linestyle=(0, (4, 3)), linewidth=1.2, zorder=3.6, clip_on=False,
-                     gid="bound")
-    if look.critical:
-        draw_path(axis, table, look)
-    if has_key(table, look):
-        draw_key(figure, table, look, fills)
-    if look.title:
-        size = 11 if look.width > NARROW else 9
-        unit = f" {look.unit}" if look.scale and look.unit != CLOCK else ""
-        text = textwrap.fill(title_of(table, look, unit), max(20, int(72 * (look.width - 0.9) / (0.56 * size))))
-        axis.set_title(text, fontsize=size, linespacing=1.3, parse_math=False)
-    scales(axis, table, look)
-
-
-def title_of(table: Table, look: Look, unit: str) -> str:
-    """Return the given title, or else what is drawn, with this unit of the makespan."""
-    if look.title and isinstance(look.title, str):
-        return look.title
-    title = f"{table.jobs} jobs on {table.machines} machines: makespan {look.formatted(table.makespan)}{unit}"
-    title += f", end {look.end}" if look.end else ""
-    title += f", bound {look.formatted(look.bound)} (dashed)" if look.bound is not None else ""
-    return title + (", critical path outlined" if look.critical else "")
-
-
-def draw_image(axis: Axis, table: Table, look: Look, fills: list[Colour]) -> None:
+def draw_image(axis: Axis, chart: Chart) -> None:
     """Draw all rows as one image. The colour of a pixel is the mean of the colours at its time, with idle time."""
     numpy = importlib.import_module("numpy")
-    width = max(1, int(look.plot_width * look.dpi))
-    edges = numpy.linspace(0, table.makespan, width + 1)
-    idle, shades = numpy.array(rgb_of(IDLE[1:])), numpy.array(fills)
+    width, machines = max(1, int(chart.plot_width * chart.dpi)), len(chart.machines)
+    edges = numpy.linspace(0, chart.makespan, width + 1)
+    idle, shades = numpy.array(rgb_of(IDLE[1:])), numpy.array(chart.fills)
     # ten lines per machine; the first and the last are the white between the rows
-    image = numpy.full((10 * table.machines, width, 3), 255, dtype="uint8")
-    for machine in range(table.machines):
-        starts, ends = table.starts[:, machine], table.ends[:, machine]
-        times = numpy.concatenate(([0], numpy.stack((starts, ends), axis=1).ravel(), [table.makespan]))
-        spans = numpy.diff(times)[:, None] * numpy.where(numpy.arange(len(times) - 1)[:, None] % 2, 0.0, idle)
-        spans[1::2] = numpy.diff(times)[1::2, None] * shades
-        sums = numpy.concatenate(([[0, 0, 0]], numpy.cumsum(spans, axis=0)))
+    image = numpy.full((10 * machines, width, 3), 255, dtype="uint8")
+    for machine in range(machines):
+        spans = numpy.stack((chart.starts[:, machine], chart.ends[:, machine]), axis=1)
+        times = numpy.concatenate(([0], spans.ravel(), [chart.makespan]))
+        lengths = numpy.diff(times)[:, None]
+        # an operation has each second length, and idle time each other one
+        lights = lengths * idle
+        lights[1::2] = lengths[1::2] * shades
+        sums = numpy.concatenate(([[0, 0, 0]], numpy.cumsum(lights, axis=0)))
         for part in range(3):
-            means = numpy.diff(numpy.interp(edges, times, sums[:, part])) * width / max(1, table.makespan)
+            means = numpy.diff(numpy.interp(edges, times, sums[:, part])) * width / max(1, chart.makespan)
             image[10 * machine + 1:10 * machine + 9, :, part] = numpy.rint(255 * means.clip(0, 1))
-    axis.imshow(image, extent=(0, table.makespan, table.machines + 0.5, 0.5), aspect="auto", interpolation="none",
+    axis.imshow(image, extent=(0, chart.makespan, machines + 0.5, 0.5), aspect="auto", interpolation="none",
                 gid="rows")
 
 
-def draw_machine(axis: Axis, table: Table, look: Look, machine: int, fills: list[Colour]) -> None:
-    """Draw a grey strip, and on it the operations that take time, in the order of the jobs. The white edges between
-    them take at most a quarter of the shortest one."""
-    starts, ends = table.starts[:, machine].tolist(), table.ends[:, machine].tolist()
-    bars = [(start, end - start, fill) for start, end, fill in zip(starts, ends, fills) if end > start]
-    shortest = 72 * inches(table, look) * min((length for _, length, _ in bars), default=0)
-    row = (machine + 0.6, 0.8)
-    axis.broken_barh([(0, table.makespan)], row, facecolor=IDLE, linewidth=0, gid=f"strip-{machine + 1}")
-    axis.broken_barh([bar[:2] for bar in bars], row, facecolors=[bar[2] for bar in bars], edgecolor="white",
-                     linewidth=min(0.5, shortest / 4), gid=f"machine-{machine + 1}")
+def draw_bars(axis: Axis, chart: Chart) -> None:
+    """Draw a grey strip for each machine, and on it the operations that take time, in the order of the jobs, with their
+    labels. The white edges between them take at most a quarter of the shortest one."""
+    for machine, (starts, ends) in enumerate(zip(chart.starts.T.tolist(), chart.ends.T.tolist())):
+        bars = [(start, end - start, fill) for start, end, fill in zip(starts, ends, chart.fills) if end > start]
+        shortest = 72 * chart.inches(min((length for _, length, _ in bars), default=0))
+        row = (machine + 0.6, 0.8)
+        axis.broken_barh([(0, chart.makespan)], row, facecolor=IDLE, linewidth=0, gid=f"strip-{machine + 1}")
+        axis.broken_barh([bar[:2] for bar in bars], row, facecolors=[bar[2] for bar in bars], edgecolor="white",
+                         linewidth=min(0.5, shortest / 4), gid=f"machine-{machine + 1}")
+    for machine, place, text, letters in chart.labels:
+        middle = (int(chart.starts[place, machine]) + int(chart.ends[place, machine])) / 2
+        axis.text(middle, machine + 1, text, ha="center", va="center", fontsize=letters, zorder=4,
+                  color=ink(chart.fills[place]), clip_on=True, parse_math=False)
 
 
-def draw_numbers(axis: Axis, table: Table, look: Look, machine: int, fills: list[Colour]) -> None:
-    """Write each job's name or number on its bar, or else its place in the key, if that fits."""
-    if row_height(table) <= SMALLEST_ROW:
-        return
-    starts, ends = table.starts[:, machine].tolist(), table.ends[:, machine].tolist()
-    for place, (start, end) in enumerate(zip(starts, ends)):
-        label = label_of(table, look, place, end - start)
-        if label.text:
-            axis.text((start + end) / 2, machine + 1, label.text, ha="center", va="center", fontsize=label.letters,
-                      zorder=4, color=ink(fills[place]), clip_on=True, parse_math=False)
-
-
-class Label(NamedTuple):
-    """The text on a bar, the size of its letters, and whether it is a place in the key."""
-    text: str
-    letters: int = LETTERS
-    is_place: bool = False
-
-
-def label_of(table: Table, look: Look, place: int, length: int) -> Label:
-    """Return the label of a bar of this length: the job's name, its place in the key and the beginning of its name or
-    else its name in smaller letters, or an empty one."""
-    room, name = inches(table, look) * length, table.label(table.order[place])
-    if room > DIGIT * len(name) + 0.03:
-        return Label(name)
-    text, most = sign_of(table) + str(place + 1) if look.key else name, int((room - 0.03) / KEY_DIGIT)
-    if look.key and most >= len(text) + 6:
-        text = shortened(f"{text} {name}", most)
-    return Label(text, KEY_LETTERS, look.key) if room > KEY_DIGIT * len(text) + 0.02 else Label("")
-
-
-def shortened(text: str, most: int) -> str:
-    """Return the text, cut if it is longer than this."""
-    return text if len(text) <= most else f"{text[:most - 1].rstrip()}\u2026"
-
-
-def sign_of(table: Table) -> str:
-    """Return the sign before the number of a place, which is empty unless a name is a number."""
-    return "#" if any(name.isdecimal() for name in table.job_names) else ""
-
-
-def has_key(table: Table, look: Look) -> bool:
-    """Whether any bar has a place in the key instead of a name."""
-    if not look.key or is_image(table, look) or row_height(table) <= SMALLEST_ROW:
-        return False
-    lengths = (table.ends - table.starts).tolist()
-    return any(label_of(table, look, place, length).is_place for place, row in enumerate(lengths) for length in row
-               if length)
-
-
-def key_columns(table: Table, look: Look) -> list[list[str]]:
-    """Return the places and names of all jobs, in columns of equal width."""
-    most = max(8, int((look.width - 0.4) / KEY_DIGIT) - 4)
-    items = [shortened(f"{sign_of(table)}{place} {table.label(job)}", most) for place, job in enumerate(table.order, 1)]
-    columns = max(1, min(len(items), int((look.width - 0.4) / (KEY_DIGIT * (4 + max(map(len, items)))))))
-    rows = math.ceil(len(items) / columns)
-    return [items[at:at + rows] for at in range(0, len(items), rows)]
-
-
-def key_height(table: Table, look: Look) -> float:
-    """Return the height of the key, in inches; 0 if there is none."""
-    return 0.2 + KEY_LINE * len(key_columns(table, look)[0]) if has_key(table, look) else 0
-
-
-def draw_key(figure: Figure, table: Table, look: Look, fills: list[Colour]) -> None:
-    """Draw the key below the rows: a square of each job's colour, its place and its name."""
-    columns = key_columns(table, look)
-    height, wide = figure.get_figheight(), (look.width - 0.4) / len(columns)
-    colour = iter(fills)
-    for at, column in enumerate(columns):
-        for line, item in enumerate(column):
-            left, top = 0.2 + at * wide, key_height(table, look) - 0.1 - line * KEY_LINE
-            for shift, text, ink_of in ((0, "\u25a0", next(colour)), (2 * KEY_DIGIT, item, "black")):
-                figure.text((left + shift) / look.width, top / height, text, va="baseline", fontsize=KEY_LETTERS,
-                            color=ink_of, parse_math=False)
-
-
-def draw_breaks(axis: Axis, look: Look) -> None:
-    """Draw a line where a day begins, and a thin one where another shift does."""
+def draw_lines(axis: Axis, chart: Chart) -> None:
+    """Draw a line where a day begins, a thin one where another shift does, and a dashed one with a white edge at the
+    bound, which isn't clipped at the end of the axis."""
     for name, wide, style in (("days", 0.9, "-"), ("shifts", 0.6, ":")):
-        times = [at for at, day in look.breaks if at and bool(day) == (name == "days")]
+        times = [at for at, day in chart.breaks if at and bool(day) == (name == "days")]
         if times:
             axis.vlines(times, 0, 1, transform=axis.get_xaxis_transform(), color="black", linewidth=wide,
                         linestyle=style, zorder=2.5, gid=name)
+    if chart.bound is not None:
+        axis.axvline(chart.bound, color="white", linewidth=2.4, zorder=3.5, clip_on=False, gid="beside-bound")
+        axis.axvline(chart.bound, color="black", linestyle=(0, (4, 3)), linewidth=1.2, zorder=3.6, clip_on=False,
+                     gid="bound")
 
 
-def draw_path(axis: Axis, table: Table, look: Look) -> None:
-    """Outline the critical operations of each machine, which follow each other without a wait. With few jobs the line
-    covers at most a quarter of the first and of the last of them, unless it would be too thin to see."""
-    for machine, group in itertools.groupby(critical_path(table.starts, table.ends), lambda operation: operation[1]):
-        places = [place for place, _ in group]
-        start, end = int(table.starts[places[0], machine]), int(table.ends[places[-1], machine])
-        lengths = [int(table.ends[place, machine] - table.starts[place, machine]) for place in places]
+def draw_outlines(axis: Axis, chart: Chart) -> None:
+    """Outline the critical operations of each machine. With few jobs the line covers at most a quarter of the first and
+    of the last of them, unless it would be too thin to see."""
+    for machine, first, last in chart.outlines():
+        lengths = (chart.ends - chart.starts)[first:last + 1, machine].tolist()
         ends = [next((length for length in each if length), 0) for each in (lengths, lengths[::-1])]
-        thin = max(0.8, 72 * inches(table, look) * min(ends) / 2) if table.jobs <= FEW else 2
-        if end > start:
-            axis.broken_barh([(start, end - start)], (machine + 0.6, 0.8), facecolor="none", edgecolor="black",
-                             linewidth=min(2, 20 * row_height(table), thin), zorder=3, clip_on=False,
-                             gid=f"critical-{machine + 1}")
+        thin = max(0.8, 72 * chart.inches(min(ends)) / 2) if len(chart.order) <= FEW else 2
+        if sum(lengths):
+            axis.broken_barh([(int(chart.starts[first, machine]), sum(lengths))], (machine + 0.6, 0.8),
+                             facecolor="none", edgecolor="black", linewidth=min(2, 20 * chart.row_height, thin),
+                             zorder=3, clip_on=False, gid=f"critical-{machine + 1}")
 
 
-def scales(axis: Axis, table: Table, look: Look) -> None:
+def draw_key(figure: Figure, chart: Chart) -> None:
+    """Draw the key below the rows: a square of each job's colour, its place and its name."""
+    height, colour = figure.get_figheight(), iter(chart.fills)
+    for at, column in enumerate(chart.key_columns):
+        for line, item in enumerate(column):
+            left = 0.2 + at * (chart.width - 0.4) / len(chart.key_columns)
+            top = chart.key_height - 0.1 - line * KEY_LINE
+            for shift, text, ink_of in ((0, "\u25a0", next(colour)), (2 * KEY_DIGIT, item, "black")):
+                figure.text((left + shift) / chart.width, top / height, text, va="baseline", fontsize=KEY_LETTERS,
+                            color=ink_of, parse_math=False)
+
+
+def draw_scales(axis: Axis, chart: Chart) -> None:
     """Draw the axes: time from left to right, machines downwards, and at the right their shares of idle time."""
-    step = next(step for step in (1, 2, 5, 10, 20, 50) if step * row_height(table) > 0.18)
-    shown = range(step, table.machines + 1, step)
-    axis.set_xlim(0, max(1, table.makespan))
-    axis.set_ylim(table.machines + 0.5, 0.5)
-    axis.set_yticks(shown, [table.machine_names[machine - 1] for machine in shown] if table.machine_names else None)
-    for label in axis.get_yticklabels():
+    count, shares = len(chart.machines), chart.shares()
+    step = next(step for step in (1, 2, 5, 10, 20, 50) if step * chart.row_height > 0.18)
+    shown = range(step, count + 1, step)
+    axis.set_xlim(0, max(1, chart.makespan))
+    axis.set_ylim(count + 0.5, 0.5)
+    axis.set_yticks(shown, [chart.names[machine - 1] for machine in shown])
+    for label in axis.get_yticklabels():  # not as formulas, even if they look like some
         label.set_parse_math(False)
-    # not as a formula, even if it looks like one
-    axis.set_xlabel(look.scale or f"time ({look.unit})", parse_math=False)
+    axis.set_xlabel(chart.scale or f"time ({chart.unit})", parse_math=False)
     axis.set_ylabel("machine")
-    if look.marks:
-        axis.set_xticks([time for time, _ in look.marks], [text for _, text in look.marks])
+    if chart.marks:
+        axis.set_xticks([time for time, _ in chart.marks], [text for _, text in chart.marks])
     else:
-        axis.xaxis.set_major_formatter(lambda value, _: look.formatted(value))
-        axis.xaxis.get_major_locator().set_params(integer=True, **({} if look.width > NARROW else {"nbins": 5}))
+        axis.xaxis.set_major_formatter(lambda value, _: chart.formatted(value))
+        axis.xaxis.get_major_locator().set_params(integer=True, **({} if chart.width > NARROW else {"nbins": 5}))
     axis.spines[["top", "right", "left"]].set_visible(False)
     axis.tick_params(axis="y", length=0)
     right = axis.secondary_yaxis("right")
-    busy = (table.ends - table.starts).sum(axis=0).tolist()
-    shares = [f"{100 - 100 * busy[machine - 1] / table.makespan:.0f} %" if table.makespan else "" for machine in shown]
-    right.set_yticks(shown, shares)
+    right.set_yticks(shown, [shares[machine - 1] for machine in shown])
     right.tick_params(length=0)
     right.spines["right"].set_visible(False)
     box = {"facecolor": IDLE, "pad": 1.5, "linewidth": 0}

@@ -5,13 +5,14 @@ import csv
 import os
 from collections.abc import Callable, Iterator
 from datetime import timedelta
+from types import SimpleNamespace
 from typing import TYPE_CHECKING, Any
 
 import numpy as np
 
 from pfs._atomic import atomic_write, text_cell
 from pfs._calendar import Calendar, Clock, text_of
-from pfs._drawing import Look, critical_path
+from pfs._drawing import critical_path
 from pfs._names import CLOCK, amount
 from pfs._optional import optional
 from pfs._validate import Order
@@ -19,17 +20,6 @@ from pfs._workbooks import write_workbook
 
 if TYPE_CHECKING:
     from pfs._instance import Instance
-
-
-class Lines:
-    """A file for a CSV writer, which collects its rows with `\n` as line end."""
-
-    def __init__(self) -> None:
-        self.written: list[str] = []
-
-    def write(self, row: str) -> None:
-        """Add a row."""
-        self.written.append(row.removesuffix("\r\n") + "\n")
 
 
 class Schedule:
@@ -171,14 +161,15 @@ class Schedule:
         """
         shop = self.instance
         times_of = self._texts(calendar)
-        lines = Lines()
-        # With this line terminator, cells that contain \r or \n are quoted.
-        rows = csv.writer(lines, delimiter=delimiter, lineterminator="\r\n")
+        lines: list[str] = []
+        # With this line terminator, cells that contain \r or \n are quoted. Each row is written at once.
+        file = SimpleNamespace(write=lambda row: lines.append(row.removesuffix("\r\n") + "\n"))
+        rows = csv.writer(file, delimiter=delimiter, lineterminator="\r\n")
         rows.writerow(["job", "machine", "start", "end"])
         for job, machine, start, end in self._operations():
             shown = (time.replace(".", ",") if delimiter == ";" else time for time in times_of(start, end))
             rows.writerow([text_cell(shop.job_name(job)), text_cell(shop.machine_name(machine)), *shown])
-        text = "".join(lines.written)
+        text = "".join(lines)
         if path is None:
             return text
         atomic_write(path, text.encode("utf-8-sig" if mark else "utf-8"))
@@ -255,7 +246,8 @@ class Schedule:
             out of range, ``ax`` is given for a page, or a calendar for times whose unit is not a unit of time.
         """
         from pfs._chart import plot
-        return plot(self, path, Look(width, dpi, title, critical), bound, unit, ax, calendar)
+        return plot(self, path, critical=critical, bound=bound, unit=unit, width=width, dpi=dpi, title=title, ax=ax,
+                    calendar=calendar)
 
     def _repr_svg_(self) -> str | None:
         """Return the chart for Jupyter, or None without matplotlib or if the chart would be very large."""

@@ -106,9 +106,22 @@ def checksum(state: dict[str, Any]) -> str:
 def read_state(path: str, shop: Instance, identity: dict[str, Any]) -> Solution | None:
     """Return the order of a state file, with its rounds and cells, or None if there is no file."""
     try:
-        state = parse_state(path)
+        text, _ = bytes_of(path, c.LONGEST_INPUT)
     except FileNotFoundError:
         return None
+    if len(text) > c.LONGEST_INPUT:
+        raise StateFault(f"{path}: not the state of a search: longer than {c.LONGEST_INPUT:,} bytes")
+    try:
+        state = json.loads(text)
+    except (ValueError, RecursionError):
+        state = None
+    version = str(state.get("state")) if isinstance(state, dict) else ""
+    if not version.startswith("pfs search "):
+        raise StateFault(f"{path}: not the state of a search")
+    if version != VERSION:
+        raise StateFault(f"{path}: the state of a search by another version of pfs")
+    if state.pop("sum", None) != checksum(state):
+        raise StateFault(f"{path}: the state of a search, but damaged: its checksum is wrong")
     for name, value in identity.items():
         if state.get(name) != value:
             is_shown = name in ("take", "passes", "seed")
@@ -123,22 +136,3 @@ def read_state(path: str, shop: Instance, identity: dict[str, Any]) -> Solution 
     if not is_right:
         raise StateFault(f"{path}: the state of a search, but its order doesn't fit the instance")
     return best
-
-
-def parse_state(path: str) -> dict[str, Any]:
-    """Return the fields of a state file, after checking its checksum."""
-    text, _ = bytes_of(path, c.LONGEST_INPUT)
-    if len(text) > c.LONGEST_INPUT:
-        raise StateFault(f"{path}: not the state of a search: longer than {c.LONGEST_INPUT:,} bytes")
-    try:
-        state = json.loads(text)
-    except (ValueError, RecursionError):
-        state = None
-    version = state.get("state") if isinstance(state, dict) else None
-    if isinstance(version, str) and version.startswith("pfs search ") and version != VERSION:
-        raise StateFault(f"{path}: the state of a search by another version of pfs")
-    if not isinstance(state, dict) or version != VERSION:
-        raise StateFault(f"{path}: not the state of a search")
-    if state.pop("sum", None) != checksum(state):
-        raise StateFault(f"{path}: the state of a search, but damaged: its checksum is wrong")
-    return state
