@@ -21,7 +21,7 @@ from pfs._schedule import Schedule
 from pfs._search import HeldSearch, Progress, Search, Stop
 from pfs._solution import Solution, as_order
 from pfs._validate import (BOOLS, MOST_UINT32, Jobs, Order, array_copy, as_uint32, as_uint32_bytes, checked_int,
-                           checked_jobs, checked_order, checked_times, jobs_error, layout_number)
+                           checked_jobs, checked_order, checked_times, jobs_error, layout_number, wrong_job)
 
 _pfs_makespan = c.quick_makespan
 _pfs_insert = c.quick_insert
@@ -151,15 +151,7 @@ class Instance:
         """The number of machines."""
         return self._times.shape[1]
 
-    @property
-    def n_jobs(self) -> int:
-        """The same as ``jobs``."""
-        return self.jobs
-
-    @property
-    def n_machines(self) -> int:
-        """The same as ``machines``."""
-        return self.machines
+    n_jobs, n_machines = jobs, machines
 
     def __repr__(self) -> str:
         return f"<Instance {self.name + ': ' if self.name else ''}{self.jobs} jobs, {self.machines} machines>"
@@ -185,9 +177,8 @@ class Instance:
         """Return what the library has prepared in this process and no other call uses, or prepare the instance again. A
         call appends it to the list again when it is done. So threads neither wait for each other nor share one."""
         try:
-            prepared = self._prepared.pop()
-            while not prepared.is_own():
-                prepared = self._prepared.pop()
+            while not (prepared := self._prepared.pop()).is_own():
+                """It was made before a fork."""
         except IndexError:
             prepared = Prepared(self._data, self.jobs, self.machines)
         return prepared
@@ -474,16 +465,11 @@ class Instance:
     def _insertion_error(self, number: int, given: bytes, moved: bytes, *, is_in: bool = True) -> Exception:
         """Return the exception for a sequence and jobs to insert or, without `is_in`, to move that the library rejects
         with this number. With `is_in` a job is wrong if it is in the sequence, otherwise if it isn't."""
-        generic = (c.message(number),)
-        fault = jobs_error(number, self.jobs, given, "sequence")
-        if fault.args != generic:
-            return fault
-        fault = jobs_error(number, self.jobs, moved, "jobs")
         sequence = set(np.frombuffer(given, dtype=np.uint32).tolist())
-        wrong = [job for job in np.frombuffer(moved, dtype=np.uint32).tolist() if (job in sequence) == is_in]
-        if fault.args != generic or not wrong:
-            return fault
-        return ValueError(f"job {wrong[0]} {'is already' if is_in else 'is not'} in the sequence")
+        wrong = (ValueError(f"job {job} {'is already' if is_in else 'is not'} in the sequence")
+                 for job in np.frombuffer(moved, dtype=np.uint32).tolist() if (job in sequence) == is_in)
+        return (wrong_job(self.jobs, given, "sequence") or wrong_job(self.jobs, moved, "jobs") or next(wrong, None)
+                or c.error_of(number))
 
     def makespans(self, orders: npt.ArrayLike) -> Order:
         """Return the makespans of many sequences of equal length, as an array of int64.

@@ -175,6 +175,11 @@ def checked_jobs(given: Any, what: str) -> npt.NDArray[np.uint32]:
 
 def jobs_error(number: int, jobs: int, own: bytes, what: str = "order") -> Exception:
     """Return the exception for a list of jobs that the library rejects with this number."""
+    return wrong_job(jobs, own, what) or c.error_of(number)
+
+
+def wrong_job(jobs: int, own: bytes, what: str) -> Exception | None:
+    """Return the exception for the first job of a list that is none or that occurs twice."""
     places: dict[int, int] = {}
     for place, job in enumerate(np.frombuffer(own, dtype=np.uint32).tolist()):
         if job >= jobs:
@@ -182,7 +187,7 @@ def jobs_error(number: int, jobs: int, own: bytes, what: str = "order") -> Excep
         if job in places:
             return ValueError(f"{what}: job {job} occurs twice, at places {places[job]} and {place}")
         places[job] = place
-    return MemoryError(c.NO_MEMORY) if number == c.MEMORY else ValueError(c.message(number))
+    return None
 
 
 def checked_order(given: Any, jobs: int, what: str = "order", names: tuple[str, ...] | None = None) -> bytes:
