@@ -215,7 +215,7 @@ def test_truth_values_are_no_numbers(truth: Any) -> None:
 
 
 # Names of the functions that are called without types.
-QUICK = ("_pfs_makespan", "_pfs_insert", "_pfs_insertions")
+QUICK = ("quick_makespan", "quick_insert", "quick_insertions")
 SCALARS = (arrays.integer_dtypes() | arrays.unsigned_integer_dtypes() | arrays.floating_dtypes()
            | arrays.boolean_dtypes() | arrays.complex_number_dtypes() | arrays.unicode_string_dtypes()
            | arrays.byte_string_dtypes() | arrays.datetime64_dtypes())

@@ -15,7 +15,7 @@ from pfs import _search
 from pfs._atomic import atomic_write
 from pfs._bounds import bound_by_pairs
 from pfs._faults import Interrupted
-from pfs._library import LENGTHS, SHORT, Prepared
+from pfs._library import LENGTHS, SHORT, Prepared, quick_insert, quick_insertions, quick_makespan
 from pfs._names import frame_names, is_frame, names_of
 from pfs._schedule import Schedule
 from pfs._search import HeldSearch, Progress, Search, Stop
@@ -23,9 +23,6 @@ from pfs._solution import Solution, as_order
 from pfs._validate import (BOOLS, MOST_UINT32, Jobs, Order, array_copy, as_uint32, as_uint32_bytes, checked_int,
                            checked_jobs, checked_order, checked_times, jobs_error, layout_number, wrong_job)
 
-_pfs_makespan = c.quick_makespan
-_pfs_insert = c.quick_insert
-_pfs_insertions = c.quick_insertions
 # Three times as fast as calling the class of a named tuple.
 _new_tuple = tuple.__new__
 
@@ -203,8 +200,8 @@ class Instance:
         machine. The distinct jobs are given by number from 0 or by name. The makespan of an empty sequence is 0."""
         jobs, count = as_uint32_bytes(order, "order", self.job_names)
         prepared = self._taken()
-        number = _pfs_makespan(prepared.address, jobs, LENGTHS[count] if count < SHORT else c_size_t(count),
-                               prepared.to_makespan)
+        number = quick_makespan(prepared.address, jobs, LENGTHS[count] if count < SHORT else c_size_t(count),
+                                prepared.to_makespan)
         makespan: int = prepared.makespan.value
         self._prepared.append(prepared)
         if number:
@@ -261,10 +258,9 @@ class Instance:
         >>> shop.bound(), shop.bound("pairs")
         (3480, 3527)
         """
-        if not isinstance(method, str):
-            raise TypeError(f"method must be 'machines' or 'pairs', not {method!r}")
-        if method not in ("machines", "pairs"):
-            raise ValueError(f"method must be 'machines' or 'pairs', not {method!r}")
+        if not isinstance(method, str) or method not in ("machines", "pairs"):
+            kind = ValueError if isinstance(method, str) else TypeError
+            raise kind(f"method must be 'machines' or 'pairs', not {method!r}")
         bound = c_uint64()
         c.done(self._call("pfs_bound", byref(bound)))
         return max(bound.value, bound_by_pairs(self._times)) if method == "pairs" else bound.value
@@ -321,8 +317,8 @@ class Instance:
         if type(job) is not int or not 0 <= job < self.jobs:
             job = checked_int(job, "job", 0, self.jobs - 1)
         prepared = self._taken()
-        number = _pfs_insert(prepared.address, jobs, LENGTHS[count] if count < SHORT else c_size_t(count), job,
-                             prepared.to_place, prepared.to_makespan)
+        number = quick_insert(prepared.address, jobs, LENGTHS[count] if count < SHORT else c_size_t(count), job,
+                              prepared.to_place, prepared.to_makespan)
         best = _new_tuple(Place, (prepared.place.value, prepared.makespan.value))
         self._prepared.append(prepared)
         if number:
@@ -344,15 +340,13 @@ class Instance:
         array([10, 11, 14])
         """
         jobs, count = as_uint32_bytes(sequence, "sequence")
-        most = self.jobs
-        if type(job) is not int or not 0 <= job < most:
-            job = checked_int(job, "job", 0, most - 1)
-        if count > most:
-            count = most
+        if type(job) is not int or not 0 <= job < self.jobs:
+            job = checked_int(job, "job", 0, self.jobs - 1)
+        count = min(count, self.jobs)
         long, room = ((LENGTHS[count], LENGTHS[count + 1]) if count < SHORT - 1 else
                       (c_size_t(count), c_size_t(count + 1)))
         prepared = self._taken()
-        number = _pfs_insertions(prepared.address, jobs, long, job, prepared.to_spans, room)
+        number = quick_insertions(prepared.address, jobs, long, job, prepared.to_spans, room)
         spans = prepared.spans[:count + 1].copy()
         self._prepared.append(prepared)
         if number:
