@@ -107,6 +107,8 @@ class Instance:
     Solution(order=[1, 0, 2], makespan=10)
     >>> shop.bound()
     10
+    >>> shop.heads([1, 0]).tolist(), shop.tails([1, 0]).tolist()
+    ([[2, 7], [5, 9]], [[9, 7], [5, 2]])
     """
 
     __slots__ = ("name", "job_names", "machine_names", "unit", "decimals", "seed", "upper", "lower", "_times",
@@ -354,39 +356,14 @@ class Instance:
         return spans
 
     def heads(self, sequence: Jobs) -> Order:
-        """Return the earliest end of each operation of a sequence of jobs, as an array of int64 with a row for each job
-        of the sequence, in its order, and a column for each machine.
-
-        Parameters
-        ----------
-        sequence : array_like
-            Distinct jobs, counted from 0.
-
-        Examples
-        --------
-        >>> pfs.Instance([[3, 2], [2, 5], [4, 1]]).heads([1, 0])
-        array([[2, 7],
-               [5, 9]])
-        """
+        """Return the earliest end of each operation of a sequence of distinct jobs, counted from 0, as an array of
+        int64 with a row for each job of the sequence, in its order, and a column for each machine."""
         return self._heads_tails(sequence)[0]
 
     def tails(self, sequence: Jobs) -> Order:
-        """Return the longest path from the start of each operation to the end of a sequence of jobs.
-
-        The longest path through an operation is its head plus its tail minus its processing time. On a critical path
-        that is the makespan (Taillard 1990).
-
-        Parameters
-        ----------
-        sequence : array_like
-            As for :meth:`heads`, whose array has the same shape.
-
-        Examples
-        --------
-        >>> pfs.Instance([[3, 2], [2, 5], [4, 1]]).tails([1, 0])
-        array([[9, 7],
-               [5, 2]])
-        """
+        """Return the longest path from the start of each operation to the end of a sequence, as an array like that of
+        :meth:`heads`. The longest path through an operation is its head plus its tail minus its processing time. On a
+        critical path that is the makespan (Taillard 1990)."""
         return self._heads_tails(sequence)[1]
 
     def _heads_tails(self, sequence: Jobs) -> tuple[Order, Order]:
