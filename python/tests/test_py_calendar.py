@@ -71,8 +71,8 @@ def test_seconds_have_as_many_decimals_as_they_need(decimals: int) -> None:
 
 
 class Drawn(NamedTuple):
-    """A calendar: its shifts with their lengths, which don't overlap, a day of the week with the last of them alone, and
-    a date with the first one alone."""
+    """A calendar: its shifts with their lengths, which don't overlap, a day of the week with the last of them alone,
+    and a date with the first one alone."""
     begin: datetime.datetime
     shifts: list[tuple[int, int]]
     days: list[int]

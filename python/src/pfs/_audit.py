@@ -277,7 +277,8 @@ class Given(NamedTuple):
             for role in "makespan", "block":
                 match = WHOLE.fullmatch(texts[role])
                 if match is None and (role == "makespan" or texts[role]):
-                    raise self.fault(at, self.head[places[role]], f"{texts[role][:40]!r} isn't a {role}: a whole number")
+                    text = f"{texts[role][:40]!r} isn't a {role}: a whole number"
+                    raise self.fault(at, self.head[places[role]], text)
                 texts[role] = match[1] if match else ""
             try:
                 shop = shelf.get(texts["instance"], texts["block"])

@@ -99,8 +99,8 @@ def instance_of(times: Times, notes: c.Notes, name: str) -> Instance:
 
 
 def blocks_of(text: bytes, layout: int) -> Iterator[tuple[int, int, Times, c.Notes]]:
-    """Read the blocks before the first fault, each from the end of the one before it. Return where each begins and ends,
-    its times and its notes."""
+    """Read the blocks before the first fault, each from the end of the one before it. Return where each begins and
+    ends, its times and its notes."""
     end = 0
     for _ in range(c.MOST_BLOCKS):
         start = end
