@@ -63,16 +63,12 @@ BAD_TABLES: dict[str, tuple[str | bytes, int, int, str]] = {
     "a long row": ("job,saw\na,3,4\n", 1, 3, TITLE),
     "a decimal comma": ('job,saw\na,"3,5"\n', 2, 2, "'3,5' isn't a time"),
     "ten decimals": ("job,saw\na,0.0123456789\n", 2, 2, "'0.0123456789' has more than 9 decimals"),
-    "a long time": ("job,saw\na,1000000001\n", 2, 2, "the time is above 1,000,000,000"),
     "a time too long with decimals": ("job,saw\na,1000000\nb,0.0001\n", 2, 2,
                                       "the time is above 1,000,000,000, counted in 4 decimals"),
-    "a fault after a cell of two lines": ('job,saw\n"a\nb",3\nc,-1\n', 3, 2, "'-1' isn't a time"),
     "a fault after cells of many lines": ('"job\n\n",saw\n\n"a\r\nb",3\r\n"c\n",3\nd,-1\n', 5, 2, "'-1' isn't a time"),
     "a fault after a spreadsheet's first line": ("sep=;\njob;saw\na;-1\n", 2, 2, "'-1' isn't a time"),
     "a name twice after a cell of two lines": ('job,saw\n"a\nb",3\nc,1\nc,1\n', 4, 1, "the job 'c' is in A3 too"),
-    "an open quote before other lines": ('job,saw\na,"3\nb,4\nc,5\n', 4, 0,
-                                         "isn't a row of a table: unexpected end of data"),
-    "an open quote": ('job,saw\na,"3\n', 2, 0, "isn't a row of a table: unexpected end of data"),
+    "an open quote": ('job,saw\na,"3\nb,4\nc,5\n', 4, 0, "isn't a row of a table: unexpected end of data"),
 }
 BAD_TABLES |= {f"the time {cell}": (f"job,saw\na,{cell}\n", 2, 2, "the time is above 1,000,000,000" + note)
                for cell, note in (("1000000001", ""), ("1000000000.1", ", counted in 1 decimal"), ("1" + "0" * 10, ""))}

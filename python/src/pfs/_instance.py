@@ -342,9 +342,10 @@ class Instance:
         array([10, 11, 14])
         """
         jobs, count = as_uint32_bytes(sequence, "sequence")
-        if type(job) is not int or not 0 <= job < self.jobs:
-            job = checked_int(job, "job", 0, self.jobs - 1)
-        count = min(count, self.jobs)
+        most = self.jobs
+        if type(job) is not int or not 0 <= job < most:
+            job = checked_int(job, "job", 0, most - 1)
+        count = most if count > most else count
         long, room = ((LENGTHS[count], LENGTHS[count + 1]) if count < SHORT - 1 else
                       (c_size_t(count), c_size_t(count + 1)))
         prepared = self._taken()

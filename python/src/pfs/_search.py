@@ -252,7 +252,13 @@ def solve(search: Search, rounds: int | None, progress: Progress | None, time_li
     """Run a search in parts. Every exception has the best order so far in its attribute `solution`, once there is one.
     An interruption is raised as `Interrupted`."""
     try:
-        return in_parts(search, Limits(search, rounds, time_limit, target, stop), progress, history)
+        limits = Limits(search, rounds, time_limit, target, stop)
+        report, close = reporter(progress, limits.rounds)
+        try:
+            run_parts(search, limits, report, history)
+        finally:
+            close()
+        return search.solution()
     except KeyboardInterrupt:
         raise Interrupted(search.solution()) from None
     except BaseException as error:
@@ -261,31 +267,25 @@ def solve(search: Search, rounds: int | None, progress: Progress | None, time_li
         raise
 
 
-def in_parts(search: Search, limits: Limits, progress: Progress | None, history: bool) -> Solution:
+def run_parts(search: Search, limits: Limits, report: Callable[..., Any], history: bool) -> None:
     """Run the search up to its limits."""
-    pace = Pace(limits.seconds)
-    report, close = reporter(progress, limits.rounds)
-    try:
-        begun = time.perf_counter()
-        search.begin()
+    pace, begun = Pace(limits.seconds), time.perf_counter()
+    search.begin()
+    if history:
+        search.history.append(Improvement(search.first, time.perf_counter() - begun, search.solution().makespan))
+    made, is_ended = 0, False
+    while not is_ended and (left := limits.left(search, made)) and (count := pace.next(left)):
+        before, at = search.finished(), time.perf_counter()
+        search.run_rounds(count)
+        seconds = time.perf_counter() - at
+        pace.took(count, seconds)
         if history:
-            search.history.append(Improvement(search.first, time.perf_counter() - begun, search.solution().makespan))
-        made, is_ended = 0, False
-        while not is_ended and (left := limits.left(search, made)) and (count := pace.next(left)):
-            before, at = search.finished(), time.perf_counter()
-            search.run_rounds(count)
-            seconds = time.perf_counter() - at
-            pace.took(count, seconds)
-            if history:
-                record_improvements(search, before, limits.target, at - begun, seconds)
-            elif search.solution().makespan <= limits.target:
-                search.keep(search.first_within(before, search.finished(), limits.target))
-            count = search.finished().total - before.total
-            made += count
-            is_ended = report(count, made, search.solution().makespan) is True
-        return search.solution()
-    finally:
-        close()
+            record_improvements(search, before, limits.target, at - begun, seconds)
+        elif search.solution().makespan <= limits.target:
+            search.keep(search.first_within(before, search.finished(), limits.target))
+        count = search.finished().total - before.total
+        made += count
+        is_ended = report(count, made, search.solution().makespan) is True
 
 
 def record_improvements(search: Search, before: Part, target: int, begun: float, seconds: float) -> None:
