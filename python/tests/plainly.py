@@ -5,8 +5,7 @@ import os
 import pathlib
 import subprocess
 import sys
-from collections.abc import Callable, Sequence
-from typing import Any
+from collections.abc import Sequence
 
 import pfs
 from hypothesis import strategies as st
@@ -40,19 +39,22 @@ def shops_and_sequences(draw: st.DrawFn, most_jobs: int = 6) -> tuple[Table, lis
     return times, order[:draw(st.integers(0, len(order)))]
 
 
-def over(function: Callable[..., Any]) -> Callable[..., Any]:
-    """A function of the second program, of times in the place of an instance."""
-    return lambda times, *given: function(instance_of(times), *given)
+def schedule(times: Table, order: Sequence[int]) -> list[list[tuple[int, int]]]:
+    """Start and end of each operation, by place and machine."""
+    return second_program.spans_of(instance_of(times), order)
 
 
-# Start and end of each operation, by place and machine.
-schedule = over(second_program.spans_of)
-makespan, bound, neh = map(over, (second_program.makespan, second_program.lower_bound, second_program.by_totals))
+def makespan(times: Table, order: Sequence[int]) -> int:
+    return second_program.makespan(instance_of(times), order)
 
 
 def shortest(times: Table) -> int:
     """The least makespan of all orders."""
     return min(makespan(times, order) for order in itertools.permutations(range(len(times))))
+
+
+def bound(times: Table) -> int:
+    return second_program.lower_bound(instance_of(times))
 
 
 def two_machine_bound(times: Table, one: int, other: int) -> int:
@@ -72,6 +74,10 @@ def best_place(times: Table, sequence: list[int], job: int) -> tuple[int, int]:
     """The first place that gives the least makespan, and that makespan."""
     order = second_program.inserted(instance_of(times), sequence, job)
     return order.index(job), makespan(times, order)
+
+
+def neh(times: Table) -> list[int]:
+    return second_program.by_totals(instance_of(times))
 
 
 def order_file(order: Sequence[int], machines: int | None, span: int) -> str:

@@ -137,6 +137,8 @@ def test_calendars_are_those_of_a_walk(drawn: Drawn, count: int) -> None:
     assert [each for each in breaks if each[1]] == days
     gaps = [time for time in range(count) if time == 0 or due[time] - due[time - 1] > minute]
     assert set(gaps) <= {time for time, _ in breaks}, "each shift that begins after a break is marked"
+    for end in gaps:
+        assert clock.breaks(end) == [each for each in breaks if each[0] < end], "no shift from the end on is marked"
 
 
 @given(calendars(), st.lists(st.integers(0, 10**6), min_size=2, max_size=20), st.sampled_from(["s", "min", "h"]))
@@ -212,6 +214,9 @@ def test_what_is_read_as_the_same_calendar() -> None:
     for shifts in (["mon-wed:06:00-14:00,14:00-22:00"],
                    ["mon,Tue:06:00-14:00,14:00-22:00", "wed:14:00-22:00,06:00-14:00"]):
         assert pfs.Calendar("2026-11-30T06:00", shifts).spans == plain.spans
+    dated = [pfs.Calendar("2026-11-30T06:00", f"2026-12-05:{words}").spans
+             for words in ("06:00-09:00,10:00-14:00", "10:00-14:00,06:00-09:00")]
+    assert dated[0] == dated[1]
     assert pfs.Calendar("2026-11-30T06:00", "06:00-14:00,14:00-22:00,22:00-06:00").is_always
     assert pfs.Calendar("2026-11-30T06:00").is_always and not plain.is_always
     assert not pfs.Calendar("2026-11-30T06:00", closed="2026-12-24").is_always

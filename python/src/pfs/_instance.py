@@ -150,7 +150,15 @@ class Instance:
         """The number of machines."""
         return self._times.shape[1]
 
-    n_jobs, n_machines = jobs, machines
+    @property
+    def n_jobs(self) -> int:
+        """The same as ``jobs``."""
+        return self.jobs
+
+    @property
+    def n_machines(self) -> int:
+        """The same as ``machines``."""
+        return self.machines
 
     def __repr__(self) -> str:
         return f"<Instance {self.name + ': ' if self.name else ''}{self.jobs} jobs, {self.machines} machines>"

@@ -405,10 +405,10 @@ def unit_in(text: str) -> str:
     return found[1].strip() if found else ""
 
 
-def kind_of(unit: str) -> object:
-    """What two texts of the same unit have in common, perhaps in two languages."""
+def kind_of(unit: str) -> tuple[int, bool] | None:
+    """What all names of a unit of time have in common: its seconds, and whether times in it are written as 1:30."""
     seconds = seconds_in(unit)
-    return unit.casefold() if seconds is None else (seconds, unit.casefold() in CLOCKS)
+    return None if seconds is None else (seconds, unit.casefold() in CLOCKS)
 
 
 def without_units(table: Rows, unit: str) -> tuple[list[Cell], str]:
