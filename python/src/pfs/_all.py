@@ -40,7 +40,9 @@ class Task:
         return is_good or self.rounds is None or self.rounds <= self.before.rounds
 
     def run(self, stop: threading.Event) -> None:
-        """Run the search. One by time that is stopped has no solution."""
+        """Run the search. One that would begin after the stop, or one by time that is stopped, has no solution."""
+        if stop.is_set():
+            return
         left = None if self.rounds is None else self.rounds - self.search.first
         solve(self.search, left, None if left is None else self.keep, self.options["time_limit"],
               self.options["target"], stop)
@@ -176,7 +178,7 @@ def run(tasks: Collection[Task], workers: int, progress: Callable[[int, int], An
                 break
     finally:
         stop.set()
-        pool.shutdown(cancel_futures=True)
+        pool.shutdown()
 
 
 def submitted(pool: ThreadPoolExecutor, tasks: Iterable[Task], stop: threading.Event) -> list[Future[None]]:

@@ -105,8 +105,9 @@ def blocks_of(text: bytes, layout: int) -> Iterator[tuple[int, int, Times, c.Not
     for _ in range(c.MOST_BLOCKS):
         start = end
         number, _, times, notes = read_block(text, layout, 1, start)
-        if number != c.OK:
+        if number in INSTANCE_FAULTS:
             break
+        c.done(number)
         end = end_of_block(text, start, layout, times.size)
         yield start, end, times, notes
 
