@@ -300,7 +300,7 @@ def test_names_that_are_rejected(order: list[Any], kind: type[Exception], why: s
 # Building blocks of search methods: heads and tails, construction and local search
 
 def moved(times: plainly.Table, sequence: list[int], jobs: list[int]) -> list[int]:
-    """The sequence after each of these jobs was removed, if it is there, and inserted at its best place."""
+    """The sequence after each of these jobs was inserted at its best place. A job of the sequence is removed before."""
     for job in jobs:
         sequence = [other for other in sequence if other != job]
         sequence.insert(plainly.best_place(times, sequence, job)[0], job)
@@ -309,7 +309,7 @@ def moved(times: plainly.Table, sequence: list[int], jobs: list[int]) -> list[in
 
 @given(st.data(), plainly.shops_and_sequences(), st.integers(0, 3))
 def test_building_blocks(data: st.DataObject, case: tuple[plainly.Table, list[int]], passes: int) -> None:
-    """Heads and tails are those of the schedule and of the one from behind."""
+    """Heads are the ends of the schedule, and tails those of the reversed one."""
     times, sequence = case
     shop = pfs.Instance(times)
     ends = [[end for _, end in row] for row in plainly.schedule(times, sequence)]

@@ -325,7 +325,7 @@ def dates_of(dates: str | Iterable[str]) -> list[int]:
 
 def starting(day: int, shifts: Shifts, days: Collection[int], closed: Collection[int]) -> list[Span]:
     """The shifts that start on a day, in their order. If none are given for all days, there is work around the clock on
-    each day of `days`, or on all days where no day of the week has shifts of its own."""
+    each day of `days`, or on all days if no day of the week has other shifts."""
     if day in shifts or day in closed:
         return sorted(shifts.get(day, []))
     others = shifts.get("", [] if not days and any(name in shifts for name in DAYS) else [(0, DAY)])
