@@ -114,6 +114,7 @@ def test_blocks_their_names_and_the_end_of_the_file(tmp_path: pathlib.Path) -> N
     with pytest.raises(pfs.FileFault) as fault:
         pfs.read(path, "orlib", block=3)
     assert (fault.value.name, fault.value.place, fault.value.text) == ("no block", 2, "pfs: no block, found 2")
+    assert fault.value.hint == ""
     file = io.BytesIO(b"+++\n instance car1\n+++\n Carlier 1x1 instance\n 1 1\n 0 7\n+++\n"
                       b"Instance x\nINSTANCE reC05 \r\nby instance z2 of\n1 1\n0 3\ninstance 7\n1 1\n0 5\n1 1\n0 9\n")
     file.name = "dir/flowshop1"

@@ -224,6 +224,8 @@ def test_instances_and_solutions_are_shown() -> None:
     assert repr(pfs.Instance([[1]])) == "<Instance 1 jobs, 1 machines>"
     shown = "0, 1, 2, 3, 4, 5, 6, 7, ..., 22, 23, 24, 25, 26, 27, 28, 29"
     assert repr(pfs.Solution(range(30), 7)) == f"Solution(order=[{shown}], makespan=7)"
+    assert str(pfs.Interrupted(pfs.Solution([1, 0], 9, 16, 2, 5))) == "interrupted after round 5, makespan 9"
+    assert str(pfs.InterruptedAll({(0, 1): shop.neh()})) == "interrupted after 1 searches"
     assert repr(pfs.Solution(range(3), 7)) == "Solution(order=[0, 1, 2], makespan=7)"
     assert repr(shop.schedule(range(20))) == f"Schedule(20 jobs, 5 machines, makespan={shop.makespan(range(20))})"
 
