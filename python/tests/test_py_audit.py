@@ -152,7 +152,7 @@ def test_tables_that_are_unclear(change: dict[str, Any], said: str) -> None:
     ("instance makespan order\n", 1, "the first line must name the columns instance, makespan, order"), ("", 1, "must"),
     ("instance;makespan\nsmall;10\n", 1, "must name"), ("instance,makespan,order\n\nsmall,x,1 2 3", 3, "'x' isn't"),
     ("instance,makespan,order\nsmall,10,\"2 1 3\n", 2, "unexpected end"),
-    ("instance,makespan,order\nta001,10,1\nother,10,1\n", 3, "no instance 'other'")])
+    ("instance,makespan,order,block\nta001,10,1\nother,10,1\n", 3, "no instance 'other'")])
 def test_files_that_are_unclear(text: str, line: int, said: str, tmp_path: pathlib.Path) -> None:
     (tmp_path / "table").write_text(text)
     with pytest.raises(pfs.TableFault, match=re.escape(said)) as fault:
