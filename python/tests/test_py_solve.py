@@ -422,7 +422,7 @@ def test_options_that_are_rejected(words: dict[str, Any], kind: type[Exception],
 
 # Ends before the rounds are made, improvements, and seeds that follow each other
 
-@given(times=plainly.shops(), counts=st.lists(st.integers(1, 20), min_size=1, max_size=3), seed=st.integers(0, 9),
+@given(times=plainly.shops(), counts=st.lists(st.integers(1, 40), min_size=1, max_size=3), seed=st.integers(0, 9),
        chance=st.randoms(use_true_random=False))
 def test_a_search_ends_with_the_first_round_that_comes_to_the_target(
         cut: Callable[[list[int]], None], times: plainly.Table, counts: list[int], seed: int, chance: Any) -> None:
