@@ -80,8 +80,9 @@ def as_uint32(own: npt.NDArray[Any], most: int, what: str, where: str, limits: s
     if kind not in "iufO":
         raise TypeError(f"{what} must be whole numbers, not of dtype {own.dtype}")
     # The limits as Python's numbers: NumPy 2 would convert them to the array's type, which may be too narrow.
-    if kind != "O" and own.min().item() >= 0 and own.max().item() <= most and (kind != "f" or (own % 1 == 0).all()):
-        return own.astype(np.uint32, copy=False)
+    if kind != "O" and own.min().item() >= 0 and own.max().item() <= most:
+        if kind != "f" or (own == np.floor(own)).all():
+            return own.astype(np.uint32, copy=False)
     fault: tuple[type[Exception], str] | None = None
     for at, number in np.ndenumerate(own):
         if kind == "O" and (not isinstance(number, (int, np.integer)) or isinstance(number, bool)):
