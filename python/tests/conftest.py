@@ -44,12 +44,11 @@ def pytest_configure(config: pytest.Config) -> None:
 
 def pytest_assertrepr_compare(op: str, left: object, right: object) -> list[str] | None:
     """What differs of two solutions or instances, whose texts leave most of it out."""
-    names = {"Solution": ["order", "makespan", "cells", "machines", "rounds", "seed"],
-             "Instance": ["times", "name", "job_names", "machine_names", "unit", "decimals", "seed", "upper", "lower"]}
     kind = type(left).__name__
-    if op != "==" or type(left) is not type(right) or kind not in names:
+    if op != "==" or type(left) is not type(right) or kind not in ("Solution", "Instance"):
         return None
-    pairs = {name: (getattr(left, name), getattr(right, name)) for name in names[kind]}
+    names = [name for name in ("times", *getattr(left, "__slots__")) if name[0] != "_" and hasattr(left, name)]
+    pairs = {name: (getattr(left, name), getattr(right, name)) for name in names}
     lists = {name: [value.tolist() if hasattr(value, "tolist") else value for value in pair]
              for name, pair in pairs.items()}
     return [f"{kind} == {kind}", *(f"{name}: {one} != {other}" for name, (one, other) in lists.items() if one != other)]

@@ -152,7 +152,7 @@ def test_tables_that_are_unclear(change: dict[str, Any], said: str) -> None:
     ("instance makespan order\n", 1, "the first line must name the columns instance, makespan, order"), ("", 1, "must"),
     ("instance;makespan\nsmall;10\n", 1, "must name"), ("instance,makespan,order\n\nsmall,x,1 2 3", 3, "'x' isn't"),
     ("instance,makespan,order\nsmall,10,\"2 1 3\n", 2, "unexpected end"),
-    ("instance,makespan,order\nta001,10,1\nother,10,1\n", 3, "no instance 'other'")])
+    ("instance,makespan,order,block\nta001,10,1\nother,10,1\n", 3, "no instance 'other'")])
 def test_files_that_are_unclear(text: str, line: int, said: str, tmp_path: pathlib.Path) -> None:
     (tmp_path / "table").write_text(text)
     with pytest.raises(pfs.TableFault, match=re.escape(said)) as fault:
@@ -168,11 +168,13 @@ def test_a_frame_and_makespans_below_the_reference() -> None:
         pfs.audit([1, 2], [SMALL])
     shop = pfs.Instance(SMALL.times, name="small", upper=12)
     longer = pfs.Instance([[3, 2], [2, 5], [4, 2]], name="longer", upper=13)
-    found = pfs.audit([*rows_of("1 2 3", makespan=11), {"instance": "longer", "makespan": 12, "order": "1 2 3"}],
-                      [shop, longer])
+    even = pfs.Instance(SMALL.times, name="even", upper=11)
+    rows = [*rows_of("1 2 3", makespan=11), {"instance": "longer", "makespan": 12, "order": "1 2 3"},
+            {"instance": "even", "makespan": 11, "order": "1 2 3"}]
+    found = pfs.audit(rows, [shop, longer, even])
     assert [(each.valid, each.verdict, each.why) for each in found] == [
         (True, "valid and below the reference", "the reference is 12"),
-        (True, "valid and below the reference", "the reference is 13")]
+        (True, "valid and below the reference", "the reference is 13"), (True, "valid", "")]
 
 
 def test_names(tmp_path: pathlib.Path) -> None:

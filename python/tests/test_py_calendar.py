@@ -1,9 +1,10 @@
 """Dates and times of day for the times of a schedule: by hand, against a walk minute by minute, in files and charts."""
 import datetime
+import itertools
 import pathlib
 import re
 from collections.abc import Iterator
-from typing import Any
+from typing import Any, NamedTuple
 from xml.etree import ElementTree
 
 import numpy as np
@@ -14,33 +15,24 @@ from hypothesis import assume, given
 from hypothesis import strategies as st
 from pfs._calendar import Clock
 
+DAY = datetime.timedelta(days=1)
 DAYS = ["mon", "tue", "wed", "thu", "fri", "sat", "sun"]
 EARLY = {"shifts": "06:00-14:00", "days": "mon-fri"}
 NIGHT = {"shifts": "22:00-06:00", "days": "mon-fri"}
 BREAK = {"shifts": ["06:00-09:00", "09:30-14:00"], "days": "mon-fri"}
 SHORT = {"shifts": ["mon-thu:06:00-14:00", "fri:06:00-10:00,12:00-14:00"]}
-EXTRA = EARLY | {"shifts": ["06:00-14:00", "2026-12-05:07:00-12:00"]}
 ALWAYS: dict[str, Any] = {}
 # A calendar, the times of an operation in minutes, and when it starts and ends. 2026-11-30 is a Monday.
 BY_HAND: dict[str, tuple[str, dict[str, Any], int, int, str, str]] = {
-    "interrupted": ("2026-11-30T06:00", EARLY, 470, 490, "2026-11-30 13:50", "2026-12-01 06:10"),
-    "in Sunday night": ("2026-12-07T03:00", NIGHT, 0, 60, "2026-12-07 22:00", "2026-12-07 23:00"),
-    "the night to Monday": ("2026-12-06T23:00", NIGHT | {"days": "sun"}, 0, 480, "2026-12-06 23:00",
-                            "2026-12-13 23:00"),
     "to midnight": ("2026-11-30T06:00", {"shifts": "16:00-24:00"}, 0, 480, "2026-11-30 16:00", "2026-12-01 00:00"),
     "days alone": ("2026-12-04T23:00", {"days": "mon,fri"}, 60, 120, "2026-12-07 00:00", "2026-12-07 01:00"),
-    "days over Sunday": ("2026-12-05T08:00", {"shifts": "8:00-9:00", "days": "sat-mon"}, 60, 180,
-                         "2026-12-06 08:00", "2026-12-07 09:00"),
     "the clocks change": ("2026-03-28T22:00", {"shifts": "22:00-06:00"}, 0, 480, "2026-03-28 22:00",
                           "2026-03-29 06:00"),
     "a short Friday": ("2026-12-03T06:00", SHORT, 830, 850, "2026-12-04 13:50", "2026-12-07 06:10"),
+    "around the clock on other days": ("2026-12-03T12:00", {"shifts": "fri:06:00-07:00", "days": "mon-thu"}, 720, 721,
+                                       "2026-12-04 06:00", "2026-12-04 06:01"),
     "closed over the new year": ("2026-12-23T06:00", EARLY | {"closed": ["2026-12-24..2027-01-01", "2027-01-05"]}, 470,
                                  970, "2026-12-23 13:50", "2027-01-06 06:10"),
-    "after an extra Saturday": ("2026-12-04T06:00", EXTRA, 780, 781, "2026-12-07 06:00", "2026-12-07 06:01"),
-    "work on a closed day": ("2026-12-04T06:00", EXTRA | {"closed": "2026-12-05..2026-12-08"}, 479, 781,
-                             "2026-12-04 13:59", "2026-12-09 06:01"),
-    "a short Sunday beside others": ("2026-12-05T08:00", {"shifts": ["8:00-9:00", "sun:10:00-10:30"]}, 60, 91,
-                                     "2026-12-06 10:00", "2026-12-07 08:01"),
     "no time at the begin": ("2026-11-30T05:00", EARLY, 0, 0, "2026-11-30 06:00", "2026-11-30 06:00"),
     "no time at the end of a shift": ("2026-11-30T06:00", EARLY, 480, 480, "2026-11-30 14:00", "2026-11-30 14:00"),
 }
@@ -80,33 +72,30 @@ def test_seconds_have_as_many_decimals_as_they_need(decimals: int) -> None:
     assert [clock.digits(each) for each in times] == [min(decimals, 6), 0, -1]
 
 
-# What is drawn of a calendar: a begin, shifts with their lengths that don't overlap, days, dates that are closed, and a
-# date with one shift of its own.
-Drawn = tuple[datetime.datetime, list[tuple[int, int]], list[int], list[datetime.date], datetime.date]
+class Drawn(NamedTuple):
+    """A calendar: its shifts with their lengths, which don't overlap, a day of the week with the last of them alone,
+    and a date with the first one alone."""
+    begin: datetime.datetime
+    shifts: list[tuple[int, int]]
+    days: list[int]
+    closed: list[datetime.date]
+    short: int
+    extra: datetime.date
 
+    def starting(self, date: datetime.date) -> list[tuple[int, int]]:
+        own = self.shifts if date.weekday() in self.days else []
+        own = [] if date in self.closed else self.shifts[-1:] if date.weekday() == self.short else own
+        return self.shifts[:1] if date == self.extra else own
 
-def work_minutes(drawn: Drawn, count: int) -> list[datetime.datetime]:
-    """The first minutes with work from the begin on, found by looking at one after the other. A shift from its start on
-    has a length, and may reach into the next day."""
-    begin, shifts, days, closed, extra = drawn
-
-    def starting(date: datetime.date) -> list[tuple[int, int]]:
-        own = shifts if date.weekday() in days and date not in closed else []
-        return shifts[:1] if date == extra else own
-
-    def is_work(moment: datetime.datetime) -> bool:
-        minute, date = 60 * moment.hour + moment.minute, moment.date()
-        return any(start <= minute < start + length for start, length in starting(date)) or any(
-            start <= minute + 1440 < start + length for start, length in starting(date - datetime.timedelta(days=1)))
-
-    def walk() -> Iterator[datetime.datetime]:
-        moment = begin
+    def minutes(self) -> Iterator[datetime.datetime]:
+        """The minutes with work from the begin on, found by looking at one after the other."""
+        moment = self.begin
         while True:
-            if is_work(moment):
+            minute, date = 60 * moment.hour + moment.minute, moment.date()
+            if any(start <= at < start + length for at, day in ((minute, date), (minute + 1440, date - DAY))
+                   for start, length in self.starting(day)):
                 yield moment
             moment += datetime.timedelta(minutes=1)
-
-    return [moment for _, moment in zip(range(count), walk())]
 
 
 @st.composite
@@ -118,20 +107,17 @@ def calendars(draw: st.DrawFn) -> Drawn:
         # The last shift crosses midnight.
         cuts = [*cuts[1:], cuts[0] + 1440]
     shifts = [(start, end - start) for start, end in zip(cuts[::2], cuts[1::2])]
-    closed = [begin.date() + datetime.timedelta(days=day) for day in draw(st.sets(st.integers(-3, 12)))]
-    extra = begin.date() + datetime.timedelta(days=draw(st.integers(-2, 14)))
+    closed = [begin.date() + DAY * day for day in draw(st.sets(st.integers(-3, 12)))]
     days = sorted(draw(st.sets(st.integers(0, 6), min_size=1)))
-    return begin.replace(second=0, microsecond=0), shifts, days, closed, extra
-
-
-def written(minute: int) -> str:
-    return f"{minute % 1440 // 60:02}:{minute % 60:02}"
+    return Drawn(begin.replace(second=0, microsecond=0), shifts, days, closed, draw(st.integers(0, 6)),
+                 begin.date() + DAY * draw(st.integers(-2, 14)))
 
 
 def calendar_of(drawn: Drawn) -> pfs.Calendar:
-    begin, shifts, days, closed, extra = drawn
-    words = [f"{written(start)}-{written(start + length)}" for start, length in shifts]
-    return pfs.Calendar(begin, [*words, f"{extra}:{words[0]}"], [DAYS[day] for day in days], map(str, closed))
+    words = ["-".join(f"{minute % 1440 // 60:02}:{minute % 60:02}" for minute in (start, start + length))
+             for start, length in drawn.shifts]
+    words += [f"{drawn.extra}:{words[0]}", f"{DAYS[drawn.short]}:{words[-1]}"]
+    return pfs.Calendar(drawn.begin, words, [DAYS[day] for day in drawn.days], map(str, drawn.closed))
 
 
 @given(calendars(), st.integers(1, 400))
@@ -139,7 +125,7 @@ def test_calendars_are_those_of_a_walk(drawn: Drawn, count: int) -> None:
     """Operations of a minute each take one minute with work after the other."""
     clock = Clock(calendar_of(drawn), pfs.Instance([[1]], unit="min"))
     minute = datetime.timedelta(minutes=1)
-    due = work_minutes(drawn, count)
+    due = [*itertools.islice(drawn.minutes(), count)]
     assert [clock.span(time, time + 1) for time in range(count)] == [(moment, moment + minute) for moment in due]
     assert clock.span(0, count) == (due[0], due[-1] + minute)
     at, days = 0, []
@@ -151,6 +137,8 @@ def test_calendars_are_those_of_a_walk(drawn: Drawn, count: int) -> None:
     assert [each for each in breaks if each[1]] == days
     gaps = [time for time in range(count) if time == 0 or due[time] - due[time - 1] > minute]
     assert set(gaps) <= {time for time, _ in breaks}, "each shift that begins after a break is marked"
+    for end in gaps:
+        assert clock.breaks(end) == [each for each in breaks if each[0] < end], "no shift from the end on is marked"
 
 
 @given(calendars(), st.lists(st.integers(0, 10**6), min_size=2, max_size=20), st.sampled_from(["s", "min", "h"]))
@@ -226,6 +214,9 @@ def test_what_is_read_as_the_same_calendar() -> None:
     for shifts in (["mon-wed:06:00-14:00,14:00-22:00"],
                    ["mon,Tue:06:00-14:00,14:00-22:00", "wed:14:00-22:00,06:00-14:00"]):
         assert pfs.Calendar("2026-11-30T06:00", shifts).spans == plain.spans
+    dated = [pfs.Calendar("2026-11-30T06:00", f"2026-12-05:{words}").spans
+             for words in ("06:00-09:00,10:00-14:00", "10:00-14:00,06:00-09:00")]
+    assert dated[0] == dated[1]
     assert pfs.Calendar("2026-11-30T06:00", "06:00-14:00,14:00-22:00,22:00-06:00").is_always
     assert pfs.Calendar("2026-11-30T06:00").is_always and not plain.is_always
     assert not pfs.Calendar("2026-11-30T06:00", closed="2026-12-24").is_always

@@ -9,6 +9,7 @@ import signal
 import stat
 import tempfile
 import time
+import types
 from collections.abc import Callable, Iterator
 from typing import Any
 
@@ -100,14 +101,9 @@ def test_reads_of_a_few_bytes(most: int) -> None:
     with pytest.raises(pfs.OrderFault, match="order file too long"):
         pfs.read_order(endless)
     assert len(endless.left) == 70_006 - 65_537, "no more is read than one byte above the limit"
-
-
-def test_a_pipe_that_has_nothing_yet_is_an_error() -> None:
-    ends = os.pipe()
-    os.set_blocking(ends[0], False)
-    with open(ends[0], "rb", buffering=0) as file, pytest.raises(BlockingIOError):
-        pfs.read(file, "orlib")
-    os.close(ends[1])
+    nothing: Any = types.SimpleNamespace(read=lambda _: None)
+    with pytest.raises(BlockingIOError):
+        pfs.read(nothing, "orlib")
 
 
 def test_blocks_their_names_and_the_end_of_the_file(tmp_path: pathlib.Path) -> None:
@@ -118,6 +114,7 @@ def test_blocks_their_names_and_the_end_of_the_file(tmp_path: pathlib.Path) -> N
     with pytest.raises(pfs.FileFault) as fault:
         pfs.read(path, "orlib", block=3)
     assert (fault.value.name, fault.value.place, fault.value.text) == ("no block", 2, "pfs: no block, found 2")
+    assert fault.value.hint == ""
     file = io.BytesIO(b"+++\n instance car1\n+++\n Carlier 1x1 instance\n 1 1\n 0 7\n+++\n"
                       b"Instance x\nINSTANCE reC05 \r\nby instance z2 of\n1 1\n0 3\ninstance 7\n1 1\n0 5\n1 1\n0 9\n")
     file.name = "dir/flowshop1"
@@ -383,28 +380,21 @@ def test_taillards_instances_are_the_programs(program: str, number: int) -> None
 
 # The layout "matrix": the sizes on one line, and then a line of times for each job
 
-SMALL = pfs.Instance([[3, 2], [2, 5], [4, 1]])
-
-
 def matrix_of(text: str) -> pfs.Instance:
     return pfs.read(io.BytesIO(text.encode("latin-1")), "matrix")
 
 
-@given(plainly.shops())
-def test_a_matrix_is_read_as_it_is(times: plainly.Table) -> None:
-    lines = [f"{len(times)} {len(times[0])}", *(" ".join(map(str, row)) for row in times)]
-    assert matrix_of("\n".join(lines)) == pfs.Instance(times)
-
-
-@pytest.mark.parametrize("text", ["3 2\n3 2\n2 5\n4 1\n", "3 2\r\n3 2\r\n2 5\r\n4 1\r\n", "3 2\n3 2\n2 5\n4 1",
-                                  "\n\n  3\t2 \n\n003 2\n2   5\n\n4 1 \n\n"])
-def test_blanks_and_empty_lines_are_free(text: str) -> None:
-    assert matrix_of(text) == SMALL
-
-
-def test_the_name_is_that_of_the_file(tmp_path: pathlib.Path) -> None:
-    (tmp_path / "mine.txt").write_text("1 1\n7\n")
-    assert pfs.read(tmp_path / "mine.txt", layout="matrix") == pfs.Instance([[7]], name="mine.txt")
+@given(plainly.shops(), st.data())
+def test_a_matrix_is_read_as_it_is(times: plainly.Table, data: st.DataObject) -> None:
+    """With any blanks and empty lines, and the name of its file."""
+    blanks, ends = st.sampled_from([" ", "\t", "  "]), st.sampled_from(["\n", "\r\n", "\n\n", " \n\t\n "])
+    text = data.draw(st.sampled_from(["", "\n\n ", " "]))
+    for row in [[len(times), len(times[0])], *times]:
+        width = data.draw(st.sampled_from([1, 3]))
+        text += data.draw(blanks).join(str(number).zfill(width) for number in row) + data.draw(ends)
+    file = io.BytesIO(data.draw(st.sampled_from([text, text.rstrip()])).encode())
+    file.name = "folder/mine.txt"
+    assert pfs.read(file, "matrix") == pfs.Instance(times, name="mine.txt")
 
 
 @pytest.mark.parametrize(("text", "line", "column", "why"), [

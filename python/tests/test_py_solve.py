@@ -332,49 +332,35 @@ def ends(cut: Callable[[list[int]], None]) -> dict[int, pfs.Solution]:
 
 
 @pytest.mark.seconds(5)
-def test_an_interruption_at_each_bytecode_loses_nothing(ends: dict[int, pfs.Solution],
-                                                        monkeypatch: pytest.MonkeyPatch) -> None:
-    """Each part counts that the library has made, also before its result is used."""
+@pytest.mark.parametrize("first", range(PARTS + 1))
+def test_an_interruption_at_each_bytecode_loses_nothing(ends: dict[int, pfs.Solution], monkeypatch: pytest.MonkeyPatch,
+                                                        first: int) -> None:
+    """Each part counts that the library has made, also before its result is used. After some parts, a first
+    interruption comes from `progress`, and a second one at any bytecode after that."""
     shop, real = pfs.generate(6, 2, 1), _library.library.pfs_rounds
-    made: list[int] = []
+    due, made = first * ROUNDS // PARTS or ROUNDS, list[int]()
 
     def noting(*given: Any) -> int:
         made.append(real(*given))
         return made[-1]
 
-    monkeypatch.setattr(_library.library, "pfs_rounds", noting)
-    for at in range(MOST_BYTECODES):
-        made.clear()
-        tracer = Interrupting(at)
-        best = interrupted(shop, tracer, Closing)
-        if not tracer.has_come:
-            break
-        assert best == ends[best.rounds], f"interrupted at bytecode {at}: not where so many rounds end"
-        assert best.rounds == len(made) * ROUNDS // PARTS, f"interrupted at bytecode {at}: a part that was made is lost"
-    assert best == ends[ROUNDS]
-    assert 1000 < at < MOST_BYTECODES - 1, f"{at} bytecodes"
-
-
-@pytest.mark.parametrize("first", range(1, PARTS + 1))
-def test_a_second_interruption_at_each_bytecode_loses_nothing(ends: dict[int, pfs.Solution], first: int) -> None:
-    """The first one comes from `progress` after a part, the second one at any bytecode after that."""
-    shop = pfs.generate(6, 2, 1)
-    due = first * ROUNDS // PARTS
-
     class Bar(Closing):
         def update(self, n: int = 1) -> None:
             super().update(n)
-            if self.made == due:
+            if first and self.made == due:
                 tracer.runs = True
                 raise KeyboardInterrupt
 
+    monkeypatch.setattr(_library.library, "pfs_rounds", noting)
     for at in range(MOST_BYTECODES):
-        tracer = Interrupting(at, begins_at_once=False)
+        made.clear()
+        tracer = Interrupting(at, begins_at_once=not first)
         best = interrupted(shop, tracer, Bar)
-        assert best == ends[due], f"interrupted again at bytecode {at} after the first time"
+        assert best == ends[best.rounds], f"interrupted at bytecode {at}: not where so many rounds end"
+        assert best.rounds == len(made) * ROUNDS // PARTS, f"interrupted at bytecode {at}: a part that was made is lost"
         if not tracer.has_come:
             break
-    assert 10 < at < MOST_BYTECODES - 1, f"{at} bytecodes"
+    assert best == ends[due] and (10 if first else 1000) < at < MOST_BYTECODES - 1, f"{at} bytecodes"
     assert Bar.closed == 1
 
 
@@ -436,7 +422,7 @@ def test_options_that_are_rejected(words: dict[str, Any], kind: type[Exception],
 
 # Ends before the rounds are made, improvements, and seeds that follow each other
 
-@given(times=plainly.shops(), counts=st.lists(st.integers(1, 20), min_size=1, max_size=3), seed=st.integers(0, 9),
+@given(times=plainly.shops(), counts=st.lists(st.integers(1, 40), min_size=1, max_size=3), seed=st.integers(0, 9),
        chance=st.randoms(use_true_random=False))
 def test_a_search_ends_with_the_first_round_that_comes_to_the_target(
         cut: Callable[[list[int]], None], times: plainly.Table, counts: list[int], seed: int, chance: Any) -> None:

@@ -32,6 +32,9 @@ TABLES = [
     '\n job , "saw",drill\r\n\r\n"table",3, 2 \r\n,,\r\nchair,2,5\r\n', "\ufeffjob,saw,drill\ntable,3,2\nchair,2,5",
     '\ufeff"job, [h]x",saw,drill\ntable,3,2\nchair,2,5', "\ufeffsep=;\njob;saw;drill\ntable;3;2\nchair;2;5\n",
     "sep=;\njob;saw;drill\ntable;3;2\nchair;2;5\n", "job,saw,drill\ntable,3.0,2.00\nchair,2,5\n"]
+# And as Excel saves "Unicode text".
+FILES = [*map(str.encode, TABLES), *("\ufeffjob\tsaw\tdrill\r\ntable\t3\t2\r\nchair\t2\t5\r\n".encode(encoding)
+                                    for encoding in ("utf-16-le", "utf-16-be"))]
 
 # A table, and where and why it is rejected.
 BAD_TABLES: dict[str, tuple[str | bytes, int, int, str]] = {
@@ -60,16 +63,12 @@ BAD_TABLES: dict[str, tuple[str | bytes, int, int, str]] = {
     "a long row": ("job,saw\na,3,4\n", 1, 3, TITLE),
     "a decimal comma": ('job,saw\na,"3,5"\n', 2, 2, "'3,5' isn't a time"),
     "ten decimals": ("job,saw\na,0.0123456789\n", 2, 2, "'0.0123456789' has more than 9 decimals"),
-    "a long time": ("job,saw\na,1000000001\n", 2, 2, "the time is above 1,000,000,000"),
     "a time too long with decimals": ("job,saw\na,1000000\nb,0.0001\n", 2, 2,
                                       "the time is above 1,000,000,000, counted in 4 decimals"),
-    "a fault after a cell of two lines": ('job,saw\n"a\nb",3\nc,-1\n', 3, 2, "'-1' isn't a time"),
     "a fault after cells of many lines": ('"job\n\n",saw\n\n"a\r\nb",3\r\n"c\n",3\nd,-1\n', 5, 2, "'-1' isn't a time"),
     "a fault after a spreadsheet's first line": ("sep=;\njob;saw\na;-1\n", 2, 2, "'-1' isn't a time"),
     "a name twice after a cell of two lines": ('job,saw\n"a\nb",3\nc,1\nc,1\n', 4, 1, "the job 'c' is in A3 too"),
-    "an open quote before other lines": ('job,saw\na,"3\nb,4\nc,5\n', 4, 0,
-                                         "isn't a row of a table: unexpected end of data"),
-    "an open quote": ('job,saw\na,"3\n', 2, 0, "isn't a row of a table: unexpected end of data"),
+    "an open quote": ('job,saw\na,"3\nb,4\nc,5\n', 4, 0, "isn't a row of a table: unexpected end of data"),
 }
 BAD_TABLES |= {f"the time {cell}": (f"job,saw\na,{cell}\n", 2, 2, "the time is above 1,000,000,000" + note)
                for cell, note in (("1000000001", ""), ("1000000000.1", ", counted in 1 decimal"), ("1" + "0" * 10, ""))}
@@ -126,6 +125,7 @@ WRONG_TABLES: dict[str, tuple[Any, ...]] = {
     "a unit at a time": ("job;saw\na;1,5 h\n", 2, 2,
                          "'1,5 h' isn't a time: write the unit in brackets into the first cell of the table"),
     "two units": ("job;saw [min];drill [h]\na;3;2\n", 1, 3, UNITS.format("drill", "h", "min")),
+    "minutes beside hours and minutes": ("job [h:mm];saw [min]\na;1:30\n", 1, 2, UNITS.format("saw", "min", "h:mm")),
     "a machine without a unit": ("job;saw [min];drill\na;3;2\n", 1, 3,
                                UNITS.format("drill", "no unit", "min")),
     "another unit than the table's": ("job [h];saw;drill [min]\na;3;2\n", 1, 3,
@@ -174,7 +174,7 @@ RIGHT_TABLES = {
     "a date beside the title": ("Plan;;30.11.2026\nAuftrag;saw;drill\na;3;2\n", [[3, 2]]),
     "a title above some machines": ("Week;;minutes;;\nOF;saw;drill;paint\na;3;2;1\n", [[3, 2, 1]]),
     "empty columns": ("job;saw;;drill;\na;3;;2;\n", [[3, 2]]),
-    "hours and minutes without work": ("job;saw;drill\na;1:30;0\nb;0:05:00;0,0\n", [[90, 0], [5, 0]]),
+    "hours and minutes without work": ("job;saw;drill\na;1:30;0\nb;0:05:00;0,0\nc;0;0\n", [[90, 0], [5, 0], [0, 0]]),
     "counted machines": ("job;1;2\na;3;12\nb;20;5\n", [[3, 12], [20, 5]]),
     "counted jobs": ("Jobs;saw;drill\n0;3;12\n1;20;5\n", [[3, 12], [20, 5]]),
     "counted machines below a unit": ("Auftrag [Min];1;2\na;3;12\nb;20;5\n", [[3, 12], [20, 5]]),
@@ -192,9 +192,10 @@ RIGHT_TABLES = {
 }
 
 
-@pytest.mark.parametrize("text", TABLES)
-def test_tables(tmp_path: pathlib.Path, text: str) -> None:
-    shop = pfs.read_csv(written(tmp_path, text, "plan.csv"))
+@pytest.mark.parametrize("content", FILES)
+def test_tables(tmp_path: pathlib.Path, content: bytes) -> None:
+    (tmp_path / "plan.csv").write_bytes(content)
+    shop = pfs.read_csv(tmp_path / "plan.csv")
     assert shop.times.tolist() == [[3, 2], [2, 5]]
     assert (shop.job_names, shop.machine_names) == (("table", "chair"), ("saw", "drill"))
     assert (shop.name, shop.unit, shop.decimals) == ("plan.csv", "", 0)
@@ -206,31 +207,18 @@ def test_tables_that_look_wrong_and_are_right(tmp_path: pathlib.Path, case: str)
     assert pfs.read_csv(written(tmp_path, text)).times.tolist() == times
 
 
-@pytest.mark.parametrize("encoding", ["utf-16", "utf-16-le", "utf-16-be"])
-def test_utf_16(tmp_path: pathlib.Path, encoding: str) -> None:
-    """As Excel saves "Unicode text"."""
-    mark = "" if encoding == "utf-16" else "\ufeff"
-    (tmp_path / "file").write_bytes((mark + "job\tS\u00e4ge\r\nT\u00fcr\t3\r\n").encode(encoding))
-    shop = pfs.read_csv(tmp_path / "file")
-    assert (shop.machine_names, shop.job_names, shop.times.tolist()) == (("S\u00e4ge",), ("T\u00fcr",), [[3]])
-
-
 @pytest.mark.parametrize(("head", "given_unit", "unit"), [
-    ("job [min]", "", "min"), ("times ( h )", "", "h"), ("job", "s", "s"), ("job [min]", "Minuten", "Minuten"),
-    ("job (week 48)", "s", "s"), ("[min] job", "", ""), ("job [Std.]", "", "Std."),
-    ("job (Zeit in h)", "", "Zeit in h")])
+    ("job [min];saw;drill", "", "min"), ("times ( h );saw;drill", "", "h"), ("job;saw;drill", "s", "s"),
+    ("job [min];saw;drill", "Minuten", "Minuten"), ("job (week 48);saw;drill", "s", "s"),
+    ("[min] job;saw;drill", "", ""), ("job [Std.];saw;drill", "", "Std."),
+    ("job (Zeit in h);saw;drill", "", "Zeit in h"), ("job;saw [min];drill (min)", "", "min"),
+    ("job;saw [min];drill (Min.)", "", "min"), ("job [min];saw [min];drill", "", "min"),
+    ("job;saw;drill [min]", "min", "min")])
 def test_units_and_decimals(tmp_path: pathlib.Path, head: str, given_unit: str, unit: str) -> None:
-    path = written(tmp_path, f"{head};saw;drill\ntable;3,25;2\nchair;0,5;5\n")
+    path = written(tmp_path, f"{head}\ntable;3,25;2\nchair;0,5;5\n")
     shop = pfs.read_csv(path, unit=given_unit)
     assert (shop.unit, shop.decimals, shop.times.tolist()) == (unit, 2, [[325, 200], [50, 500]])
-
-
-@pytest.mark.parametrize(("head", "given_unit"), [
-    ("job;saw [min];drill (min)", ""), ("job;saw [min];drill (Min.)", ""), ("job [min];saw [min];drill", ""),
-    ("job;saw;drill [min]", "min")])
-def test_units_of_machines(tmp_path: pathlib.Path, head: str, given_unit: str) -> None:
-    shop = pfs.read_csv(written(tmp_path, f"{head}\na;3;2\n"), unit=given_unit)
-    assert (shop.unit, shop.machine_names) == ("min", ("saw", "drill"))
+    assert shop.machine_names == ("saw", "drill")
 
 
 def test_hours_and_minutes_are_minutes(tmp_path: pathlib.Path) -> None:

@@ -68,6 +68,7 @@ INSERTIONS: list[tuple[Any, type[Exception], str]] = [
     (([0, 1], 1), ValueError, "job 1 is already in the sequence"),
     (([0, 0], 1), ValueError, "sequence: job 0 occurs twice, at places 0 and 1"),
     (([0, 7], 1), ValueError, "sequence: 7 at place 1 isn't a job"),
+    (([0, 1, 2, 0, 1], 1), ValueError, "sequence: job 0 occurs twice, at places 0 and 3"),
     (([0, 1], 2.0), TypeError, "job must be an integer, not 2.0"),
     (([0, 1], 2**64 + 2), ValueError, "job must be from .*, not 18446744073709551618")]
 REJECTED: dict[Callable[[Any], object], list[tuple[Any, type[Exception], str]]] = {
@@ -215,7 +216,7 @@ def test_truth_values_are_no_numbers(truth: Any) -> None:
 
 
 # Names of the functions that are called without types.
-QUICK = ("_pfs_makespan", "_pfs_insert", "_pfs_insertions")
+QUICK = ("quick_makespan", "quick_insert", "quick_insertions")
 SCALARS = (arrays.integer_dtypes() | arrays.unsigned_integer_dtypes() | arrays.floating_dtypes()
            | arrays.boolean_dtypes() | arrays.complex_number_dtypes() | arrays.unicode_string_dtypes()
            | arrays.byte_string_dtypes() | arrays.datetime64_dtypes())

@@ -33,29 +33,16 @@ def test_makespan_and_insertions(case: tuple[plainly.Table, list[int]]) -> None:
         assert shop.best_place(sequence, job) == plainly.best_place(times, sequence, job)
 
 
-@given(plainly.shops())
-def test_bound(times: plainly.Table) -> None:
-    assert pfs.Instance(times).bound() == plainly.bound(times)
-
-
+@pytest.mark.quick
 @given(plainly.shops(5, 5))
-def test_the_bound_of_pairs_of_machines(times: plainly.Table) -> None:
-    """It is the definition's, with the best order of each pair by trying all; and no order is shorter."""
+def test_bounds_and_neh(times: plainly.Table) -> None:
+    """The bound of pairs of machines has the best order of each pair by trying all; and no order is shorter."""
     shop, machines = pfs.Instance(times), range(len(times[0]))
     pairs = [plainly.two_machine_bound(times, one, other) for one, other in itertools.combinations(machines, 2)]
+    assert shop.bound() == shop.bound("machines") == plainly.bound(times)
     assert shop.bound("pairs") == max([plainly.bound(times), *pairs]) <= plainly.shortest(times)
-    assert shop.bound("machines") == shop.bound()
-
-
-@pytest.mark.quick
-@given(plainly.shops())
-def test_neh(times: plainly.Table) -> None:
-    found = pfs.Instance(times).neh()
-    order = plainly.neh(times)
-    assert found.order.tolist() == order
-    assert found.makespan == plainly.makespan(times, order)
-    assert found.cells == 2 * len(times[0]) * len(times)**2
-    assert (found.machines, found.rounds) == (len(times[0]), 0)
+    order, cells = plainly.neh(times), 2 * len(machines) * len(times)**2
+    assert shop.neh() == pfs.Solution(order, plainly.makespan(times, order), cells, len(machines))
 
 
 @given(plainly.shops(), st.data())
@@ -131,11 +118,16 @@ def test_a_name_is_one_cell(tmp_path: pathlib.Path, name: str, delimiter: str) -
     assert re.sub('"[^"]*"', "", text).count("\r") == 0 and text.endswith("3\n")
 
 
-def test_the_greatest_shop() -> None:
+def test_the_greatest_shops() -> None:
     shop = pfs.Instance(np.full((5000, 200), 1_000_000_000))
     assert shop.times.dtype == np.int64, "times and their differences wrap"
     assert shop.makespan(range(5000)) == shop.bound() == 5199 * 10**9
     assert shop.schedule(np.arange(5000)).makespan == 5199 * 10**9
+    shop = pfs.generate(5000, 1, 1)
+    assert (shop.n_jobs, shop.n_machines) == (5000, 1)
+    found = shop.insert_all(range(2500), range(2500, 5000))
+    assert sorted(found.jobs.tolist()) == [*range(5000)] and found.makespan == shop.makespan(found.jobs)
+    assert shop.heads(range(5000))[-1, -1] == found.makespan
 
 
 def test_rpd() -> None:
@@ -232,6 +224,8 @@ def test_instances_and_solutions_are_shown() -> None:
     assert repr(pfs.Instance([[1]])) == "<Instance 1 jobs, 1 machines>"
     shown = "0, 1, 2, 3, 4, 5, 6, 7, ..., 22, 23, 24, 25, 26, 27, 28, 29"
     assert repr(pfs.Solution(range(30), 7)) == f"Solution(order=[{shown}], makespan=7)"
+    assert str(pfs.Interrupted(pfs.Solution([1, 0], 9, 16, 2, 5))) == "interrupted after round 5, makespan 9"
+    assert str(pfs.InterruptedAll({(0, 1): shop.neh()})) == "interrupted after 1 searches"
     assert repr(pfs.Solution(range(3), 7)) == "Solution(order=[0, 1, 2], makespan=7)"
     assert repr(shop.schedule(range(20))) == f"Schedule(20 jobs, 5 machines, makespan={shop.makespan(range(20))})"
 
@@ -307,57 +301,32 @@ def test_names_that_are_rejected(order: list[Any], kind: type[Exception], why: s
 
 # Building blocks of search methods: heads and tails, construction and local search
 
-@st.composite
-def parts(draw: st.DrawFn) -> tuple[plainly.Table, list[int], list[int]]:
-    """Times, a sequence of some jobs, and some of the other jobs."""
-    times, order = draw(plainly.shops_and_orders())
-    first, second = sorted(draw(st.tuples(*[st.integers(0, len(order))] * 2)))
-    return times, order[:first], order[first:second]
-
-
-@given(plainly.shops_and_sequences())
-def test_heads_and_tails_are_those_of_schedules(case: tuple[plainly.Table, list[int]]) -> None:
-    times, sequence = case
-    ends = [[end for _, end in row] for row in plainly.schedule(times, sequence)]
-    heads = pfs.Instance(times).heads(sequence)
-    assert heads.tolist() == ends and heads.shape == (len(sequence), len(times[0])) and heads.dtype == np.int64
-    backwards = [row[::-1] for row in times]
-    ends = [[end for _, end in row][::-1] for row in plainly.schedule(backwards, sequence[::-1])][::-1]
-    assert pfs.Instance(times).tails(sequence).tolist() == ends
-
-
-@given(parts())
-def test_insert_all_inserts_each_at_its_best_place(case: tuple[plainly.Table, list[int], list[int]]) -> None:
-    times, sequence, more = case
-    kept = list(sequence)
-    found = pfs.Instance(times).insert_all(sequence, more)
-    assert sequence == kept
-    for job in more:
-        kept.insert(plainly.best_place(times, kept, job)[0], job)
-    assert (found.jobs.tolist(), found.makespan) == (kept, plainly.makespan(times, kept))
-
-
-def moved(times: plainly.Table, sequence: list[int], jobs: list[int], passes: int) -> list[int]:
-    """The sequence after passes over some of its jobs."""
-    for job in jobs * passes:
-        others = [other for other in sequence if other != job]
-        place, _ = plainly.best_place(times, others, job)
-        sequence = [*others[:place], job, *others[place:]]
+def moved(times: plainly.Table, sequence: list[int], jobs: list[int]) -> list[int]:
+    """The sequence after each of these jobs was inserted at its best place. A job of the sequence is removed before."""
+    for job in jobs:
+        sequence = [other for other in sequence if other != job]
+        sequence.insert(plainly.best_place(times, sequence, job)[0], job)
     return sequence
 
 
 @given(st.data(), plainly.shops_and_sequences(), st.integers(0, 3))
-def test_local_search_moves_each_job_to_its_best_place(data: st.DataObject, case: tuple[plainly.Table, list[int]],
-                                                       passes: int) -> None:
+def test_building_blocks(data: st.DataObject, case: tuple[plainly.Table, list[int]], passes: int) -> None:
+    """Heads are the ends of the schedule, and tails those of the reversed one."""
     times, sequence = case
     shop = pfs.Instance(times)
-    jobs = data.draw(st.permutations(sequence))[:data.draw(st.integers(0, len(sequence)))]
-    found = shop.local_search(sequence, jobs, passes=passes)
-    due = moved(times, sequence, jobs, passes)
-    assert (found.jobs.tolist(), found.makespan) == (due, plainly.makespan(times, due))
-    assert found.makespan <= shop.makespan(sequence)
-    by_number = shop.local_search(sequence, passes=passes)
-    assert by_number.jobs.tolist() == moved(times, sequence, sorted(sequence), passes)
+    ends = [[end for _, end in row] for row in plainly.schedule(times, sequence)]
+    heads = shop.heads(sequence)
+    assert heads.tolist() == ends and heads.shape == (len(sequence), len(times[0])) and heads.dtype == np.int64
+    backwards = plainly.schedule([row[::-1] for row in times], sequence[::-1])
+    assert shop.tails(sequence).tolist() == [[end for _, end in row][::-1] for row in backwards][::-1]
+    jobs, more = (data.draw(st.permutations(each))[:data.draw(st.integers(0, len(each)))]
+                  for each in (sequence, sorted({*range(shop.jobs)} - {*sequence})))
+    calls: list[tuple[pfs.Sequence, list[int]]] = [
+        (shop.insert_all(sequence, more), more), (shop.local_search(sequence, jobs, passes=passes), jobs * passes),
+        (shop.local_search(sequence, passes=passes), sorted(sequence) * passes)]
+    for found, inserted in calls:
+        due = moved(times, sequence, inserted)
+        assert (found.jobs.tolist(), found.makespan) == (due, plainly.makespan(times, due))
 
 
 def test_a_sequence_is_taken_where_an_order_is() -> None:
@@ -375,11 +344,3 @@ def test_a_sequence_is_taken_where_an_order_is() -> None:
     others = pfs.Sequence(found.jobs[1:], 0)
     assert shop.best_place(others, int(found.jobs[0])) == shop.best_place(others.jobs, int(found.jobs[0]))
     assert (shop.places(others, int(found.jobs[0])) == shop.places(others.jobs, int(found.jobs[0]))).all()
-
-
-def test_the_greatest_number_of_jobs() -> None:
-    shop = pfs.generate(5000, 1, 1)
-    assert (shop.n_jobs, shop.n_machines) == (5000, 1)
-    found = shop.insert_all(range(2500), range(2500, 5000))
-    assert sorted(found.jobs.tolist()) == [*range(5000)] and found.makespan == shop.makespan(found.jobs)
-    assert shop.heads(range(5000))[-1, -1] == found.makespan

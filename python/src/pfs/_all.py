@@ -1,13 +1,11 @@
 """Searches of many instances with many seeds, in threads."""
 from __future__ import annotations
 
-import contextlib
 import os
 import signal
 import threading
-from collections import deque
 from collections.abc import Callable, Collection, Iterable, Mapping
-from queue import SimpleQueue
+from concurrent.futures import Future, ThreadPoolExecutor, as_completed
 from typing import Any, TypeAlias
 
 from pfs import _library as c
@@ -42,7 +40,9 @@ class Task:
         return is_good or self.rounds is None or self.rounds <= self.before.rounds
 
     def run(self, stop: threading.Event) -> None:
-        """Run the search. One by time that is stopped has no solution."""
+        """Run the search. One that would begin after the stop, or one by time that is stopped, has no solution."""
+        if stop.is_set():
+            return
         left = None if self.rounds is None else self.rounds - self.search.first
         solve(self.search, left, None if left is None else self.keep, self.options["time_limit"],
               self.options["target"], stop)
@@ -167,43 +167,25 @@ def check_solution(shop: Instance, before: Solution | None, rounds: int | None, 
 def run(tasks: Collection[Task], workers: int, progress: Callable[[int, int], Any] | None,
         stop: threading.Event) -> None:
     """Run the searches that are left. Threads are enough, since the library runs without the GIL. Ctrl-C reaches the
-    main thread alone. A second one ends the wait for the last searches, and daemon threads end with the process."""
-    left = deque(task for task in tasks if not task.is_done())
-    first = len(tasks) - len(left) + 1
-    ended: SimpleQueue[BaseException | None] = SimpleQueue()
-
-    def work() -> None:
-        """Run searches until none is left."""
-        with contextlib.suppress(IndexError):
-            while not stop.is_set():
-                task = left.popleft()
-                try:
-                    task.run(stop)
-                    ended.put(None)
-                except BaseException as error:
-                    ended.put(error)
-
-    threads = [threading.Thread(target=work, daemon=True) for _ in range(min(workers, len(left)))]
+    main thread alone. A second one ends the wait for the last searches."""
+    left = [task for task in tasks if not task.is_done()]
+    pool = ThreadPoolExecutor(workers)
     try:
-        start_all(threads)
-        for number in range(first, len(tasks) + 1):
-            if (error := ended.get()) is not None:
-                raise error
+        searches = as_completed(submitted(pool, left, stop))
+        for number, search in enumerate(searches, len(tasks) - len(left) + 1):
+            search.result()
             if progress is not None and is_true(progress(number, len(tasks))):
                 break
     finally:
         stop.set()
-        for thread in threads:
-            if thread.is_alive():
-                thread.join()
+        pool.shutdown()
 
 
-def start_all(threads: Iterable[threading.Thread]) -> None:
-    """Start threads. Ctrl-C waits until all of them have started, so that each can be joined."""
+def submitted(pool: ThreadPoolExecutor, tasks: Iterable[Task], stop: threading.Event) -> list[Future[None]]:
+    """Start searches. Ctrl-C waits until all threads have started, so that each can be joined."""
     mask = signal.pthread_sigmask(signal.SIG_BLOCK, [])
     try:
         signal.pthread_sigmask(signal.SIG_BLOCK, [signal.SIGINT])
-        for thread in threads:
-            thread.start()
+        return [pool.submit(task.run, stop) for task in tasks]
     finally:
         signal.pthread_sigmask(signal.SIG_SETMASK, mask)

@@ -21,8 +21,10 @@ def atomic_write(path: str | os.PathLike[str], data: bytes, temporary: str | Non
     """Replace the content of a file. The data is written to a temporary file in the same folder, by default of a new
     name, which is then renamed. A link to the file remains a link. Pipes and devices are written to directly."""
     target = os.path.realpath(path)
-    mode = mode_of(target)
+    mode = None
     try:
+        with contextlib.suppress(FileNotFoundError):
+            mode = os.stat(target).st_mode
         if mode is not None and not stat.S_ISREG(mode):
             with open(target, "wb") as file:
                 file.write(data)
@@ -35,17 +37,14 @@ def atomic_write(path: str | os.PathLike[str], data: bytes, temporary: str | Non
             with contextlib.suppress(OSError):
                 os.unlink(temporary)
             raise
-        sync_folder(os.path.dirname(target))
+        # So that the renamed file survives a crash of the system.
+        folder = os.open(os.path.dirname(target), os.O_RDONLY | os.O_DIRECTORY)
+        try:
+            os.fsync(folder)
+        finally:
+            os.close(folder)
     except OSError as error:
         raise OSError(error.errno, error.strerror, os.fspath(path)) from None
-
-
-def mode_of(path: str) -> int | None:
-    """Return the type and the permissions of a file, or None if it doesn't exist."""
-    try:
-        return os.stat(path).st_mode
-    except FileNotFoundError:
-        return None
 
 
 def write_new(path: str, data: bytes, mode: int | None) -> None:
@@ -59,12 +58,3 @@ def write_new(path: str, data: bytes, mode: int | None) -> None:
         file.write(data)
         file.flush()
         os.fsync(descriptor)
-
-
-def sync_folder(path: str) -> None:
-    """Sync a folder, so that a renamed file survives a crash of the system."""
-    folder = os.open(path, os.O_RDONLY | os.O_DIRECTORY)
-    try:
-        os.fsync(folder)
-    finally:
-        os.close(folder)

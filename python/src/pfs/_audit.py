@@ -271,20 +271,20 @@ class Given(NamedTuple):
             if len(cells) > len(self.head):
                 raise self.fault(at, "", f"{len(cells)} cells for {len(self.head)} columns: quote an order that "
                                          "contains the separator")
-            cells += [""] * (len(self.head) - len(cells))
-            texts = {role: text_in(cells[place]) for role, place in places.items() if role != "order"}
-            numbers = {role: WHOLE.fullmatch(texts[role]) for role in ("makespan", "block") if role in texts}
-            for role, match in numbers.items():
+            given = dict.fromkeys(COLUMNS, "") | {role: cells[place] if place < len(cells) else ""
+                                                  for role, place in places.items()}
+            texts = {role: text_in(given[role]) for role in COLUMNS if role != "order"}
+            for role in "makespan", "block":
+                match = WHOLE.fullmatch(texts[role])
                 if match is None and (role == "makespan" or texts[role]):
                     text = f"{texts[role][:40]!r} isn't a {role}: a whole number"
                     raise self.fault(at, self.head[places[role]], text)
-            stated, block = (match[1] if match else "" for match in (numbers["makespan"], numbers.get("block")))
+                texts[role] = match[1] if match else ""
             try:
-                shop = shelf.get(texts["instance"], block)
+                shop = shelf.get(texts["instance"], texts["block"])
             except LookupError as error:
                 raise self.fault(at, self.head[places["instance"]], str(error.args[0])) from None
-            order = numbers_in(cells[places["order"]])
-            yield Row(at, texts["instance"], texts.get("method", ""), int(stated), order, shop)
+            yield Row(at, texts["instance"], texts["method"], int(texts["makespan"]), numbers_in(given["order"]), shop)
 
     def first_job(self, method: str, rows: list[Row]) -> int:
         """Return the number of the first job in most orders of a method."""
@@ -362,16 +362,15 @@ def audited(row: Row, first: int, others: Others) -> Audited:
     jobs = [number - first for number in numbers]
     check = shop.check(jobs, row.stated)
     verdict, why = "valid", ""
-    if check.valid and check.makespan == check.bound:
-        verdict = "valid and optimal"
-    elif check.valid and row.stated < shop.upper:
-        verdict, why = "valid and below the reference", f"the reference is {shop.upper}"
-    elif check.makespan is not None:
-        if not check.valid:
-            verdict = "wrong makespan"
-            why = "; ".join([f"states {row.stated}, takes {check.makespan}", *others.fitting(row, jobs)])
-    else:
+    if check.makespan is None:
         verdict, why = fault_of(row, numbers, first, others)
+    elif not check.valid:
+        verdict = "wrong makespan"
+        why = "; ".join([f"states {row.stated}, takes {check.makespan}", *others.fitting(row, jobs)])
+    elif check.makespan == check.bound:
+        verdict = "valid and optimal"
+    elif row.stated < shop.upper:
+        verdict, why = "valid and below the reference", f"the reference is {shop.upper}"
     return Audited(*row[:4], check.makespan, check.bound, check.valid, verdict, why)
 
 

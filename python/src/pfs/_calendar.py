@@ -4,10 +4,11 @@ from __future__ import annotations
 import math
 import re
 from bisect import bisect_left, bisect_right
+from collections import defaultdict
 from collections.abc import Collection, Iterable, Iterator
 from datetime import date, datetime, timedelta
-from itertools import accumulate, chain, islice, pairwise
-from typing import TYPE_CHECKING, NamedTuple
+from itertools import accumulate, count, islice, pairwise
+from typing import TYPE_CHECKING
 
 import numpy as np
 
@@ -35,6 +36,7 @@ UNIT_NEEDED = "write min, h, s or d in brackets into the first cell of the table
 
 # From when to when there is work, in microseconds.
 Span = tuple[int, int]
+Shifts = dict[int | str, list[Span]]
 
 
 class Calendar:
@@ -101,13 +103,14 @@ class Calendar:
     @property
     def is_always(self) -> bool:
         """Whether there is work around the clock."""
-        return all(end == start for (_, end), (start, _) in pairwise([*self.spans, self._at(len(self.spans))]))
+        spans = [*self.spans, next(islice(self._open(), len(self.spans), None))]
+        return all(end == start for (_, end), (start, _) in pairwise(spans))
 
-    def _at(self, number: int) -> Span:
-        """The span of this number, counted on in later weeks."""
-        weeks, rest = divmod(max(0, number - self.loop), len(self.spans) - self.loop)
-        start, end = self.spans[self.loop + rest if number >= self.loop else number]
-        return start + weeks * WEEK, end + weeks * WEEK
+    def _open(self) -> Iterator[Span]:
+        """When there is work, also in later weeks."""
+        yield from self.spans
+        for past in count(WEEK, WEEK):
+            yield from ((start + past, end + past) for start, end in self.spans[self.loop:])
 
     def _within(self, worked: int, is_over: bool) -> datetime:
         """When this working time is over; at a break its end, or its start if the work is over."""
@@ -128,17 +131,15 @@ class Calendar:
     def _breaks(self, end: int) -> Iterator[tuple[int, str]]:
         """Return the working times before `end` at which a shift or a day begins, each with the day if it is the first
         of its date: `Mon 2026-11-30`."""
-        worked, number, before = 0, 0, ""
-        while worked < end:
-            start, stop = self._at(number)
-            for moment in chain([start], range((start // DAY + 1) * DAY, stop, DAY)):
-                at = worked + moment - start
-                if at >= end:
+        worked, before = 0, ""
+        for start, stop in self._open():
+            for moment in (start, *range((start // DAY + 1) * DAY, stop, DAY)):
+                if worked + moment - start >= end:
                     return
                 day = day_of(moment_at(moment))
-                yield at, day if day != before else ""
+                yield worked + moment - start, day if day != before else ""
                 before = day
-            worked, number = worked + stop - start, number + 1
+            worked += stop - start
 
 
 class Clock:
@@ -257,56 +258,35 @@ def words_of(given: str | Iterable[str], what: str) -> Iterator[str]:
         yield from (word.strip() for word in text.split(","))
 
 
-class Shifts(NamedTuple):
-    """The shifts of a day, from their starts to their ends, which may be on the next day: those of dates, counted from
-    the Monday, those of days of the week, and those of all other days."""
-
-    of_dates: dict[int, list[Span]]
-    of_days: dict[int, list[Span]]
-    others: list[Span]
-
-    def starting(self, day: int, days: Collection[int], closed: Collection[int]) -> list[Span]:
-        """The shifts that start on a day, in their order."""
-        if day in self.of_dates:
-            return sorted(self.of_dates[day])
-        if day in closed:
-            return []
-        return sorted(self.of_days.get(day % 7, self.others if day % 7 in days else []))
-
-
 def shifts_of(shifts: str | Iterable[str]) -> Shifts:
-    """Parse the shifts. By default there is work around the clock on the days that have none of their own."""
-    found = Shifts({}, {}, [])
+    """Parse the shifts of a day, from their starts to their ends, which may be on the next day: those of dates, counted
+    from the Monday, those of days of the week by their names, and those of all other days by an empty text."""
+    found: Shifts = defaultdict(list)
     for text in [shifts] if isinstance(shifts, str) else shifts:
         named = NAMED.fullmatch(text) if isinstance(text, str) else None
         spans = [span_of(word) for word in words_of([named[3] if named else text], "shifts")]
-        if named is None:
-            found.others.extend(spans)
-        for day in days_of(named[1]) if named and named[1] else []:
-            found.of_days.setdefault(day, []).extend(spans)
-        for day in dates_of(named[2]) if named and named[2] else []:
-            found.of_dates.setdefault(day, []).extend(spans)
+        days: list[int | str] = [""]
+        if named:
+            days = [DAYS[day] for day in days_of(named[1])] if named[1] else [*dates_of(named[2])]
+        for day in days:
+            found[day].extend(spans)
     return found
 
 
 def span_of(word: str) -> Span:
-    """Parse a shift, from its start to its end on the same or the next day."""
+    """Parse a shift, from its start to its end on the same or the next day; 24:00 is the end of a day."""
     match = SHIFT.fullmatch(word)
     if match is None:
         raise ValueError(f"{word!r} is not a shift such as 06:00-14:00")
-    start, end = (time_of_day(word, *match.group(at, at + 1)) for at in (1, 3))
+    start, end = ((60 * int(match[at]) + int(match[at + 1])) * MINUTE for at in (1, 3))
+    for time, clock in zip((start, end), word.split("-")):
+        if clock[-2:] > "59" or time > DAY:
+            raise ValueError(f"{word!r} is not a shift such as 06:00-14:00: {clock} is not a time of day")
     if start == DAY:
         raise ValueError(f"the shift {word!r} starts at 24:00: write 00:00")
     if start == end:
         raise ValueError(f"the shift {word!r} has no length: a whole day is 00:00-24:00")
     return start, end if end > start else end + DAY
-
-
-def time_of_day(shift: str, hours: str, minutes: str) -> int:
-    """A time of day; 24:00 is its end."""
-    if int(minutes) > 59 or 60 * int(hours) + int(minutes) > 1_440:
-        raise ValueError(f"{shift!r} is not a shift such as 06:00-14:00: {hours}:{minutes} is not a time of day")
-    return (60 * int(hours) + int(minutes)) * MINUTE
 
 
 def days_of(days: str | Iterable[str]) -> list[int]:
@@ -343,18 +323,25 @@ def dates_of(dates: str | Iterable[str]) -> list[int]:
     return found
 
 
+def starting(day: int, shifts: Shifts, days: Collection[int], closed: Collection[int]) -> list[Span]:
+    """The shifts that start on a day, in their order. If none are given for all days, there is work around the clock on
+    each day of `days`, or on all days if no day of the week has other shifts."""
+    if day in shifts or day in closed:
+        return sorted(shifts.get(day, []))
+    others = shifts.get("", [] if not days and any(name in shifts for name in DAYS) else [(0, DAY)])
+    return sorted(shifts.get(DAYS[day % 7], others if not days or day % 7 in days else []))
+
+
 def spans_from(begin: datetime, shifts: Shifts, days: Collection[int],
                closed: Collection[int]) -> tuple[list[Span], int]:
     """When there is work from the begin on, up to a week after the last date that is closed or has shifts of its own,
     and the index of the first span of that week."""
-    if not shifts.others and (days or not shifts.of_days):
-        shifts = shifts._replace(others=[(0, DAY)])
     closed, since = set(closed), begin - MONDAY
-    last = max([since.days, *shifts.of_dates, *closed])
+    last = max([since.days, *(day for day in shifts if isinstance(day, int)), *closed])
     if last > since.days + MOST_DAYS:
         raise ValueError(f"{(MONDAY + timedelta(days=last)).date()} is more than ten years after the begin")
     found = [(day * DAY + start, day * DAY + end) for day in range(since.days - 1, last + 8)
-             for start, end in shifts.starting(day, days or range(7), closed)]
+             for start, end in starting(day, shifts, days, closed)]
     past = since // timedelta(microseconds=1)
     loop = sum(past < end and start < (last + 1) * DAY for start, end in found)
     spans = [(max(start, past), end) for start, end in found if end > past]

@@ -44,16 +44,15 @@ class Fault(ValueError):
         The line that the program ``pfs`` prints for the fault.
     """
 
-    def __init__(self, path: str, number: int, place: int) -> None:
+    def __init__(self, path: str, number: int, place: int, *more: Any) -> None:
+        # All arguments, from which a pickled exception is made again.
+        super().__init__(path, number, place, *more)
+        self.path, self.number, self.place = path, number, place
         self.name, text = (INSTANCE_FAULTS | ORDER_FAULTS)[number]
-        self.path = path
-        self.number = number
-        self.place = place
         self.text = "pfs: " + text.format(place)
-        super().__init__(f"{path}: {text.format(place)}" if path else text.format(place))
 
-    def __reduce__(self) -> tuple[Any, ...]:
-        return type(self), (self.path, self.number, self.place)
+    def __str__(self) -> str:
+        return (f"{self.path}: " if self.path else "") + self.text.removeprefix("pfs: ")
 
 
 class FileFault(Fault):
@@ -71,15 +70,11 @@ class FileFault(Fault):
     """
 
     def __init__(self, path: str, number: int, place: int, line: int = 0, column: int = 0, hint: str = "") -> None:
-        super().__init__(path, number, place)
-        if hint:
-            self.args = (f"{self.args[0]} ({hint})",)
-        self.line = line
-        self.column = column
-        self.hint = hint
+        super().__init__(path, number, place, line, column, hint)
+        self.line, self.column, self.hint = line, column, hint
 
-    def __reduce__(self) -> tuple[Any, ...]:
-        return type(self), (self.path, self.number, self.place, self.line, self.column, self.hint)
+    def __str__(self) -> str:
+        return super().__str__() + (f" ({self.hint})" if self.hint else "")
 
 
 class OrderFault(Fault):
@@ -110,28 +105,20 @@ class TableFault(Fault):
 
     def __init__(self, path: str, line: int, column: int, text: str, head: str = "",
                  others: tuple[TableFault, ...] = ()) -> None:
+        ValueError.__init__(self, path, line, column, text, head, others)
         self.path, self.name, self.number, self.place = path, "table", 0, line
-        self.line = line
-        self.column = column
-        self.text = text
-        self.head = head
-        self.others = others
-        ValueError.__init__(self, "\n".join(self.messages()))
+        self.line, self.column, self.text, self.head, self.others = line, column, text, head, others
 
     def messages(self) -> list[str]:
         """Return a line for each fault, up to a number of them."""
-        rest = len(self.others) - MOST_FAULTS
-        return [self._message(), *(other._message() for other in self.others[:MOST_FAULTS])] + (
-            [f"{self.path}: and {rest} more"] if rest > 0 else [])
-
-    def _message(self) -> str:
-        """Return the line that says where the first fault is and what it is."""
-        place = f"line {self.line}, " if not self.column else f"cell {cell_name(self.line, self.column)}"
+        place = f"cell {cell_name(self.line, self.column)}" if self.column else f"line {self.line}, "
         place += f", column {self.head!r}: " if self.head else ": " if self.column else ""
-        return f"{self.path}: {place}{self.text}"
+        rest = len(self.others) - MOST_FAULTS
+        return [f"{self.path}: {place}{self.text}", *(other.messages()[0] for other in self.others[:MOST_FAULTS]),
+                *([f"{self.path}: and {rest} more"] if rest > 0 else [])]
 
-    def __reduce__(self) -> tuple[type[TableFault], tuple[Any, ...]]:
-        return type(self), (self.path, self.line, self.column, self.text, self.head, self.others)
+    def __str__(self) -> str:
+        return "\n".join(self.messages())
 
 
 def cell_name(line: int, column: int) -> str:
@@ -157,11 +144,11 @@ class Interrupted(KeyboardInterrupt):
     """
 
     def __init__(self, solution: Solution) -> None:
-        super().__init__(f"interrupted after round {solution.rounds}, makespan {solution.makespan}")
+        super().__init__(solution)
         self.solution = solution
 
-    def __reduce__(self) -> tuple[type[Interrupted], tuple[Solution]]:
-        return type(self), (self.solution,)
+    def __str__(self) -> str:
+        return f"interrupted after round {self.solution.rounds}, makespan {self.solution.makespan}"
 
 
 class InterruptedAll(KeyboardInterrupt):
@@ -175,8 +162,8 @@ class InterruptedAll(KeyboardInterrupt):
     """
 
     def __init__(self, found: dict[tuple[int, int], Solution]) -> None:
-        super().__init__(f"interrupted after {len(found)} searches")
+        super().__init__(found)
         self.found = found
 
-    def __reduce__(self) -> tuple[type[InterruptedAll], tuple[dict[tuple[int, int], Solution]]]:
-        return type(self), (self.found,)
+    def __str__(self) -> str:
+        return f"interrupted after {len(self.found)} searches"

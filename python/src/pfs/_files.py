@@ -1,11 +1,12 @@
 """Instances from files, from Taillard's generator and from pandas, and order files."""
 from __future__ import annotations
 
-import contextlib
+import io
 import os
 import re
 from collections.abc import Callable, Iterator
 from ctypes import byref, c_char_p, c_size_t, c_uint64, c_void_p, cast
+from itertools import islice
 from typing import IO, Any, TypeAlias
 
 import numpy as np
@@ -13,13 +14,27 @@ import numpy as np
 from pfs import _library as c
 from pfs._benchmarks import taillard_rows
 from pfs._faults import INSTANCE_FAULTS, ORDER_FAULTS, FileFault, OrderFault, TableFault
-from pfs._hints import EXTRA_NUMBER, MACHINE_NUMBER, NUMBER_LINE, TRUNCATED, hint_of, where
 from pfs._instance import Instance
 from pfs._names import is_frame
 from pfs._solution import Solution
 from pfs._validate import Order, Times, checked_int, layout_number
 
 Source: TypeAlias = "str | os.PathLike[str] | IO[bytes]"
+
+# A line that has only numbers. The first one of a block is its size line.
+NUMBER_LINE = re.compile(rb"^[ \t\r]*[0-9][0-9 \t\r]*$", re.MULTILINE)
+NUMBERS_OF_SIZE = {c.LAYOUTS["taillard"]: 5, c.LAYOUTS["orlib"]: 2}
+# The title of a block in OR-Library's files. Its last word is the name, if it contains a letter.
+TITLE = re.compile(rb"^[ \t]*instance[ \t]+(?=[^a-z\s]*[a-z])(\S+)[ \t\r]*$", re.MULTILINE | re.IGNORECASE)
+NUMBER = re.compile(rb"[0-9]{1,10}")
+
+SIZE_COUNT, SIZE_RANGE, MIXED_LINE, TIME_RANGE, MACHINE_NUMBER, EXTRA_NUMBER, TRUNCATED, TOO_LONG = range(21, 29)
+HINTS = {
+    c.NO_BLOCK: "the file has no size line: no line consists of numbers alone",
+    SIZE_RANGE: f"a block has 1 to {c.MOST_JOBS:,} jobs and 1 to {c.MOST_MACHINES} machines, and the notes are at most "
+                f"{c.MOST_NOTE:,}",
+    MIXED_LINE: "a line of times has only digits and blanks: no words, signs or decimal points",
+    TIME_RANGE: f"times are 0 to {c.LONGEST_TIME:,}"}
 
 
 def bytes_of(source: Source, most: int) -> tuple[bytes, str]:
@@ -68,37 +83,33 @@ def read_block(text: bytes, layout: int, block: int, start: int) -> tuple[int, i
     return number, place.value, times[:found.jobs * found.machines].reshape(found.jobs, found.machines), found.notes
 
 
-def block_of(text: bytes, path: str, layout: int, block: int, start: int = 0) -> Instance:
-    """Return a block of a file, counted from the offset `start`."""
-    number, place, times, notes = read_block(text, layout, block, start)
+def block_of(text: bytes, path: str, layout: int, block: int) -> Instance:
+    """Return a block of a file."""
+    number, place, times, notes = read_block(text, layout, block, 0)
     if number in INSTANCE_FAULTS:
-        raise fault_of(text, path, layout, number, place, start)
+        line, column = where(text, number, place)
+        raise FileFault(path, number, place, line, column, hint_of(text, number, layout, line))
     c.done(number)
-    return Instance(times, name=os.path.basename(path), seed=notes.seed, upper=notes.upper, lower=notes.lower)
+    return instance_of(times, notes, os.path.basename(path))
 
 
-def fault_of(text: bytes, path: str, layout: int, number: int, place: int, start: int) -> FileFault:
-    """Return a fault, with its line and a hint if the file was read from its start."""
-    if start:
-        return FileFault(path, number, place)
-    line, column = where(text, number, place)
-    begin = start_of_fault(text, layout) if number in (MACHINE_NUMBER, EXTRA_NUMBER, TRUNCATED) else 0
-    return FileFault(path, number, place, line, column, hint_of(text, number, layout, begin, line))
+def instance_of(times: Times, notes: c.Notes, name: str) -> Instance:
+    """Return what was read as an instance."""
+    return Instance(times, name=name, seed=notes.seed, upper=notes.upper, lower=notes.lower)
 
 
-def start_of_fault(text: bytes, layout: int) -> int:
-    """Return the offset of the first block that is invalid."""
-    start = 0
+def blocks_of(text: bytes, layout: int) -> Iterator[tuple[int, int, Times, c.Notes]]:
+    """Read the blocks before the first fault, each from the end of the one before it. Return where each begins and
+    ends, its times and its notes."""
+    end = 0
     for _ in range(c.MOST_BLOCKS):
-        number, _, times, _ = read_block(text, layout, 1, start)
-        if number != c.OK:
+        start = end
+        number, _, times, notes = read_block(text, layout, 1, start)
+        if number in INSTANCE_FAULTS:
             break
-        start = end_of_block(text, start, layout, times.size)
-    return start
-
-
-# The title of a block in OR-Library's files. Its last word is the name, if it contains a letter.
-TITLE = re.compile(rb"^[ \t]*instance[ \t]+(?=[^a-z\s]*[a-z])(\S+)[ \t\r]*$", re.MULTILINE | re.IGNORECASE)
+        c.done(number)
+        end = end_of_block(text, start, layout, times.size)
+        yield start, end, times, notes
 
 
 def title_of(text: bytes, start: int) -> str:
@@ -124,33 +135,66 @@ def end_of_block(text: bytes, start: int, layout: int, times: int) -> int:
         at, is_inside, numbers = at + len(part), bool(is_digit[-1]), numbers - len(begins)
 
 
-def blocks_of(text: bytes, path: str, layout: int) -> list[Instance]:
-    """Return the blocks before the first fault. Each is read from the end of the one before it."""
-    shops: list[Instance] = []
-    start = 0
-    with contextlib.suppress(FileFault):
-        while len(shops) < c.MOST_BLOCKS:
-            shop = block_of(text, path, layout, 1, start)
-            shop.name = title_of(text, start) or f"{shop.name} {len(shops) + 1}".strip()
-            start = end_of_block(text, start, layout, shop.times.size)
-            if start > c.LONGEST_INPUT:
-                break
-            shops.append(shop)
-    return shops
+# The position of a fault in an instance file, and a hint at its cause
+
+def where(text: bytes, number: int, place: int) -> tuple[int, int]:
+    """Return the line and the column of a fault.
+
+    >>> where(b"1 2\\n3 x\\n", MIXED_LINE, 6)
+    (2, 3)
+    """
+    if number in (MIXED_LINE, TIME_RANGE, MACHINE_NUMBER, EXTRA_NUMBER):
+        return text.count(b"\n", 0, place) + 1, place - text.rfind(b"\n", 0, place)
+    if number in (SIZE_COUNT, SIZE_RANGE):
+        return place, 0
+    return 0 if number == TOO_LONG else text.count(b"\n") + (not text.endswith(b"\n")), 0
+
+
+def hint_of(text: bytes, number: int, layout: int, line: int) -> str:
+    """Return a hint for a fault in this line."""
+    if number == SIZE_COUNT:
+        return hint_of_size(text, layout, line)
+    if number in (MACHINE_NUMBER, EXTRA_NUMBER, TRUNCATED):
+        return hint_of_rows(text, layout, line)
+    return "" if number == c.NO_BLOCK and NUMBER_LINE.search(text) else HINTS.get(number, "")
+
+
+def hint_of_size(text: bytes, layout: int, line: int) -> str:
+    """Return a hint for a size line with a wrong count. The line before it may be the intended one."""
+    before, own = islice(io.BytesIO(b"\n" + text), line - 1, line + 1)
+    count, due = len(own.split()), NUMBERS_OF_SIZE[layout]
+    if re.match(rb"[ \t]*[0-9]+[ \t]+[0-9]+\b.*[^0-9 \t\r\n]", before):
+        return f"line {line - 1} has words next to its numbers, so it isn't read as a size line"
+    other = next((name for name, own in c.LAYOUTS.items() if own != layout and NUMBERS_OF_SIZE[own] == count), None)
+    hint = f"the line has {count} numbers, but a size line has {due}"
+    return f"{hint}; in the layout {other!r} it has {count}" if other else hint
+
+
+def hint_of_rows(text: bytes, layout: int, line: int) -> str:
+    """Return a hint at the first row with a wrong count of numbers in the first block that is invalid."""
+    size_line = NUMBER_LINE.search(text, max((end for _, end, *_ in blocks_of(text, layout)), default=0))
+    if size_line is None:
+        return ""
+    jobs, machines = (int(word) for word in size_line[0].split()[:2])
+    due = jobs if layout == c.LAYOUTS["taillard"] else 2 * machines
+    at = text.count(b"\n", 0, size_line.end()) + 1
+    for number, row in enumerate(islice(io.BytesIO(text), at, line), at + 1):
+        count = len(row.split()) if NUMBER_LINE.match(row) else 0
+        if count == machines != due and layout == c.LAYOUTS["orlib"]:
+            return f"line {number} has {count} numbers: perhaps only times, instead of pairs of machine and time"
+        if count not in (0, due):
+            return f"line {number} has {count} numbers, but a row of this block has {due}"
+    return ""
 
 
 # The layout `matrix`: the sizes of an instance on one line, and then a line of times for each job
-
-# A line from its first word on. Empty lines are skipped without an object for each.
-FILLED = re.compile(rb"\S[^\n]*")
-NUMBER = re.compile(rb"[0-9]{1,10}")
-
 
 def matrix_of(text: bytes, path: str) -> Instance:
     """Return the instance of a file in the layout ``matrix``."""
     if len(text) > c.LONGEST_INPUT:
         raise TableFault(path, 1, 0, f"the file has more than {c.LONGEST_INPUT:,} bytes")
-    lines = lines_of(text)
+    # Words after the 5,000th are left together, as one more.
+    lines = ((line, row.split(None, c.MOST_JOBS)) for line, row in enumerate(io.BytesIO(text), 1) if not row.isspace())
     line, sizes = next(lines, (1, list[bytes]()))
     if len(sizes) != 2:
         raise TableFault(path, line, 0, f"{counted(sizes)} numbers on the size line: it has those of jobs and machines")
@@ -169,15 +213,6 @@ def matrix_of(text: bytes, path: str) -> Instance:
     if count < jobs:
         raise TableFault(path, line, 0, f"{count} lines of times for {jobs} jobs")
     return Instance(times, name=os.path.basename(path))
-
-
-def lines_of(text: bytes) -> Iterator[tuple[int, list[bytes]]]:
-    """Return the lines that have words, with their numbers. Words after the 5,000th are left together, as one more."""
-    line, at = 1, 0
-    for found in FILLED.finditer(text):
-        line += text.count(b"\n", at, found.start())
-        at = found.start()
-        yield line, found[0].split(None, c.MOST_JOBS)
 
 
 def counted(words: list[bytes]) -> str:
@@ -259,7 +294,12 @@ def read_all(source: Source, layout: str) -> list[Instance]:
     """
     number = layout_number(layout)
     text, path = bytes_of(source, c.LONGEST_INPUT)
-    shops = blocks_of(text, path, number)
+    shops: list[Instance] = []
+    for start, end, times, notes in blocks_of(text, number):
+        if end > c.LONGEST_INPUT:
+            break
+        name = title_of(text, start) or f"{os.path.basename(path)} {len(shops) + 1}".strip()
+        shops.append(instance_of(times, notes, name))
     if len(shops) < c.MOST_BLOCKS:
         try:
             # Read from the start of the file, so that the offset of the fault is right.

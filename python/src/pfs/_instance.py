@@ -15,17 +15,14 @@ from pfs import _search
 from pfs._atomic import atomic_write
 from pfs._bounds import bound_by_pairs
 from pfs._faults import Interrupted
-from pfs._library import LENGTHS, SHORT, Prepared
+from pfs._library import LENGTHS, SHORT, Prepared, quick_insert, quick_insertions, quick_makespan
 from pfs._names import frame_names, is_frame, names_of
 from pfs._schedule import Schedule
 from pfs._search import HeldSearch, Progress, Search, Stop
 from pfs._solution import Solution, as_order
 from pfs._validate import (BOOLS, MOST_UINT32, Jobs, Order, array_copy, as_uint32, as_uint32_bytes, checked_int,
-                           checked_jobs, checked_order, checked_times, jobs_error, layout_number)
+                           checked_jobs, checked_order, checked_times, jobs_error, layout_number, wrong_job)
 
-_pfs_makespan = c.quick_makespan
-_pfs_insert = c.quick_insert
-_pfs_insertions = c.quick_insertions
 # Three times as fast as calling the class of a named tuple.
 _new_tuple = tuple.__new__
 
@@ -110,6 +107,8 @@ class Instance:
     Solution(order=[1, 0, 2], makespan=10)
     >>> shop.bound()
     10
+    >>> shop.heads([1, 0]).tolist(), shop.tails([1, 0]).tolist()
+    ([[2, 7], [5, 9]], [[9, 7], [5, 2]])
     """
 
     __slots__ = ("name", "job_names", "machine_names", "unit", "decimals", "seed", "upper", "lower", "_times",
@@ -185,9 +184,8 @@ class Instance:
         """Return what the library has prepared in this process and no other call uses, or prepare the instance again. A
         call appends it to the list again when it is done. So threads neither wait for each other nor share one."""
         try:
-            prepared = self._prepared.pop()
-            while not prepared.is_own():
-                prepared = self._prepared.pop()
+            while not (prepared := self._prepared.pop()).is_own():
+                """It was made before a fork."""
         except IndexError:
             prepared = Prepared(self._data, self.jobs, self.machines)
         return prepared
@@ -212,8 +210,8 @@ class Instance:
         machine. The distinct jobs are given by number from 0 or by name. The makespan of an empty sequence is 0."""
         jobs, count = as_uint32_bytes(order, "order", self.job_names)
         prepared = self._taken()
-        number = _pfs_makespan(prepared.address, jobs, LENGTHS[count] if count < SHORT else c_size_t(count),
-                               prepared.to_makespan)
+        number = quick_makespan(prepared.address, jobs, LENGTHS[count] if count < SHORT else c_size_t(count),
+                                prepared.to_makespan)
         makespan: int = prepared.makespan.value
         self._prepared.append(prepared)
         if number:
@@ -270,10 +268,9 @@ class Instance:
         >>> shop.bound(), shop.bound("pairs")
         (3480, 3527)
         """
-        if not isinstance(method, str):
-            raise TypeError(f"method must be 'machines' or 'pairs', not {method!r}")
-        if method not in ("machines", "pairs"):
-            raise ValueError(f"method must be 'machines' or 'pairs', not {method!r}")
+        if not isinstance(method, str) or method not in ("machines", "pairs"):
+            kind = ValueError if isinstance(method, str) else TypeError
+            raise kind(f"method must be 'machines' or 'pairs', not {method!r}")
         bound = c_uint64()
         c.done(self._call("pfs_bound", byref(bound)))
         return max(bound.value, bound_by_pairs(self._times)) if method == "pairs" else bound.value
@@ -330,8 +327,8 @@ class Instance:
         if type(job) is not int or not 0 <= job < self.jobs:
             job = checked_int(job, "job", 0, self.jobs - 1)
         prepared = self._taken()
-        number = _pfs_insert(prepared.address, jobs, LENGTHS[count] if count < SHORT else c_size_t(count), job,
-                             prepared.to_place, prepared.to_makespan)
+        number = quick_insert(prepared.address, jobs, LENGTHS[count] if count < SHORT else c_size_t(count), job,
+                              prepared.to_place, prepared.to_makespan)
         best = _new_tuple(Place, (prepared.place.value, prepared.makespan.value))
         self._prepared.append(prepared)
         if number:
@@ -356,12 +353,11 @@ class Instance:
         most = self.jobs
         if type(job) is not int or not 0 <= job < most:
             job = checked_int(job, "job", 0, most - 1)
-        if count > most:
-            count = most
+        count = most if count > most else count
         long, room = ((LENGTHS[count], LENGTHS[count + 1]) if count < SHORT - 1 else
                       (c_size_t(count), c_size_t(count + 1)))
         prepared = self._taken()
-        number = _pfs_insertions(prepared.address, jobs, long, job, prepared.to_spans, room)
+        number = quick_insertions(prepared.address, jobs, long, job, prepared.to_spans, room)
         spans = prepared.spans[:count + 1].copy()
         self._prepared.append(prepared)
         if number:
@@ -369,39 +365,14 @@ class Instance:
         return spans
 
     def heads(self, sequence: Jobs) -> Order:
-        """Return the earliest end of each operation of a sequence of jobs, as an array of int64 with a row for each job
-        of the sequence, in its order, and a column for each machine.
-
-        Parameters
-        ----------
-        sequence : array_like
-            Distinct jobs, counted from 0.
-
-        Examples
-        --------
-        >>> pfs.Instance([[3, 2], [2, 5], [4, 1]]).heads([1, 0])
-        array([[2, 7],
-               [5, 9]])
-        """
+        """Return the earliest end of each operation of a sequence of distinct jobs, counted from 0, as an array of
+        int64 with a row for each job of the sequence, in its order, and a column for each machine."""
         return self._heads_tails(sequence)[0]
 
     def tails(self, sequence: Jobs) -> Order:
-        """Return the longest path from the start of each operation to the end of a sequence of jobs.
-
-        The longest path through an operation is its head plus its tail minus its processing time. On a critical path
-        that is the makespan (Taillard 1990).
-
-        Parameters
-        ----------
-        sequence : array_like
-            As for :meth:`heads`, whose array has the same shape.
-
-        Examples
-        --------
-        >>> pfs.Instance([[3, 2], [2, 5], [4, 1]]).tails([1, 0])
-        array([[9, 7],
-               [5, 2]])
-        """
+        """Return the longest path from the start of each operation to the end of a sequence, as an array like that of
+        :meth:`heads`. The longest path through an operation is its head plus its tail minus its processing time. On a
+        critical path that is the makespan (Taillard 1990)."""
         return self._heads_tails(sequence)[1]
 
     def _heads_tails(self, sequence: Jobs) -> tuple[Order, Order]:
@@ -474,16 +445,11 @@ class Instance:
     def _insertion_error(self, number: int, given: bytes, moved: bytes, *, is_in: bool = True) -> Exception:
         """Return the exception for a sequence and jobs to insert or, without `is_in`, to move that the library rejects
         with this number. With `is_in` a job is wrong if it is in the sequence, otherwise if it isn't."""
-        generic = (c.message(number),)
-        fault = jobs_error(number, self.jobs, given, "sequence")
-        if fault.args != generic:
-            return fault
-        fault = jobs_error(number, self.jobs, moved, "jobs")
         sequence = set(np.frombuffer(given, dtype=np.uint32).tolist())
-        wrong = [job for job in np.frombuffer(moved, dtype=np.uint32).tolist() if (job in sequence) == is_in]
-        if fault.args != generic or not wrong:
-            return fault
-        return ValueError(f"job {wrong[0]} {'is already' if is_in else 'is not'} in the sequence")
+        wrong = (ValueError(f"job {job} {'is already' if is_in else 'is not'} in the sequence")
+                 for job in np.frombuffer(moved, dtype=np.uint32).tolist() if (job in sequence) == is_in)
+        return (wrong_job(self.jobs, given, "sequence") or wrong_job(self.jobs, moved, "jobs") or next(wrong, None)
+                or c.error_of(number))
 
     def makespans(self, orders: npt.ArrayLike) -> Order:
         """Return the makespans of many sequences of equal length, as an array of int64.

@@ -122,18 +122,15 @@ SHORT: Final = 257
 LENGTHS: Final = [c_size_t.from_param(length) for length in range(SHORT)]
 
 
-def message(number: int) -> str:
-    """Return the library's text for a return value."""
-    text: bytes = library.pfs_message(number)
-    return text.decode()
+def error_of(number: int) -> Exception:
+    """Return the exception for a return value, with the library's text."""
+    return MemoryError(NO_MEMORY) if number == MEMORY else ValueError(library.pfs_message(number).decode())
 
 
 def done(number: int) -> None:
     """Raise the exception for a return value, unless it is `OK`."""
-    if number == MEMORY:
-        raise MemoryError(NO_MEMORY)
     if number != OK:
-        raise ValueError(message(number))
+        raise error_of(number)
 
 
 class Handle(ctypes.Structure):

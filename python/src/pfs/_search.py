@@ -49,13 +49,12 @@ class Part:
 
     def __init__(self, order: bytes, rounds: int, cells_before: int, seed: int, total: int) -> None:
         self.order: npt.NDArray[np.uint32] = np.frombuffer(bytearray(order), dtype=np.uint32)
-        self.makespan = c_uint64(UNWRITTEN)
-        self.cells = c_uint64()
+        self.makespan, self.cells = c_uint64(UNWRITTEN), c_uint64()
         # The number of the next round with this seed, and the number of rounds so far with all seeds.
-        self.rounds = rounds
-        self.total = total
-        self.seed = seed
-        self.cells_before = cells_before
+        self.rounds, self.total = rounds, total
+        self.seed, self.cells_before = seed, cells_before
+        # It is built right after the part, so it isn't lost if memory runs out later.
+        self.solution: Solution | None = None
 
     def is_done(self) -> bool:
         return self.makespan.value != UNWRITTEN
@@ -71,38 +70,28 @@ class Search:
         self.passes = checked_int(passes, "passes", 0, c.MOST_PASSES)
         self.seed = checked_int(seed, "seed", 0, c.MOST_SEED)
         self.first = checked_int(first, "first", 0, c.MOST_ROUNDS)
-        self.start = None
-        if start is not None:
-            self.start = checked_order(as_order(start, shop, "start"), shop.jobs, "start", shop.job_names)
+        self.start = None if start is None else checked_order(as_order(start, shop, "start"), shop.jobs, "start",
+                                                              shop.job_names)
         self.last: Part | None = None
         self.running: Part | None = None
         # The improvements so far, if they are recorded.
         self.history: list[Improvement] = []
-        # The solution of the last part. It is built right after the part, so it isn't lost if memory runs out later.
-        self.ready: tuple[Part, Solution] | None = None
 
     def begin(self) -> None:
         """Compute the start order by NEH, or the makespan of the given one."""
         shop = self.shop
-        part = Part(self.start or bytes(4 * shop.jobs), self.first, 0, self.seed, self.first)
-        self.running = part
+        part = self.running = Part(self.start or bytes(4 * shop.jobs), self.first, 0, self.seed, self.first)
         if self.start is None:
             c.done(shop._call("pfs_neh", part.order.ctypes.data, shop.jobs, byref(part.makespan), byref(part.cells)))
-        else:
-            number = shop._call("pfs_makespan", self.start, shop.jobs, byref(part.makespan))
-            if number != c.OK:
-                raise jobs_error(number, shop.jobs, self.start, "start")
-        self.last = part
-        self.solution()
+        elif number := shop._call("pfs_makespan", self.start, shop.jobs, byref(part.makespan)):
+            raise jobs_error(number, shop.jobs, self.start, "start")
+        self.keep(part)
 
     def run_rounds(self, count: int) -> None:
         """Run the next `count` rounds. After the last round of a seed, those of another one follow."""
-        before = self.finished()
-        part = self.part_after(before, count)
-        self.running = part
+        part = self.running = self.part_after(self.finished(), count)
         self.run_part(part, count)
-        self.last = part
-        self.solution()
+        self.keep(part)
 
     def part_after(self, before: Part, count: int) -> Part:
         """Return a part for the next `count` rounds, which aren't run yet."""
@@ -135,10 +124,6 @@ class Search:
         self.running = self.last = part
         self.solution()
 
-    def left_of_seed(self) -> int:
-        """Return the number of rounds that the seed has left, or those of the seed after it if it has none."""
-        return c.MOST_ROUNDS - self.finished().rounds or c.MOST_ROUNDS
-
     def finished(self) -> Part:
         """Return the last part that was run."""
         if self.running is not None and self.running.is_done():
@@ -151,13 +136,12 @@ class Search:
     def solution(self) -> Solution:
         """Return the best order after the last part that was run."""
         part = self.finished()
-        if self.ready is None or self.ready[0] is not part:
-            cells = part.cells_before + part.cells.value
-            self.ready = part, Solution(part.order, part.makespan.value, cells, self.shop.machines, part.rounds,
-                                        part.seed)
-        if len(self.ready[1].history) < len(self.history):
-            self.ready[1].history = tuple(self.history)
-        return self.ready[1]
+        if part.solution is None:
+            part.solution = Solution(part.order, part.makespan.value, part.cells_before + part.cells.value,
+                                     self.shop.machines, part.rounds, part.seed)
+        if len(part.solution.history) < len(self.history):
+            part.solution.history = tuple(self.history)
+        return part.solution
 
 
 class Pace:
@@ -188,17 +172,12 @@ class Pace:
 def reporter(progress: Progress | None, rounds: int | None) -> tuple[Callable[..., Any], Callable[..., Any]]:
     """Return two functions. The first is called after each part with the rounds of the part, all rounds so far and the
     makespan, and returns True to end the search. The second is called at the end."""
-    if progress is None:
-        return do_nothing, do_nothing
-    bar: Any = progress(total=rounds) if isinstance(progress, type) else progress
-    update: Any = getattr(bar, "update", None)
+    bar: Any = progress(total=rounds) if isinstance(progress, type) else do_nothing if progress is None else progress
     close: Any = getattr(bar, "close", do_nothing) if isinstance(progress, type) else do_nothing
+    update: Any = getattr(bar, "update", None)
     if callable(update):
-        postfix: Any = getattr(bar, "set_postfix", None)
-
         def report(part: int, made: int, makespan: int) -> None:
-            if postfix is not None:
-                postfix(makespan=makespan, refresh=False)
+            getattr(bar, "set_postfix", do_nothing)(makespan=makespan, refresh=False)
             update(part)
 
         return report, close
@@ -212,7 +191,7 @@ def is_true(value: Any) -> bool:
     return type(value) in BOOLS and bool(value)
 
 
-def do_nothing(*_: Any) -> None:
+def do_nothing(*_: Any, **__: Any) -> None:
     """Report nothing."""
 
 
@@ -220,9 +199,9 @@ def limit_of(time_limit: Any) -> float | None:
     """Return a time limit in seconds."""
     if time_limit is None:
         return None
-    if isinstance(time_limit, (str, bytes)) or type(time_limit) in BOOLS:
-        raise TypeError(f"time_limit must be a number of seconds, not {time_limit!r}")
     try:
+        if isinstance(time_limit, (str, bytes)) or type(time_limit) in BOOLS:
+            raise TypeError
         seconds = float(time_limit)
     except (TypeError, ValueError):
         raise TypeError(f"time_limit must be a number of seconds, not {time_limit!r}") from None
@@ -263,7 +242,9 @@ class Limits:
         """Return the greatest number of rounds for the next part, 0 if the search has finished."""
         if search.solution().makespan <= self.target or self.is_stopped():
             return 0
-        return search.left_of_seed() if self.rounds is None else self.rounds - made
+        # Those of the seed, or of the one after it if it has none left.
+        left_of_seed = c.MOST_ROUNDS - search.finished().rounds or c.MOST_ROUNDS
+        return left_of_seed if self.rounds is None else self.rounds - made
 
 
 def solve(search: Search, rounds: int | None, progress: Progress | None, time_limit: Any, target: int | None = None,
@@ -271,7 +252,13 @@ def solve(search: Search, rounds: int | None, progress: Progress | None, time_li
     """Run a search in parts. Every exception has the best order so far in its attribute `solution`, once there is one.
     An interruption is raised as `Interrupted`."""
     try:
-        return in_parts(search, Limits(search, rounds, time_limit, target, stop), progress, history)
+        limits = Limits(search, rounds, time_limit, target, stop)
+        report, close = reporter(progress, limits.rounds)
+        try:
+            run_parts(search, limits, report, history)
+        finally:
+            close()
+        return search.solution()
     except KeyboardInterrupt:
         raise Interrupted(search.solution()) from None
     except BaseException as error:
@@ -280,31 +267,25 @@ def solve(search: Search, rounds: int | None, progress: Progress | None, time_li
         raise
 
 
-def in_parts(search: Search, limits: Limits, progress: Progress | None, history: bool) -> Solution:
+def run_parts(search: Search, limits: Limits, report: Callable[..., Any], history: bool) -> None:
     """Run the search up to its limits."""
-    pace = Pace(limits.seconds)
-    report, close = reporter(progress, limits.rounds)
-    try:
-        begun = time.perf_counter()
-        search.begin()
+    pace, begun = Pace(limits.seconds), time.perf_counter()
+    search.begin()
+    if history:
+        search.history.append(Improvement(search.first, time.perf_counter() - begun, search.solution().makespan))
+    made, is_ended = 0, False
+    while not is_ended and (left := limits.left(search, made)) and (count := pace.next(left)):
+        before, at = search.finished(), time.perf_counter()
+        search.run_rounds(count)
+        seconds = time.perf_counter() - at
+        pace.took(count, seconds)
         if history:
-            search.history.append(Improvement(search.first, time.perf_counter() - begun, search.solution().makespan))
-        made, is_ended = 0, False
-        while not is_ended and (left := limits.left(search, made)) and (count := pace.next(left)):
-            before, at = search.finished(), time.perf_counter()
-            search.run_rounds(count)
-            seconds = time.perf_counter() - at
-            pace.took(count, seconds)
-            if history:
-                record_improvements(search, before, limits.target, at - begun, seconds)
-            elif search.solution().makespan <= limits.target:
-                search.keep(search.first_within(before, search.finished(), limits.target))
-            count = search.finished().total - before.total
-            made += count
-            is_ended = report(count, made, search.solution().makespan) is True
-        return search.solution()
-    finally:
-        close()
+            record_improvements(search, before, limits.target, at - begun, seconds)
+        elif search.solution().makespan <= limits.target:
+            search.keep(search.first_within(before, search.finished(), limits.target))
+        count = search.finished().total - before.total
+        made += count
+        is_ended = report(count, made, search.solution().makespan) is True
 
 
 def record_improvements(search: Search, before: Part, target: int, begun: float, seconds: float) -> None:

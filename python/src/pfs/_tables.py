@@ -5,7 +5,7 @@ import csv
 import os
 import re
 from collections.abc import Callable, Iterable, Iterator, Sequence
-from functools import cached_property
+from functools import cached_property, partial
 from itertools import islice
 from typing import NamedTuple
 
@@ -27,6 +27,7 @@ UNIT = re.compile(r"[\[(]([^\[\]()]+)[\])]\Z")
 NUMBER = re.compile(r"([0-9]{1,20})(?:([.,])([0-9]{1,20}))?\Z", re.ASCII)
 HOURS = re.compile(r"([0-9]{1,6}):([0-5][0-9])(?::00)?\Z", re.ASCII)
 ZERO = re.compile(r"0(?:[.,]0+)?\Z")
+CLOCKS = (CLOCK, "hh:mm")
 MISSING = "the time is missing: write 0 where a job skips a machine (it still waits there for its turn)"
 ONE_UNIT = "use one unit"
 EMPTY_ROW = "the row has no times: leave it out if it is no job, or write 0 where the job skips a machine"
@@ -305,12 +306,11 @@ def rows_of(text: str, path: str, machines: list[str], faults: list[TableFault])
     for line, row in records(text, path, table.delimiter):
         if len(titles) + len(table.jobs) == MOST_ROWS:
             raise TableFault(path, line, 0, f"the table has more than {MOST_ROWS:,} rows")
+        first = Cell(line, 1, row[0])
         if not table.jobs and is_head(row, head if used else None, machines):
-            head, table.corner, used = row, Cell(line, 1, row[0]), {1}
-        elif used:
-            table.jobs.append(Cell(line, 1, row[0]))
+            head, table.corner, used = row, first, {1}
         else:
-            titles.append(Cell(line, 1, row[0]))
+            (table.jobs if used else titles).append(first)
         if used:
             used.update(column for column, cell in enumerate(row, 1) if cell)
     if not titles and not used:
@@ -338,7 +338,7 @@ def column_of(head: Sequence[str], name: str) -> int:
     """Return the column after the first one that has this name, with or without its unit; 0 if none has."""
     wanted = name.strip().casefold()
     return next((column for column, text in enumerate(head[1:], 2)
-                 if wanted and wanted in (text.casefold(), UNIT.sub("", text).rstrip().casefold())), 0)
+                 if wanted and wanted in (text.casefold(), without_unit(text).casefold())), 0)
 
 
 def reject_columns(path: str, titles: Sequence[Cell], machines: list[str], text: str, delimiter: str) -> None:
@@ -405,41 +405,41 @@ def unit_in(text: str) -> str:
     return found[1].strip() if found else ""
 
 
-def is_same_unit(one: str, other: str) -> bool:
-    """Whether two units are the same, perhaps in two languages."""
-    seconds = seconds_in(one)
-    is_clock = (seconds is not None) and is_clock_unit(one) != is_clock_unit(other)
-    return one.casefold() == other.casefold() or (seconds is not None and seconds == seconds_in(other) and not is_clock)
-
-
-def is_clock_unit(unit: str) -> bool:
-    """Whether times in this unit are hours and minutes, such as 1:30."""
-    return unit.casefold() in (CLOCK, "hh:mm")
+def kind_of(unit: str) -> tuple[int, bool] | None:
+    """What all names of a unit of time have in common: its seconds, and whether times in it are written as 1:30."""
+    seconds = seconds_in(unit)
+    return None if seconds is None else (seconds, unit.casefold() in CLOCKS)
 
 
 def without_units(table: Rows, unit: str) -> tuple[list[Cell], str]:
     """The names of the machines without a unit that they all have, and the unit of the table."""
     first = unit_in(table.corner.text)
-    if unit and seconds_in(first) and not is_same_unit(unit, first):
+    if unit and seconds_in(first) and kind_of(unit) != kind_of(first):
         table.report(table.corner, f"the times are in {first}, and `unit` is {unit}: {ONE_UNIT}")
     named = unit or first
     units = [own if seconds_in(own := unit_in(head.text)) else "" for head in table.machines]
     if not any(units):
         return table.machines, named
     expected = named or next(filter(None, units))
-    for head, own in zip(table.machines, units):
-        if not is_same_unit(own, expected) and (own or not named):
+    heads = [head._replace(text=without_unit(head.text) if own else head.text)
+             for head, own in zip(table.machines, units)]
+    for head, own in zip(heads, units):
+        if kind_of(own) != kind_of(expected) and (own or not named):
             others = "`unit` is" if unit else "others are in"
-            name = UNIT.sub("", head.text).rstrip()
-            table.report(head, f"the times of {name!r} are in {own or 'no unit'}, and {others} {expected}: {ONE_UNIT}")
-    return [head._replace(text=UNIT.sub("", head.text).rstrip() if own else head.text)
-            for head, own in zip(table.machines, units)], expected
+            table.report(head, f"the times of {without_unit(head.text)!r} are in {own or 'no unit'}, and {others} "
+                               f"{expected}: {ONE_UNIT}")
+    return heads, expected
+
+
+def without_unit(text: str) -> str:
+    """A name without what is in brackets at its end."""
+    return UNIT.sub("", text).rstrip()
 
 
 def is_above_names(first: str) -> bool:
     """Whether the first cell of a row says that names follow to the right and below: it is `job`, empty, or has a unit
     of time."""
-    return bool(SAYS_JOB.match(UNIT.sub("", first).rstrip())) or seconds_in(unit_in(first)) is not None
+    return bool(SAYS_JOB.match(without_unit(first))) or seconds_in(unit_in(first)) is not None
 
 
 def is_time(text: str) -> bool:
@@ -459,78 +459,74 @@ def reject_times_as_names(table: Rows, machines: Sequence[str], jobs: Sequence[s
 
 def times_of(table: Rows, decimal: str | None, unit: str) -> tuple[Order, int, str]:
     """Return the times, the number of their decimals, and their unit. They are hours and minutes if most cells are."""
-    kinds = [0, 0]
+    numbers = hours = 0
+    sign = DecimalSign(table, decimal)
     for row in table.times():
         for cell in row:
-            kinds[0] += NUMBER.match(cell.text) is not None and not ZERO.match(cell.text)
-            kinds[1] += HOURS.match(cell.text) is not None
-    if kinds[1] and kinds[1] >= kinds[0]:
-        return minutes_of(table, unit), 0, CLOCK
-    sign = DecimalSign(table, decimal)
-    # In billionths. What is too long for them is too long for a time.
-    times = table.read_times(sign.billionths_of) // 10**(9 - sign.decimals)
-    reject_long_times(table, times, f", counted in {counted(sign.decimals, 'decimal')}" if sign.decimals else "")
-    return times, sign.decimals, unit
-
-
-def minutes_of(table: Rows, unit: str) -> Order:
-    """Return times in minutes that are all written as hours and minutes."""
-    if unit and not is_clock_unit(unit) and not is_same_unit(unit, "h"):
-        table.report(table.corner, "times such as 1:30 may be hours and minutes, or minutes and seconds: write [h:mm] "
-                                   f"instead of {unit}, or numbers" if is_same_unit(unit, "min") else
-                                   f"times such as 1:30 are hours and minutes, not {unit}")
-
-    def minutes_in(cell: Cell) -> int:
-        match = HOURS.match(cell.text)
-        if match is None and not ZERO.match(cell.text):
-            hint = ": leave out the seconds" if HINTS[0][0].fullmatch(cell.text) else ""
-            raise table.fault(cell, f"{cell.text!r} isn't hours and minutes, as other times of the table are{hint}"
-                              if cell.text else MISSING)
-        return 60 * int(match[1]) + int(match[2]) if match else 0
-
-    times = table.read_times(minutes_in)
-    reject_long_times(table, times, " minutes")
-    return times
-
-
-def reject_long_times(table: Rows, times: Order, note: str) -> None:
+            number = NUMBER.match(cell.text)
+            numbers += number is not None and not ZERO.match(cell.text)
+            hours += HOURS.match(cell.text) is not None
+            if number and number[2] and sign.sign is None and not GROUPED.match(cell.text):
+                sign.sign, sign.first = number[2], cell
+    if hours and hours >= numbers:
+        check_clock(table, unit)
+        times, decimals, unit, note = table.read_times(partial(minutes_of, table)), 0, CLOCK, " minutes"
+    else:
+        # In billionths. What is too long for them is too long for a time.
+        times, decimals = table.read_times(sign.billionths_of), sign.decimals
+        times //= 10**(9 - decimals)
+        note = f", counted in {counted(decimals, 'decimal')}" if decimals else ""
     for job, machine in np.argwhere(times > c.LONGEST_TIME)[:1].tolist():
         table.report(Cell(table.jobs[job].line, table.machines[machine].column, ""),
                      f"the time is above {c.LONGEST_TIME:,}{note}")
+    return times, decimals, unit
+
+
+def check_clock(table: Rows, unit: str) -> None:
+    """Report a unit in which times aren't hours and minutes."""
+    if unit and unit.casefold() not in CLOCKS and kind_of(unit) != kind_of("h"):
+        table.report(table.corner, "times such as 1:30 may be hours and minutes, or minutes and seconds: write [h:mm] "
+                                   f"instead of {unit}, or numbers" if kind_of(unit) == kind_of("min") else
+                                   f"times such as 1:30 are hours and minutes, not {unit}")
+
+
+def minutes_of(table: Rows, cell: Cell) -> int:
+    """Return a time in minutes that is written as hours and minutes."""
+    match = HOURS.match(cell.text)
+    if match is None and not ZERO.match(cell.text):
+        hint = ": leave out the seconds" if HINTS[0][0].fullmatch(cell.text) else ""
+        raise table.fault(cell, f"{cell.text!r} isn't hours and minutes, as other times of the table are{hint}"
+                          if cell.text else MISSING)
+    return 60 * int(match[1]) + int(match[2]) if match else 0
 
 
 class DecimalSign:
     """The decimal sign of a table. By default it is the sign of the first time in which it can't group thousands."""
 
-    def __init__(self, table: Rows, decimal: str | None) -> None:
-        self.table = table
-        self.given = decimal
-        self.sign = decimal or ("." if table.delimiter == "," else None)
+    def __init__(self, table: Rows, given: str | None) -> None:
+        self.table, self.given = table, given
+        self.sign = given or ("." if table.delimiter == "," else None)
+        # The time that shows it.
         self.first: Cell | None = None
         # The most decimals of a time so far.
         self.decimals = 0
-        if self.sign is None:
-            found = ((cell, NUMBER.match(cell.text)) for row in table.times() for cell in row
-                     if not GROUPED.match(cell.text))
-            clear = ((cell, match[2]) for cell, match in found if match and match[2])
-            self.first, self.sign = next(clear, (None, None))
 
     def billionths_of(self, cell: Cell) -> int:
         """Return a time in billionths, at most 2^62."""
         text = self.without_groups(cell.text) if self.given else cell.text
+        match = NUMBER.match(text)
         if not text:
             raise self.table.fault(cell, MISSING)
         if self.sign is None and GROUPED.match(text):
             digits = re.sub("[.,]", "", text)
             raise self.table.fault(cell, f"{text!r} may be {digits}, or have decimals: leave out thousands separators, "
                                          "or say which decimal sign the table has (`decimal`)")
-        match = NUMBER.match(text)
-        if match is None or (match[2] not in (None, self.sign) and self.first is None):
-            hint = next((f": {hint}" for wrong, hint in HINTS if wrong.fullmatch(cell.text)), "")
-            raise self.table.fault(cell, f"{cell.text!r} isn't a time{hint}")
-        if match[2] not in (None, self.sign) and self.first is not None:
+        if match and match[2] not in (None, self.sign) and self.first:
             raise self.table.fault(cell, f"{cell.text!r} has another decimal sign than {self.first.text!r} in "
                                          f"{self.first.name}")
+        if match is None or match[2] not in (None, self.sign):
+            hint = next((f": {hint}" for wrong, hint in HINTS if wrong.fullmatch(cell.text)), "")
+            raise self.table.fault(cell, f"{cell.text!r} isn't a time{hint}")
         part = (match[3] or "").rstrip("0")
         if len(part) > 9:
             raise self.table.fault(cell, f"{cell.text!r} has more than 9 decimals")

@@ -22,7 +22,6 @@ Times: TypeAlias = "npt.NDArray[np.uint32]"
 Order: TypeAlias = "npt.NDArray[np.int64]"
 
 UINT32, MOST_UINT32 = np.dtype(np.uint32), 2**32 - 1
-WIDEST = {"i": np.int64, "u": np.uint64, "f": np.float64, "O": np.object_}
 # Python and NumPy treat booleans as numbers. Here they are rejected.
 BOOLS = {bool, np.bool_}
 # For arrays up to this size, a conversion by way of a list is faster.
@@ -45,10 +44,8 @@ def checked_int(value: Any, name: str, least: int, most: int) -> int:
 def layout_number(layout: Any, others: str = "") -> int:
     """Return the library's number of a layout. `others` are the layouts that the caller handles itself."""
     names = f"'taillard', 'orlib'{others}" if others else "'taillard' or 'orlib'"
-    if not isinstance(layout, str):
-        raise TypeError(f"layout must be {names}, not {layout!r}")
-    if layout not in c.LAYOUTS:
-        raise ValueError(f"layout must be {names}, not {layout!r}")
+    if not isinstance(layout, str) or layout not in c.LAYOUTS:
+        raise (ValueError if isinstance(layout, str) else TypeError)(f"layout must be {names}, not {layout!r}")
     return c.LAYOUTS[layout]
 
 
@@ -77,38 +74,28 @@ def as_uint32(own: npt.NDArray[Any], most: int, what: str, where: str, limits: s
     """Return an array of integers, or of floats without a fraction, as uint32. Each number is 0 to `most`.
 
     In error messages, `where` is the format of an index, and `limits` follows a number that is out of range."""
-
-    def error_at(kind: type[Exception], wrong: npt.NDArray[np.bool_], text: str) -> Exception:
-        at = np.unravel_index(int(np.argmax(wrong)), wrong.shape)
-        return kind(f"{what}: {own[at]!s} at {where.format(*at)} {text}")
-
-    if own.size == 0:
-        return np.empty(own.shape, dtype=np.uint32)
     kind = own.dtype.kind
-    if own.dtype == UINT32 and most == MOST_UINT32:
-        return own
-    if kind in "iu" and 0 <= int(own.min()) and int(own.max()) <= most:
+    if own.size == 0 or (own.dtype == UINT32 and most == MOST_UINT32):
         return own.astype(np.uint32, copy=False)
-    if kind == "O":
-        is_number = [isinstance(number, (int, np.integer)) and not isinstance(number, bool) for number in own.flat]
-        wrong = ~np.array(is_number, dtype=np.bool_).reshape(own.shape)
-        if wrong.any():
-            raise error_at(TypeError, wrong, "isn't a whole number")
-        # Subclasses of int are converted to int, which is immutable.
-        exact = [int.__int__(number) if isinstance(number, int) else int(number) for number in own.flat]
-        own = np.array(exact, dtype=np.object_).reshape(own.shape)
-    elif kind == "f":
-        wrong = ~np.isfinite(own) | (own != np.floor(own))
-        if wrong.any():
-            raise error_at(ValueError, wrong, "isn't a whole number")
-    elif kind not in "iu":
+    if kind not in "iufO":
         raise TypeError(f"{what} must be whole numbers, not of dtype {own.dtype}")
-    # NumPy 2 would convert the limit to the array's type, which may be too narrow for it.
-    wide: npt.NDArray[Any] = own.astype(WIDEST[kind])
-    wrong = np.asarray((wide < 0) | (wide > most), dtype=np.bool_)
-    if wrong.any():
-        raise error_at(ValueError, wrong, limits)
-    return own.astype(np.uint32)
+    # The limits as Python's numbers: NumPy 2 would convert them to the array's type, which may be too narrow.
+    if kind != "O" and own.min().item() >= 0 and own.max().item() <= most:
+        if kind != "f" or (own == np.floor(own)).all():
+            return own.astype(np.uint32, copy=False)
+    fault: tuple[type[Exception], str] | None = None
+    for at, number in np.ndenumerate(own):
+        if kind == "O" and (not isinstance(number, (int, np.integer)) or isinstance(number, bool)):
+            fault = TypeError, "isn't a whole number"
+        elif kind == "f" and not (np.isfinite(number) and number == np.floor(number)):
+            fault = ValueError, "isn't a whole number"
+        elif not 0 <= (int.__int__(number) if isinstance(number, int) else number.item()) <= most:
+            fault = ValueError, limits
+        if fault:
+            raise fault[0](f"{what}: {number!s} at {where.format(*at)} {fault[1]}")
+    # Subclasses of int are converted to int, which is immutable.
+    return np.array([int.__int__(number) if isinstance(number, int) else int(number) for number in own.flat],
+                    dtype=np.uint32).reshape(own.shape)
 
 
 def checked_times(given: Any) -> Times:
@@ -175,6 +162,11 @@ def checked_jobs(given: Any, what: str) -> npt.NDArray[np.uint32]:
 
 def jobs_error(number: int, jobs: int, own: bytes, what: str = "order") -> Exception:
     """Return the exception for a list of jobs that the library rejects with this number."""
+    return wrong_job(jobs, own, what) or c.error_of(number)
+
+
+def wrong_job(jobs: int, own: bytes, what: str) -> Exception | None:
+    """Return the exception for the first job of a list that is none or that occurs twice."""
     places: dict[int, int] = {}
     for place, job in enumerate(np.frombuffer(own, dtype=np.uint32).tolist()):
         if job >= jobs:
@@ -182,7 +174,7 @@ def jobs_error(number: int, jobs: int, own: bytes, what: str = "order") -> Excep
         if job in places:
             return ValueError(f"{what}: job {job} occurs twice, at places {places[job]} and {place}")
         places[job] = place
-    return MemoryError(c.NO_MEMORY) if number == c.MEMORY else ValueError(c.message(number))
+    return None
 
 
 def checked_order(given: Any, jobs: int, what: str = "order", names: tuple[str, ...] | None = None) -> bytes:
