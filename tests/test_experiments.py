@@ -785,27 +785,6 @@ def test_a_reference_must_name_an_instance_and_status_writes_what_there_is(exper
         (seed, *known) for known in (("", ""), ("7", "a paper")) for seed in "21"]
 
 
-def test_a_report_audits_the_runs_with_the_instances_next_to_the_csv(mine: Experiment,
-                                                                     with_library: dict[str, str]) -> None:
-    """As long as they are there and whole. An order that isn't that of the makespan is an error."""
-    words = [mine.scripts / "pfs-experiments", "report", "out.csv", "report"]
-    report = functools.partial(run_tool, words, mine.folder, env=with_library)
-
-    mine.run()
-    assert (report().status, csv_rows(mine.folder / "report" / "table.csv")[0]["audited"]) == (0, "1")
-    text = (mine.folder / "out.csv").read_text()
-    (name, makespan), = mine.columns("order", "makespan")
-    (mine.folder / "out.csv").write_text(text.replace(f",{makespan},", f",{int(makespan) + 1},"))
-    assert report() == Done(2, "", f"pfs-experiments report: out.csv: line 2, shops/b: wrong makespan: states "
-                                   f"{int(makespan) + 1}, takes {makespan}\n")
-    (mine.folder / "out.csv").write_text(text)
-    (mine.folder / name).write_text("order 3\n1 1 2\nmakespan 9\n")
-    assert report().stderr == f"pfs-experiments report: out.csv: {name}: order file job repeated at place 2\n"
-    (mine.runs / "plan.json").write_text("{")
-    (mine.folder / name).unlink()
-    assert (report().status, csv_rows(mine.folder / "report" / "table.csv")[0]["audited"]) == (0, "0")
-
-
 # The pages
 
 @pytest.mark.seconds(20)

@@ -13,6 +13,7 @@ from unittest import mock
 
 import pytest
 from support.colours import least_difference
+from support.experiments import Experiment
 from support.tools import Done, csv_rows, run_main, run_tool
 
 for _name in ("matplotlib", "pandas", "scipy"):
@@ -228,20 +229,21 @@ def test_a_makespan_below_the_bound_is_an_error(text: str, report: Reported) -> 
                               f"{int(makespan) + 1}: no order has it\n")
 
 
-def test_orders_are_audited_where_the_instance_is_at_hand(scripts: pathlib.Path, with_library: dict[str, str],
-                                                          folder: pathlib.Path) -> None:
-    """As one of Taillard's, or next to a CSV. The makespan of the order 1 2 3 .. of ta001 is 1448."""
-    order = " ".join(map(str, range(1, 21)))
+def test_orders_are_audited_where_the_instance_is_at_hand(experiment: Experiment,
+                                                          with_library: dict[str, str]) -> None:
+    """As one of Taillard's, or next to a CSV as long as the folder there is whole. The makespan of the order 1 2 3 ..
+    of ta001 is 1448."""
+    folder, order = experiment.folder, " ".join(map(str, range(1, 21)))
     wrong = {f"1449,{order}": "wrong makespan: states 1449, takes 1448", f"1449,{order[:-3]}": "job missing: job 20 is "
              "missing", "1449,3 1 2": "wrong size: 3 jobs, but the instance has 20",
              f"1448.5,{order}": "the makespan of an order is whole"}
 
     def tool(*words: str) -> Done:
-        return run_tool([scripts / "pfs-experiments", *words], folder, env=with_library)
+        return run_tool([experiment.scripts / "pfs-experiments", *words], folder, env=with_library)
 
-    def report_of(text: str) -> Done:
-        (folder / "out.csv").write_text(f"instance,seed,makespan,order\n{text}")
-        return tool("report", "out.csv", "report")
+    def report_of(text: str, name: str = "out.csv") -> Done:
+        (folder / name).write_text(text if "status" in text else f"instance,seed,makespan,order\n{text}")
+        return tool("report", name, "report")
 
     assert report_of(f"ta001,1,1448,{order}\nta001,2,1300,\ni,1,5,1 2\nta002,1,1400,gone/order\n").status == 0
     assert columns(folder, "table", "audited", "runs") == [("0", "1"), ("1", "3")]
@@ -256,6 +258,18 @@ def test_orders_are_audited_where_the_instance_is_at_hand(scripts: pathlib.Path,
     for text, why in wrong.items():
         assert report_of(f"ta002,1,1300,\nta001,1,{text}\n") == Done(
             2, "", f"pfs-experiments report: out.csv: line 3, ta001: {why}\n")
+    assert experiment.plan('instances = ["shops/b"]\n').run("runs.csv").status == 0
+    text, (row,) = (folder / "runs.csv").read_text(), csv_rows(folder / "runs.csv")
+    assert report_of(text, "runs.csv").status == 0 and column(folder, "audited") == ["1"]
+    more = int(row["makespan"]) + 1
+    assert report_of(text.replace(f",{row['makespan']},", f",{more},", 1), "runs.csv").stderr == (
+        f"pfs-experiments report: runs.csv: line 2, shops/b: wrong makespan: states {more}, takes {row['makespan']}\n")
+    (folder / row["order"]).write_text("order 3\n1 1 2\nmakespan 9\n")
+    assert report_of(text, "runs.csv").stderr == (
+        f"pfs-experiments report: runs.csv: {row['order']}: order file job repeated at place 2\n")
+    (folder / "runs.csv.d" / "plan.json").write_text("{")
+    (folder / row["order"]).unlink()
+    assert report_of(text, "runs.csv").status == 0 and column(folder, "audited") == ["0"]
 
 
 # Several methods

@@ -161,8 +161,8 @@ def taillards_of(runs: pd.DataFrame) -> pd.DataFrame:
 
 def check_bounds(runs: pd.DataFrame, taillards: pd.Series) -> None:
     """Rejects a makespan below the bound that a CSV has for its instance, or that of Taillard's instance."""
-    bounds = runs.groupby("instance")["bound"].transform("max")
-    bounds = bounds.where(~(bounds < taillards), taillards).fillna(taillards)
+    stated = runs.groupby("instance")["bound"].transform("max")
+    bounds = pd.concat([stated, taillards], axis=1).max(axis=1)
     for _, run in runs[runs["makespan"] < bounds][:1].iterrows():
         raise ExperimentError(f"{run['method']}: the makespan {run['makespan']:.0f} of {run['instance']} is below the "
                               f"bound {bounds[run.name]:.0f}: no order has it")
@@ -182,20 +182,18 @@ def references(runs: pd.DataFrame, taillards: pd.Series, path: str | None) -> tu
     makespan of the runs; else the others have none, as the best of few runs would make these look good."""
     done = runs[runs["makespan"].notna()]
     stated = reference_of(path) if path else {}
-    kinds = {
+    kinds = pd.DataFrame({
         f"the makespan in {path}": done["instance"].map({name: found[0] for name in done["instance"].unique()
                                                          for found in [reference_for(stated, name)] if found}),
         "the makespan in the column `reference`": done.groupby("instance")["reference"].transform("first"),
-        "the best known makespan of Taillard's instance": taillards[done.index]}
-    found, used = done["reference"] * float("nan"), list[str]()
-    for name, values in kinds.items():
-        if (found.isna() & values.notna()).any() or (path and not used):
-            used.append(name)
-        found = found.fillna(values)
-    if not used:
+        "the best known makespan of Taillard's instance": taillards[done.index]}, dtype=float)
+    found, given = kinds.bfill(axis=1).iloc[:, 0], kinds.notna()
+    used = (given & (given.cumsum(axis=1) == 1)).any()
+    used.iloc[0] |= path is not None
+    if not used.any():
         best_of_runs = done.groupby("instance")["makespan"].transform("min")
         return best_of_runs.reindex(runs.index), "RPD: relative to the best makespan of any of these runs."
-    return found.reindex(runs.index), f"RPD: relative to {', or else '.join(used)}."
+    return found.reindex(runs.index), f"RPD: relative to {', or else '.join(kinds.columns[used])}."
 
 
 # Tables

@@ -38,8 +38,6 @@ OF_ROUNDS = ["take", "passes", "seed"]
 ONE_JOB = b"1 1 1 0 0\nprocessing times :\n1\n"
 # Seconds after which a program that doesn't behave like pfs is killed.
 PATIENCE = 20
-# Of each input its name, its path, and the path of the copy that the runs use.
-Inputs = list[tuple[str, str, pathlib.Path]]
 
 
 class Experiment(NamedTuple):
@@ -93,24 +91,22 @@ def prepare(plan_path: str, csv_path: str, program: str | None) -> Experiment:
         raise ExperimentError(f"{csv_path}: Is a directory")
     if not folder.name.isprintable():
         raise ExperimentError(f"{csv_path}: the name of a CSV must be UTF-8 without control characters")
-    pfs = "" if (folder / "plan.json").exists() else find_pfs(program)
     folder.mkdir(parents=True, exist_ok=True)
     lock(folder, csv_path)
     try:
         if not (folder / "plan.json").exists():
-            begin(folder, pfs or find_pfs(program))
+            begin(folder, find_pfs(program))
         stored = {"places": {}, "runs": [], "methods": [], "layout": plan["layout"], **stored_plan(folder)}
-        commands, before = commands_of(plan), commands_of(stored)
-        other = [name for name, was in before.items() if commands.get(name, was) != was]
-        if other or stored["layout"] != plan["layout"]:
-            what = "command" if stored["layout"] == plan["layout"] else "layout"
+        commands = commands_of(plan)
+        others = {"layout": stored["layout"] != plan["layout"],
+                  "command": any(commands.get(name, was) != was for name, was in commands_of(stored).items())}
+        for what in filter(others.get, others):
             raise ExperimentError(f"{csv_path} was started with another {what}: use another CSV")
         stage = folder / stage_of(folder)
         inputs = copied_inputs(plan, stored["places"], top, stage)
         runs = add_runs(plan, stored, reference, stage, csv_path)
-        note_start(folder, plan, inputs)
-        changed = [name for name, path, copy in inputs  # one that is gone has not changed
-                   if os.path.isfile(path) and not filecmp.cmp(path, copy, shallow=False)]
+        note_start(stage, plan, inputs)
+        changed = [name for to, name in inputs.items() if not is_copy(stage / to, os.path.join(top, name))]
         if changed:
             text = (f"{csv_path}: changed since they were copied for its runs: {', '.join(changed)}. The copies are "
                     f"used: to begin anew, name another CSV or delete {csv_path}.d")
@@ -183,21 +179,22 @@ def copy(source: str, to: pathlib.Path) -> None:
         os.replace(new, to)
 
 
-def copied_inputs(plan: dict[str, Any], places: dict[str, int], top: str, stage: pathlib.Path) -> Inputs:
+def is_copy(copy: pathlib.Path, source: str) -> bool:
+    """Whether a file has not changed since it was copied. One that is gone has not."""
+    return not os.path.isfile(source) or filecmp.cmp(source, copy, shallow=False)
+
+
+def copied_inputs(plan: dict[str, Any], places: dict[str, int], top: str, stage: pathlib.Path) -> dict[str, str]:
     """Copies what the runs need: a command with its files, or the library for searches by time, and the instances.
-    Returns them and the program. Where the program and the library are is left out: every version of them finds the
-    same orders."""
+    Returns the names of the files and the instances, by their copies."""
     (stage / "files").mkdir(exist_ok=True)
     if any("time_factors" in each and "command" not in each for each in plan["methods"]):
         copy(library(), stage / one.LIBRARY)
-    files = dict.fromkeys(name for each in plan["methods"] for name in each.get("files", []))
-    inputs = [(name, os.path.join(top, name), stage / "files" / name) for name in files]
-    for name in plan["instances"]:
-        place = places.setdefault(name, len(places) + 1)
-        inputs.append((name, os.path.join(top, name), stage / "instances" / str(place)))
-    for _, path, to in inputs:
-        copy(path, to)
-    return [(name, "", stage / name) for name in ("pfs", one.LIBRARY) if (stage / name).exists()] + inputs
+    inputs = {f"files/{name}": name for each in plan["methods"] for name in each.get("files", [])}
+    inputs |= {f"instances/{places.setdefault(name, len(places) + 1)}": name for name in plan["instances"]}
+    for to, name in inputs.items():
+        copy(os.path.join(top, name), stage / to)
+    return inputs
 
 
 def library() -> str:
@@ -207,10 +204,11 @@ def library() -> str:
     return _library.PATH if "/" in _library.PATH or loaded is None else loaded[0]
 
 
-def note_start(folder: pathlib.Path, plan: dict[str, Any], inputs: Inputs) -> None:
+def note_start(stage: pathlib.Path, plan: dict[str, Any], inputs: dict[str, str]) -> None:
     """Writes what the runs were made with, the version, the plan and the sums of the copies, and adds this start to the
-    earlier ones, unless the file of these is damaged."""
-    path, starts = folder / "provenance.json", []
+    earlier ones, unless the file of these is damaged. Where the program and the library were is left out: every version
+    of them finds the same orders."""
+    path, starts = stage.parent / "provenance.json", []
     with contextlib.suppress(OSError, ValueError, RecursionError, KeyError, TypeError):
         starts = list(json.loads(path.read_bytes())["starts"])
     cpuinfo = pathlib.Path("/proc/cpuinfo")
@@ -218,7 +216,8 @@ def note_start(folder: pathlib.Path, plan: dict[str, Any], inputs: Inputs) -> No
     starts.append({"at": datetime.datetime.now(datetime.timezone.utc).isoformat(timespec="seconds"),
                    "host": os.uname().nodename, "processor": processor[1] if processor else platform.processor(),
                    "processors": os.cpu_count(), "system": platform.platform(), "python": platform.python_version()})
-    sums = {name: hashlib.sha256(copy.read_bytes()).hexdigest() for name, _, copy in inputs}
+    sums = {name: hashlib.sha256((stage / to).read_bytes()).hexdigest()
+            for to, name in {"pfs": "pfs", one.LIBRARY: one.LIBRARY, **inputs}.items() if (stage / to).exists()}
     text = json.dumps({"version": VERSION, "plan": plan, "sha256": sums, "starts": starts}, indent=1)
     write_text(path, f"{text}\n")
 
