@@ -254,7 +254,7 @@ def test_orders_are_audited_where_the_instance_is_at_hand(experiment: Experiment
                                                              order=order)], "the best order of each instance, once"
     assert tool("audit", "report/best.csv").stdout.endswith(": 1 orders audited, 1 valid (0 optimal), 0 wrong\n")
     unclear = f"ta001,1,1448,{order}\nta002,1,1400,{' '.join(map(str, range(20)))}\n"
-    assert "1 orders of out.csv  count jobs from 0 and as many from 1" in report_of(unclear).stderr
+    assert "1 orders of out.csv count jobs from 0 and as many from 1" in report_of(unclear).stderr
     for text, why in wrong.items():
         assert report_of(f"ta002,1,1300,\nta001,1,{text}\n") == Done(
             2, "", f"pfs-experiments report: out.csv: line 3, ta001: {why}\n")
