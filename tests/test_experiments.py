@@ -742,8 +742,8 @@ def test_the_file_has_the_version_the_sums_and_each_start(mine: Experiment, top:
         with open(mine.folder / name, "a") as file:
             file.write("# changed\n")
     got = mine.plan(WITH_FILE.format(seeds="1, 2")).run()
-    assert got == ended(2, 0, 0, "out.csv: changed since they were copied for its runs: data, mine, shops/b. The copies "
-                                 "are used: to begin anew, name another CSV or delete out.csv.d\n")
+    assert got == ended(2, said="out.csv: changed since they were copied for its runs: data, mine, shops/b. The copies "
+                                "are used: to begin anew, name another CSV or delete out.csv.d\n")
     assert mine.columns("makespan") == before * 2
     assert json.loads((mine.runs / "provenance.json").read_text())["sha256"] == wanted, "sums of the copies"
     assert mine.run("new.csv") == ended(2, name="new.csv")

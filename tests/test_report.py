@@ -194,8 +194,9 @@ REFERENCES: dict[str, tuple[str, str, list[str], str]] = {
                        "RPD: relative to the best known makespan of Taillard's instance.\n"
                        "2 runs of 2 instances have no reference, and no RPD: ta002, mine.\n"),
     "another than the best known": (KNOWN, "instance,makespan\nta001,1000\n", ["29.100", "", LARGE], ""),
-    "one that is beaten": ("instance,makespan,reference\na,100,\nta001,1232,\nta002,1400,\nb,100,101\nb,99,101\n", "",
-                           ["-1.485", "-0.291"], "\nBelow the reference: b 99 (101), ta001 1232 (1278).\n")}
+    "one that is beaten": ("instance,makespan,reference\na,100,\nta001,1232,\nta002,1400,\nb,100,101\nb,99,101\n"
+                           "c,7,7\n", "", ["-0.990", "-0.291"],
+                           "\nBelow the reference: b 99 (101), ta001 1232 (1278).\n")}
 
 
 @pytest.mark.parametrize(("text", "best", "means", "said"), REFERENCES.values(), ids=REFERENCES)
@@ -220,7 +221,8 @@ def test_the_rpd_is_that_of_readmes_formula(top: pathlib.Path, report: Reported,
         (f"{wanted / 2:.3f}", f"{wanted:.3f}")]
 
 
-@pytest.mark.parametrize("text", ["ta001,1231,,", "x/tai20_5.txt:1,1231,,", "i,99,,\ni,100,100,1", "TA001.txt,1231,,"])
+@pytest.mark.parametrize("text", ["ta001,1231,,", "x/tai20_5.txt:1,1231,,", "TA001.txt,1231,,",
+                                  "i,99,98,\ni,100,100,1"])
 def test_a_makespan_below_the_bound_is_an_error(text: str, report: Reported) -> None:
     """Of Taillard's instance, by each of its names, or that of a CSV."""
     got = report(f"instance,makespan,bound,seed\n{text}\n")
