@@ -391,8 +391,9 @@ def test_three_settings_have_average_ranks(report: Reported, folder: pathlib.Pat
     spans = {("a", "3"): (1, 1, 2, 1, 1), ("b", "3"): (2, 2, 1, 2, 2), ("c", ""): last, ("a", "5"): last,
              ("d", "5"): last, ("e", "7"): (1, 1, 1, 1, 1)}
     assert report("instance,makespan,method,time_factor,reference,rounds\n" + "".join(
-        f"i{at},{10 + span + more},{method},{factor},10,{factor and 7 * at}\n" for (method, factor), own in spans.items()
-        for at, span in enumerate(own) for more in ((-2, 2) if method == "a" else (0,)))).status == 0
+        f"i{at},{10 + span + more},{method},{factor},10,{factor and 7 * at}\n"
+        for (method, factor), own in spans.items() for at, span in enumerate(own)
+        for more in ((-2, 2) if method == "a" else (0,)))).status == 0
     assert columns(folder, "ranks", "group", "method", "time_factor", "instances", "mean_rank") == [
         ("1", "a", "3", "5", "1.20"), ("1", "b", "3", "5", "1.90"), ("1", "c", "", "5", "2.90"),
         ("2", "a", "5", "5", "2.00"), ("2", "c", "", "5", "2.00"), ("2", "d", "5", "5", "2.00")]
