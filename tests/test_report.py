@@ -190,6 +190,9 @@ REFERENCES: dict[str, tuple[str, str, list[str], str]] = {
                  ["", "75.000", "56.500", "", ""], ""),
     "the column after the file": (WITH_COLUMN, "instance,makespan\na,50\na,50\n", ["", "70.000", "55.500", "", ""], ""),
     "0": ("instance,makespan,reference\nb,0,0\nc,1,0\n", "", ["0.000"], ""),
+    "a file that names none": ("instance,makespan,reference\na,101,100\n", "instance,makespan\nz,5\n", ["1.000"],
+                               "RPD: relative to the makespan in best.csv, or else the makespan in the column "
+                               "`reference`.\n"),
     "the best known": (KNOWN, "", [f"{100 * 13 / 1278:.3f}", "", LARGE],
                        "RPD: relative to the best known makespan of Taillard's instance.\n"
                        "2 runs of 2 instances have no reference, and no RPD: ta002, mine.\n"),
