@@ -22,9 +22,14 @@ from support.servers import Cluster, Server
 from support.terminals import Terminal
 from support.tools import Done, csv_rows, run_tool, wait_until, with_path, write_script
 
-TWO, FIVE, SIX, TWELVE = (f"out.csv: {count} runs, 0 of them failed, 0 still to run\n" for count in (2, 5, 6, 12))
 README = (pathlib.Path(__file__).resolve().parent.parent / "experiments" / "README.md").read_text()
 on_slurm = pytest.mark.xdist_group("slurm")
+
+
+def ended(count: int, failed: int = 0, left: int = 0, said: str = "", name: str = "out.csv") -> Done:
+    """The result of a start that has made so many runs."""
+    line = f"{name}: {count} runs, {failed} of them failed, {left} still to run\n"
+    return Done(1 if failed or left else 0, "", said + line)
 
 
 def assert_refused(got: Done, *said: str) -> None:
@@ -128,16 +133,16 @@ def test_the_csv_is_what_pfs_gives_and_a_second_start_makes_nothing_again(experi
     (experiment.runs / "lock").symlink_to(experiment.folder / "victim")
     assert_refused(experiment.run())
     (experiment.runs / "lock").unlink()
-    assert experiment.run() == Done(0, "", TWELVE)
+    assert experiment.run() == ended(12)
     assert experiment.rows() == experiment.wanted()
     assert [seconds for seconds, in experiment.columns("seconds") if not 0 < float(seconds) < 60] == []
     first = (experiment.folder / "out.csv").read_text()
     (experiment.folder / "out.csv").unlink()
-    assert experiment.run() == Done(0, "", TWELVE)
+    assert experiment.run() == ended(12)
     for other, said in ((PLAN.replace("[10, 30]", "[30]"), "another plan"), (PLAN.replace("*", "a"), "another plan"),
                         (PLAN + "layout = \"orlib\"\n", "another layout")):
         assert_refused(experiment.plan(other).run(), said)
-        assert (experiment.folder / "out.csv").read_text() == first
+    assert (experiment.folder / "out.csv").read_text() == first
     assert (experiment.folder / "victim").read_text() == "kept\n"
     shutil.copytree(experiment.scripts, experiment.folder / "bin")
     shutil.copy(experiment.pfs.path, experiment.folder / "bin" / "pfs")
@@ -154,14 +159,14 @@ def test_layouts_blocks_takes_passes_and_repetitions(experiment: Experiment) -> 
     for name, text in (("two", "".join(shops)), ("bad", "3 2\n0 1 1 x\n"), ("zero", "2 1\n0 0\n0 0\n" * 2)):
         (experiment.folder / f"{name}.or").write_text(text)
     fault = "solve: exit 2, pfs: mixed line at 10"
-    assert experiment.run() == Done(1, "", f"bad.or:2 (rounds 5, take 2, passes 1, seed 7) and 7 more failed: {fault}\n"
-                                           "out.csv: 24 runs, 8 of them failed, 0 still to run\n")
+    assert experiment.run() == ended(24, 8, 0, f"bad.or:2 (rounds 5, take 2, passes 1, seed 7) and 7 more failed: "
+                                               f"{fault}\n")
     rows = experiment.rows()
-    wanted = [(f"{name}:{block}", *size, "5", take, "1", "7", again, status)
-              for name, sizes, status in (("two.or", [("3", "2"), ("20", "5")], "ok"),
-                                          ("bad.or", [("", "")] * 2, fault), ("zero.or", [("2", "1")] * 2, "ok"))
-              for block, size in zip((2, 1), sizes) for take in "21" for again in "12"]
-    assert [(*row[:8], row[-1]) for row in rows] == wanted
+    assert [(*row[:8], row[-1]) for row in rows] == [
+        (f"{name}:{block}", *size, "5", take, "1", "7", again, status)
+        for name, sizes, status in (("two.or", [("3", "2"), ("20", "5")], "ok"), ("bad.or", [("", "")] * 2, fault),
+                                    ("zero.or", [("2", "1")] * 2, "ok"))
+        for block, size in zip((2, 1), sizes) for take in "21" for again in "12"]
     line = "solve --layout orlib --block 1 --rounds 5 --take 2 --passes 1 --seed 7 --cells two.or"
     *_, makespan, cells = experiment.printed(*line.split(" ")).splitlines()
     assert [makespan.split()[1], cells.split()[1]] == [rows[4][8], rows[4][11]]
@@ -186,8 +191,8 @@ def test_each_order_is_kept_and_check_audits_it_again(made: Experiment) -> None:
     got = made.script("check", "out.csv")
     *wrong, last = got.stdout.splitlines()
     assert (got.status, got.stderr, last) == (1, "", "out.csv: 6 orders audited, 4 of them wrong")
-    numbers = [int(name[1]) for name in (re.search(r"number-(\d+)", line) for line in wrong) if name]
-    assert numbers == [1, 2, 4] and wrong[3].endswith(": the run has no order file"), wrong
+    assert [re.findall(r"number-(\d+)", line)[:1] for line in wrong] == [["1"], ["2"], ["4"], []], wrong
+    assert wrong[3].endswith(": the run has no order file"), wrong
     (made.folder / "old.csv").write_text("instance,makespan\na,1\n")
     assert_refused(made.script("check", "old.csv"), "pfs-experiments check: old.csv: no column rounds, take")
 
@@ -259,12 +264,12 @@ def test_a_damaged_result_is_made_again_and_a_damaged_plan_is_reported(made: Exp
     for data in RESULTS:
         path = made.runs / "results" / "1"
         path.unlink() if data is None else path.write_bytes(data)
-        assert made.run() == Done(0, "", SIX), f"{data!r} is taken as it is"
+        assert made.run() == ended(6), f"{data!r} is taken as it is"
         assert made.rows() == made.wanted(rounds=(10,)), data
     with open(path, "w") as earlier:  # a run that continues after its start was killed
-        assert made.run() == Done(0, "", SIX)
+        assert made.run() == ended(6)
         earlier.write("torn")
-    assert made.run() == Done(0, "", SIX)
+    assert made.run() == ended(6)
     assert made.script("check", "out.csv").status == 0, "an order into which an earlier start has written"
     before, (stage,) = (made.folder / "out.csv").read_text(), made.runs.glob("pfs-experiment-*")
     whole = (made.runs / "plan.json").read_bytes()
@@ -295,7 +300,7 @@ def test_a_full_disk_is_reported(kib: int, experiment: Experiment) -> None:
     refused = re.fullmatch("pfs-experiments run: [^\n]*: No space left on device\n", got)
     assert (status == "2\n" and refused) or (status == "0\n" and kib > 100), got
     assert halves == "", "what is left of files that had no room"
-    assert again == f"small/{SIX}0\n" and experiment.rows("all.csv") == experiment.wanted(rounds=(10,))
+    assert again == f"small/{ended(6).stderr}0\n" and experiment.rows("all.csv") == experiment.wanted(rounds=(10,))
 
 
 # Runs by time
@@ -409,9 +414,8 @@ def test_another_program_is_run_and_audited(experiment: Experiment) -> None:
     long has failed, and isn't made again. Ten kinds of errors are reported. The instance is a copy that is read-only,
     and that is gone after the run: no program changes the one that audits it."""
     got = with_other(experiment, OTHER, PROGRAM).run()
-    *lines, more, last = got.stderr.splitlines()
-    assert (got.status, last) == (1, "out.csv: 17 runs, 11 of them failed, 0 still to run")
-    assert (len(lines), more) == (10, "1 more kinds of errors")
+    lines = got.stderr.splitlines(keepends=True)
+    assert len(lines) == 12 and got == ended(17, 11, 0, "".join(lines[:10]) + "1 more kinds of errors\n")
     rows = experiment.columns("seed", "status", "method", "time_factor", "rounds", "take", "passes", "cells")
     assert [row[0] for row in rows] == [str(seed) for seed in range(1, 18)]
     assert [(row[1], wanted) for row, (_, wanted) in zip(rows, OTHERS) if not re.fullmatch(wanted, row[1])] == []
@@ -435,7 +439,7 @@ def test_a_plan_has_several_methods(experiment: Experiment) -> None:
     write_script(experiment.folder / "other", "#!/bin/sh\necho 2 1 3\n")
     with_other(experiment, first, "echo 3 2 1").run()
     before = experiment.written()
-    assert experiment.plan(grown).run() == Done(0, "", FIVE)
+    assert experiment.plan(grown).run() == ended(5)
     assert before.items() <= experiment.written().items(), "runs that were made again"
     assert experiment.columns("method", "rounds", "take", "passes", "seed") == [
         ("'=p", "0", "3", "0", "1"), ("'=p", "5", "3", "0", "1"), ("'=p", "5", "3", "0", "2"),
@@ -494,16 +498,16 @@ def test_the_csv_has_a_failed_run_with_its_status(experiment: Experiment) -> Non
                                                for seed, (line, _) in enumerate(FAILING, 1)))
     got = experiment.plan(HALF.replace("[1, 2, 3]", "[0, 1, 2, 3, 4, 5]")).run(program=program)
     statuses = ["ok", *(status for _, status in FAILING)]
-    assert (got.status, re.sub(r"(?<=computed) \d+", "", got.stderr)) == (1, "".join(
+    assert got._replace(stderr=re.sub(r"(?<=computed) \d+", "", got.stderr)) == ended(12, 10, 0, "".join(
         f"shops/a (rounds 10, take 4, passes 0, seed {seed}) and 1 more failed: {statuses[seed]}\n"
-        for seed in (1, 2, 3, 4, 5)) + "out.csv: 12 runs, 10 of them failed, 0 still to run\n")
+        for seed in (1, 2, 3, 4, 5)))
     assert [re.sub(r"(?<=computed) \d+", "", row[-1]) for row in experiment.rows()] == statuses * 2
     assert {row[8:-1] for row in experiment.rows() if row[-1] != "ok"} == {("",) * 4}, "results of runs that failed"
     (experiment.folder / "notes").unlink()
     (experiment.folder / "fixed").touch()
     assert experiment.run(program=program).status == 1
     assert sorted(line.partition("--seed ")[2][0] for line in experiment.started()) == ["2", "2", "5", "5"]
-    assert experiment.run("out.csv", "--retry", program=program) == Done(0, "", TWELVE)
+    assert experiment.run("out.csv", "--retry", program=program) == ended(12)
     assert experiment.rows() == experiment.wanted(rounds=[10], seeds=range(6))
 
 
@@ -572,7 +576,7 @@ def test_what_gnu_parallel_leaves_has_no_lock(number: signal.Signals, experiment
     held = run_tool(["flock", "--nonblock", experiment.runs / "lock", "true"], experiment.folder).status
     assert held == 0, "a process that GNU parallel has left holds the lock"
     assert number == signal.SIGKILL or experiment.left() == [], "processes that GNU parallel has left"
-    assert experiment.run() == Done(0, "", TWELVE)
+    assert experiment.run() == ended(12)
 
 
 def test_two_starts_at_once_make_each_run_once(experiment: Experiment) -> None:
@@ -610,9 +614,9 @@ def test_over_ssh_the_csv_is_the_same(ssh_server: Server, experiment: Experiment
                'command = "./mine {instance} {jobs}"\n', "seq -s ' ' $2")
     words = ["out.csv", "--sshloginfile", "machines"]
     got = experiment.run(*words, env=experiment.parallel(f'echo "$*" >> {experiment.folder}/calls'))
-    assert got == Done(1, "", "out.csv: 0 runs, 0 of them failed, 12 still to run\n")
+    assert got == ended(0, 0, 12)
     assert "--nonall" not in (experiment.folder / "calls").read_text()
-    assert experiment.run(*words) == Done(0, "", TWELVE)
+    assert experiment.run(*words) == ended(12)
     assert [*experiment.rows()[:3], *experiment.rows()[6:9]] == experiment.wanted(rounds=(10,))
     lines = (experiment.runs / "joblog").read_text().splitlines()[1:]
     assert {line.split("\t")[1].split()[-1] for line in lines} == {"127.0.0.1"}
@@ -645,7 +649,7 @@ def test_on_slurm_the_csv_is_the_same(experiment: Experiment, slurm: Cluster) ->
     assert experiment.start(*words, name="slurm", env=slurm.env).wait(100) == 0
     assert {name for name, _ in experiment.written().items() - before.items()} == {"2", "5"}
     got = experiment.script("slurm", *words[:2], "plan.toml", "out.csv", env=slurm.env)
-    assert got == Done(0, "", SIX), "a start where nothing is left to do"
+    assert got == ended(6), "a start where nothing is left to do"
 
 
 @on_slurm
@@ -725,7 +729,7 @@ def test_the_file_has_the_version_the_sums_and_each_start(mine: Experiment, top:
     """What has changed since is reported, and the copies are used."""
     inputs = {"pfs": mine.pfs.path, **{name: mine.folder / name for name in ("shops/b", "data", "mine")}}
     wanted = {name: hashlib.sha256(path.read_bytes()).hexdigest() for name, path in inputs.items()}
-    assert mine.run() == mine.run() == Done(0, "", "out.csv: 1 runs, 0 of them failed, 0 still to run\n")
+    assert mine.run() == mine.run() == ended(1)
     stored = json.loads((mine.runs / "provenance.json").read_text())
     assert stored["version"] == (top / "VERSION").read_text().strip() and stored["sha256"] == wanted
     method, = stored["plan"]["methods"]
@@ -738,12 +742,11 @@ def test_the_file_has_the_version_the_sums_and_each_start(mine: Experiment, top:
         with open(mine.folder / name, "a") as file:
             file.write("# changed\n")
     got = mine.plan(WITH_FILE.format(seeds="1, 2")).run()
-    assert got == Done(0, "", "out.csv: changed since they were copied for its runs: data, mine, shops/b. The copies "
-                              "are used: to begin anew, name another CSV or delete out.csv.d\n"
-                              "out.csv: 2 runs, 0 of them failed, 0 still to run\n")
+    assert got == ended(2, said="out.csv: changed since they were copied for its runs: data, mine, shops/b. The copies "
+                                "are used: to begin anew, name another CSV or delete out.csv.d\n")
     assert mine.columns("makespan") == before * 2
     assert json.loads((mine.runs / "provenance.json").read_text())["sha256"] == wanted, "sums of the copies"
-    assert mine.run("new.csv").stderr == "new.csv: 2 runs, 0 of them failed, 0 still to run\n"
+    assert mine.run("new.csv") == ended(2, name="new.csv")
     assert mine.columns("makespan", csv_name="new.csv") != before * 2
     for damaged in (b"", b"{", b"[1]", b'{"starts": 3}', b"\xff"):
         (mine.runs / "provenance.json").write_bytes(damaged)
@@ -754,60 +757,32 @@ def test_the_file_has_the_version_the_sums_and_each_start(mine: Experiment, top:
     assert "no file matches data" in mine.run().stderr
 
 
-def test_a_reference_must_name_an_instance(experiment: Experiment) -> None:
+def test_a_reference_must_name_an_instance_and_status_writes_what_there_is(experiment: Experiment) -> None:
     """By its name in the plan, or without folder, ending and in lower case. What it lacks is reported. It may begin
-    with a byte order mark, and be named once all runs are made."""
-    plan = 'instances = ["shops/*"]\nreference = "best.csv"\n'
+    with a byte order mark, and be named once all runs are made. The CSV has the order of the plan, and what the
+    reference had at the start."""
+    status = functools.partial(run_tool, [experiment.scripts / "pfs-experiments", "status", "out.csv"],
+                               experiment.folder)
+    assert_refused(status(), "pfs-experiments status: out.csv was not started: out.csv.d is missing\n")
+    plan = 'instances = ["shops/*"]\nseeds = [2, 1]\nrounds = [1]\nreference = "best.csv"\n'
     (experiment.folder / "best.csv").write_text("instance,makespan\nc,9\n")
-    assert experiment.plan(plan).run() == Done(2, "", (
-        "pfs-experiments run: plan.toml: the reference best.csv names none of the instances: it has c, and the plan "
-        "shops/a\n"))
+    assert_refused(experiment.plan(plan).run(), "pfs-experiments run: plan.toml: the reference best.csv names none of "
+                                                "the instances: it has c, and the plan shops/a\n")
     assert not experiment.runs.exists()
-    assert experiment.plan(plan.splitlines()[0]).run().status == 0
-    (experiment.folder / "best.csv").write_text("\N{BOM}instance,makespan,source\nc,9,no paper\nB.txt,7.0,a paper\n")
-    assert experiment.plan(plan).run() == Done(0, "", "best.csv lacks 1 of 2 instances: shops/a\n"
-                                                      "out.csv: 2 runs, 0 of them failed, 0 still to run\n")
-    assert experiment.columns("reference", "source") == [("", ""), ("7", "a paper")]
-
-
-def test_a_report_audits_the_runs_with_the_instances_next_to_the_csv(mine: Experiment,
-                                                                     with_library: dict[str, str]) -> None:
-    """As long as they are there and whole. An order that isn't that of the makespan is an error."""
-    words = [mine.scripts / "pfs-experiments", "report", "out.csv", "report"]
-    report = functools.partial(run_tool, words, mine.folder, env=with_library)
-
-    mine.run()
-    assert (report().status, csv_rows(mine.folder / "report" / "table.csv")[0]["audited"]) == (0, "1")
-    text = (mine.folder / "out.csv").read_text()
-    (name, makespan), = mine.columns("order", "makespan")
-    (mine.folder / "out.csv").write_text(text.replace(f",{makespan},", f",{int(makespan) + 1},"))
-    assert report() == Done(2, "", f"pfs-experiments report: out.csv: line 2, shops/b: wrong makespan: states "
-                                   f"{int(makespan) + 1}, takes {makespan}\n")
-    (mine.folder / "out.csv").write_text(text)
-    (mine.folder / name).write_text("order 3\n1 1 2\nmakespan 9\n")
-    assert report().stderr == f"pfs-experiments report: out.csv: {name}: order file job repeated at place 2\n"
-    (mine.runs / "plan.json").write_text("{")
-    (mine.folder / name).unlink()
-    assert (report().status, csv_rows(mine.folder / "report" / "table.csv")[0]["audited"]) == (0, "0")
-
-
-def test_status_writes_what_there_is(experiment: Experiment) -> None:
-    """The CSV has the order of the plan, and its reference."""
-    words = [experiment.scripts / "pfs-experiments", "status", "out.csv"]
-    status = functools.partial(run_tool, words, experiment.folder)
-    assert status() == Done(2, "", "pfs-experiments status: out.csv was not started: out.csv.d is missing\n")
-    (experiment.folder / "best.csv").write_text("instance,makespan\nb,9\n")
-    experiment.plan('instances = ["shops/b"]\nseeds = [2, 1]\nrounds = [1]\nreference = "best.csv"\n')
-    with experiment.gate() as let_through:
+    with experiment.plan(plan.rpartition("reference")[0]).gate() as let_through:
         begun = experiment.start("--jobs", "1")
         let_through(1)
-        one_of_two = Done(1, "", "out.csv: 1 runs, 0 of them failed, 1 still to run\n")
-        wait_until(lambda: (experiment.runs / "plan.json").exists() and status() == one_of_two, "a run has ended")
-        assert experiment.columns("instance", "seed", "reference") == [("shops/b", "2", "9")]
+        wait_until(lambda: (experiment.runs / "plan.json").exists() and status() == ended(1, 0, 3), "a run has ended")
+        assert experiment.columns("instance", "seed", "reference") == [("shops/a", "2", "")]
     assert begun.wait(60) == 0
+    (experiment.folder / "best.csv").write_text("\N{BOM}instance,makespan,source\nc,9,no paper\nB.txt,7.0,a paper\n")
+    assert experiment.plan(plan).run() == ended(4, 0, 0, "best.csv lacks 1 of 2 instances: shops/a\n")
+    (experiment.folder / "best.csv").unlink()
     before = (experiment.folder / "out.csv").read_bytes()
-    assert status() == Done(0, "", "out.csv: 2 runs, 0 of them failed, 0 still to run\n")
-    assert (experiment.folder / "out.csv").read_bytes() == before and before.count(b"\n") == 3
+    assert status() == ended(4)
+    assert (experiment.folder / "out.csv").read_bytes() == before and before.count(b"\n") == 5
+    assert experiment.columns("seed", "reference", "source") == [
+        (seed, *known) for known in (("", ""), ("7", "a paper")) for seed in "21"]
 
 
 # The pages

@@ -397,7 +397,7 @@ def test_the_pages_of_gantt_have_its_options() -> None:
 
 def test_the_page_of_experiments_has_its_scripts() -> None:
     main = (TOP / "python" / "src" / "pfs" / "experiments" / "__main__.py").read_text()
-    scripts = set(re.findall(r'\badd\("(\w+)"', main))
+    scripts = set(re.findall(r'^    "(\w+)": \("', main, re.MULTILINE))
     synopsis, listed = (re.findall(rf"^\.{macro} (\w+)\b", TOOL_PAGES["pfs-experiments"], re.MULTILINE)
                         for macro in ("Cm", "It Cm"))
     assert set(synopsis) >= set(listed) == scripts

@@ -67,19 +67,18 @@ class Experiment(NamedTuple):
     def wanted(self, rounds: Iterable[int] = (10, 30), seeds: Iterable[int] = (1, 2, 3), takes: Iterable[int] = (4,),
                repetitions: int = 1, shops: Iterable[str] = SHOPS) -> list[Row]:
         """The rows of the plan, each by its own search and audit."""
-        return [self.wanted_row(*values)
-                for values in itertools.product(shops, rounds, takes, seeds, range(1, repetitions + 1))]
-
-    def wanted_row(self, name: str, rounds: int, take: int, seed: int, repetition: int) -> Row:
-        shop, (jobs, machines, _) = f"shops/{name}", SHOPS[name]
-        take = min(take, jobs)
-        options = ["--rounds", str(rounds), "--take", str(take), "--seed", str(seed), "--cells"]
-        *order, cells = self.printed("solve", "--layout", "taillard", *options, shop).splitlines(keepends=True)
-        (self.folder / "order").write_text("".join(order))
-        verdict = self.printed("check", "--layout", "taillard", shop, "order").splitlines()
-        makespan, bound = (int(verdict[line].split()[1]) for line in (1, 2))
-        numbers = (jobs, machines, rounds, take, 0, seed, repetition, makespan, bound)
-        return (shop, *map(str, numbers), f"{(makespan / bound - 1) * 100:.4f}", cells.split()[1], "ok")
+        rows = []
+        for name, count, take, seed, repetition in itertools.product(shops, rounds, takes, seeds,
+                                                                     range(1, repetitions + 1)):
+            shop, (jobs, machines, _), take = f"shops/{name}", SHOPS[name], min(take, SHOPS[name][0])
+            words = ["--rounds", str(count), "--take", str(take), "--seed", str(seed), "--cells", shop]
+            *order, cells = self.printed("solve", "--layout", "taillard", *words).splitlines(keepends=True)
+            (self.folder / "order").write_text("".join(order))
+            verdict = self.printed("check", "--layout", "taillard", shop, "order").splitlines()
+            makespan, bound = (int(verdict[line].split()[1]) for line in (1, 2))
+            numbers = (jobs, machines, count, take, 0, seed, repetition, makespan, bound)
+            rows.append((shop, *map(str, numbers), f"{(makespan / bound - 1) * 100:.4f}", cells.split()[1], "ok"))
+        return rows
 
     def rows(self, name: str = "out.csv") -> list[Row]:
         """The rows of a CSV, but for the seconds, the order file and the reference."""

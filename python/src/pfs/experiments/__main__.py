@@ -10,7 +10,7 @@ import shutil
 import signal
 import sys
 from collections.abc import Callable
-from typing import NoReturn
+from typing import Any, NoReturn
 
 from pfs._optional import optional
 from pfs._words import inches, number
@@ -27,49 +27,49 @@ class CommandLine(argparse.ArgumentParser):
         self.exit(2, f"{self.prog}: {plain(message)} ({' '.join(self.format_usage().split())})\n")
 
 
+# Of each command its module, which has a function of its name, and what it does.
+COMMANDS = {
+    "taillard": ("stage", "Writes the 120 instances of Taillard into a folder."),
+    "run": ("run", "Makes the runs of a plan with GNU parallel, which gets the further options."),
+    "slurm": ("run", "Makes the runs of a plan on a Slurm cluster, as one array; sbatch gets the further options."),
+    "status": ("run", "Writes the CSV of the runs that have ended so far, while the others continue."),
+    "check": ("run", "Audits the orders of a CSV again."),
+    "audit": ("audit", "Audits a table of published orders."),
+    "report": ("report", "Writes tables and plots of CSVs into a folder. Each CSV is a method.")}
+# Arguments, each with the commands that have it.
+ARGUMENTS: list[tuple[str, str, dict[str, Any]]] = [
+    ("taillard run slurm check", "--pfs", {"metavar": "PROGRAM", "default": shutil.which("pfs", path=PROGRAMS),
+                                           "help": "the program pfs"}),
+    ("run slurm", "--retry", {"action": "store_true", "help": "repeat the runs that failed"}),
+    ("run slurm", "plan", {"metavar": "PLAN"}),
+    ("run slurm status check", "csv", {"metavar": "CSV"}),
+    ("run", "--sshloginfile", {"metavar": "FILE", "help": "a file with the machines for GNU parallel"}),
+    ("slurm", "--tasks", {"metavar": "N", "type": number(1, 10 ** 9), "help": "the most tasks of the array"}),
+    ("slurm", "--dry-run", {"action": "store_true", "help": "print the call of sbatch"}),
+    ("audit", "table", {"metavar": "TABLE", "help": "a CSV with the columns instance, makespan and order"}),
+    ("audit", "--instances", {"metavar": "FOLDER", "type": pathlib.Path, "help": "the folder of the instance files"}),
+    ("audit", "--layout", {"choices": ("taillard", "orlib", "matrix"), "help": "the layout of all files"}),
+    ("audit", "--first", {"type": int, "choices": (0, 1), "help": "the number of the first job in all orders"}),
+    ("audit", "--csv", {"metavar": "CSV", "help": "write the verdict on each order"}),
+    ("report", "--format", {"choices": ("png", "svg", "pdf"), "default": "png", "help": "the format of the plots"}),
+    ("report", "--reference", {"metavar": "CSV", "help": "a CSV with instance, makespan and source"}),
+    ("report", "--width", {"metavar": "INCHES", "type": inches, "help": "the width of the plots, in inches"}),
+    ("report", "--dpi", {"metavar": "DPI", "type": number(20, 1200), "default": 130, "help": "dots per inch"}),
+    ("report", "--no-title", {"action": "store_true", "help": "draw no titles"}),
+    ("report", "csv", {"metavar": "CSV", "nargs": "+"}),
+    ("taillard report", "folder", {"metavar": "FOLDER", "type": pathlib.Path})]
+
+
 def command_line() -> CommandLine:
-    """Returns the parser of the command line. Each command is a module with a function of its name."""
+    """Returns the parser of the command line."""
     parser = CommandLine("pfs-experiments", description="Many searches, audited, in one CSV, and reports of it.")
     commands = parser.add_subparsers(dest="command", required=True, metavar="COMMAND")
-
-    def add(name: str, text: str, module: str = "", **how: bool) -> argparse.ArgumentParser:
-        made = commands.add_parser(name, help=text, description=text, **how)  # type: ignore[arg-type]
-        made.set_defaults(module=module or name)
-        if name not in ("status", "audit", "report"):
-            made.add_argument("--pfs", metavar="PROGRAM", default=shutil.which("pfs", path=PROGRAMS),
-                              help="the program pfs")
-        return made
-
-    taillard = add("taillard", "Writes the 120 instances of Taillard into a folder.", "stage")
-    taillard.add_argument("folder", metavar="FOLDER", type=pathlib.Path)
-    run = add("run", "Makes the runs of a plan with GNU parallel, which gets the further options.", allow_abbrev=False)
-    slurm = add("slurm", "Makes the runs of a plan on a Slurm cluster, as one array; sbatch gets the further options.",
-                "run", allow_abbrev=False)
-    for starter in (run, slurm):
-        starter.add_argument("--retry", action="store_true", help="repeat the runs that failed")
-        starter.add_argument("plan", metavar="PLAN")
-        starter.add_argument("csv", metavar="CSV")
-    run.add_argument("--sshloginfile", metavar="FILE", help="a file with the machines for GNU parallel")
-    slurm.add_argument("--tasks", metavar="N", type=number(1, 10 ** 9), help="the most tasks of the array")
-    slurm.add_argument("--dry-run", action="store_true", help="print the call of sbatch")
-    status = add("status", "Writes the CSV of the runs that have ended so far, while the others continue.", "run")
-    status.add_argument("csv", metavar="CSV")
-    check = add("check", "Audits the orders of a CSV again.", "run")
-    check.add_argument("csv", metavar="CSV")
-    audit = add("audit", "Audits a table of published orders.")
-    audit.add_argument("table", metavar="TABLE", help="a CSV with the columns instance, makespan and order")
-    audit.add_argument("--instances", metavar="FOLDER", type=pathlib.Path, help="the folder of the instance files")
-    audit.add_argument("--layout", choices=("taillard", "orlib", "matrix"), help="the layout of all files")
-    audit.add_argument("--first", type=int, choices=(0, 1), help="the number of the first job in all orders")
-    audit.add_argument("--csv", metavar="CSV", help="write the verdict on each order")
-    report = add("report", "Writes tables and plots of CSVs into a folder. Each CSV is a method.")
-    report.add_argument("--format", choices=("png", "svg", "pdf"), default="png", help="the format of the plots")
-    report.add_argument("--reference", metavar="CSV", help="a CSV with instance, makespan and source")
-    report.add_argument("--width", metavar="INCHES", type=inches, help="the width of the plots, in inches")
-    report.add_argument("--dpi", metavar="DPI", type=number(20, 1200), default=130, help="dots per inch")
-    report.add_argument("--no-title", action="store_true", help="draw no titles")
-    report.add_argument("csv", metavar="CSV", nargs="+")
-    report.add_argument("folder", metavar="FOLDER", type=pathlib.Path)
+    for name, (module, text) in COMMANDS.items():
+        made = commands.add_parser(name, help=text, description=text, allow_abbrev=name not in ("run", "slurm"))
+        made.set_defaults(module=module)
+        for of, argument, options in ARGUMENTS:
+            if name in of.split():
+                made.add_argument(argument, **options)
     return parser
 
 

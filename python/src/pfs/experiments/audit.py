@@ -5,6 +5,7 @@ import argparse
 import contextlib
 import os
 import pathlib
+from typing import Any
 
 from pfs._atomic import text_cell
 from pfs._audit import Audited, Shelf
@@ -13,17 +14,22 @@ from pfs._faults import Fault
 from pfs._files import read, read_order
 from pfs._instance import Instance
 from pfs.experiments import ExperimentError, csv_text, plain, stage
-from pfs.experiments.plan import Row, rows_of
+from pfs.experiments.plan import Row
 from pfs.experiments.run import path_cell
+
+
+def verdicts(table: Any, shops: Any, **options: Any) -> list[Audited]:
+    """Returns the verdict on each order of a table, in which all must be clear."""
+    try:
+        return audited(table, shops, **options)
+    except ValueError as error:
+        raise ExperimentError(str(error)) from None
 
 
 def audit(args: argparse.Namespace) -> int:
     """Audits a table of published orders. Prints each one that is wrong or below the reference, and their numbers; a
     CSV has the verdict on each."""
-    try:
-        found = audited(args.table, args.instances or (), layout=args.layout, first=args.first)
-    except ValueError as error:
-        raise ExperimentError(str(error)) from None
+    found = verdicts(args.table, args.instances or (), layout=args.layout, first=args.first)
     if args.csv and os.path.exists(args.csv) and os.path.samefile(args.csv, args.table):
         raise ExperimentError(f"{args.csv} is the table: name another file for the verdicts")
     if args.csv:
@@ -44,41 +50,36 @@ def audit(args: argparse.Namespace) -> int:
 def shops_of(path: str) -> dict[str, Instance]:
     """Returns the instances in the folder next to the CSV of an experiment, by their names there; none if the folder is
     missing, damaged or of another version."""
-    folder = pathlib.Path(os.path.abspath(path) + ".d")
     with contextlib.suppress(ExperimentError, OSError, Fault):
-        runs = {path_cell(run["instance"]): run for run in stage.stored_plan(folder).get("runs", [])}
-        return {name: read(folder / stage.stage_of(folder) / run["file"], run["layout"], int(run["block"]))
-                for name, run in runs.items() if run["jobs"]}
+        experiment = stage.started(path)
+        runs = {path_cell(run["instance"]): run for run in experiment.runs if run["jobs"]}
+        return {name: read(experiment.folder / experiment.stage / run["file"], run["layout"], int(run["block"]))
+                for name, run in runs.items()}
     return {}
 
 
-def orders_of(paths: list[str]) -> list[str]:
-    """Returns the order of each row of the CSVs that has one and whose instance is at hand, next to one of the CSVs or
-    as one of Taillard's; an empty text for the others. A wrong order is an error."""
-    own = {path: shops_of(path) for path in paths}
-    shelf = Shelf((), None)
-    for shops in own.values():
-        for name, shop in shops.items():
-            shelf.add(shop, name)
-    return [each for path in paths for each in audited_rows(path, rows_of(path, ["instance"]), own[path], shelf)]
-
-
-def audited_rows(path: str, rows: list[Row], own: dict[str, Instance], shelf: Shelf) -> list[str]:
-    shops: dict[str, Instance] = {}
-    orders = [""] * len(rows)
+def orders_of(rows: list[Row]) -> list[str]:
+    """Returns the order of each row of CSVs that has one and whose instance is at hand, next to one of the CSVs or as
+    one of Taillard's; an empty text for the others. A wrong order is an error. Rows have the columns `path` and `line`,
+    and no makespan if the run failed."""
+    own = {path: shops_of(path) for path in dict.fromkeys(row["path"] for row in rows)}
+    shelf, shops, orders, table = Shelf((), None), dict[str, Instance](), [""] * len(rows), []
+    for name, shop in (each for found in own.values() for each in found.items()):
+        shelf.add(shop, name)
     for at, row in enumerate(rows):
-        shop = own.get(row["instance"]) or shelf.find(row["instance"])
-        if shop and row["makespan"] and row.get("status", "ok") == "ok":
-            orders[at] = order_of(path, row.get("order", ""))
-            shops[str(at)] = shop
-            if orders[at] and float(row["makespan"]) % 1:
-                raise ExperimentError(f"{path}: line {at + 2}, {row['instance']}: the makespan of an order is whole")
-    table = [{"instance": str(at), "method": row.get("method", ""), "makespan": row["makespan"], "order": order}
-             for at, (row, order) in enumerate(zip(rows, orders)) if order]
-    for each in audited(table, shops) if table else []:
+        found = own[row["path"]].get(row["instance"]) or shelf.find(row["instance"])
+        orders[at] = order_of(row["path"], row["order"]) if found and row["makespan"] else ""
+        if found and orders[at]:
+            if float(row["makespan"]) % 1:
+                raise ExperimentError(f"{row['path']}: line {row['line']}, {row['instance']}: the makespan of an order "
+                                      "is whole")
+            shops[str(at)] = found
+            table.append({"instance": str(at), "method": f"{row['path']} {row['method']}", "order": orders[at],
+                          "makespan": row["makespan"]})
+    for each in verdicts(table, shops) if table else []:
         if not each.valid:
-            at = int(each.instance)
-            raise ExperimentError(f"{path}: line {at + 2}, {rows[at]['instance']}: {each.verdict}: {each.why}")
+            row = rows[int(each.instance)]
+            raise ExperimentError(f"{row['path']}: line {row['line']}, {row['instance']}: {each.verdict}: {each.why}")
     return orders
 
 

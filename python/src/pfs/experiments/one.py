@@ -26,7 +26,6 @@ import time
 from collections import namedtuple
 from collections.abc import Iterable
 from types import FrameType
-from typing import NamedTuple
 
 HERE = os.path.dirname(os.path.abspath(__file__))
 LIBRARY = "libpfs.so.1"
@@ -51,32 +50,25 @@ class Failed(Exception):
     """A run failed. The message says how."""
 
 
-def words_of(run: Run) -> list[str]:
-    """Returns the arguments of pfs that name the instance."""
-    return ["--layout", run.layout, "--block", run.block, run.file]
+# The order file of a search, its cells and seconds, the rounds if it was by time, and how many processes a command has
+# left.
+Found = tuple[str, str, float, str, int]
 
 
-class Found(NamedTuple):
-    """The order file of a search, its cells and seconds, the rounds if it was by time, and how many processes a command
-    has left."""
-    order: str
-    cells: str
-    seconds: float
-    rounds: str = ""
-    left: int = 0
-
-
-def run_pfs(*words: str) -> subprocess.CompletedProcess[bytes]:
-    """Runs pfs. Its exit status may be any."""
-    done = subprocess.run(["./pfs", *words], cwd=HERE, stdin=subprocess.DEVNULL, capture_output=True)
+def run_pfs(run: Run, *words: str, text: str = "") -> subprocess.CompletedProcess[bytes]:
+    """Runs pfs on the instance, with a text as input. Its exit status may be any."""
+    options = ["--from" if words[0] == "convert" else "--layout", run.layout, "--block", run.block, run.file]
+    options += ["/dev/stdin"] if text else []
+    done = subprocess.run(["./pfs", *words, *options], cwd=HERE, input=text.encode(errors="replace"),
+                          capture_output=True)
     if done.returncode < 0:
         raise Failed(f"{words[0]}: signal {-done.returncode}")
     return done
 
 
-def pfs(*words: str) -> str:
+def pfs(run: Run, *words: str) -> str:
     """Returns what pfs prints."""
-    done = run_pfs(*words)
+    done = run_pfs(run, *words)
     if done.returncode != 0:
         output = (done.stderr or done.stdout).decode(errors="replace").splitlines() or [""]
         raise Failed(f"{words[0]}: exit {done.returncode}, {output[0]}")
@@ -88,31 +80,23 @@ def child_seconds() -> float:
     return spent.ru_utime + spent.ru_stime
 
 
-def order_file(jobs: Iterable[object], makespan: int, first: str) -> str:
+def order_file(first: str, jobs: Iterable[object], makespan: int) -> str:
     return f"{first}\n{' '.join(map(str, jobs))}\nmakespan {makespan}\n"
 
 
 def by_rounds(run: Run) -> Found:
-    options = ["--rounds", run.rounds, "--passes", run.passes, "--seed", run.seed, "--cells"]
-    options += [] if run.take == "-" else ["--take", run.take]
+    take = [] if run.take == "-" else ["--take", run.take]
     before = child_seconds()
-    text = pfs("solve", *options, *words_of(run))
+    text = pfs(run, "solve", "--rounds", run.rounds, "--passes", run.passes, "--seed", run.seed, "--cells", *take)
     found = re.fullmatch("(.*\n)cells ([0-9]{1,20})\n", text, re.ASCII | re.DOTALL)
     if not found:
         raise Failed("solve: no cells printed")
-    return Found(found[1], found[2], child_seconds() - before)
-
-
-def check(run: Run, order: str) -> subprocess.CompletedProcess[bytes]:
-    with tempfile.NamedTemporaryFile("w", encoding="utf-8", errors="replace") as file:
-        file.write(order)
-        file.flush()
-        return run_pfs("check", *words_of(run), file.name)
+    return found[1], found[2], child_seconds() - before, "", 0
 
 
 def audit(run: Run, order: str) -> tuple[str, str]:
     """Audits an order file, which must be valid. Returns its makespan and its bound."""
-    done = check(run, order)
+    done = run_pfs(run, "check", text=order)
     lines = (done.stderr or done.stdout).decode(errors="replace").splitlines() or ["no verdict"]
     found = re.match("valid\nmakespan ([0-9]{1,18})\nbound ([0-9]{1,18})(?:\n|$)", "\n".join(lines), re.ASCII)
     if done.returncode != 0 or not found:
@@ -177,15 +161,14 @@ def search(running: Search, seconds: float) -> float:
 
 
 def by_time(run: Run) -> Found:
-    text = pfs("convert", "--from", run.layout, "--to", "orlib", "--block", run.block, run.file)
-    jobs, machines, *pairs = map(int, text.split()[3:])
+    jobs, machines, *pairs = map(int, pfs(run, "convert", "--to", "orlib").split()[3:])
     try:
         running = Search(pairs[1::2], jobs, machines, int(run.take), int(run.passes), int(run.seed))
         spent = search(running, float(run.limit))
     except (OSError, AttributeError) as error:
         raise Failed(f"libpfs: {error}") from None
-    order = order_file([job + 1 for job in running.order], running.makespan.value, f"order2 {jobs} {machines}")
-    return Found(order, str(running.cells), spent, str(running.rounds))
+    order = order_file(f"order2 {jobs} {machines}", [job + 1 for job in running.order], running.makespan.value)
+    return order, str(running.cells), spent, str(running.rounds), 0
 
 
 # Other programs
@@ -206,10 +189,10 @@ def by_command(words: list[str], run: Run) -> Found:
         raise Failed(f"command: {failure}") from None
     if jobs:
         first = f"order {len(jobs)}"
-        verdict = check(run, order_file(jobs, 0, first)).stdout.decode(errors="replace")
+        verdict = run_pfs(run, "check", text=order_file(first, jobs, 0)).stdout.decode(errors="replace")
         computed = re.search("^computed ([0-9]{1,18})$", verdict, re.MULTILINE)
-        order = order_file(jobs, int(computed[1]) if computed else 0, first)
-    return Found(order, "", spent, "", left)
+        order = order_file(first, jobs, int(computed[1]) if computed else 0)
+    return order, "", spent, "", left
 
 
 def order_of(text: str) -> tuple[str, list[str]]:
@@ -308,10 +291,10 @@ def main() -> None:
     try:
         with open(os.path.join(HERE, "commands.json"), encoding="utf-8") as file:
             command = json.load(file).get(run.method)
-        made = by_command(command, run) if command else by_rounds(run) if run.limit == "-" else by_time(run)
-        order = made.order
-        row = [run.number, *audit(run, order), made.cells, f"{made.seconds:.6f}", "ok"]
-        row += [made.rounds, str(made.left)] if made.rounds or made.left else []
+        search = by_command(command, run) if command else by_rounds(run) if run.limit == "-" else by_time(run)
+        order, cells, seconds, rounds, left = search
+        row = [run.number, *audit(run, order), cells, f"{seconds:.6f}", "ok"]
+        row += [rounds, str(left)] if rounds or left else []
     except (Failed, OSError) as failure:
         lost = f"lost: {failure.strerror}" if isinstance(failure, OSError) else str(failure)
         row = [run.number, "", "", "", "", lost]

@@ -46,6 +46,8 @@ OF_PFS = ("rounds", "takes", "passes")
 OF_COMMAND = {"instance", "name", "jobs", "machines", "block", "seed", "seconds"}
 
 Row = dict[str, str]
+# Of each instance a makespan and its source.
+Reference = dict[str, tuple[int, str]]
 
 
 def parse_toml(path: str) -> dict[str, Any]:
@@ -159,10 +161,9 @@ def rows_of(path: str | os.PathLike[str], needed: Iterable[str]) -> list[Row]:
     return rows
 
 
-def reference_of(path: str | os.PathLike[str]) -> dict[str, tuple[int, str]]:
-    """Returns the reference of each instance in a CSV, a makespan and its source, by its name and, if that is clear, by
-    its canonical name."""
-    found: dict[str, tuple[int, str]] = {}
+def reference_of(path: str | os.PathLike[str]) -> Reference:
+    """Returns the reference of each instance in a CSV, by its name and, if that is clear, by its canonical name."""
+    found: Reference = {}
     for row in rows_of(path, ["instance", "makespan"]):
         whole = re.fullmatch(r" *([0-9]{1,18})(?:\.0*)? *", row["makespan"], re.ASCII)
         if not whole:
@@ -176,7 +177,7 @@ def reference_of(path: str | os.PathLike[str]) -> dict[str, tuple[int, str]]:
     return {key: entries.pop() for key, entries in same.items() if len(entries) == 1} | found
 
 
-def reference_for(reference: dict[str, tuple[int, str]], instance: str) -> tuple[int, str] | None:
+def reference_for(reference: Reference, instance: str) -> tuple[int, str] | None:
     """Returns the reference of an instance, by its name, the last part of its path, or its canonical name."""
     return (reference.get(instance) or reference.get(instance.rpartition("/")[2])
             or reference.get(canonical(instance)))

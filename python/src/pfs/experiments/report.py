@@ -1,31 +1,37 @@
-"""The report of CSVs of experiments or of other programs: its tables, most of them of relative percentage deviations
-(RPD). Runs that failed are only counted."""
+"""The report of CSVs of experiments or of other programs: its tables and plots, most of them of relative percentage
+deviations (RPD). Runs that failed are only counted."""
 from __future__ import annotations
 
 import argparse
 import logging
+import math
 import pathlib
 import re
 import sys
+import textwrap
+from collections.abc import Callable
 from typing import Any
 
+import matplotlib
 import pandas as pd
+import scipy.stats
+from matplotlib.figure import Figure
+from matplotlib.ticker import NullLocator
 
-from pfs._atomic import text_cell
+from pfs._atomic import atomic_write, text_cell
 from pfs._benchmarks import canonical, taillard_rows
-from pfs.experiments import ExperimentError, csv_text, listed, plain, plots, statistics
+from pfs._drawing import picture_of
+from pfs.experiments import ExperimentError, csv_text, listed, plain, statistics
 from pfs.experiments.plan import MOST_MAKESPAN, reference_for, reference_of, rows_of
-from pfs.experiments.plots import size_name
 from pfs.experiments.stage import write_text
-from pfs.experiments.statistics import SETTING, setting_names
+from pfs.experiments.statistics import SETTING, SIZE, setting_names
 
-SIZE = ["jobs", "machines"]
 GROUP = ["method", *SIZE, "rounds", "take", "passes", "time_factor"]
-# The least and the greatest value of each column of numbers.
-WHOLE = {"jobs": 10 ** 6, "machines": 10 ** 6, "rounds": 10 ** 9, "take": 10 ** 6, "passes": 10 ** 6,
-         "bound": MOST_MAKESPAN, "reference": MOST_MAKESPAN, "cells": 2 ** 64 - 1}
-RANGES = {"gap_percent": (-100, 1e20), "seconds": (0, 1e12), "time_factor": (0, 1e12), "makespan": (0, MOST_MAKESPAN),
-          **{column: (0, most) for column, most in WHOLE.items()}}
+# The greatest value of each column of numbers, and the least of those that may be below 0. The first ones are whole.
+GREATEST = {"jobs": 10 ** 6, "machines": 10 ** 6, "rounds": 10 ** 9, "take": 10 ** 6, "passes": 10 ** 6,
+            "bound": MOST_MAKESPAN, "reference": MOST_MAKESPAN, "cells": 2 ** 64 - 1, "makespan": MOST_MAKESPAN,
+            "seconds": 1e12, "time_factor": 1e12, "gap_percent": 1e20, "rpd": 1e20}
+LEAST, WHOLE = {"gap_percent": -100, "rpd": -100}, list(GREATEST)[:8]
 NUMBER = r" *-?[0-9]+(?:\.[0-9]*)?(?:[eE][+-]?[0-9]{1,3})? *"
 # The decimals of the columns of tables.
 DECIMALS = {"mean_seconds": "{:.4f}", "mean_rank": "{:.2f}", "time_factor": "{:g}", "p": "{:.4g}", "p_holm": "{:.4g}",
@@ -33,6 +39,17 @@ DECIMALS = {"mean_seconds": "{:.4f}", "mean_rank": "{:.2f}", "time_factor": "{:g
 LATEX = {"\\": r"\textbackslash{}", "~": r"\textasciitilde{}", "^": r"\textasciicircum{}", "×": r"$\times$",
          "<": r"\textless{}", ">": r"\textgreater{}", "|": r"\textbar{}", '"': "''",
          **{sign: f"\\{sign}" for sign in "&%$#_{}"}}
+
+# The same runs give the same bytes on every machine. The fonts of a PDF are TrueType. No name is shown as a formula.
+SETTINGS = {"svg.fonttype": "none", "svg.hashsalt": "pfs", "pdf.fonttype": 42, "axes.grid": True, "grid.alpha": 0.3,
+            "axes.spines.top": False, "axes.spines.right": False, "font.size": 9, "text.parse_math": False}
+# The approximate width and height of a letter in inches, and the most letters of a name in a picture.
+WIDE, HIGH, LONGEST = 0.077, 0.17, 40
+# Shorter times can't be measured.
+LEAST_SECONDS = 1e-9
+
+# Figures, axes and colours of matplotlib, which has no types.
+Axis = Any
 
 
 def report(args: argparse.Namespace) -> int:
@@ -46,25 +63,24 @@ def report(args: argparse.Namespace) -> int:
     shared, lacking = in_common(done[done["rpd"].notna()])
     compared = statistics.compared(done)
     args.folder.mkdir(parents=True, exist_ok=True)
-    shown = [write_table(args.folder / "table", table_of(runs), note)]
+    texts = [write_table(args.folder / "table", table_of(runs), note)]
     if done.empty:
         print("pfs-experiments report: no run succeeded: nothing to plot", file=sys.stderr)
         return 1
-    if len(compared):
-        shown.append(write_table(args.folder / "comparison", compared, statistics.NOTE))
-    write_text(args.folder / "instances.csv", csv_of(cells_of(by_instance(done))))
     best = done[done["order"] != ""].sort_values(["instance", "makespan"], kind="stable").drop_duplicates("instance")
-    if len(best):
-        names = ["instance", "method", "makespan", "order"]
-        write_text(args.folder / "best.csv", csv_of(cells_of(best[names])))
+    for name, table in (("instances", by_instance(done)), ("best", best[["instance", "method", "makespan", "order"]])):
+        if len(table):
+            write_text(args.folder / f"{name}.csv", csv_of(cells_of(table)))
+    ranks = statistics.ranked(shared) if len(shared) else shared
+    for name, table, text in (("comparison", compared, statistics.NOTE), ("ranks", ranks, statistics.RANKS)):
+        if len(table):
+            texts.append(write_table(args.folder / name, table, text))
     if len(shared):
-        if len(ranks := statistics.ranked(shared)):
-            shown.append(write_table(args.folder / "ranks", ranks, statistics.RANKS))
         write_sizes(shared, [*map(published, means)], args.folder, lacking)
     elif lacking:
         print(f"pfs-experiments report: no table of sizes: {plain(lacking)}", file=sys.stderr)
-    plots.plot(done, shared, args.folder, args.format, args.width, args.dpi, not args.no_title)
-    print("".join(shown), end="")
+    plot(done, shared, args.folder, args.format, args.width, args.dpi, not args.no_title)
+    print("".join(texts), end="")
     return 0
 
 
@@ -76,7 +92,11 @@ def read(paths: list[str], reference_path: str | None) -> tuple[pd.DataFrame, st
     stems = [pathlib.Path(path).stem for path in paths]
     runs = pd.concat([read_one(path, path if stems.count(stem) > 1 else stem) for path, stem in zip(paths, stems)],
                      ignore_index=True)
-    runs["order"] = orders_of(paths)
+    try:
+        from pfs.experiments.audit import orders_of
+        runs["order"] = orders_of(runs["row"].tolist())
+    except ImportError:  # no library, and no audit
+        runs["order"] = ""
     runs["audited"] = runs["order"] != ""
     lasts = runs["instance"].map(canonical)
     if len(paths) > 1 and runs["instance"].groupby([runs["method"], lasts]).nunique().max() == 1:
@@ -100,44 +120,36 @@ def read(paths: list[str], reference_path: str | None) -> tuple[pd.DataFrame, st
     return runs.fillna(dict.fromkeys(GROUP[1:], -1)), note
 
 
-def orders_of(paths: list[str]) -> list[str] | str:
-    """Returns the orders that were audited; none without the library."""
-    try:
-        from pfs.experiments import audit
-    except ImportError:
-        return ""
-    return audit.orders_of(paths)
-
-
 def published(path: str) -> pd.DataFrame:
     """Returns published means of the RPD, with a row for each size and a column for each method."""
-    read = pd.DataFrame({"method": "", **row} for row in rows_of(path, ["jobs", "machines", "rpd"]))
-    means = read.assign(method=read["method"].replace("", pathlib.Path(path).stem),
-                        **{name: numbers_in(read[name], name, path) for name in ("jobs", "machines", "rpd")})
+    read = pd.DataFrame({"method": "", **row} for row in rows_of(path, [*SIZE, "rpd"]))
+    means = read[["method"]].replace("", pathlib.Path(path).stem).join(numbers_in(read, [*SIZE, "rpd"], path))
     return means.pivot_table(index=SIZE, columns="method", values="rpd")
 
 
 def read_one(path: str, name: str) -> pd.DataFrame:
     """Reads the runs of a CSV. The results of a run that failed are unknown."""
-    usual = {"method": "", "seed": "", "status": "ok", **dict.fromkeys(RANGES, "")}
-    read = pd.DataFrame(usual | row for row in rows_of(path, ["instance", "makespan"]))
+    usual = {"method": "", "seed": "", "status": "ok", "order": "", **dict.fromkeys(GREATEST, "")}
+    read = pd.DataFrame({**usual, **row, "path": path, "line": str(line)}
+                        for line, row in enumerate(rows_of(path, ["instance", "makespan"]), 2))
     read.loc[read["status"].ne("ok") | read["makespan"].eq(""), ["makespan", "cells", "gap_percent", "seconds"]] = ""
-    runs = read[["instance", "seed"]].assign(method=read["method"].replace("", name), **{
-        column: numbers_in(read[column], column, path) for column in RANGES})
+    runs = read[["instance", "seed"]].assign(method=read["method"].replace("", name), row=read.to_dict("records"))
+    runs = runs.join(numbers_in(read, list(GREATEST), path))
     runs.loc[runs["time_factor"].notna(), "rounds"] = float("nan")
     return runs
 
 
-def numbers_in(texts: pd.Series, column: str, path: str) -> pd.Series:
-    """Returns the numbers of a column. Empty cells are unknown."""
-    given = texts[texts != ""]
-    values = given.where(given.str.fullmatch(NUMBER)).astype(float)
-    least, most = RANGES.get(column, (-100, 1e20))
-    wrong = given[~values.between(least, most) | ((column in WHOLE) & (values % 1 != 0))]
-    for text in wrong[:1]:
-        raise ExperimentError(f"{path}: {text[:40]!r} is not a number of the column {column}, from {least:g} to "
-                              f"{most:g}")
-    return values.reindex(texts.index)
+def numbers_in(read: pd.DataFrame, columns: list[str], path: str) -> pd.DataFrame:
+    """Returns the numbers of these columns. Empty cells are unknown."""
+    found = {}
+    for column in columns:
+        given = read[column][read[column] != ""]
+        found[column] = values = given.where(given.str.fullmatch(NUMBER)).astype(float)
+        least, most = LEAST.get(column, 0), GREATEST[column]
+        for text in given[~values.between(least, most) | ((column in WHOLE) & (values % 1 != 0))][:1]:
+            raise ExperimentError(f"{path}: {text[:40]!r} is not a number of the column {column}, from {least:g} to "
+                                  f"{most:g}")
+    return pd.DataFrame(found, index=read.index)
 
 
 def taillards_of(runs: pd.DataFrame) -> pd.DataFrame:
@@ -149,8 +161,8 @@ def taillards_of(runs: pd.DataFrame) -> pd.DataFrame:
 
 def check_bounds(runs: pd.DataFrame, taillards: pd.Series) -> None:
     """Rejects a makespan below the bound that a CSV has for its instance, or that of Taillard's instance."""
-    bounds = runs.groupby("instance")["bound"].transform("max")
-    bounds = bounds.where(~(bounds < taillards), taillards).fillna(taillards)
+    stated = runs.groupby("instance")["bound"].transform("max")
+    bounds = pd.concat([stated, taillards], axis=1).max(axis=1)
     for _, run in runs[runs["makespan"] < bounds][:1].iterrows():
         raise ExperimentError(f"{run['method']}: the makespan {run['makespan']:.0f} of {run['instance']} is below the "
                               f"bound {bounds[run.name]:.0f}: no order has it")
@@ -170,20 +182,18 @@ def references(runs: pd.DataFrame, taillards: pd.Series, path: str | None) -> tu
     makespan of the runs; else the others have none, as the best of few runs would make these look good."""
     done = runs[runs["makespan"].notna()]
     stated = reference_of(path) if path else {}
-    kinds = {
+    kinds = pd.DataFrame({
         f"the makespan in {path}": done["instance"].map({name: found[0] for name in done["instance"].unique()
                                                          for found in [reference_for(stated, name)] if found}),
         "the makespan in the column `reference`": done.groupby("instance")["reference"].transform("first"),
-        "the best known makespan of Taillard's instance": taillards[done.index]}
-    found, used = done["reference"] * float("nan"), list[str]()
-    for name, values in kinds.items():
-        if (found.isna() & values.notna()).any() or (path and not used):
-            used.append(name)
-        found = found.fillna(values)
-    if not used:
+        "the best known makespan of Taillard's instance": taillards[done.index]}, dtype=float)
+    found, given = kinds.bfill(axis=1).iloc[:, 0], kinds.notna()
+    used = (given & (given.cumsum(axis=1) == 1)).any()
+    used.iloc[0] |= path is not None
+    if not used.any():
         best_of_runs = done.groupby("instance")["makespan"].transform("min")
         return best_of_runs.reindex(runs.index), "RPD: relative to the best makespan of any of these runs."
-    return found.reindex(runs.index), f"RPD: relative to {', or else '.join(used)}."
+    return found.reindex(runs.index), f"RPD: relative to {', or else '.join(kinds.columns[used])}."
 
 
 # Tables
@@ -279,3 +289,194 @@ def latex(text: str) -> str:
 def stacked(head: str) -> str:
     """Returns the head of a column for LaTeX, with the parts of a name one below the other."""
     return rf"\shortstack[r]{{{latex(head)}}}".replace(", ", r"\\") if ", " in head else latex(head)
+
+
+# Plots. One is left out if no run has its values
+
+def size_name(size: tuple[float, ...]) -> str:
+    return "unknown" if -1 in size else "{:.0f}×{:.0f}".format(*size)
+
+
+def plot(done: pd.DataFrame, shared: pd.DataFrame, folder: pathlib.Path, ending: str, width: float | None, dpi: float,
+         titles: bool) -> None:
+    """Draws the plots of the runs that succeeded, of which those of the RPD are compared on what all settings have."""
+    matplotlib.rcdefaults()  # no matplotlibrc of the current folder
+    matplotlib.rcParams.update(SETTINGS)
+    done, shared = (runs.assign(method=runs["method"].map(shown)) for runs in (done, shared))
+    figures = {"gap": by_rounds(done, "gap_percent", "gap to the lower bound, %", "Gap to the bound", width),
+               "rpd": by_rounds(shared, "rpd", "RPD, %", "Relative percentage deviation", width),
+               "seconds": by_seconds(shared, width), "time": cell_times(done, width), "means": means(shared, width)}
+    for name, figure in figures.items():
+        if figure is not None:
+            if not titles:
+                figure.suptitle("")
+            atomic_write(folder / f"{name}.{ending}", picture_of(figure, ending, dpi))
+
+
+def shown(name: str) -> str:
+    """Returns a name as a picture shows it. Matplotlib leaves names that begin with an underscore out of a legend."""
+    name = plain(name)
+    return ("\u200b" if name.startswith("_") else "") + (name if len(name) <= LONGEST else f"{name[:LONGEST - 2]}..")
+
+
+def colour(part: float) -> Any:
+    return matplotlib.colormaps["viridis"](0.8 * part)
+
+
+def wrapped(text: str, inches: float) -> str:
+    """Returns a text broken into lines that fit."""
+    return textwrap.fill(text, max(12, int(inches / (1.12 * WIDE))))
+
+
+# Lines in panels
+
+def panels(points: pd.DataFrame, styles: dict[str, dict[str, Any]], columns: int, width: float | None, x: str, y: str,
+           title: str, legend: str) -> Figure:
+    """Draws a line through the points of each label, perhaps with a band, in panels of equal scale, in rows of at most
+    `columns`, and a legend of the labels below them. The values begin at 0 if none is less."""
+    titles = list(points["panel"].unique())
+    columns = min(columns, len(titles))
+    width = width or max(6.5, 4.2 * columns)
+    columns = max(1, min(columns, int(width / 2.2)))
+    rows = -(-len(titles) // columns)
+    in_legend = max(1, min(len(styles), int((width - 0.2) / (0.75 + WIDE * max(map(len, styles))))))
+    heights = [min(3.6, max(2.0, 0.75 * width / columns))] * rows + [HIGH * (1.5 + -(-len(styles) // in_legend))]
+    figure = Figure(figsize=(width, sum(heights) + 0.5), layout="constrained")
+    grid = figure.add_gridspec(rows + 1, columns, height_ratios=heights)
+    axes: dict[str, Axis] = {}
+    for at, panel in enumerate(titles):
+        first = axes.get(titles[0])
+        axis = axes[panel] = figure.add_subplot(grid[at // columns, at % columns], sharex=first, sharey=first)
+        axis.set_title(wrapped(panel, width / columns - 0.6), fontsize=9)
+        axis.tick_params(labelleft=at % columns == 0, labelbottom=at + columns >= len(titles))
+    lines = {}
+    for (panel, label), line in points.groupby(["panel", "label"], sort=False):
+        lines[label], = axes[panel].plot(line["x"], line["y"], label=label, clip_on=False, zorder=3, **styles[label])
+        if "low" in line:
+            axes[panel].fill_between(line["x"], line["low"], line["high"], alpha=0.2, linewidth=0,
+                                     color=styles[label]["color"])
+    if points.filter(["y", "low"]).min().min() >= 0:
+        axes[titles[0]].set_ylim(bottom=0)
+    below = figure.add_subplot(grid[rows, :])
+    below.set_axis_off()
+    below.set_title(x, fontsize=9, pad=2)
+    figure.supylabel(y, fontsize=9)
+    figure.suptitle(wrapped(title, width - 0.4), fontsize=10)
+    below.legend(lines.values(), lines.keys(), title=legend, handlelength=3, frameon=False, fontsize=8,
+                 title_fontsize=8, columnspacing=1, loc="upper center", ncol=in_legend, borderaxespad=0)
+    return figure
+
+
+def scale(axis: Axis, least: float, most: float, form: Callable[[float], str], kind: str, **options: float) -> None:
+    """Scales the horizontal axis of all panels, without marks between those that have a number."""
+    axis.set_xscale(kind, **options)
+    axis.set_xlim(least, most)
+    axis.xaxis.set_minor_locator(NullLocator())
+    axis.xaxis.set_major_formatter(lambda value, _: form(value))
+
+
+def by_rounds(done: pd.DataFrame, value: str, name: str, title: str, width: float | None) -> Figure | None:
+    """Draws a panel for each method, number of passes and take, with a line for each size, the mean of the seeds, and a
+    band from the least to the greatest of them. Runs of 0 rounds are the same for all takes and passes."""
+    runs = done[done[value].notna() & (done[["rounds", "take", "passes"]] >= 0).all(axis=1)]
+    if runs.empty:
+        return None
+    levels = ["method", "passes", "take", *SIZE, "rounds"]
+    zeros, later = runs[runs["rounds"] == 0].drop(columns=["take", "passes"]), runs[runs["rounds"] > 0]
+    runs = pd.concat([later, zeros.merge(runs[levels[:5]].drop_duplicates(), on=["method", *SIZE])])
+    jobs, machines, rounds = (sorted(set(runs[column])) for column in levels[3:])
+    several, takes = runs["method"].nunique() > 1, runs["take"].nunique()
+    seeds = runs.groupby([*levels, "seed"])[value].mean()
+    points = seeds.groupby(levels).agg(y="mean", low="min", high="max").reset_index()
+    points = points.assign(x=points["rounds"], label=points[SIZE].apply(size_name, axis=1), panel=[
+        f"{method}: " * several + f"take {take:.0f}, passes {passes:.0f}"
+        for method, passes, take in points[levels[:3]].itertuples(index=False)])
+    styles = {size_name(size): {"color": colour(jobs.index(size[0]) / max(1, len(jobs) - 1)), "marker": "o",
+                                "markersize": 3, "linestyle": ("-", "--", ":", "-.")[machines.index(size[1]) % 4]}
+              for size in points.groupby(SIZE).groups}
+    figure = panels(points, styles, takes if takes > 1 else 3, width, "rounds of iterated greedy", name,
+                    f"{title}: mean, and range over the seeds", "jobs×machines")
+    ends = rounds[0], max(rounds[-1], rounds[0] + 1)
+    if rounds[-1] > 20:  # logarithmically, with 0 before the rest
+        scale(figure.axes[0], *ends, "{:,.0f}".format, "symlog", linthresh=next(filter(None, rounds)), linscale=0.4)
+    else:
+        scale(figure.axes[0], *ends, "{:,.0f}".format, "linear")
+    return figure
+
+
+def by_seconds(done: pd.DataFrame, width: float | None) -> Figure | None:
+    """Draws the mean RPD by the mean seconds: a panel for each size, a line for each method, take and passes, a point
+    for each number of rounds or time factor."""
+    runs = done[done["rpd"].notna() & (done["seconds"] >= LEAST_SECONDS)]
+    if runs.empty:
+        return None
+    kind = ["method", "take", "passes"]
+    names = {key: key[0] + (f", take {key[1]:.0f}" if key[1] >= 0 else "") +
+             (f", passes {key[2]:.0f}" if key[2] > 0 else "") for key in runs.groupby(kind).groups}
+    points = runs.groupby([*SIZE, *kind, "rounds", "time_factor"])[["seconds", "rpd"]].mean().reset_index()
+    points = points.sort_values([*SIZE, *kind, "seconds"])
+    points = points.assign(x=points["seconds"], y=points["rpd"], panel=points[SIZE].apply(size_name, axis=1),
+                           label=[names[key] for key in points[kind].itertuples(index=False, name=None)])
+    styles = {label: {"color": colour(at / max(1, len(names) - 1)), "marker": "os^Dv"[at % 5], "fillstyle": "none",
+                      "markersize": 4} for at, label in enumerate(names.values())}
+    figure = panels(points, styles, 3, width, "processor time, s", "RPD, %",
+                    "Mean relative percentage deviation by time", "method")
+    least, most = (math.log10(points["x"].agg(end)) for end in ("min", "max"))
+    scale(figure.axes[0], 10.0 ** math.floor(least), 10.0 ** max(math.ceil(most), math.floor(least) + 1),
+          lambda value: f"{value:,.0f}" if 1 <= value < 1e6 else f"{value:g}", "log")
+    return figure
+
+
+# Values side by side
+
+def of_labels(labels: list[str], width: float | None, title: str, y: str) -> tuple[Figure, Axis]:
+    """Returns a figure with one axis that has these labels side by side, rotated if they don't fit otherwise."""
+    longest = max(len(line) for label in labels for line in label.split("\n"))
+    width = width or max(6.5, 1 + 0.6 * len(labels))
+    upright = (width - 1) / len(labels) < WIDE * longest + 0.1
+    figure = Figure(figsize=(width, 3.6 + (WIDE * longest if upright else 0)), layout="constrained")
+    figure.suptitle(wrapped(title, width - 0.4), fontsize=10)
+    axis = figure.subplots()
+    axis.set_xticks(range(1, len(labels) + 1), labels, rotation=90 if upright else 0)
+    axis.set_ylabel(y)
+    return figure, axis
+
+
+def cell_times(done: pd.DataFrame, width: float | None) -> Figure | None:
+    """Draws a box for each size, of the runs with the most rounds, on which the start of the process has the least
+    effect."""
+    runs = done[(done["cells"] > 0) & done["seconds"].notna() & (done[SIZE] >= 0).all(axis=1)]
+    if runs.empty:
+        return None
+    most, several = runs["rounds"].max(), runs["method"].nunique() > 1
+    runs = runs[runs["rounds"] == most].assign(area=runs["jobs"] * runs["machines"],
+                                               ns=1e9 * runs["seconds"] / runs["cells"])
+    boxes = list(runs.groupby(["area", *SIZE, "method"])["ns"])
+    labels = [size_name(key[1:3]) + f"\n{key[3]}" * several for key, _ in boxes]
+    of = f" at {most:,.0f} rounds, with the start of the process" if most >= 0 else " of searches by time"
+    figure, axis = of_labels(labels, width, f"Time per cell{of}: median, quartiles, minimum and maximum",
+                             "processor time per table cell, ns")
+    axis.boxplot([times for _, times in boxes], labels=labels, whis=(0, 100), widths=0.5)
+    axis.set_ylim(bottom=0)
+    axis.set_xlabel("jobs×machines")
+    return figure
+
+
+def means(shared: pd.DataFrame, width: float | None) -> Figure | None:
+    """Draws the mean RPD of each setting, with the confidence interval of 95 % by Student's t-distribution. Each
+    instance counts once, by its mean. The settings are compared on the same instances, so the means of the instances
+    are removed before the interval is computed (Cousineau 2005, Morey 2008)."""
+    if shared.empty:
+        return None
+    table = shared.pivot_table(index="instance", columns=SETTING, values="rpd")
+    instances, settings = table.shape
+    within = table if settings == 1 else table.sub(table.mean(axis=1), axis=0) * (settings / (settings - 1)) ** 0.5
+    halves = (scipy.stats.t.ppf(0.975, instances - 1) * within.std() / instances ** 0.5).fillna(0)
+    labels = [label.replace(", ", "\n") for label in setting_names(list(table.columns))]
+    figure, axis = of_labels(labels, width, "Mean relative percentage deviation, with confidence intervals of 95 %",
+                             "RPD, %")
+    axis.errorbar(range(1, settings + 1), table.mean(), halves, fmt="o", markersize=5, capsize=4,
+                  color=colour(0.3), ecolor="black", elinewidth=1)
+    axis.set_xlim(0.5, settings + 0.5)
+    axis.set_ylim(bottom=min(0, 1.05 * (table.mean() - halves).min()))
+    return figure

@@ -11,15 +11,15 @@ import os
 import pathlib
 import re
 import shlex
+import shutil
 import signal
 import subprocess
 import sys
-from types import FrameType
 
 from pfs._atomic import FORMULA, text_cell
 from pfs.experiments import ExperimentError, csv_text, one, plain, stage
 from pfs.experiments.plan import Row, reference_for, rows_of
-from pfs.experiments.stage import Experiment, prepare, require_program, stage_of, write_text
+from pfs.experiments.stage import Experiment, prepare, write_text
 
 COLUMNS = ["instance", "jobs", "machines", "rounds", "take", "passes", "seed", "repetition",
            "makespan", "bound", "gap_percent", "cells", "seconds", "status", "order", "reference", "source"]
@@ -41,14 +41,26 @@ MOST_TASKS, LEAST_SECONDS = 1000, 60
 SECONDS_A_CELL = 1e-9
 
 
+def begin(args: argparse.Namespace, program: str, package: str) -> tuple[Experiment, list[Row]]:
+    """Returns the prepared experiment and the runs that are left, after removing what there is of their results, so
+    that processes of an earlier start write into no file of a later one."""
+    if shutil.which(program) is None:
+        raise ExperimentError(f"{program} is not installed (Debian: {package})")
+    experiment = prepare(args.plan, args.csv, args.pfs)
+    left = [run for run in experiment.runs if not is_done(experiment.folder, run["number"], args.retry)]
+    for run in left:
+        (experiment.folder / "results" / run["number"]).unlink(missing_ok=True)
+    write_text(experiment.folder / "left.tsv", stage.table_of(left))
+    (experiment.folder / "joblog").unlink(missing_ok=True)
+    return experiment, left
+
+
 def run(args: argparse.Namespace) -> int:
     """Makes the runs that are left with GNU parallel, by default one per core at a time, and writes the CSV."""
-    require_program("parallel", "parallel")
-    experiment = prepare(args.plan, args.csv, args.pfs)
+    experiment, _ = begin(args, "parallel", "parallel")
     machines = args.sshloginfile
     if machines and os.path.isfile(machines):
         machines = os.path.abspath(machines)
-    list_left(experiment, args.retry)
     words = ["parallel", "--plain", "--will-cite", "--arg-file", "left.tsv", "--colsep", "\t", "--joblog", "joblog",
              "--results", "results/{1}"]
     words += ["--bar"] if sys.stderr.isatty() else []
@@ -69,16 +81,13 @@ def parallel(folder: pathlib.Path, words: list[str]) -> None:
         one.set_process(one.PR_SET_PDEATHSIG, signal.SIGINT)
         signal.pthread_sigmask(signal.SIG_UNBLOCK, stops)
 
-    def interrupt(_number: int, _frame: FrameType | None) -> None:
-        process.send_signal(signal.SIGINT)
-
     stops = {signal.SIGINT, signal.SIGTERM}
     signal.pthread_sigmask(signal.SIG_BLOCK, stops)
     one.set_process(one.PR_SET_CHILD_SUBREAPER, 1)
     process = subprocess.Popen(words, cwd=folder, stdin=subprocess.DEVNULL, stdout=subprocess.DEVNULL,
                                env=dict(os.environ, PARALLEL_SHELL="/bin/sh"), preexec_fn=begin)
     signal.signal(signal.SIGINT, signal.SIG_IGN)
-    signal.signal(signal.SIGTERM, interrupt)
+    signal.signal(signal.SIGTERM, lambda *_: process.send_signal(signal.SIGINT))
     signal.pthread_sigmask(signal.SIG_UNBLOCK, stops)
     process.wait()
     one.kill_descendants()
@@ -89,9 +98,7 @@ def parallel(folder: pathlib.Path, words: list[str]) -> None:
 def slurm(args: argparse.Namespace) -> int:
     """Submits an array that makes the runs that are left, waits for it and for earlier ones of the same CSV, and writes
     the CSV. After an interruption the array continues."""
-    require_program("sbatch", "slurm-client")
-    experiment = prepare(args.plan, args.csv, args.pfs)
-    left = list_left(experiment, args.retry)
+    experiment, left = begin(args, "sbatch", "slurm-client")
     # Runs that are shorter than a minute share a task.
     usual = min(MOST_TASKS, max(1, math.ceil(sum(map(seconds_of, left)) / LEAST_SECONDS)))
     tasks = min(len(left), int(args.tasks or usual))
@@ -123,17 +130,6 @@ def seconds_of(run: Row) -> float:
 
 
 # Results
-
-def list_left(experiment: Experiment, retry: bool) -> list[Row]:
-    """Lists the runs that are not done, and removes what there is of their results, so that processes of an earlier
-    start write into no file of a later one."""
-    left = [run for run in experiment.runs if not is_done(experiment.folder, run["number"], retry)]
-    for run in left:
-        (experiment.folder / "results" / run["number"]).unlink(missing_ok=True)
-    write_text(experiment.folder / "left.tsv", stage.table_of(left))
-    (experiment.folder / "joblog").unlink(missing_ok=True)
-    return left
-
 
 def is_done(folder: pathlib.Path, number: str, retry: bool) -> bool:
     result = result_of(folder, number)
@@ -185,7 +181,7 @@ def status(args: argparse.Namespace) -> int:
 
 def gather(experiment: Experiment, csv_path: str) -> tuple[int, int]:
     """Writes the CSV, one process at a time, so that no later one has fewer runs."""
-    held = os.open(experiment.folder / "csv.lock", os.O_RDWR | os.O_CREAT | os.O_NOFOLLOW | os.O_CLOEXEC, 0o666)
+    held = stage.opened(experiment.folder / "csv.lock")
     try:
         fcntl.flock(held, fcntl.LOCK_EX)
         return write_csv(experiment, csv_path)
@@ -256,18 +252,15 @@ def check(args: argparse.Namespace) -> int:
     """Audits each order of a CSV again, with the copies of the instances next to it, and compares the output with the
     CSV. Prints each wrong row, and the number of orders."""
     rows = [row for row in rows_of(args.csv, NEEDED) if row["status"] == "ok"]
-    folder = pathlib.Path(os.path.abspath(args.csv) + ".d")
-    if not (folder / "plan.json").exists():
-        raise ExperimentError(f"{args.csv}.d, the folder of the instances and the orders, is missing")
-    program = stage.find_pfs(args.pfs)
-    runs = stage.stored_plan(folder)["runs"]
+    experiment, program = stage.started(args.csv), stage.find_pfs(args.pfs)
     listed = {same({**run, "instance": path_cell(run["instance"]), "method": text_cell(run["method"])}): run
-              for run in runs}
-    faults = [(row, wrong(row, program, folder, listed.get(same(row)))) for row in rows]
-    for row, fault in faults:
+              for run in experiment.runs}
+    count = 0
+    for row in rows:
+        fault = wrong(row, program, experiment, listed.get(same(row)))
         if fault:
+            count += 1
             print(plain(", ".join(f"{column} {row[column]}" for column in SAME if row.get(column)) + f": {fault}"))
-    count = sum(fault != "" for _, fault in faults)
     print(f"{args.csv}: {len(rows)} orders audited, {count} of them wrong")
     return 1 if count else 0
 
@@ -277,15 +270,16 @@ def same(row: Row) -> tuple[str, ...]:
     return tuple("" if row.get("time_factor") and column == "rounds" else row.get(column, "") for column in SAME)
 
 
-def wrong(row: Row, program: str, folder: pathlib.Path, run: Row | None) -> str:
+def wrong(row: Row, program: str, experiment: Experiment, run: Row | None) -> str:
     """Returns what is wrong with a row, or an empty text."""
+    folder = experiment.folder
     if run is None:
         return f"the run is not in {folder.name}"
     if not row["order"]:
         return "the run has no order file"
     words = [program, "check", "--layout", run["layout"], "--block", run["block"], run["file"],
              str(folder.parent / row["order"])]
-    done = subprocess.run(words, cwd=folder / stage_of(folder), stdin=subprocess.DEVNULL, capture_output=True,
+    done = subprocess.run(words, cwd=folder / experiment.stage, stdin=subprocess.DEVNULL, capture_output=True,
                           text=True, errors="replace")
     printed = " ".join((done.stdout + done.stderr).split()).removesuffix(" optimal")
     expected = f"valid makespan {row['makespan']} bound {row['bound']}"

@@ -25,7 +25,7 @@ from pfs._atomic import atomic_write
 from pfs._benchmarks import taillard_rows
 from pfs._version import VERSION
 from pfs.experiments import ExperimentError, listed, one, plain
-from pfs.experiments.plan import Row, read_plan, reference_for, reference_of
+from pfs.experiments.plan import Reference, Row, read_plan, reference_for, reference_of
 
 # What plan.json has of a run: columns of the CSV, its number, the copy of its instance, and the seconds of a search by
 # time. Unknown values are empty, and hyphens in runs.tsv, which is made of it: a line for each number.
@@ -38,32 +38,19 @@ OF_ROUNDS = ["take", "passes", "seed"]
 ONE_JOB = b"1 1 1 0 0\nprocessing times :\n1\n"
 # Seconds after which a program that doesn't behave like pfs is killed.
 PATIENCE = 20
-# What the runs were made with.
-PROVENANCE = "provenance.json"
-# Of each input its name, its path, and the path of the copy that the runs use.
-Inputs = list[tuple[str, str, pathlib.Path]]
 
 
 class Experiment(NamedTuple):
-    """The folder of a plan's runs, the runs in the order of the CSV, and the reference."""
+    """The folder of a plan's runs, the name of its stage, the runs in the order of the CSV, and the reference."""
     folder: pathlib.Path
+    stage: str
     runs: list[Row]
-    reference: dict[str, tuple[int, str]]
-
-    @property
-    def stage(self) -> str:
-        return stage_of(self.folder)
+    reference: Reference
 
 
 def write_text(path: str | os.PathLike[str], text: str) -> None:
     """Replaces the content of a file atomically."""
     atomic_write(path, text.encode(errors="backslashreplace"))
-
-
-def require_program(program: str, package: str) -> None:
-    """Raises an error with the name of the package if a program is not installed."""
-    if shutil.which(program) is None:
-        raise ExperimentError(f"{program} is not installed (Debian: {package})")
 
 
 def find_pfs(program: str | None) -> str:
@@ -91,42 +78,47 @@ def taillard(args: argparse.Namespace) -> int:
     return 0
 
 
+def folder_of(csv_path: str) -> pathlib.Path:
+    return pathlib.Path(f"{os.path.abspath(csv_path)}.d")
+
+
 def prepare(plan_path: str, csv_path: str, program: str | None) -> Experiment:
     """Prepares the folder of a plan's runs. If it exists, the experiment continues with its program, its instances and
     its runs, and new runs of the plan are added. The folder is complete if it has the file plan.json."""
-    plan, top = read_plan(plan_path), os.path.dirname(os.path.abspath(plan_path))
+    plan, top, folder = read_plan(plan_path), os.path.dirname(os.path.abspath(plan_path)), folder_of(csv_path)
     reference = checked_reference(plan, top, plan_path) if plan["reference"] else {}
     if os.path.isdir(csv_path):
         raise ExperimentError(f"{csv_path}: Is a directory")
-    folder = pathlib.Path(os.path.abspath(csv_path) + ".d")
     if not folder.name.isprintable():
         raise ExperimentError(f"{csv_path}: the name of a CSV must be UTF-8 without control characters")
-    pfs = "" if (folder / "plan.json").exists() else find_pfs(program)
     folder.mkdir(parents=True, exist_ok=True)
     lock(folder, csv_path)
     try:
         if not (folder / "plan.json").exists():
-            begin(folder, pfs or find_pfs(program))
+            begin(folder, find_pfs(program))
         stored = {"places": {}, "runs": [], "methods": [], "layout": plan["layout"], **stored_plan(folder)}
-        commands, before = commands_of(plan), commands_of(stored)
-        if stored["layout"] != plan["layout"] or any(commands.get(name, was) != was for name, was in before.items()):
-            what = "command" if stored["layout"] == plan["layout"] else "layout"
+        commands = commands_of(plan)
+        others = {"layout": stored["layout"] != plan["layout"],
+                  "command": any(commands.get(name, was) != was for name, was in commands_of(stored).items())}
+        for what in filter(others.get, others):
             raise ExperimentError(f"{csv_path} was started with another {what}: use another CSV")
-        inputs = copied_inputs(plan, stored["places"], top, folder / stage_of(folder))
-        experiment = Experiment(folder, add_runs(plan, stored, top, folder, csv_path), reference)
-        note_start(folder, plan, inputs)
-        if changed := changed_in(inputs):
+        stage = folder / stage_of(folder)
+        inputs = copied_inputs(plan, stored["places"], top, stage)
+        runs = add_runs(plan, stored, reference, stage, csv_path)
+        note_start(stage, plan, inputs)
+        changed = [name for to, name in inputs.items() if not is_copy(stage / to, os.path.join(top, name))]
+        if changed:
             text = (f"{csv_path}: changed since they were copied for its runs: {', '.join(changed)}. The copies are "
                     f"used: to begin anew, name another CSV or delete {csv_path}.d")
             print(plain(text), file=sys.stderr, flush=True)
-        return experiment
+        return Experiment(folder, stage.name, runs, reference)
     except BaseException:
         if not (folder / "plan.json").exists():
             shutil.rmtree(folder, ignore_errors=True)
         raise
 
 
-def checked_reference(plan: dict[str, Any], top: str, plan_path: str) -> dict[str, tuple[int, str]]:
+def checked_reference(plan: dict[str, Any], top: str, plan_path: str) -> Reference:
     """Returns the reference of a plan, which must name an instance. Reports the instances that it lacks."""
     reference = reference_of(os.path.join(top, plan["reference"]))
     names = [label_of(plan, name, block) for name in plan["instances"] for block in plan["blocks"]]
@@ -140,15 +132,19 @@ def checked_reference(plan: dict[str, Any], top: str, plan_path: str) -> dict[st
     return reference
 
 
-def label_of(plan: dict[str, Any], name: str, block: int) -> str:
+def label_of(plan: dict[str, Any], name: str, block: object) -> str:
     """Returns the name of an instance in the CSV."""
     return name if plan["blocks"] == [1] else f"{name}:{block}"
 
 
+def opened(lock: pathlib.Path) -> int:
+    """Opens a file that is a lock. Child processes don't inherit it, and no link is followed."""
+    return os.open(lock, os.O_RDWR | os.O_CREAT | os.O_NOFOLLOW | os.O_CLOEXEC, 0o666)
+
+
 def lock(folder: pathlib.Path, csv_path: str) -> None:
-    """Waits for the lock of the folder, which names the process that has it. Child processes don't inherit it, so it is
-    free when this process ends."""
-    file = os.open(folder / "lock", os.O_RDWR | os.O_CREAT | os.O_NOFOLLOW | os.O_CLOEXEC, 0o666)
+    """Waits for the lock of the folder, which names the process that has it, and is free when this process ends."""
+    file = opened(folder / "lock")
     try:
         fcntl.flock(file, fcntl.LOCK_EX | fcntl.LOCK_NB)
     except BlockingIOError:
@@ -160,12 +156,13 @@ def lock(folder: pathlib.Path, csv_path: str) -> None:
         os.pwrite(file, f"{os.getpid()} on {os.uname().nodename}".encode(), 0)
 
 
+# Copies
+
 def begin(folder: pathlib.Path, pfs: str) -> None:
     """Makes the stage, after removing what a start has left that was killed."""
     for half_done in folder.glob("pfs-experiment-*"):
         shutil.rmtree(half_done)
     stage = folder / f"pfs-experiment-{secrets.token_hex(6)}"
-    (stage / "instances").mkdir(parents=True)
     (folder / "results").mkdir(exist_ok=True)
     for source, name in ((pfs, "pfs"), (one.__file__, "one")):
         copy(source, stage / name)
@@ -182,26 +179,22 @@ def copy(source: str, to: pathlib.Path) -> None:
         os.replace(new, to)
 
 
-def copied_inputs(plan: dict[str, Any], places: dict[str, int], top: str, stage: pathlib.Path) -> Inputs:
+def is_copy(copy: pathlib.Path, source: str) -> bool:
+    """Whether a file has not changed since it was copied. One that is gone has not."""
+    return not os.path.isfile(source) or filecmp.cmp(source, copy, shallow=False)
+
+
+def copied_inputs(plan: dict[str, Any], places: dict[str, int], top: str, stage: pathlib.Path) -> dict[str, str]:
     """Copies what the runs need: a command with its files, or the library for searches by time, and the instances.
-    Returns them and the program. Where the program and the library are is left out: every version of them finds the
-    same orders."""
+    Returns the names of the files and the instances, by their copies."""
     (stage / "files").mkdir(exist_ok=True)
     if any("time_factors" in each and "command" not in each for each in plan["methods"]):
         copy(library(), stage / one.LIBRARY)
-    files = dict.fromkeys(name for each in plan["methods"] for name in each.get("files", []))
-    inputs = [(name, os.path.join(top, name), stage / "files" / name) for name in files]
-    for name in plan["instances"]:
-        place = places.setdefault(name, len(places) + 1)
-        inputs.append((name, os.path.join(top, name), stage / "instances" / str(place)))
-    for _, path, to in inputs:
-        copy(path, to)
-    return [(name, "", stage / name) for name in ("pfs", one.LIBRARY) if (stage / name).exists()] + inputs
-
-
-def commands_of(plan: dict[str, Any]) -> dict[str, list[str] | None]:
-    """Returns the command line of each method, None for pfs."""
-    return {each["method"]: each.get("command") for each in plan["methods"]}
+    inputs = {f"files/{name}": name for each in plan["methods"] for name in each.get("files", [])}
+    inputs |= {f"instances/{places.setdefault(name, len(places) + 1)}": name for name in plan["instances"]}
+    for to, name in inputs.items():
+        copy(os.path.join(top, name), stage / to)
+    return inputs
 
 
 def library() -> str:
@@ -211,14 +204,38 @@ def library() -> str:
     return _library.PATH if "/" in _library.PATH or loaded is None else loaded[0]
 
 
+def note_start(stage: pathlib.Path, plan: dict[str, Any], inputs: dict[str, str]) -> None:
+    """Writes what the runs were made with, the version, the plan and the sums of the copies, and adds this start to the
+    earlier ones, unless the file of these is damaged. Where the program and the library were is left out: every version
+    of them finds the same orders."""
+    path, starts = stage.parent / "provenance.json", []
+    with contextlib.suppress(OSError, ValueError, RecursionError, KeyError, TypeError):
+        starts = list(json.loads(path.read_bytes())["starts"])
+    cpuinfo = pathlib.Path("/proc/cpuinfo")
+    processor = re.search(r"(?m)^model name\s*: *(.*)", cpuinfo.read_text(errors="replace") if cpuinfo.exists() else "")
+    starts.append({"at": datetime.datetime.now(datetime.timezone.utc).isoformat(timespec="seconds"),
+                   "host": os.uname().nodename, "processor": processor[1] if processor else platform.processor(),
+                   "processors": os.cpu_count(), "system": platform.platform(), "python": platform.python_version()})
+    sums = {name: hashlib.sha256((stage / to).read_bytes()).hexdigest()
+            for to, name in {"pfs": "pfs", one.LIBRARY: one.LIBRARY, **inputs}.items() if (stage / to).exists()}
+    text = json.dumps({"version": VERSION, "plan": plan, "sha256": sums, "starts": starts}, indent=1)
+    write_text(path, f"{text}\n")
+
+
 # The runs
 
-def add_runs(plan: dict[str, Any], stored: dict[str, Any], top: str, folder: pathlib.Path, csv_path: str) -> list[Row]:
+def commands_of(plan: dict[str, Any]) -> dict[str, list[str] | None]:
+    """Returns the command line of each method, None for pfs."""
+    return {each["method"]: each.get("command") for each in plan["methods"]}
+
+
+def add_runs(plan: dict[str, Any], stored: dict[str, Any], references: Reference, stage: pathlib.Path,
+             csv_path: str) -> list[Row]:
     """Adds the plan's new instances and runs to the folder, and returns all runs in the order of the plan. A run keeps
     its number."""
-    places, added = stored["places"], stored["runs"]
-    known, runs = {key_of(run): run for run in added}, dict[tuple[str, ...], Row]()
-    for run in planned_runs(plan, folder, places, {(run["file"], run["block"]): run for run in added}):
+    folder, added, runs = stage.parent, stored["runs"], dict[tuple[str, ...], Row]()
+    known = {key_of(run): run for run in added}
+    for run in planned_runs(plan, stored, stage):
         key = key_of(run)
         kept = {column: known[key][column] for column in ("number", *OF_ROUNDS)} if key in known else {}
         if key not in runs:
@@ -229,21 +246,20 @@ def add_runs(plan: dict[str, Any], stored: dict[str, Any], top: str, folder: pat
         what = ", ".join(f"{column} {value}" for column, value in zip(KEY[1:], min(gone)[1:]) if value)
         raise ExperimentError(f"{csv_path} was started with another plan, which has {what}: use another CSV, or delete "
                               f"{folder}")
-    write_text(folder / stage_of(folder) / "commands.json", json.dumps(commands_of(plan)))
+    write_text(stage / "commands.json", json.dumps(commands_of(plan)))
     write_text(folder / "runs.tsv", table_of(added))
-    order = [run["number"] for run in runs.values()]
-    write_text(folder / "plan.json", json.dumps({**plan, "top": top, "places": places, "runs": added, "order": order}))
+    write_text(folder / "plan.json", json.dumps({**plan, "references": references, "places": stored["places"],
+                                                 "runs": added, "order": [run["number"] for run in runs.values()]}))
     return list(runs.values())
 
 
 def started(csv_path: str) -> Experiment:
     """Returns an experiment as it was last started."""
-    folder = pathlib.Path(os.path.abspath(csv_path) + ".d")
+    folder = folder_of(csv_path)
     plan = stored_plan(folder)
     if not plan:
         raise ExperimentError(f"{csv_path} was not started: {folder.name} is missing")
-    reference = reference_of(os.path.join(plan["top"], plan["reference"])) if plan["reference"] else {}
-    return Experiment(folder, plan["order"], reference)
+    return Experiment(folder, stage_of(folder), plan["order"], plan.get("references", {}))
 
 
 def table_of(runs: list[Row]) -> str:
@@ -254,18 +270,15 @@ def key_of(run: Row) -> tuple[str, ...]:
     return tuple("" if run["rounds"] == "0" and column in OF_ROUNDS else run[column] for column in KEY)
 
 
-def planned_runs(plan: dict[str, Any], folder: pathlib.Path, places: dict[str, int],
-                 listed: dict[tuple[str, str], Row]) -> Iterator[Row]:
+def planned_runs(plan: dict[str, Any], stored: dict[str, Any], stage: pathlib.Path) -> Iterator[Row]:
     """Yields the runs of a plan, but for their numbers, in the order of the CSV, instance by instance."""
-    for name, block in itertools.product(plan["instances"], plan["blocks"]):
-        file = f"instances/{places[name]}"
-        known = listed.get((file, str(block)))
-        jobs, machines = (known["jobs"], known["machines"]) if known else size_of(
-            folder / stage_of(folder), "--from", plan["layout"], "--block", str(block), file)
-        label = label_of(plan, name, block)
+    sizes = {(run["file"], run["block"]): (run["jobs"], run["machines"]) for run in stored["runs"]}
+    for name, block in itertools.product(plan["instances"], map(str, plan["blocks"])):
+        file, label = f"instances/{stored['places'][name]}", label_of(plan, name, block)
+        jobs, machines = sizes.get((file, block)) or size_of(stage, "--from", plan["layout"], "--block", block, file)
         for method in plan["methods"]:
             for numbers in settings_of(method, jobs, machines, label):
-                yield dict(zip(RUN, ("", file, plan["layout"], str(block), *numbers, jobs, machines, label,
+                yield dict(zip(RUN, ("", file, plan["layout"], block, *numbers, jobs, machines, label,
                                      method["method"])))
 
 
@@ -320,37 +333,3 @@ def stage_of(folder: pathlib.Path) -> str:
     for stage in folder.glob("pfs-experiment-*"):
         return stage.name
     raise ExperimentError(f"{folder} has no copy of the program: delete it to start again")
-
-
-# Provenance
-
-def note_start(folder: pathlib.Path, plan: dict[str, Any], inputs: Inputs) -> None:
-    """Writes the version, the plan and the sums of the copies, and adds this start to the earlier ones."""
-    sums = {name: hashlib.sha256(copy.read_bytes()).hexdigest() for name, _, copy in inputs}
-    start = {"at": datetime.datetime.now(datetime.timezone.utc).isoformat(timespec="seconds"),
-             "host": os.uname().nodename, "processor": processor(), "processors": os.cpu_count(),
-             "system": platform.platform(), "python": platform.python_version()}
-    starts = [*earlier_starts(folder), start]
-    text = json.dumps({"version": VERSION, "plan": plan, "sha256": sums, "starts": starts}, indent=1)
-    write_text(folder / PROVENANCE, f"{text}\n")
-
-
-def earlier_starts(folder: pathlib.Path) -> list[Any]:
-    """Returns the starts in the file; none if there is no such file or it is damaged."""
-    with contextlib.suppress(OSError, ValueError, RecursionError, KeyError, TypeError):
-        return list(json.loads((folder / PROVENANCE).read_bytes())["starts"])
-    return []
-
-
-def processor() -> str:
-    """Returns the name of the processor, or an empty text."""
-    with contextlib.suppress(OSError), open("/proc/cpuinfo", encoding="utf-8", errors="replace") as file:
-        for line in file:
-            if line.startswith("model name"):
-                return line.partition(":")[2].strip()
-    return platform.processor()
-
-
-def changed_in(inputs: Inputs) -> list[str]:
-    """Returns the names of the inputs that differ from their copies. One that is gone has not changed."""
-    return [name for name, path, copy in inputs if os.path.isfile(path) and not filecmp.cmp(path, copy, shallow=False)]

@@ -8,6 +8,7 @@ import numpy as np
 import pandas as pd
 import scipy.stats
 
+SIZE = ["jobs", "machines"]
 SETTING = ["method", "rounds", "take", "passes", "time_factor"]
 # How the values of a setting are named, where a method's settings differ in them.
 FORMS = ("{:,.0f} rounds", "take {:,.0f}", "passes {:.0f}", "time factor {:g}")
