@@ -26,6 +26,7 @@ import time
 from collections import namedtuple
 from collections.abc import Iterable
 from types import FrameType
+from typing import NamedTuple
 
 HERE = os.path.dirname(os.path.abspath(__file__))
 LIBRARY = "libpfs.so.1"
@@ -50,9 +51,14 @@ class Failed(Exception):
     """A run failed. The message says how."""
 
 
-# The order file of a search, its cells and seconds, the rounds if it was by time, and how many processes a command has
-# left.
-Found = tuple[str, str, float, str, int]
+class Found(NamedTuple):
+    """The order file of a search, its cells and seconds, the rounds if it was by time, and how many processes a command
+    has left."""
+    order: str
+    cells: str
+    seconds: float
+    rounds: str = ""
+    left: int = 0
 
 
 def run_pfs(run: Run, *words: str, text: str = "") -> subprocess.CompletedProcess[bytes]:
@@ -91,7 +97,7 @@ def by_rounds(run: Run) -> Found:
     found = re.fullmatch("(.*\n)cells ([0-9]{1,20})\n", text, re.ASCII | re.DOTALL)
     if not found:
         raise Failed("solve: no cells printed")
-    return found[1], found[2], child_seconds() - before, "", 0
+    return Found(found[1], found[2], child_seconds() - before)
 
 
 def audit(run: Run, order: str) -> tuple[str, str]:
@@ -168,7 +174,7 @@ def by_time(run: Run) -> Found:
     except (OSError, AttributeError) as error:
         raise Failed(f"libpfs: {error}") from None
     order = order_file(f"order2 {jobs} {machines}", [job + 1 for job in running.order], running.makespan.value)
-    return order, str(running.cells), spent, str(running.rounds), 0
+    return Found(order, str(running.cells), spent, str(running.rounds))
 
 
 # Other programs
@@ -192,7 +198,7 @@ def by_command(words: list[str], run: Run) -> Found:
         verdict = run_pfs(run, "check", text=order_file(first, jobs, 0)).stdout.decode(errors="replace")
         computed = re.search("^computed ([0-9]{1,18})$", verdict, re.MULTILINE)
         order = order_file(first, jobs, int(computed[1]) if computed else 0)
-    return order, "", spent, "", left
+    return Found(order, "", spent, left=left)
 
 
 def order_of(text: str) -> tuple[str, list[str]]:
@@ -291,10 +297,10 @@ def main() -> None:
     try:
         with open(os.path.join(HERE, "commands.json"), encoding="utf-8") as file:
             command = json.load(file).get(run.method)
-        search = by_command(command, run) if command else by_rounds(run) if run.limit == "-" else by_time(run)
-        order, cells, seconds, rounds, left = search
-        row = [run.number, *audit(run, order), cells, f"{seconds:.6f}", "ok"]
-        row += [rounds, str(left)] if rounds or left else []
+        made = by_command(command, run) if command else by_rounds(run) if run.limit == "-" else by_time(run)
+        order = made.order
+        row = [run.number, *audit(run, order), made.cells, f"{made.seconds:.6f}", "ok"]
+        row += [made.rounds, str(made.left)] if made.rounds or made.left else []
     except (Failed, OSError) as failure:
         lost = f"lost: {failure.strerror}" if isinstance(failure, OSError) else str(failure)
         row = [run.number, "", "", "", "", lost]
