@@ -34,9 +34,9 @@ fn are_same(held: &[usize], seq: &[usize], a: usize, b: usize) -> bool
         & (held[a + 7] == seq[b + 7])
 }
 
-// The number of rows that are the same at the front, or up to seven fewer.
+/// The number of rows that are the same at the front, or up to seven fewer.
 #[inline(always)]
-fn common_front(held: &[usize], seq: &[usize]) -> usize
+pub fn common_front(held: &[usize], seq: &[usize]) -> usize
     ensures in_held { result ≤ length held.now }
     ensures in_seq { result ≤ length seq.now }
     ensures same { (row : ℕ) → row < result → slice_index_or held.now row 0 ≡ slice_index_or seq.now row 0 }

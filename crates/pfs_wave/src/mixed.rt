@@ -12,6 +12,7 @@ ghost use Rattle.pfs_wave.specs.Private.Payment.{IsPaid};
 
 use crate::best::Permits;
 use crate::blocks::Blocks;
+use crate::hold::common_front;
 use crate::long::Long;
 use crate::short::Short;
 use pfs_base::{Instance, Paid, Shop};
@@ -29,7 +30,7 @@ fn common_prefix(a: &[usize], b: &[usize]) -> usize
         → slice_index_or a.now result 0 ≢ slice_index_or b.now result 0 }
 {
     let rows = a.len().min(b.len());
-    for row in 0..rows {
+    for row in common_front(a, b)..rows {
         if a[row] != b[row] {
             return row;
         }
