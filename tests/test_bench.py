@@ -49,7 +49,7 @@ pub fn copy<B: Bench>(bench: &B) -> Result<B, std::alloc::AllocError> {
 # The same over a bench of lanes.
 REFUSED_LANES = {
     "reads_lanes": ("""/// The tables of a bench.
-pub fn tables(bench: &MeteredLanes) -> &pfs_wave::LaneTables {
+pub fn tables<'a>(bench: &'a MeteredLanes<'a>) -> &'a pfs_wave::LaneTables {
     &bench.tables
 }
 """, "error[private-field]: field `tables` of struct `MeteredLanes` is private"),
