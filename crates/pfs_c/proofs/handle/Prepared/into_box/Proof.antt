@@ -1,25 +1,16 @@
 -- The memory of a handle goes to a box, if the pointer is not null.
 use mir.Raw.{raw as bare}
-use mir.Syntax.{a_type, dcons}
-use mir.Val.{vptr}
-use base.Fml.{feq}
-use base.Logic.{SProp, guard, guard_i, fst∗, never, snd∗}
+use mir.{Syntax.a_type, Syntax.dcons, Val.vptr}
+use base.{Fml.feq, Logic.SProp, Logic.guard, Logic.guard_i, Logic.fst∗, Logic.never, Logic.snd∗}
 use prog.Wp.{WpFn}
-use contract.Lifetimes.{Lfts, Shares, AllOutlive}
-use contract.Monad.{fact_use}
-use contract.Running.{MachineTables}
+use contract.{Lifetimes.Lfts, Lifetimes.Shares, Lifetimes.AllOutlive, Monad.fact_use, Running.MachineTables}
 use types.Kit.{given, prop, at_ret, feq_i, learn, regoal}
 use types.Match.{live}
 use types.Run.{bin, first, blocks, branches, skips, exec, returns_within}
 use types.ByLocal.{lands_last, env}
-use denote.Memory.{lone}
-use denote.Param.{bounded}
-use denote.RawPtr.{block_ptr, in_a_block, Testable, tests_null}
-use denote.Triple.Call.{calls_at_last}
-use denote.Triple.Clauses.{Clauses}
-use denote.Triple.Entry.{on_entry}
-use denote.Triple.Statement.{Triple}
-use denote.Triple.Walked.{walk_of}
+use denote.{Memory.lone, Param.bounded, RawPtr.block_ptr, RawPtr.in_a_block, RawPtr.Testable, RawPtr.tests_null}
+use denote.{Triple.Call.calls_at_last, Triple.Clauses.Clauses, Triple.Entry.on_entry, Triple.Statement.Triple}
+use denote.{Triple.Walked.walk_of}
 use Rattle.core.specs.Ptr.{points_to}
 use Rattle.core.proofs.option.Made.{Some-of, none_of}
 use Rattle.core.specs.contracts.option.Option as option
@@ -67,8 +58,7 @@ module _ {M : Type 1} (𝓤 : Ura M) (𝓛 : Logic 𝓤) (𝓜 : Model 𝓤 𝓛
   testable alloc at x =
       let token = sem 𝓛 (ghosts.dealloc_token alloc (bare (lone kept.mir)) at) in
       fact_use 𝓤 (Testable at) (via 𝓤 token (snd∗ 𝓤 (sem 𝓛 (points_to kept at x)) token)
-      (dealloc_token-Testable 𝓛 alloc (bare (lone kept.mir)) at))
-      (λ may. guard_i 𝓤 (Testable at) (sem 𝓛 (owned-by alloc at x)) may)
+      (dealloc_token-Testable 𝓛 alloc (bare (lone kept.mir)) at)) (guard_i 𝓤 (Testable at) (sem 𝓛 (owned-by alloc at x)))
 
   module _ (κs : Lfts 0) (qs : Shares 0) (bounds : AllOutlive 0 f.signature.outlives κs)
       (meets : Triple 𝓤 (𝓣.C (g.Key.name (bounded (a_type ∷ a_type ∷ []) (T, (A, tt)) (dcons dict (dcons drops-a

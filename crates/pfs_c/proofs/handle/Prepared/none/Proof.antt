@@ -1,6 +1,6 @@
 -- A handle with a null pointer owns only facts.
 use types.Kit.{fpack}
-use denote.Triple.Entry.{on_entry}
+use denote.{Triple.Entry.on_entry}
 use Rattle.pfs_c.proofs.HandleSteps.{◌≡◌, List, [], ◌∷◌, Val, refl, None, proved, global, global-lowered, global-lowers, Prepared}
 use Rattle.pfs_c.proofs.HandleSteps.{lowered, handle, ftrue, ‵, raw, ◌$◌, ◌∵◌, !, qed, use1, join, suffices, done, drop}
 use Rattle.pfs_c.proofs.HandleSteps.{agg, enter, lit, and_then, no_more, returns, alloc_all, pass_all, free_all, look_at}

@@ -1,20 +1,12 @@
 -- The memory of a box goes to a handle.
-use mir.Syntax.{Callee, method, no_args}
-use mir.Val.{vstruct}
-use base.Fml.{fsep}
-use base.Logic.{comm∗, emp∗}
+use mir.{Syntax.method, Syntax.no_args, Val.vstruct}
+use base.{Fml.fsep, Logic.comm∗, Logic.emp∗}
 use types.Kit.{feq_l, rewrite, show}
 use types.ByLocal.{lands_as}
-use denote.Exit.{no}
+use denote.{Exit.no, RawPtr.RawPtr, RawPtr.ptr_val, Steps.only, Struct.Tuple.Tuple, Triple.Call.calls_at}
+use denote.{Triple.Carry.beside, Triple.Carry.spared, Triple.Clauses.closing, Triple.Spec.Meets, Triple.Spec.Spec}
+use denote.{Triple.Table.run_framed, Triple.Table.widened}
 use denote.Param.Glue as glue
-use denote.RawPtr.{RawPtr, ptr_val}
-use denote.Steps.{only}
-use denote.Struct.Tuple.{Tuple}
-use denote.Triple.Call.{calls_at}
-use denote.Triple.Carry.{beside, spared}
-use denote.Triple.Clauses.{closing}
-use denote.Triple.Spec.{Meets, Spec}
-use denote.Triple.Table.{run_framed, widened}
 use Rattle.std_alloc.specs.contracts.boxed.Box.into_raw_with_allocator as g
 use Rattle.std_alloc.proofs.boxed.Box.into_raw_with_allocator.Met.{met as raw-met}
 use Rattle.pfs_c.specs.contracts.pfs_c++kept++Kept+Destruct.drop as kept-drop
@@ -48,13 +40,11 @@ module _ {M : Type 1} (𝓤 : Ura M) (𝓛 : Logic 𝓤) (𝓜 : Model 𝓤 𝓛
   G = triple_of 𝓛 given.signature (g.spec T A ghosts dict drops-a drops-t 𝓛 𝓜.mem 𝓡.returns)
 
   -- The drop of a kept instance asks nothing, and nothing is read of what it leaves.
-  kept-glue : Meets 𝓛 kept-drop.signature (𝓡.run (𝓡.env (method drops-t 0 no_args))) (kept-drop.spec 𝓛 𝓜.mem
-      𝓡.returns)
-      → glue.Met 𝓛 𝓜 𝓡 𝓡.env T drops-t
+  kept-glue : Meets 𝓛 kept-drop.signature (𝓡.run (𝓡.env (method drops-t 0 no_args)))
+      (kept-drop.spec 𝓛 𝓜.mem 𝓡.returns) → glue.Met 𝓛 𝓜 𝓡 𝓡.env T drops-t
   kept-glue met =
-      let k : Callee = method drops-t 0 no_args in
-      let run = 𝓡.run (𝓡.env k) in
-      let framed-run = run_framed 𝓤 𝓛.H 𝓜 𝓡 (𝓡.env k) in
+      let run = 𝓡.run (𝓡.env (method drops-t 0 no_args)) in
+      let framed-run = run_framed 𝓤 𝓛.H 𝓜 𝓡 (𝓡.env (method drops-t 0 no_args)) in
       let said : Spec 𝓤 kept-drop.signature = kept-drop.spec 𝓛 𝓜.mem 𝓡.returns in
       let spent : Spec 𝓤 kept-drop.signature = closing 𝓛 (record { signature = kept-drop.signature; kept = (no, tt) })
       (λ κs a. record { ghost = Unit {0}; requires = λ _. emp 𝓤; ensures = λ _ r e. emp 𝓤 }) in
