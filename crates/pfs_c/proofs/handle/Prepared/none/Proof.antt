@@ -10,12 +10,10 @@ use Rattle.pfs_c.specs.contracts.handle.Prepared.none as f
 use Rattle.pfs_c.proofs.handle.Prepared.none.Statement.{statement}
 use Rattle.pfs_c.proofs.handle.Prepared.none.Code as code
 
-abbrev stayed : Stays f.ended.signature.params f.ended.kept
-stayed = (stay_dropped _ yes, tt)
-
 pub none_spec : {M : Type 1} → statement M
 none_spec 𝓤 𝓛 𝓜 𝓡 wired =
     let c = f.clauses 𝓛 𝓜.mem 𝓡.returns in
+    let stayed : Stays f.ended.signature.params f.ended.kept = (stay_dropped _ yes, tt) in
     proved 𝓛 f.ended stayed c 𝓜 𝓡 (Goes-dropped 𝓛 0 (plain (λ _. global)) yes (λ κs x w. refl), tt)
     f.Key.name code.function (code.unfolded 𝓤 𝓛.H 𝓜 𝓡 wired)
     (λ κs. ((λ a. global-lowered a ∷ []), tt)) (λ κs. (global-lowers.val_is, tt)) (λ κs qs bounds a _ are.

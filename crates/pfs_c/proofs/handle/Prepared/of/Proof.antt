@@ -26,9 +26,6 @@ use Rattle.pfs_c.specs.contracts.handle.Prepared.of as f
 use Rattle.pfs_c.proofs.handle.Prepared.of.Statement.{statement}
 use Rattle.pfs_c.proofs.handle.Prepared.of.Code as code
 
-abbrev stayed : Stays f.ended.signature.params f.ended.kept
-stayed = (stay_dropped _ yes, tt)
-
 abbrev drops-t : Dict
 drops-t = impl ("pfs_c::pfs_c++kept++Kept+Destruct::drop" ∷ []) tnil dnil
 
@@ -61,6 +58,7 @@ unfolding Rattle.pfs_c.proofs.Destruct++none.drop.Code.code
 of_spec 𝓤 𝓛 𝓜 𝓡 wired =
     let γ = 𝓡.env in
     let c = f.clauses 𝓛 𝓜.mem 𝓡.returns in
+    let stayed : Stays f.ended.signature.params f.ended.kept = (stay_dropped _ yes, tt) in
     let meets = raw-met 𝓤 𝓛 𝓜 𝓡 (code.calls-std_alloc::boxed::Box::into_raw_with_allocator γ wired) T A T-laws A-laws ghosts dict drops-a drops-t
     (passed γ (code.calls-std_heap::GlobalAllocator::allocate γ wired) (code.calls-std_heap::GlobalAllocator::deallocate γ wired) (code.calls-std_heap::GlobalAllocator::grow γ wired) (code.calls-std_heap::GlobalAllocator::shrink γ wired) _ 𝓤 𝓛 𝓜 𝓡)
     (glues "pfs_c::Destruct++none::drop" γ (code.calls-pfs_c::Destruct++none::drop γ wired) A A-laws _ 𝓤 𝓛 𝓜 𝓡)
