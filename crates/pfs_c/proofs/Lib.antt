@@ -1,7 +1,7 @@
 pub mod Returning
 pub mod FaultLaws
 pub mod Gathered
-pub mod HandleValues
+pub mod HandleSteps
 pub mod Jobs
 pub mod ManyLemmas
 pub mod Marks

@@ -1,67 +1,37 @@
 -- The memory of a handle goes to a box, if the pointer is not null.
-use mathlib.Core.Path.{◌≡◌, refl, sym, ap}
-use mathlib.Core.List.{List, [], ◌∷◌}
-use lib.Dec.{lit<}
-use seplogic.Ra.Ura.{Ura}
 use mir.Raw.{raw as bare}
-use mir.Syntax.{a_type, dcons, dnil}
-use mir.Val.{Val, of_list, vptr}
-use base.Fml.{Fml, flft, ftrue}
-use base.Fraction.{full_share}
-use base.Logic.{SProp, emp, ent, sep, guard, guard_i, fst∗, never, snd∗, via, id⊢}
-use prog.Model.{Model}
+use mir.{Syntax.a_type, Syntax.dcons, Val.vptr}
+use base.{Fml.feq, Logic.SProp, Logic.guard, Logic.guard_i, Logic.fst∗, Logic.never, Logic.snd∗}
 use prog.Wp.{WpFn}
-use contract.BorrowLft.{◌⊑◌, ⊑_static}
-use contract.Lifetimes.{Lfts, Shares, AllOutlive}
-use contract.Monad.{fact, fact_i, fact_use}
-use contract.Running.{Running, MachineTables, tables}
-use types.Logic.{Logic, sem}
-use types.Kit.{‵, raw, ◌⊛◌, some, later, given, prop, at_ret, ◌$◌, ◌∵◌, !, qed, use0, use1, use2, await, pick, split, join}
-use types.Kit.{fsplit, fpick, feq_i, learn, regoal, suffices, keep, move, drop, done}
+use contract.{Lifetimes.Lfts, Lifetimes.Shares, Lifetimes.AllOutlive, Monad.fact_use, Running.MachineTables}
+use types.Kit.{given, prop, at_ret, feq_i, learn, regoal}
 use types.Match.{live}
-use types.Part.{agg, sub, whole}
-use types.Run.{enter, of_opd, bin, lit, and_then, no_more, first, blocks, branches, skips, exec, returns, returns_within}
-use types.Run.{fld, stop}
-use types.ByLocal.{alloc_all, pass_all, free_all, look_at, get, get_in, sets, lands_last, env}
-use denote.Exit.{yes}
-use denote.Laws.{Is, shows}
-use denote.Memory.{lone}
-use denote.Param.{bounded}
-use denote.Param.NoDrop.{glues}
-use denote.RawPtr.{Ptr, block_ptr, null_ptr, in_a_block, Testable, tests_null, rawptr_Lawful}
-use denote.Signature.{plain}
-use denote.Steps.{heard, nothing, owned, peeks}
-use denote.Triple.Call.{calls_at_last}
-use denote.Triple.Clauses.{Clauses, Ended, Lasts, lasts}
-use denote.Triple.Entry.{on_entry}
-use denote.Triple.Spec.{triple_of}
-use denote.Triple.Statement.{Contract, Triple}
-use denote.Triple.Table.{framed}
-use denote.Triple.Walked.{Stays, walk_of, stay_dropped, Goes-dropped, ends_at, says}
+use types.Run.{bin, first, blocks, branches, skips, exec, returns_within}
+use types.ByLocal.{lands_last, env}
+use denote.{Memory.lone, Param.bounded, RawPtr.block_ptr, RawPtr.in_a_block, RawPtr.Testable, RawPtr.tests_null}
+use denote.{Triple.Call.calls_at_last, Triple.Clauses.Clauses, Triple.Entry.on_entry, Triple.Statement.Triple}
+use denote.{Triple.Walked.walk_of}
 use Rattle.core.specs.Ptr.{points_to}
 use Rattle.core.proofs.option.Made.{Some-of, none_of}
 use Rattle.core.specs.contracts.option.Option as option
-use Rattle.std.proofs.raw_atomic.Walks.{proved}
-use Rattle.std.specs.Prelude.{Option, None, Some}
-use Rattle.std_alloc.specs.Box.Ownership.{box_owns}
 use Rattle.std_alloc.proofs.ResultValues.{and_tt}
 use Rattle.std_alloc.specs.contracts.boxed.Box.from_raw as g
 use Rattle.std_alloc.proofs.boxed.Box.from_raw.Met.{met as raw-met}
-use Rattle.std_heap.specs.declared.Global.{Global}
-use Rattle.std_heap.specs.contracts.Global.{the_row as global}
-use Rattle.std_heap.specs.contracts.GlobalAllocator.TheImpl.{ghosts, dict}
-use Rattle.std_heap.proofs.Global.TheLaws as of-global
-use Rattle.std_heap.proofs.GlobalAllocator.TheImpl.Met.{passed}
 use Rattle.std_heap.proofs.GlobalToken.{dealloc_token-Testable}
-use Rattle.pfs_c.specs.contracts.kept.Kept.{the_row as kept}
-use Rattle.pfs_c.specs.contracts.handle.Prepared.{the_row as handle}
-use Rattle.pfs_c.specs.declared.handle.Prepared.{Prepared}
-use Rattle.pfs_c.proofs.handle.Prepared.TheLaws.{lowered, lowers}
+use Rattle.pfs_c.proofs.HandleSteps.{◌≡◌, List, [], ◌∷◌, refl, sym, ap, lit<, Option, None, Some, proved, box_owns}
+use Rattle.pfs_c.proofs.HandleSteps.{Global, global, ghosts, dict, global-lowered, passed, kept, handle, Prepared}
+use Rattle.pfs_c.proofs.HandleSteps.{lowered, lowers, Ura, dnil, Val, of_list, Fml, ftrue, full_share, ent, sep, via}
+use Rattle.pfs_c.proofs.HandleSteps.{id⊢, Model, fact, Running, tables, Logic, sem, ‵, raw, ◌⊛◌, some, later, ◌$◌, ◌∵◌}
+use Rattle.pfs_c.proofs.HandleSteps.{!, qed, use0, use1, use2, await, pick, split, join, fsplit, fpick, suffices, keep}
+use Rattle.pfs_c.proofs.HandleSteps.{move, drop, done, agg, sub, whole, enter, of_opd, lit, and_then, no_more, returns}
+use Rattle.pfs_c.proofs.HandleSteps.{fld, stop, alloc_all, pass_all, free_all, look_at, get, get_in, sets, yes, Is}
+use Rattle.pfs_c.proofs.HandleSteps.{shows, glues, Ptr, null_ptr, rawptr_Lawful, plain, heard, nothing, owned, peeks}
+use Rattle.pfs_c.proofs.HandleSteps.{Ended, Lasts, lasts, triple_of, Contract, framed, Stays, stay_dropped}
+use Rattle.pfs_c.proofs.HandleSteps.{Goes-dropped, ends_at, says, A, A-laws, T, T-laws, boxed, boxed-laws, drops-a}
+use Rattle.pfs_c.proofs.HandleSteps.{global-is, global-made, global-typed, handle-typed, κs-static, tokens, at-static}
 use Rattle.pfs_c.specs.contracts.handle.Prepared.into_box as f
 use Rattle.pfs_c.proofs.handle.Prepared.into_box.Statement.{statement}
 use Rattle.pfs_c.proofs.handle.Prepared.into_box.Code as code
-use Rattle.pfs_c.proofs.HandleValues.{A, A-laws, T, T-laws, boxed, boxed-laws, drops-a, global-is, global-made}
-use Rattle.pfs_c.proofs.HandleValues.{global-typed, handle-typed, κs-static, tokens}
 
 abbrev stayed : Stays f.ended.signature.params f.ended.kept
 stayed = (stay_dropped _ yes, tt)
@@ -88,8 +58,7 @@ module _ {M : Type 1} (𝓤 : Ura M) (𝓛 : Logic 𝓤) (𝓜 : Model 𝓤 𝓛
   testable alloc at x =
       let token = sem 𝓛 (ghosts.dealloc_token alloc (bare (lone kept.mir)) at) in
       fact_use 𝓤 (Testable at) (via 𝓤 token (snd∗ 𝓤 (sem 𝓛 (points_to kept at x)) token)
-      (dealloc_token-Testable 𝓛 alloc (bare (lone kept.mir)) at))
-      (λ may. guard_i 𝓤 (Testable at) (sem 𝓛 (owned-by alloc at x)) may)
+      (dealloc_token-Testable 𝓛 alloc (bare (lone kept.mir)) at)) (guard_i 𝓤 (Testable at) (sem 𝓛 (owned-by alloc at x)))
 
   module _ (κs : Lfts 0) (qs : Shares 0) (bounds : AllOutlive 0 f.signature.outlives κs)
       (meets : Triple 𝓤 (𝓣.C (g.Key.name (bounded (a_type ∷ a_type ∷ []) (T, (A, tt)) (dcons dict (dcons drops-a
@@ -106,11 +75,8 @@ module _ {M : Type 1} (𝓤 : Ura M) (𝓛 : Logic 𝓤) (𝓜 : Model 𝓤 𝓛
     abbrev Walk : Prepared → Type 1
     Walk h = ent 𝓤 (sep 𝓤 (on_entry 𝓛 f.signature κs qs (h, tt) (lowered h ∷ [], tt)) (sem 𝓛 ftrue)) (Runs h)
 
-    walk : (at : Ptr) (alloc : Global) (shop : Option kept.Denot) → Walk (record {
-      at = at;
-      alloc = alloc;
-      shop = shop;
-    })
+    walk : (at : Ptr) (alloc : Global) (shop : Option kept.Denot)
+        → Walk (record { at = at; alloc = alloc; shop = shop })
     walk at alloc None =
         let h : Prepared = record { at = at; alloc = alloc; shop = None } in
         let none : Prepared = record { at = null_ptr; alloc = alloc; shop = None } in
@@ -137,7 +103,7 @@ module _ {M : Type 1} (𝓤 : Ura M) (𝓛 : Logic 𝓤) (𝓜 : Model 𝓤 𝓛
         let there : Prepared = record h { at = block_ptr b o } in
         let word : List Val = vptr b o ∷ [] in
         let args : Global × (Ptr × Unit {0}) = (alloc, (block_ptr b o, tt)) in
-        let z : G.Ghost = ((κs-static, (full_share, (full_share, tt)), tt, args, (of-global.lowered alloc ∷ [], (word, tt))), x) in
+        let z : G.Ghost = ((κs-static, (full_share, (full_share, tt)), tt, args, (global-lowered alloc ∷ [], (word, tt))), x) in
         regoal ! (λ (p : Ptr). prop (Runs (record h { at = p }))) is_block refl $
         use1 𝓛 (given (Testable (block_ptr b o)) (‵ (owned-by alloc (block_ptr b o) x))) (testable alloc (block_ptr b o) x) $ learn ! (λ may.
         enter ! _ _ _ _ _ $ alloc_all ! (λ l. pass_all ! refl (handle-typed 𝓛 there) $
@@ -151,12 +117,9 @@ module _ {M : Type 1} (𝓤 : Ura M) (𝓛 : Logic 𝓤) (𝓜 : Model 𝓤 𝓛
         first ! $ blocks ! $ sets ! (of_opd ! (get ! refl)) refl (global-typed 𝓛 alloc).0 $
         sets ! (of_opd ! (get ! refl)) refl (tt, tt) $ sets ! (of_opd ! (get ! refl)) refl (tt, tt) $
         nothing ! $ feq_i ! (List Val) word word refl $ join ! $
-        owned ! global (Is global) (global-made 𝓛) alloc (of-global.lowered alloc ∷ []) (global-is alloc) $ join ! $
-        nothing ! $ use0 𝓛 (‵ (flft [] full_share)) (𝓛.lfts.lft-nil full_share) $ join ! $
-        use0 𝓛 (‵ (flft [] full_share)) (𝓛.lfts.lft-nil full_share) $ join ! $ join ! $ move ! (1 ∷ []) $
-        use0 𝓛 (raw (fact 𝓤 ([] ⊑ A.lives))) (fact_i 𝓤 ([] ⊑ A.lives) (emp 𝓤) (⊑_static [])) $ join ! $
-        use0 𝓛 (raw (fact 𝓤 ([] ⊑ T.lives))) (fact_i 𝓤 ([] ⊑ T.lives) (emp 𝓤) (⊑_static [])) $ join ! $ move ! (1 ∷ []) $
-        use2 𝓛 (raw (G.pre z)) (id⊢ 𝓤 _) $
+        owned ! global (Is global) (global-made 𝓛) alloc (global-lowered alloc ∷ []) (global-is alloc) $ join ! $
+        use2 𝓛 (raw (G.pre z)) (at-static 𝓛 (sep 𝓤 (sem 𝓛 (global.own_val alloc (global-lowered alloc ∷ [])))
+        (sep 𝓤 (sem 𝓛 (feq (List Val) word word)) (sem 𝓛 ftrue))) (sem 𝓛 (owned-by alloc (block_ptr b o) x))) $
         calls_at_last ! (framed 𝓤 𝓛.H 𝓜 𝓣) G meets z (and_then ! (get ! refl) (and_then ! (get ! refl) (no_more !))) (λ w.
         use1 𝓛 (later (some (λ (r : boxed.Denot). (‵ tokens ⊛ ‵ (boxed.own_val r (w ∷ []))) ⊛
         some (λ (ws : Lasts given-back κs-static args). ‵ (lasts given-back κs-static args ws) ⊛ raw (fact 𝓤 (r.value ≡ x)) ⊛ raw (fact 𝓤 (r.alloc ≡ alloc)))))) (id⊢ 𝓤 _) $

@@ -1,63 +1,30 @@
 -- The memory of a box goes to a handle.
-use mathlib.Core.Path.{◌≡◌, ◌∙◌, refl, sym, ap}
-use mathlib.Core.List.{List, [], ◌∷◌, ◌++◌}
-use seplogic.Ra.Ura.{Ura}
-use mir.Syntax.{Callee, Dict, dnil, impl, method, no_args, tnil}
-use mir.Val.{Val, of_list, vstruct}
-use base.Fml.{Fml, flft, fsep, ftrue}
-use base.Fraction.{full_share}
-use base.Logic.{comm∗, emp, emp∗, sep, via, id⊢}
-use prog.Model.{Model}
-use contract.BorrowLft.{◌⊑◌, ⊑_static}
-use contract.Monad.{fact, fact_i}
-use contract.Running.{Running, tables}
-use types.Logic.{Logic, sem}
-use types.Kit.{‵, raw, ◌⊛◌, some, later, ◌$◌, ◌∵◌, !, qed, use0, use1, use2, await, pick, split, join, fsplit, fjoin}
-use types.Kit.{feq_l, fpick, suffices, show, keep, move, drop, rewrite, done}
-use types.Part.{agg, sub, whole}
-use types.Run.{enter, of_opd, and_then, no_more, returns, fld, stop}
-use types.ByLocal.{alloc_all, pass_all, free_all, look_at, get, get_in, sets, lands_as}
-use denote.Exit.{no, yes}
-use denote.Laws.{Is, shows}
+use mir.{Syntax.method, Syntax.no_args, Val.vstruct}
+use base.{Fml.fsep, Logic.comm∗, Logic.emp∗}
+use types.Kit.{feq_l, rewrite, show}
+use types.ByLocal.{lands_as}
+use denote.{Exit.no, RawPtr.RawPtr, RawPtr.ptr_val, Steps.only, Struct.Tuple.Tuple, Triple.Call.calls_at}
+use denote.{Triple.Carry.beside, Triple.Carry.spared, Triple.Clauses.closing, Triple.Spec.Meets, Triple.Spec.Spec}
+use denote.{Triple.Table.run_framed, Triple.Table.widened}
 use denote.Param.Glue as glue
-use denote.Param.NoDrop.{glues}
-use denote.RawPtr.{Ptr, RawPtr, ptr_val, rawptr_Lawful}
-use denote.Signature.{plain}
-use denote.Steps.{heard, nothing, only, owned, peeks}
-use denote.Struct.Owning.{to}
-use denote.Struct.Tuple.{Tuple}
-use denote.Triple.Call.{calls_at}
-use denote.Triple.Carry.{beside, spared}
-use denote.Triple.Clauses.{Ended, Lasts, closing, lasts}
-use denote.Triple.Spec.{Meets, Spec, triple_of}
-use denote.Triple.Statement.{Contract}
-use denote.Triple.Table.{framed, run_framed, widened}
-use denote.Triple.Walked.{Stays, stay_dropped, Goes-dropped, ends_at, says}
-use Rattle.std.proofs.raw_atomic.Walks.{proved}
-use Rattle.std.specs.Prelude.{Some}
-use Rattle.std_alloc.specs.Box.Ownership.{box_owns}
 use Rattle.std_alloc.specs.contracts.boxed.Box.into_raw_with_allocator as g
 use Rattle.std_alloc.proofs.boxed.Box.into_raw_with_allocator.Met.{met as raw-met}
-use Rattle.std_heap.specs.declared.Global.{Global}
-use Rattle.std_heap.specs.contracts.Global.{the_row as global}
-use Rattle.std_heap.specs.contracts.GlobalAllocator.TheImpl.{ghosts, dict}
-use Rattle.std_heap.proofs.Global.TheLaws as of-global
-use Rattle.std_heap.proofs.GlobalAllocator.TheImpl.Met.{passed}
-use Rattle.pfs_c.specs.contracts.kept.Kept.{the_row as kept}
 use Rattle.pfs_c.specs.contracts.pfs_c++kept++Kept+Destruct.drop as kept-drop
 use Rattle.pfs_c.proofs.pfs_c++kept++Kept+Destruct.drop.Symbol.{as_method}
 use Rattle.pfs_c.proofs.pfs_c++kept++Kept+Destruct.drop.Met.{met as drop-met}
-use Rattle.pfs_c.specs.contracts.handle.Prepared.{the_type}
-use Rattle.pfs_c.specs.declared.handle.Prepared.{Prepared}
-use Rattle.pfs_c.proofs.handle.Prepared.TheLaws.{lowered}
+use Rattle.pfs_c.proofs.HandleSteps.{◌≡◌, List, [], ◌∷◌, ◌++◌, refl, sym, ap, ◌∙◌, Some, proved, box_owns, Global}
+use Rattle.pfs_c.proofs.HandleSteps.{global, ghosts, dict, global-lowers, passed, kept, handle, Prepared, lowered, Ura, Dict}
+use Rattle.pfs_c.proofs.HandleSteps.{dnil, impl, tnil, Val, of_list, Fml, ftrue, full_share, emp, sep, via, id⊢, Model, fact}
+use Rattle.pfs_c.proofs.HandleSteps.{Running, tables, Logic, sem, ‵, raw, ◌⊛◌, some, later, ◌$◌, ◌∵◌, !, qed, use1, use2}
+use Rattle.pfs_c.proofs.HandleSteps.{await, pick, split, join, fsplit, fpick, suffices, keep, move, drop, done, agg, sub}
+use Rattle.pfs_c.proofs.HandleSteps.{whole, enter, of_opd, and_then, no_more, returns, fld, stop, alloc_all, pass_all}
+use Rattle.pfs_c.proofs.HandleSteps.{free_all, look_at, get, get_in, sets, yes, Is, shows, glues, Ptr, rawptr_Lawful, plain}
+use Rattle.pfs_c.proofs.HandleSteps.{heard, nothing, peeks, Ended, Lasts, lasts, triple_of, Contract, framed, Stays}
+use Rattle.pfs_c.proofs.HandleSteps.{stay_dropped, Goes-dropped, ends_at, says, A, A-laws, T, T-laws, boxed, boxed-laws}
+use Rattle.pfs_c.proofs.HandleSteps.{drops-a, global-typed, handle-typed, handle-made, κs-static, tokens, at-static}
 use Rattle.pfs_c.specs.contracts.handle.Prepared.of as f
 use Rattle.pfs_c.proofs.handle.Prepared.of.Statement.{statement}
 use Rattle.pfs_c.proofs.handle.Prepared.of.Code as code
-use Rattle.pfs_c.proofs.HandleValues.{A, A-laws, T, T-laws, boxed, boxed-laws, drops-a, global-typed}
-use Rattle.pfs_c.proofs.HandleValues.{handle-fields, handle-fields-are, handle-fields-made, handle-typed, κs-static, tokens}
-
-abbrev stayed : Stays f.ended.signature.params f.ended.kept
-stayed = (stay_dropped _ yes, tt)
 
 abbrev drops-t : Dict
 drops-t = impl ("pfs_c::pfs_c++kept++Kept+Destruct::drop" ∷ []) tnil dnil
@@ -67,17 +34,14 @@ given = g.ended T A ghosts dict drops-a drops-t
 
 module _ {M : Type 1} (𝓤 : Ura M) (𝓛 : Logic 𝓤) (𝓜 : Model 𝓤 𝓛.H) (𝓡 : Running 𝓤 𝓛.H 𝓜) where
   abbrev G : Contract 𝓤
-  G = triple_of 𝓛 (g.signature T A ghosts dict drops-a drops-t) (g.spec T A ghosts dict drops-a drops-t 𝓛 𝓜.mem
-      𝓡.returns)
+  G = triple_of 𝓛 given.signature (g.spec T A ghosts dict drops-a drops-t 𝓛 𝓜.mem 𝓡.returns)
 
   -- The drop of a kept instance asks nothing, and nothing is read of what it leaves.
-  kept-glue : Meets 𝓛 kept-drop.signature (𝓡.run (𝓡.env (method drops-t 0 no_args))) (kept-drop.spec 𝓛 𝓜.mem
-      𝓡.returns)
-      → glue.Met 𝓛 𝓜 𝓡 𝓡.env T drops-t
+  kept-glue : Meets 𝓛 kept-drop.signature (𝓡.run (𝓡.env (method drops-t 0 no_args)))
+      (kept-drop.spec 𝓛 𝓜.mem 𝓡.returns) → glue.Met 𝓛 𝓜 𝓡 𝓡.env T drops-t
   kept-glue met =
-      let k : Callee = method drops-t 0 no_args in
-      let run = 𝓡.run (𝓡.env k) in
-      let framed-run = run_framed 𝓤 𝓛.H 𝓜 𝓡 (𝓡.env k) in
+      let run = 𝓡.run (𝓡.env (method drops-t 0 no_args)) in
+      let framed-run = run_framed 𝓤 𝓛.H 𝓜 𝓡 (𝓡.env (method drops-t 0 no_args)) in
       let said : Spec 𝓤 kept-drop.signature = kept-drop.spec 𝓛 𝓜.mem 𝓡.returns in
       let spent : Spec 𝓤 kept-drop.signature = closing 𝓛 (record { signature = kept-drop.signature; kept = (no, tt) })
       (λ κs a. record { ghost = Unit {0}; requires = λ _. emp 𝓤; ensures = λ _ r e. emp 𝓤 }) in
@@ -94,6 +58,7 @@ unfolding Rattle.pfs_c.proofs.Destruct++none.drop.Code.code
 of_spec 𝓤 𝓛 𝓜 𝓡 wired =
     let γ = 𝓡.env in
     let c = f.clauses 𝓛 𝓜.mem 𝓡.returns in
+    let stayed : Stays f.ended.signature.params f.ended.kept = (stay_dropped _ yes, tt) in
     let meets = raw-met 𝓤 𝓛 𝓜 𝓡 (code.calls-std_alloc::boxed::Box::into_raw_with_allocator γ wired) T A T-laws A-laws ghosts dict drops-a drops-t
     (passed γ (code.calls-std_heap::GlobalAllocator::allocate γ wired) (code.calls-std_heap::GlobalAllocator::deallocate γ wired) (code.calls-std_heap::GlobalAllocator::grow γ wired) (code.calls-std_heap::GlobalAllocator::shrink γ wired) _ 𝓤 𝓛 𝓜 𝓡)
     (glues "pfs_c::Destruct++none::drop" γ (code.calls-pfs_c::Destruct++none::drop γ wired) A A-laws _ 𝓤 𝓛 𝓜 𝓡)
@@ -105,37 +70,30 @@ of_spec 𝓤 𝓛 𝓜 𝓡 wired =
     let x = a.0 in
     let word : List Val = boxed-laws.val x ∷ [] in
     let memory : Ptr → Global → Fml = λ at alloc. box_owns (ghosts.dealloc_token alloc) kept at x.value in
-    let pair = Tuple (RawPtr ∷ global ∷ []) in
     let z : (G 𝓤 𝓛 𝓜 𝓡).Ghost = ((κs-static, (full_share, (full_share, tt)), tt, (x, tt), (word, tt)), tt) in
     let typed = ((boxed-laws.lawful 𝓛).typed x _ are.0) in
     qed 𝓛 ((‵ ftrue ⊛ ‵ (boxed.own_val x word) ⊛ ‵ ftrue) ∷ ‵ ftrue ∷ []) ∵
-    split ! $ drop ! $ split ! $ keep ! (0 ∷ []) $ nothing ! $ move ! (1 ∷ 0 ∷ []) $ join ! $
-    nothing ! $ use0 𝓛 (‵ (flft [] full_share)) (𝓛.lfts.lft-nil full_share) $ join ! $
-    use0 𝓛 (‵ (flft [] full_share)) (𝓛.lfts.lft-nil full_share) $ join ! $ join ! $
-    nothing ! $ use0 𝓛 (raw (fact 𝓤 ([] ⊑ A.lives))) (fact_i 𝓤 ([] ⊑ A.lives) (emp 𝓤) (⊑_static [])) $ join ! $
-    use0 𝓛 (raw (fact 𝓤 ([] ⊑ T.lives))) (fact_i 𝓤 ([] ⊑ T.lives) (emp 𝓤) (⊑_static [])) $ join ! $ move ! (1 ∷ []) $
-    use2 𝓛 (raw ((G 𝓤 𝓛 𝓜 𝓡).pre z)) (id⊢ 𝓤 _) $
+    split ! $ drop ! $ use2 𝓛 (raw ((G 𝓤 𝓛 𝓜 𝓡).pre z))
+    (at-static 𝓛 (sep 𝓤 (sem 𝓛 (boxed.own_val x word)) (sem 𝓛 ftrue)) (sem 𝓛 ftrue)) $
     enter ! _ _ _ _ _ $ alloc_all ! (λ l. pass_all ! refl typed $ sets ! (of_opd ! (get ! refl)) refl typed.0 $
     calls_at ! (framed 𝓤 𝓛.H 𝓜 (tables 𝓤 𝓛.H 𝓜 𝓡 γ)) (G 𝓤 𝓛 𝓜 𝓡) meets z (and_then ! (get ! refl) (no_more !)) (λ w.
-    use1 𝓛 (later (some (λ (r : Ptr × Global). (‵ tokens ⊛ ‵ (pair.own_val r (w ∷ []))) ⊛
+    use1 𝓛 (later (some (λ (r : Ptr × Global). (‵ tokens ⊛ ‵ ((Tuple (RawPtr ∷ global ∷ [])).own_val r (w ∷ []))) ⊛
     some (λ (ws : Lasts given κs-static (x, tt)). ‵ (lasts given κs-static (x, tt) ws) ⊛ raw (fact 𝓤 (r.1 ≡ x.alloc)) ⊛ ‵ (memory r.0 x.alloc))))) (id⊢ 𝓤 _) $
     await ! tt $ pick ! (λ r. split ! $ split ! $ drop ! $ fpick ! (λ words. fsplit ! $
     feq_l ! (λ are-both. fsplit ! $ feq_l ! (λ is-at. fsplit ! $
     peeks ! global (Is global) (shows 𝓛 global) r.1 words.1.0 (λ is-alloc.
     let new : Prepared = record { at = r.0; alloc = r.1; shop = Some x.value } in
     let pointer-fits = ((rawptr_Lawful 𝓛).typed r.0 _ refl).0 in
-    let alloc-fits = (global-typed 𝓛 r.1).0 in
     let word-is = ap only (are-both ∙ ap (λ us. vstruct (of_list (us ++ (words.1.0 ++ []))) ∷ []) is-at
-    ∙ ap (λ us. vstruct (of_list (ptr_val r.0 ∷ (us ++ []))) ∷ []) (of-global.lowers.val_is r.1 words.1.0 is-alloc)) in
+    ∙ ap (λ us. vstruct (of_list (ptr_val r.0 ∷ (us ++ []))) ∷ []) (global-lowers.val_is r.1 words.1.0 is-alloc)) in
     move ! (2 ∷ []) $ pick ! (λ ws. split ! $ drop ! $ split ! $
     heard ! _ (λ same. rewrite ! 0 (λ alloc. ‵ (memory r.0 alloc)) (sym same) refl $
     lands_as ! word-is refl (handle-typed 𝓛 new).0 $
     sets ! (of_opd ! (get_in ! (fld ! refl (stop !)) (sub ! 0 refl (whole !)))) refl pointer-fits $
-    sets ! (of_opd ! (get_in ! (fld ! refl (stop !)) (sub ! 1 refl (whole !)))) refl alloc-fits $
+    sets ! (of_opd ! (get_in ! (fld ! refl (stop !)) (sub ! 1 refl (whole !)))) refl (global-typed 𝓛 r.1).0 $
     sets ! (of_opd ! (get ! refl)) refl pointer-fits $
     sets ! (agg ! (and_then ! (get ! refl) (and_then ! (get ! refl) (no_more !)))) refl (handle-typed 𝓛 new).0 $
     returns ! (look_at ! 0 refl) $ free_all ! refl $ keep ! (0 ∷ []) $
     suffices ! _ (ends_at 𝓛 f.ended stayed c ((κs, qs, bounds, a, (word, tt)), tt) (lowered new) new (tt, tt) (tt, tt)) $ says ! refl $
-    owned ! handle-fields (Is handle-fields) (handle-fields-made 𝓛) (to the_type new) (lowered new ∷ [])
-    (handle-fields-are new) $ fjoin ! $
+    use1 𝓛 (‵ (handle.own_val new (lowered new ∷ []))) (handle-made 𝓛 new) $
     nothing ! $ nothing ! $ join ! $ nothing ! $ done !))))))))))
