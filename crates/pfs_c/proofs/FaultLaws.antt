@@ -1,23 +1,16 @@
 -- Arguments have no fault exactly if they are right.
-use Rattle.std.proofs.Common.{◌≡◌, ℕ, ◌*◌, ◌&&◌, Bool, true, false, [], ◌∷◌, length, refl, None, get_or, nat_le}
-use Rattle.std.proofs.Common.{arith, List, Option, Some}
+use Rattle.std.proofs.Common.{◌≡◌, ℕ, ◌*◌, ◌&&◌, Bool, true, false, [], ◌∷◌, length, refl, None, get_or, nat_le, arith}
 use Rattle.std.proofs.lemmas.Bool.{leb-true, le-leb, eqb-true, eq-eqb}
 use Rattle.std.proofs.lemmas.Bool.Decides.{nat_tests}
 use Rattle.std.proofs.lemmas.List.Sums.{AllPass-from_list_all, list_all-from_AllPass}
 use Rattle.pfs_base.specs.FlowShop.{AreSizes}
 use Rattle.pfs_base.specs.Limits.{limits}
-use Rattle.pfs_base.specs.Lists.{first_some}
 use Rattle.pfs_base.specs.declared.limits.TheConstants.{MOST_JOBS, MOST_MACHINES, LONGEST_TIME}
 use Rattle.pfs_c.specs.Faults.{ShopLaw, InsertionLaw}
-use Rattle.pfs_c.specs.Validation.{unless, length_fault, sizes_fault, times_fault, jobs_fault, job_fault}
+use Rattle.pfs_c.specs.Validation.{unless, length_fault, sizes_fault, times_fault}
 use Rattle.pfs_c.specs.declared.numbers.CallFault.{CallFault}
 use Rattle.pfs_c.specs.declared.numbers.CallFault.TheVariants.{Size, Length, Time}
-use Rattle.pfs_c.proofs.Jobs.{insertion_right, job_right, jobs_right}
-
-first_none : (x : Option CallFault) (xs : List (Option CallFault)) → first_some (x ∷ xs) ≡ None
-    → (x ≡ None) × (first_some xs ≡ None)
-first_none None xs h = (refl, h)
-first_none (Some why) xs h = absurd (cc)
+use Rattle.pfs_c.proofs.Jobs.{first_none, insertion_right}
 
 unless_none : (test : Bool) (why : CallFault) → unless test why ≡ None → test ≡ true
 unless_none true why h = refl
@@ -59,10 +52,4 @@ shop_law times jobs machines = (
 )
 
 pub insertion_law : InsertionLaw
-insertion_law shop sequence job = (
-  λ none.
-      let parts = first_none (jobs_fault shop.jobs sequence) (job_fault shop.jobs sequence job ∷ []) none in
-      let one = first_none (job_fault shop.jobs sequence job) [] parts.1 in
-      (job_right shop.jobs job sequence ((jobs_right shop.jobs sequence).0 parts.0)).0 one.0,
-  insertion_right shop.jobs job sequence,
-)
+insertion_law shop sequence job = insertion_right shop.jobs job sequence

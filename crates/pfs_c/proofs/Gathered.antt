@@ -1,6 +1,6 @@
 -- Lists of jobs of a sequence, and what construction and local search find.
-use Rattle.std.proofs.Common.{◌≡◌, ℕ, ◌+◌, ◌<◌, ◌++◌, refl, List, [], ◌∷◌, length, get_or, nat_eq, All, Contains}
-use Rattle.std.proofs.Common.{insert, ◌∙◌, Some, None, arith}
+use Rattle.std.proofs.Common.{◌≡◌, ℕ, ◌+◌, ◌<◌, ◌++◌, refl, List, length, get_or, nat_eq, All, Contains}
+use Rattle.std.proofs.Common.{◌∙◌, Some, None, arith}
 use Rattle.std.specs.List.{list_any}
 use Rattle.std.specs.Cmp.{nat_eq_equiv}
 use Rattle.std.proofs.lemmas.List.{get_or-append-add, get_or_default, length-append}
@@ -11,13 +11,12 @@ use Rattle.std.proofs.lemmas.Map.Views.{list_any-from_Contains}
 use Rattle.pfs_base.specs.FlowShop.{FlowShop}
 use Rattle.pfs_base.specs.Paths.{makespan}
 use Rattle.pfs_order.specs.Sequence.{IsSequence}
-use Rattle.pfs_order.proofs.Published.Sequences.{IsSequence-moved, IsSequence-permutation}
-use Rattle.pfs_insert.specs.Insertion.{best_place}
+use Rattle.pfs_order.proofs.Published.Sequences.{IsSequence-permutation}
 use Rattle.pfs_search.specs.Neh.{with_jobs}
 use Rattle.pfs_c.specs.declared.numbers.CallFault.TheVariants.{Job}
 use Rattle.pfs_c.specs.Building.{members_fault, after_visits, IsConstructed, IsLocalSearch}
 use Rattle.pfs_c.proofs.Jobs.{absent_any, joined}
-use Rattle.pfs_c.proofs.Visits.{length-with_jobs, visited_absent, visits_kept}
+use Rattle.pfs_c.proofs.Visits.{visited_absent, visits_kept, with_jobs_all}
 
 -- ---- jobs of a list that are in a sequence
 
@@ -46,23 +45,17 @@ pub more_small : (size : ℕ) (first more : List ℕ) → IsSequence size (first
 more_small size first more together k d lt = rw (get_or-append-add first more k d) at
     (together.in_range (length first + k) d (omega (arith, length-append {A = ℕ}, lt)))
 
-with_jobs_distinct : (shop : FlowShop) (size : ℕ) (more jobs : List ℕ) → IsSequence size (more ++ jobs)
-    → IsSequence size (with_jobs shop jobs more)
-with_jobs_distinct shop size [] jobs together = together
-with_jobs_distinct shop size (job ∷ more) jobs together =
-    let best : ℕ = best_place shop jobs job in
-    with_jobs_distinct shop size more (insert jobs best job) (IsSequence-moved size job best more jobs together)
-
 pub construct_is : (shop : FlowShop) (sequence more found : List ℕ) → IsSequence shop.jobs (sequence ++ more)
     → found ≡ after_visits shop more 1 sequence
     → IsConstructed shop sequence more found (makespan shop found)
 construct_is shop sequence more found together is =
     let turned = joined shop.jobs sequence more together in
     let same : found ≡ with_jobs shop sequence more = is ∙ visited_absent shop shop.jobs more sequence turned in
+    let all = with_jobs_all shop more sequence in
     rw same (record {
       found = refl;
-      long = length-with_jobs shop more sequence;
-      distinct = with_jobs_distinct shop shop.jobs more sequence turned;
+      long = omega (arith, length_permutation (more ++ sequence) _ all, length-append {A = ℕ});
+      distinct = IsSequence-permutation shop.jobs (more ++ sequence) _ all turned;
       spanned = refl;
     })
 
@@ -71,7 +64,7 @@ pub search_is : (shop : FlowShop) (sequence list : List ℕ) (passes : ℕ) (fou
     → found ≡ after_visits shop list passes sequence
     → IsLocalSearch shop sequence list passes found (makespan shop found)
 search_is shop sequence list passes found distinct among is =
-    let kept = visits_kept shop shop.jobs list passes sequence distinct among in
+    let kept = visits_kept shop sequence distinct list passes among in
     rw is (record {
       found = refl;
       long = length_permutation sequence (after_visits shop list passes sequence) kept.same;

@@ -2,6 +2,7 @@
 use Rattle.std.proofs.Common.{◌≡◌, ◌↔◌, ℕ, ◌+◌, ◌<◌, ◌≤◌, Bool, true, false, List, [], ◌∷◌, length, take, get_or}
 use Rattle.std.proofs.Common.{nat_eq, nat_lt, set, All, Contains, ◌||◌, ◌&&◌, not, sym, ◌∙◌, inl, inr, refl, arith}
 use Rattle.std.proofs.Common.{length-set}
+use Rattle.std.proofs.Math.Bool.{or-false, or-true}
 use Rattle.std.specs.List.{list_all, list_any}
 use Rattle.std.specs.Cmp.{nat_eq_equiv}
 use Rattle.std.proofs.lemmas.Bool.{cases_Bool, eqb-true, eqb-false, lt-ltb, ltb-true, or_parts, or_from}
@@ -13,8 +14,8 @@ use Rattle.std.proofs.lemmas.List.Folds.{list_all_more, list_any-append}
 use Rattle.std.proofs.lemmas.List.Sums.{AllPass-from_list_all, list_all-from_AllPass}
 use Rattle.std.proofs.lemmas.Map.Views.{Contains-from_any, list_any-from_Contains}
 use Rattle.pfs_order.specs.Sequence.{IsSequence}
-use Rattle.pfs_order.proofs.Published.Sequences.{IsSequence-nil, IsSequence-cons, IsSequence-head}
-use Rattle.pfs_c.proofs.Jobs.{IsSequence-rest, absent_any, joined}
+use Rattle.pfs_order.proofs.Published.Sequences.{IsSequence-nil, IsSequence-cons, IsSequence-head, IsSequence-rest}
+use Rattle.pfs_c.proofs.Jobs.{absent_any, joined}
 
 -- ---- whether the first jobs are below a size
 
@@ -50,14 +51,6 @@ marked_start size jobs marks long none = record {
   repeated = (λ no. IsSequence-nil size, λ sequence. refl);
 }
 
-or_true : (b : Bool) → (b || true) ≡ true
-or_true true = refl
-or_true false = refl
-
-or_false : (b : Bool) → (b || false) ≡ b
-or_false true = refl
-or_false false = refl
-
 module _ (size : ℕ) (jobs : List ℕ) (marks : List Bool) (is_repeated : Bool) (place : ℕ)
     (h : AreMarked size jobs marks is_repeated place) (small : All (λ job. job < size) jobs) where
   pub one_more_marked : (d : Bool) → place < length jobs → AreMarked size jobs (set marks (get_or jobs place 0) true)
@@ -72,9 +65,9 @@ module _ (size : ℕ) (jobs : List ℕ) (marks : List Bool) (is_repeated : Bool)
         long = omega (arith, long, h.long);
         marked = λ other e lt. rw (take_more jobs place 0 within, list_any-append (nat_eq other) before (job ∷ []))
             (elim (cases_Bool (nat_eq other job)) [
-              | inl same ↦ rw (same, or_true (list_any (nat_eq other) before))
+              | inl same ↦ rw (same, or-true (list_any (nat_eq other) before))
                   (get_or-set_at marks job other true e (eqb-true other job same) room)
-              | inr apart ↦ rw (apart, or_false (list_any (nat_eq other) before))
+              | inr apart ↦ rw (apart, or-false (list_any (nat_eq other) before))
                   (get_or-set_other marks job other true e (eqb-false other job apart)
                   ∙ h.marked other e (omega (arith, long, lt)))
             ]);
