@@ -20,10 +20,6 @@ use Rattle.pfs_c.proofs.Visits.{visited_absent, visits_kept, with_jobs_all}
 
 -- ---- jobs of a list that are in a sequence
 
-pub members_each : (sequence list : List ℕ) → ((k : ℕ) → k < length list → Contains sequence (get_or list k 0))
-    → All (λ job. Contains sequence job) list
-members_each sequence list among k d lt = rw (get_or_default list k d 0 lt) (among k lt)
-
 pub members_all : (sequence list : List ℕ) → All (λ job. Contains sequence job) list
     → members_fault sequence list ≡ None
 members_all sequence list among =

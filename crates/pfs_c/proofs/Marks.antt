@@ -5,13 +5,13 @@ use Rattle.std.proofs.Common.{length-set}
 use Rattle.std.proofs.Math.Bool.{or-false, or-true}
 use Rattle.std.specs.List.{list_all, list_any}
 use Rattle.std.specs.Cmp.{nat_eq_equiv}
-use Rattle.std.proofs.lemmas.Bool.{cases_Bool, eqb-true, eqb-false, lt-ltb, ltb-true, or_parts, or_from}
+use Rattle.std.proofs.lemmas.Bool.{cases_Bool, eqb-true, eqb-false, or_parts, or_from}
 use Rattle.std.proofs.lemmas.Bool.{cases_lt, not-true}
+use Rattle.std.proofs.lemmas.Bool.Decides.{Decides-by_and, Decides-ltb}
 use Rattle.std.proofs.lemmas.Grind.{get_or-set_at}
 use Rattle.std.proofs.lemmas.List.{get_or_past, get_or-set_other, take_all, take_more}
 use Rattle.std.proofs.lemmas.List.Elements.{All-contains}
 use Rattle.std.proofs.lemmas.List.Folds.{list_all_more, list_any-append}
-use Rattle.std.proofs.lemmas.List.Sums.{AllPass-from_list_all, list_all-from_AllPass}
 use Rattle.std.proofs.lemmas.Map.Views.{Contains-from_any, list_any-from_Contains}
 use Rattle.pfs_order.specs.Sequence.{IsSequence}
 use Rattle.pfs_order.proofs.Published.Sequences.{IsSequence-nil, IsSequence-cons, IsSequence-head, IsSequence-rest}
@@ -28,13 +28,9 @@ small_more size jobs place b within h = rw (list_all_more (λ job. nat_lt job si
 
 pub small_all : (size : ℕ) (jobs : List ℕ) (place : ℕ) (b : Bool) → length jobs ≤ place
     → b ≡ are_small size jobs place → (b ≡ true) ↔ All (λ job. job < size) jobs
-small_all size jobs place b all h =
-    let is : b ≡ list_all (λ job. nat_lt job size) jobs = rw (take_all place jobs all) at h in (
-      λ yes. λ k d within. ltb-true (get_or jobs k d) size
-          (AllPass-from_list_all (λ job. nat_lt job size) jobs (sym is ∙ yes) k d within),
-      λ small. is ∙ list_all-from_AllPass (λ job. nat_lt job size) jobs
-          (λ k d within. lt-ltb (get_or jobs k d) size (small k d within)),
-    )
+small_all size jobs place b all h = rw (h, take_all place jobs all)
+    (Decides-by_and (λ job. nat_lt job size) (λ job. job < size) (list_all (λ job. nat_lt job size))
+    (λ job. Decides-ltb job size) refl (λ _ _. refl) jobs)
 
 -- ---- the jobs before a place were marked, and each mark that was there already was noticed
 

@@ -1,14 +1,13 @@
 -- Jobs of a list that leave their places for their best ones in turn.
 use Rattle.std.proofs.Common.{◌≡◌, ℕ, zero, suc, ◌+◌, ◌<◌, ◌≤◌, ◌++◌, List, [], ◌∷◌, length, All, Contains}
-use Rattle.std.proofs.Common.{get_or, take, insert, remove, refl, ap, sym, ◌∙◌, add-one, arith}
+use Rattle.std.proofs.Common.{get_or, insert, remove, refl, ap, sym, ◌∙◌, suc-add, arith}
 use Rattle.std.specs.List.Sorted.{IsPermutation}
-use Rattle.std.proofs.lemmas.List.{get_or_default, take_more}
+use Rattle.std.proofs.lemmas.List.{get_or_default}
 use Rattle.std.proofs.lemmas.List.Edits.{length-remove}
 use Rattle.std.proofs.lemmas.List.Elements.{All-head, All-tail, Contains-append_right}
 use Rattle.std.proofs.lemmas.List.Sorted.{Contains-permutation, IsPermutation-append_right, IsPermutation-insert}
 use Rattle.std.proofs.lemmas.List.Sorted.{IsPermutation-middle, IsPermutation-refl, IsPermutation-remove}
 use Rattle.std.proofs.lemmas.List.Sorted.{IsPermutation-sym, IsPermutation-trans}
-use Rattle.std.proofs.lemmas.List.Sums.{fold_push}
 use Rattle.pfs_base.specs.FlowShop.{FlowShop}
 use Rattle.pfs_base.specs.Paths.{makespan}
 use Rattle.pfs_order.specs.Sequence.{IsSequence, all_jobs}
@@ -87,21 +86,12 @@ with_jobs_all shop (job ∷ more) jobs =
     (IsPermutation-append_right more (job ∷ jobs) next (IsPermutation-insert jobs (best_place shop jobs job) job)))
     (with_jobs_all shop more next)
 
--- ---- one more
-
-pub visited_more : (shop : FlowShop) (list jobs : List ℕ) (i : ℕ) → i < length list
-    → visited shop (take (i + 1) list) jobs ≡ moved shop (visited shop (take i list) jobs) (get_or list i 0)
-visited_more shop list jobs i within =
-    rw (take_more list i 0 within) (fold_push (moved shop) jobs (take i list) (get_or list i 0))
-
-visits_suc : (shop : FlowShop) (list : List ℕ) (passes : ℕ) (jobs : List ℕ)
-    → after_visits shop list (suc passes) jobs ≡ visited shop list (after_visits shop list passes jobs)
-visits_suc shop list zero jobs = refl
-visits_suc shop list (suc passes) jobs = visits_suc shop list passes (visited shop list jobs)
+-- ---- one more pass
 
 pub visits_more : (shop : FlowShop) (list : List ℕ) (passes : ℕ) (jobs : List ℕ)
     → after_visits shop list (passes + 1) jobs ≡ visited shop list (after_visits shop list passes jobs)
-visits_more shop list passes jobs = rw add-one (visits_suc shop list passes jobs)
+visits_more shop list zero jobs = refl
+visits_more shop list (suc passes) jobs = rw suc-add (visits_more shop list passes (visited shop list jobs))
 
 -- ---- laws
 

@@ -10,6 +10,7 @@ pub fn neh()
 }
 
 /// The passes of a round are passes over all jobs in the order of their numbers.
+#[tactic(auto, using(crate::proofs::Visits::all_jobs_law))]
 pub fn all_jobs()
     ensures { AllJobsLaw }
 {}
