@@ -16,6 +16,7 @@ pub fn all_jobs()
 {}
 
 /// Passes over jobs of a sequence make it no longer.
+#[tactic(auto, using(crate::proofs::Visits::visits_law))]
 pub fn no_longer()
     ensures { VisitsLaw }
 {}
