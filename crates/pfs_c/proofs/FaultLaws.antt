@@ -1,23 +1,17 @@
 -- Arguments have no fault exactly if they are right.
-use Rattle.std.proofs.Common.{◌≡◌, ℕ, ◌*◌, ◌&&◌, Bool, true, false, [], ◌∷◌, length, refl, None, get_or, nat_le}
-use Rattle.std.proofs.Common.{arith, List, Option, Some}
+use Rattle.std.proofs.Common.{◌≡◌, ◌↔◌, ℕ, ◌*◌, ◌≤◌, ◌&&◌, Bool, true, false, List, [], ◌∷◌, length, All, refl, None}
+use Rattle.std.proofs.Common.{nat_le, arith}
+use Rattle.std.specs.List.{list_all}
 use Rattle.std.proofs.lemmas.Bool.{leb-true, le-leb, eqb-true, eq-eqb}
-use Rattle.std.proofs.lemmas.Bool.Decides.{nat_tests}
-use Rattle.std.proofs.lemmas.List.Sums.{AllPass-from_list_all, list_all-from_AllPass}
+use Rattle.std.proofs.lemmas.Bool.Decides.{Decides-by_and, nat_tests}
 use Rattle.pfs_base.specs.FlowShop.{AreSizes}
 use Rattle.pfs_base.specs.Limits.{limits}
-use Rattle.pfs_base.specs.Lists.{first_some}
 use Rattle.pfs_base.specs.declared.limits.TheConstants.{MOST_JOBS, MOST_MACHINES, LONGEST_TIME}
 use Rattle.pfs_c.specs.Faults.{ShopLaw, InsertionLaw}
-use Rattle.pfs_c.specs.Validation.{unless, length_fault, sizes_fault, times_fault, jobs_fault, job_fault}
+use Rattle.pfs_c.specs.Validation.{unless, length_fault, times_fault}
 use Rattle.pfs_c.specs.declared.numbers.CallFault.{CallFault}
 use Rattle.pfs_c.specs.declared.numbers.CallFault.TheVariants.{Size, Length, Time}
-use Rattle.pfs_c.proofs.Jobs.{insertion_right, job_right, jobs_right}
-
-first_none : (x : Option CallFault) (xs : List (Option CallFault)) → first_some (x ∷ xs) ≡ None
-    → (x ≡ None) × (first_some xs ≡ None)
-first_none None xs h = (refl, h)
-first_none (Some why) xs h = absurd (cc)
+use Rattle.pfs_c.proofs.Jobs.{first_none, insertion_right}
 
 unless_none : (test : Bool) (why : CallFault) → unless test why ≡ None → test ≡ true
 unless_none true why h = refl
@@ -36,33 +30,29 @@ right_sizes : (jobs machines : ℕ) → AreSizes limits jobs machines → ((nat_
     && (nat_le 1 machines && nat_le machines MOST_MACHINES)) ≡ true
 right_sizes jobs machines h = grind (arith, nat_tests, h.some_job, h.few_jobs, h.some_machine, h.few_machines)
 
+short : (times : List ℕ)
+    → (list_all (λ time. nat_le time LONGEST_TIME) times ≡ true) ↔ All (λ time. time ≤ LONGEST_TIME) times
+short = Decides-by_and (λ time. nat_le time LONGEST_TIME) (λ time. time ≤ LONGEST_TIME)
+    (list_all (λ time. nat_le time LONGEST_TIME)) (λ time. (leb-true time LONGEST_TIME, le-leb time LONGEST_TIME))
+    refl (λ _ _. refl)
+
 pub shop_law : ShopLaw
 shop_law times jobs machines = (
   λ none.
-      let one = first_none (sizes_fault jobs machines) (length_fault (length times) (jobs * machines)
-      ∷ times_fault times ∷ []) none in
-      let two = first_none (length_fault (length times) (jobs * machines)) (times_fault times ∷ []) one.1 in
-      let three = first_none (times_fault times) [] two.1 in
+      let one = first_none _ (length_fault (length times) (jobs * machines) ∷ times_fault times ∷ []) none in
+      let two = first_none _ (times_fault times ∷ []) one.1 in
       record {
         sizes = sizes_right jobs machines (unless_none _ Size one.0);
         every_time = eqb-true (length times) (jobs * machines) (unless_none _ Length two.0);
-        short_times = λ k d lt. leb-true (get_or times k d) LONGEST_TIME
-            (AllPass-from_list_all (λ time. nat_le time LONGEST_TIME) times (unless_none _ Time three.0) k d lt);
+        short_times = (short times).0 (unless_none _ Time (first_none _ [] two.1).0);
       },
   λ within.
       rw (
         right_sizes jobs machines within.sizes,
         eq-eqb (length times) (jobs * machines) within.every_time,
-        list_all-from_AllPass (λ time. nat_le time LONGEST_TIME) times
-            (λ k d lt. le-leb (get_or times k d) LONGEST_TIME (within.short_times k d lt)),
+        (short times).1 within.short_times,
       ) refl,
 )
 
 pub insertion_law : InsertionLaw
-insertion_law shop sequence job = (
-  λ none.
-      let parts = first_none (jobs_fault shop.jobs sequence) (job_fault shop.jobs sequence job ∷ []) none in
-      let one = first_none (job_fault shop.jobs sequence job) [] parts.1 in
-      (job_right shop.jobs job sequence ((jobs_right shop.jobs sequence).0 parts.0)).0 one.0,
-  insertion_right shop.jobs job sequence,
-)
+insertion_law shop sequence job = insertion_right shop.jobs job sequence

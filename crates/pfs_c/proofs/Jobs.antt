@@ -1,7 +1,7 @@
 -- Lists of jobs that are validated from the left.
-use Rattle.std.proofs.Common.{◌≡◌, ◌↔◌, ℕ, zero, suc, ◌+◌, ◌-◌, ◌<◌, ◌≤◌, ◌++◌, refl, false, List, [], ◌∷◌}
+use Rattle.std.proofs.Common.{◌≡◌, ◌↔◌, ℕ, zero, suc, ◌+◌, ◌<◌, ◌≤◌, ◌++◌, refl, false, List, [], ◌∷◌}
 use Rattle.std.proofs.Common.{length, take, drop, map, get_or, nat_eq, Contains, ◌∙◌, sym, ap, inl, inr, arith}
-use Rattle.std.proofs.Common.{Option, Some, None, zero-add, suc-add, append_assoc, Result, IsOk}
+use Rattle.std.proofs.Common.{Option, Some, None, zero-add, append_assoc, Result, IsOk}
 use Rattle.std.specs.List.{list_any}
 use Rattle.std.specs.Option.{option_or}
 use Rattle.std.specs.Cmp.{nat_eq_equiv}
@@ -13,8 +13,8 @@ use Rattle.std.proofs.lemmas.Map.Views.{Contains-from_any, list_any-from_Contain
 use Rattle.pfs_base.specs.Lists.{below, first_some}
 use Rattle.pfs_base.proofs.Published.Lists.{by_push, first_some-append, range_with_len-push, map-range_with_len-same}
 use Rattle.pfs_order.specs.Sequence.{IsSequence}
-use Rattle.pfs_order.proofs.Published.Sequences.{IsSequence-nil, IsSequence-cons, IsSequence-head, IsSequence-first}
-use Rattle.pfs_order.proofs.Published.Sequences.{IsSequence-permutation, IsSequence-remove}
+use Rattle.pfs_order.proofs.Published.Sequences.{IsSequence-nil, IsSequence-cons, IsSequence-first, IsSequence-head}
+use Rattle.pfs_order.proofs.Published.Sequences.{IsSequence-permutation, IsSequence-rest}
 use Rattle.pfs_c.specs.declared.numbers.CallFault.{CallFault}
 use Rattle.pfs_c.specs.declared.numbers.CallFault.TheVariants.{Job, Repeated}
 use Rattle.pfs_c.specs.Private.Outcomes.{Validates}
@@ -22,31 +22,24 @@ use Rattle.pfs_c.specs.Validation.{job_fault, place_fault, jobs_fault}
 
 -- ---- the first fault of checks that are numbered from 0
 
-first_none : (x y : Option CallFault) → option_or x y ≡ None → (x ≡ None) × (y ≡ None)
-first_none None y h = (refl, h)
-first_none (Some why) y h = absurd (cc)
+pub first_none : (x : Option CallFault) (xs : List (Option CallFault)) → first_some (x ∷ xs) ≡ None
+    → (x ≡ None) × (first_some xs ≡ None)
+first_none None xs h = (refl, h)
+first_none (Some why) xs h = absurd (cc)
 
-first_one : (x : Option CallFault) → first_some (x ∷ []) ≡ x
-first_one None = refl
-first_one (Some why) = refl
+two : (x y : Option CallFault) → option_or x (first_some (y ∷ [])) ≡ first_some (x ∷ y ∷ [])
+two None y = refl
+two (Some why) y = refl
 
 below_more : (f : ℕ → Option CallFault) (count : ℕ)
-    → first_some (map f (below (suc count))) ≡ option_or (first_some (map f (below count))) (f count)
+    → first_some (map f (below (suc count))) ≡ first_some (first_some (map f (below count)) ∷ f count ∷ [])
 below_more f count =
     ap (λ xs. first_some (map f xs)) (range_with_len-push 0 count)
     ∙ rw (
       zero-add count,
       map-append f (below count) (count ∷ []),
       first_some-append (map f (below count)) (f count ∷ []),
-      first_one (f count),
-    ) refl
-
--- a fault is that of all checks
-below_all : (f : ℕ → Option CallFault) (count more : ℕ) (why : CallFault)
-    → first_some (map f (below count)) ≡ Some why → first_some (map f (below (more + count))) ≡ Some why
-below_all f count zero why wrong = rw (zero-add count) wrong
-below_all f count (suc more) why wrong =
-    rw suc-add (below_more f (more + count) ∙ rw (below_all f count more why wrong) refl)
+    ) (two (first_some (map f (below count))) (f count))
 
 pub none_below : (f : ℕ → Option CallFault) (count : ℕ) → ((j : ℕ) → j < count → f j ≡ None)
     → first_some (map f (below count)) ≡ None
@@ -56,15 +49,13 @@ none_below f (suc count) none =
 
 pub first_below : (f : ℕ → Option CallFault) (count k : ℕ) (why : CallFault) → k < count
     → ((j : ℕ) → j < k → f j ≡ None) → f k ≡ Some why → first_some (map f (below count)) ≡ Some why
-first_below f count k why within none there =
-    let more : ℕ = count - suc k in
-    let all : more + suc k ≡ count = omega arith in
-    rw all at (below_all f (suc k) more why (below_more f k ∙ rw (none_below f k none, there) refl))
+first_below f zero k why within none there = absurd (omega arith)
+first_below f (suc count) k why within none there = below_more f count ∙ elim (cases_lt k count) [
+  | inl earlier ↦ rw (first_below f count k why earlier none there) refl
+  | inr last ↦ let same : k ≡ count = omega arith in rw (none_below f count (rw same at none), rw same at there) refl
+]
 
 -- ---- sequences with one more job
-
-pub IsSequence-rest : (size job : ℕ) (jobs : List ℕ) → IsSequence size (job ∷ jobs) → IsSequence size jobs
-IsSequence-rest size job jobs = IsSequence-remove size 0 job (job ∷ jobs) (omega arith) refl
 
 pub joined : (size : ℕ) (jobs more : List ℕ) → IsSequence size (jobs ++ more) → IsSequence size (more ++ jobs)
 joined size jobs more = IsSequence-permutation size (jobs ++ more) (more ++ jobs) (IsPermutation-append_comm jobs more)
@@ -84,7 +75,7 @@ job_twice size job others small among =
     rw (lt-ltb job size small, list_any-from_Contains nat_eq_equiv job others among) refl
 
 -- there is no fault exactly if the job is one more of a sequence
-pub job_right : (size job : ℕ) (others : List ℕ) → IsSequence size others
+job_right : (size job : ℕ) (others : List ℕ) → IsSequence size others
     → (job_fault size others job ≡ None) ↔ IsSequence size (job ∷ others)
 job_right size job others h = (
   λ none. elim (cases_lt job size) [
@@ -101,7 +92,7 @@ job_right size job others h = (
 -- ---- a list of jobs
 
 pub jobs_more : (size : ℕ) (jobs : List ℕ) (job : ℕ)
-    → jobs_fault size (jobs ++ job ∷ []) ≡ option_or (jobs_fault size jobs) (job_fault size jobs job)
+    → jobs_fault size (jobs ++ job ∷ []) ≡ first_some (jobs_fault size jobs ∷ job_fault size jobs job ∷ [])
 jobs_more size jobs job =
     let all : List ℕ = jobs ++ job ∷ [] in
     let long : length all ≡ suc (length jobs) = omega (arith, length-append {A = ℕ}) in
@@ -131,25 +122,22 @@ jobs_right size = by_push (λ jobs. (jobs_fault size jobs ≡ None) ↔ IsSequen
     (λ jobs job is. (
       λ none.
           let parts = first_none _ _ (sym (jobs_more size jobs job) ∙ none) in
-          joined size (job ∷ []) jobs ((job_right size job jobs (is.0 parts.0)).0 parts.1),
+          let part = first_none _ [] parts.1 in
+          joined size (job ∷ []) jobs ((job_right size job jobs (is.0 parts.0)).0 part.0),
       λ sequence.
           let turned = joined size jobs (job ∷ []) sequence in
           let rest = IsSequence-rest size job jobs turned in
           rw (jobs_more size jobs job, is.1 rest, (job_right size job jobs rest).1 turned) refl,
     ))
 
--- ---- a sequence and a job to insert
-
-pub insertion_right : (size job : ℕ) (jobs : List ℕ) → IsSequence size (job ∷ jobs)
-    → first_some (jobs_fault size jobs ∷ job_fault size jobs job ∷ []) ≡ None
-insertion_right size job jobs h =
-    let rest = IsSequence-rest size job jobs h in
-    rw ((jobs_right size jobs).1 rest, (job_right size job jobs rest).1 h) refl
-
-pub insertion_is : (size job : ℕ) (jobs : List ℕ) → IsSequence size jobs
-    → first_some (jobs_fault size jobs ∷ job_fault size jobs job ∷ []) ≡ jobs_fault size (jobs ++ job ∷ [])
-insertion_is size job jobs h =
-    rw (jobs_more size jobs job, (jobs_right size jobs).1 h) (first_one (job_fault size jobs job))
+-- the same for a sequence and a job to insert
+pub insertion_right : (size job : ℕ) (jobs : List ℕ)
+    → (first_some (jobs_fault size jobs ∷ job_fault size jobs job ∷ []) ≡ None) ↔ IsSequence size (job ∷ jobs)
+insertion_right size job jobs =
+    let is = jobs_right size (jobs ++ job ∷ []) in (
+      λ none. joined size jobs (job ∷ []) (is.0 (jobs_more size jobs job ∙ none)),
+      λ sequence. sym (jobs_more size jobs job) ∙ is.1 (joined size (job ∷ []) jobs sequence),
+    )
 
 -- ---- jobs that follow those of a sequence
 
@@ -177,14 +165,7 @@ module _ (size : ℕ) (first more : List ℕ) (place : ℕ) (within : place < le
 
 -- ---- what the result of a check says
 
-pub valid_is : (result : Result (Unit {0}) CallFault) (size : ℕ) (jobs : List ℕ)
-    → Validates result (jobs_fault size jobs) → IsOk result ↔ IsSequence size jobs
-valid_is result size jobs h = by_fault (jobs_fault size jobs) refl h
-  where
-    by_fault : (found : Option CallFault) → jobs_fault size jobs ≡ found → Validates result found
-        → IsOk result ↔ IsSequence size jobs
-    by_fault None is ok = (λ _. (jobs_right size jobs).0 is, λ _. ok)
-    by_fault (Some why) is wrong = (
-      λ ok. absurd (let e = rw wrong at ok in cc),
-      λ sequence. absurd (let right = (jobs_right size jobs).1 sequence in cc),
-    )
+pub valid_is : (result : Result (Unit {0}) CallFault) (fault : Option CallFault) → Validates result fault
+    → IsOk result ↔ (fault ≡ None)
+valid_is result None ok = (λ _. refl, λ _. ok)
+valid_is result (Some why) wrong = (λ ok. absurd (let e = rw wrong at ok in cc), λ none. absurd (cc))

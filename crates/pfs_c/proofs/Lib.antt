@@ -1,6 +1,5 @@
 pub mod Returning
 pub mod FaultLaws
-pub mod Gathered
 pub mod HandleSteps
 pub mod Jobs
 pub mod ManyLemmas

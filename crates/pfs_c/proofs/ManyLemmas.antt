@@ -5,7 +5,7 @@ use Rattle.pfs_c.specs.declared.numbers.CallFault.{CallFault}
 use Rattle.pfs_c.specs.Validation.{jobs_fault}
 use Rattle.pfs_c.specs.Many.{sequence_at, sequences_fault}
 use Rattle.pfs_c.specs.Private.Outcomes.{Validates}
-use Rattle.pfs_c.proofs.Jobs.{first_below, none_below}
+use Rattle.pfs_c.proofs.Jobs.{first_below}
 
 pub valid_why : (A : Type 0) (why : CallFault) (found : Option CallFault) → Validates {A = A} (Err why) found
     → found ≡ Some why
@@ -22,9 +22,6 @@ same_slice long sequences index =
 module _ (size count long : ℕ) (sequences : List ℕ) where
   abbrev wrong_at : ℕ → Option CallFault
   wrong_at index = jobs_fault size (sequence_at long sequences index)
-
-  pub each_right : ((k : ℕ) → k < count → wrong_at k ≡ None) → sequences_fault size count long sequences ≡ None
-  each_right none = none_below wrong_at count none
 
   pub one_wrong : (A : Type 0) (index : ℕ) (why : CallFault) → index < count → ((k : ℕ) → k < index → wrong_at k ≡ None)
       → Validates {A = A} (Err why)

@@ -2,19 +2,20 @@
 use Rattle.std.proofs.Common.{◌≡◌, ◌↔◌, ℕ, ◌+◌, ◌<◌, ◌≤◌, Bool, true, false, List, [], ◌∷◌, length, take, get_or}
 use Rattle.std.proofs.Common.{nat_eq, nat_lt, set, All, Contains, ◌||◌, ◌&&◌, not, sym, ◌∙◌, inl, inr, refl, arith}
 use Rattle.std.proofs.Common.{length-set}
+use Rattle.std.proofs.Math.Bool.{or-false, or-true}
 use Rattle.std.specs.List.{list_all, list_any}
 use Rattle.std.specs.Cmp.{nat_eq_equiv}
-use Rattle.std.proofs.lemmas.Bool.{cases_Bool, eqb-true, eqb-false, lt-ltb, ltb-true, or_parts, or_from}
+use Rattle.std.proofs.lemmas.Bool.{cases_Bool, eqb-true, eqb-false, or_parts, or_from}
 use Rattle.std.proofs.lemmas.Bool.{cases_lt, not-true}
+use Rattle.std.proofs.lemmas.Bool.Decides.{Decides-by_and, Decides-ltb}
 use Rattle.std.proofs.lemmas.Grind.{get_or-set_at}
 use Rattle.std.proofs.lemmas.List.{get_or_past, get_or-set_other, take_all, take_more}
 use Rattle.std.proofs.lemmas.List.Elements.{All-contains}
 use Rattle.std.proofs.lemmas.List.Folds.{list_all_more, list_any-append}
-use Rattle.std.proofs.lemmas.List.Sums.{AllPass-from_list_all, list_all-from_AllPass}
 use Rattle.std.proofs.lemmas.Map.Views.{Contains-from_any, list_any-from_Contains}
 use Rattle.pfs_order.specs.Sequence.{IsSequence}
-use Rattle.pfs_order.proofs.Published.Sequences.{IsSequence-nil, IsSequence-cons, IsSequence-head}
-use Rattle.pfs_c.proofs.Jobs.{IsSequence-rest, absent_any, joined}
+use Rattle.pfs_order.proofs.Published.Sequences.{IsSequence-nil, IsSequence-cons, IsSequence-head, IsSequence-rest}
+use Rattle.pfs_c.proofs.Jobs.{absent_any, joined}
 
 -- ---- whether the first jobs are below a size
 
@@ -27,13 +28,9 @@ small_more size jobs place b within h = rw (list_all_more (λ job. nat_lt job si
 
 pub small_all : (size : ℕ) (jobs : List ℕ) (place : ℕ) (b : Bool) → length jobs ≤ place
     → b ≡ are_small size jobs place → (b ≡ true) ↔ All (λ job. job < size) jobs
-small_all size jobs place b all h =
-    let is : b ≡ list_all (λ job. nat_lt job size) jobs = rw (take_all place jobs all) at h in (
-      λ yes. λ k d within. ltb-true (get_or jobs k d) size
-          (AllPass-from_list_all (λ job. nat_lt job size) jobs (sym is ∙ yes) k d within),
-      λ small. is ∙ list_all-from_AllPass (λ job. nat_lt job size) jobs
-          (λ k d within. lt-ltb (get_or jobs k d) size (small k d within)),
-    )
+small_all size jobs place b all h = rw (h, take_all place jobs all)
+    (Decides-by_and (λ job. nat_lt job size) (λ job. job < size) (list_all (λ job. nat_lt job size))
+    (λ job. Decides-ltb job size) refl (λ _ _. refl) jobs)
 
 -- ---- the jobs before a place were marked, and each mark that was there already was noticed
 
@@ -50,14 +47,6 @@ marked_start size jobs marks long none = record {
   repeated = (λ no. IsSequence-nil size, λ sequence. refl);
 }
 
-or_true : (b : Bool) → (b || true) ≡ true
-or_true true = refl
-or_true false = refl
-
-or_false : (b : Bool) → (b || false) ≡ b
-or_false true = refl
-or_false false = refl
-
 module _ (size : ℕ) (jobs : List ℕ) (marks : List Bool) (is_repeated : Bool) (place : ℕ)
     (h : AreMarked size jobs marks is_repeated place) (small : All (λ job. job < size) jobs) where
   pub one_more_marked : (d : Bool) → place < length jobs → AreMarked size jobs (set marks (get_or jobs place 0) true)
@@ -72,9 +61,9 @@ module _ (size : ℕ) (jobs : List ℕ) (marks : List Bool) (is_repeated : Bool)
         long = omega (arith, long, h.long);
         marked = λ other e lt. rw (take_more jobs place 0 within, list_any-append (nat_eq other) before (job ∷ []))
             (elim (cases_Bool (nat_eq other job)) [
-              | inl same ↦ rw (same, or_true (list_any (nat_eq other) before))
+              | inl same ↦ rw (same, or-true (list_any (nat_eq other) before))
                   (get_or-set_at marks job other true e (eqb-true other job same) room)
-              | inr apart ↦ rw (apart, or_false (list_any (nat_eq other) before))
+              | inr apart ↦ rw (apart, or-false (list_any (nat_eq other) before))
                   (get_or-set_other marks job other true e (eqb-false other job apart)
                   ∙ h.marked other e (omega (arith, long, lt)))
             ]);

@@ -1,93 +1,76 @@
--- Jobs of a list that leave their places for their best ones in turn.
-use Rattle.std.proofs.Common.{◌≡◌, ℕ, zero, suc, ◌+◌, ◌<◌, ◌≤◌, ◌++◌, List, [], ◌∷◌, length, filter}
-use Rattle.std.proofs.Common.{not}
-use Rattle.std.proofs.Common.{get_or, take, insert, remove, eqb, refl, ap, sym, ◌∙◌, add-one, arith}
-use Rattle.std.proofs.Common.{All, Contains}
+-- Jobs of a list that leave their places for their best ones in turn, and what construction and local search find.
+use Rattle.std.proofs.Common.{◌≡◌, ℕ, zero, suc, ◌+◌, ◌<◌, ◌≤◌, ◌++◌, List, [], ◌∷◌, length, All, Contains, Some, None}
+use Rattle.std.proofs.Common.{get_or, insert, remove, nat_eq, refl, ap, sym, ◌∙◌, suc-add, arith}
+use Rattle.std.specs.List.{list_any}
 use Rattle.std.specs.List.Sorted.{IsPermutation}
-use Rattle.std.proofs.lemmas.Bool.{ne_eqb}
-use Rattle.std.proofs.lemmas.List.{get_or_default, take_more}
-use Rattle.std.proofs.lemmas.List.Edits.{length-insert, length-remove}
+use Rattle.std.specs.Cmp.{nat_eq_equiv}
+use Rattle.std.proofs.lemmas.List.{get_or-append-add, get_or_default, length-append}
+use Rattle.std.proofs.lemmas.List.Edits.{length-remove}
 use Rattle.std.proofs.lemmas.List.Elements.{All-head, All-tail, Contains-append_right}
-use Rattle.std.proofs.lemmas.List.Sorted.{Contains-permutation, IsPermutation-insert}
-use Rattle.std.proofs.lemmas.List.Sorted.{IsPermutation-refl, IsPermutation-remove, IsPermutation-trans}
-use Rattle.std.proofs.lemmas.List.Sums.{fold_push}
+use Rattle.std.proofs.lemmas.List.Folds.{list_all_at}
+use Rattle.std.proofs.lemmas.List.Sorted.{Contains-permutation, IsPermutation-append_right, IsPermutation-insert}
+use Rattle.std.proofs.lemmas.List.Sorted.{IsPermutation-middle, IsPermutation-refl, IsPermutation-remove}
+use Rattle.std.proofs.lemmas.List.Sorted.{IsPermutation-sym, IsPermutation-trans, length_permutation}
+use Rattle.std.proofs.lemmas.List.Sums.{list_all-from_AllPass}
+use Rattle.std.proofs.lemmas.Map.Views.{list_any-from_Contains}
 use Rattle.pfs_base.specs.FlowShop.{FlowShop}
 use Rattle.pfs_base.specs.Paths.{makespan}
 use Rattle.pfs_order.specs.Sequence.{IsSequence, all_jobs}
 use Rattle.pfs_order.proofs.Published.Sequences.{IsSequence-head, IsSequence-moved, IsSequence-permutation}
-use Rattle.pfs_order.proofs.Published.Sequences.{insert-remove, others_are}
+use Rattle.pfs_order.proofs.Published.Sequences.{insert-remove, others-absent, others_are}
 use Rattle.pfs_insert.specs.Insertion.{best_place}
-use Rattle.pfs_insert.proofs.Published.BestPlaces.{best_place_within, best_place_least}
+use Rattle.pfs_insert.proofs.Published.BestPlaces.{best_place_least}
 use Rattle.pfs_search.specs.Greedy.{moved}
 use Rattle.pfs_search.specs.Neh.{with_jobs}
-use Rattle.pfs_c.specs.Building.{visited, after_visits, AllJobsLaw, VisitsLaw}
+use Rattle.pfs_c.specs.declared.numbers.CallFault.TheVariants.{Job}
+use Rattle.pfs_c.specs.Building.{members_fault, visited, after_visits, AllJobsLaw, VisitsLaw}
+use Rattle.pfs_c.specs.Building.{IsConstructed, IsLocalSearch}
+use Rattle.pfs_c.proofs.Jobs.{absent_any, joined}
 
--- ---- one job
+-- ---- jobs of a sequence
 
--- without a job that is absent, all are left
-pub others_absent : (job : ℕ) (jobs : List ℕ) → (Contains jobs job → ⊥)
-    → filter (λ other. not (eqb other job)) jobs ≡ jobs
-others_absent job [] absent = refl
-others_absent job (first ∷ jobs) absent =
-    let apart = ne_eqb first job (λ same. absent (0, omega arith, same)) in
-    let rest = others_absent job jobs (λ h. absent (suc h.0, omega (arith, h.1), h.2)) in
-    rw (apart, rest)
+module _ (shop : FlowShop) (old : List ℕ) (distinct : IsSequence shop.jobs old) where
+  -- a sequence with the same jobs that is no longer
+  pub record IsNoLonger (new : List ℕ) : Type 0 where
+    pub same : IsPermutation old new
+    pub shorter : makespan shop new ≤ makespan shop old
 
--- a sequence with the same jobs that is no longer
-pub record IsNoLongerThan (shop : FlowShop) (old new : List ℕ) : Type 0 where
-  pub same : IsPermutation old new
-  pub shorter : makespan shop new ≤ makespan shop old
+  moved_kept : (jobs : List ℕ) (job : ℕ) → Contains old job → IsNoLonger jobs → IsNoLonger (moved shop jobs job)
+  moved_kept jobs job among kept =
+      let (place, within, is) = Contains-permutation old jobs job kept.same among in
+      let at : job ≡ get_or jobs place 0 = sym is ∙ get_or_default jobs place job 0 within in
+      let rest : List ℕ = remove jobs place in
+      let best : ℕ = best_place shop rest job in
+      let fewer = length-remove jobs place within in
+      let least = best_place_least shop rest job place (omega arith) in
+      let back = ap (makespan shop) (insert-remove place job jobs within at) in
+      let sequence = IsSequence-permutation shop.jobs old jobs kept.same distinct in
+      rw (others_are shop.jobs place job jobs sequence within at) (record {
+        same = IsPermutation-trans old jobs (insert rest best job) kept.same
+            (IsPermutation-trans jobs (job ∷ rest) (insert rest best job)
+            (IsPermutation-remove jobs place job within (sym is)) (IsPermutation-insert rest best job));
+        shorter = omega (arith, back, least, kept.shorter);
+      })
 
-moved_kept : (shop : FlowShop) (size job : ℕ) (jobs : List ℕ) → IsSequence size jobs → Contains jobs job
-    → IsNoLongerThan shop jobs (moved shop jobs job)
-moved_kept shop size job jobs sequence (place, within, is) =
-    let at : job ≡ get_or jobs place 0 = sym is ∙ get_or_default jobs place job 0 within in
-    let rest : List ℕ = remove jobs place in
-    let best : ℕ = best_place shop rest job in
-    let fewer = length-remove jobs place within in
-    let least = best_place_least shop rest job place (omega arith) in
-    let back = ap (makespan shop) (insert-remove place job jobs within at) in
-    rw (others_are size place job jobs sequence within at) (record {
-      same = IsPermutation-trans jobs (job ∷ rest) (insert rest best job)
-          (IsPermutation-remove jobs place job within (sym is)) (IsPermutation-insert rest best job);
-      shorter = omega (arith, back, least);
-    })
+  visited_kept : (list jobs : List ℕ) → All (λ job. Contains old job) list → IsNoLonger jobs
+      → IsNoLonger (visited shop list jobs)
+  visited_kept [] jobs among kept = kept
+  visited_kept (job ∷ list) jobs among kept =
+      visited_kept list (moved shop jobs job) (All-tail (λ j. Contains old j) job list among)
+      (moved_kept jobs job (All-head (λ j. Contains old j) job list among) kept)
 
--- ---- a list of jobs
+  passes_kept : (list : List ℕ) (passes : ℕ) (jobs : List ℕ) → All (λ job. Contains old job) list → IsNoLonger jobs
+      → IsNoLonger (after_visits shop list passes jobs)
+  passes_kept list zero jobs among kept = kept
+  passes_kept list (suc passes) jobs among kept =
+      passes_kept list passes (visited shop list jobs) among (visited_kept list jobs among kept)
 
-kept_refl : (shop : FlowShop) (jobs : List ℕ) → IsNoLongerThan shop jobs jobs
-kept_refl shop jobs = record { same = IsPermutation-refl jobs; shorter = omega arith }
+  pub visits_kept : (list : List ℕ) (passes : ℕ) → All (λ job. Contains old job) list
+      → IsNoLonger (after_visits shop list passes old)
+  visits_kept list passes among =
+      passes_kept list passes old among (record { same = IsPermutation-refl old; shorter = omega arith })
 
-kept_trans : (shop : FlowShop) (a b c : List ℕ) → IsNoLongerThan shop a b → IsNoLongerThan shop b c
-    → IsNoLongerThan shop a c
-kept_trans shop a b c once rest = record {
-  same = IsPermutation-trans a b c once.same rest.same;
-  shorter = omega (arith, once.shorter, rest.shorter);
-}
-
-still : (shop : FlowShop) (list old new : List ℕ) → IsNoLongerThan shop old new
-    → All (λ job. Contains old job) list → All (λ job. Contains new job) list
-still shop list old new once among k d lt = Contains-permutation old new (get_or list k d) once.same (among k d lt)
-
-visited_kept : (shop : FlowShop) (size : ℕ) (list jobs : List ℕ) → IsSequence size jobs
-    → All (λ job. Contains jobs job) list → IsNoLongerThan shop jobs (visited shop list jobs)
-visited_kept shop size [] jobs sequence among = kept_refl shop jobs
-visited_kept shop size (job ∷ list) jobs sequence among =
-    let new : List ℕ = moved shop jobs job in
-    let once = moved_kept shop size job jobs sequence (All-head (λ j. Contains jobs j) job list among) in
-    kept_trans shop jobs new (visited shop list new) once
-    (visited_kept shop size list new (IsSequence-permutation size jobs new once.same sequence)
-    (still shop list jobs new once (All-tail (λ j. Contains jobs j) job list among)))
-
-pub visits_kept : (shop : FlowShop) (size : ℕ) (list : List ℕ) (passes : ℕ) (jobs : List ℕ) → IsSequence size jobs
-    → All (λ job. Contains jobs job) list → IsNoLongerThan shop jobs (after_visits shop list passes jobs)
-visits_kept shop size list zero jobs sequence among = kept_refl shop jobs
-visits_kept shop size list (suc passes) jobs sequence among =
-    let new : List ℕ = visited shop list jobs in
-    let once = visited_kept shop size list jobs sequence among in
-    kept_trans shop jobs new (after_visits shop list passes new) once
-    (visits_kept shop size list passes new (IsSequence-permutation size jobs new once.same sequence)
-    (still shop list jobs new once among))
+-- ---- jobs that are not in a sequence
 
 -- absent jobs are inserted
 pub visited_absent : (shop : FlowShop) (size : ℕ) (more jobs : List ℕ) → IsSequence size (more ++ jobs)
@@ -99,32 +82,75 @@ visited_absent shop size (job ∷ more) jobs together =
     let best : ℕ = best_place shop jobs job in
     let rest = visited_absent shop size more (insert jobs best job)
     (IsSequence-moved size job best more jobs together) in
-    rw (others_absent job jobs absent) rest
+    rw (others-absent job jobs absent) rest
 
-pub length-with_jobs : (shop : FlowShop) (more jobs : List ℕ)
-    → length (with_jobs shop jobs more) ≡ length jobs + length more
-length-with_jobs shop [] jobs = omega arith
-length-with_jobs shop (job ∷ more) jobs =
-    let best : ℕ = best_place shop jobs job in
-    let longer = length-insert jobs best job (best_place_within shop jobs job) in
-    let rest = length-with_jobs shop more (insert jobs best job) in
-    omega (arith, longer, rest)
+pub with_jobs_all : (shop : FlowShop) (more jobs : List ℕ) → IsPermutation (more ++ jobs) (with_jobs shop jobs more)
+with_jobs_all shop [] jobs = IsPermutation-refl jobs
+with_jobs_all shop (job ∷ more) jobs =
+    let next : List ℕ = insert jobs (best_place shop jobs job) job in
+    IsPermutation-trans (job ∷ (more ++ jobs)) (more ++ next) (with_jobs shop next more)
+    (IsPermutation-trans (job ∷ (more ++ jobs)) (more ++ (job ∷ jobs)) (more ++ next)
+    (IsPermutation-sym (more ++ (job ∷ jobs)) (job ∷ (more ++ jobs)) (IsPermutation-middle more job jobs))
+    (IsPermutation-append_right more (job ∷ jobs) next (IsPermutation-insert jobs (best_place shop jobs job) job)))
+    (with_jobs_all shop more next)
 
--- ---- one more
-
-pub visited_more : (shop : FlowShop) (list jobs : List ℕ) (i : ℕ) → i < length list
-    → visited shop (take (i + 1) list) jobs ≡ moved shop (visited shop (take i list) jobs) (get_or list i 0)
-visited_more shop list jobs i within =
-    rw (take_more list i 0 within) (fold_push (moved shop) jobs (take i list) (get_or list i 0))
-
-visits_suc : (shop : FlowShop) (list : List ℕ) (passes : ℕ) (jobs : List ℕ)
-    → after_visits shop list (suc passes) jobs ≡ visited shop list (after_visits shop list passes jobs)
-visits_suc shop list zero jobs = refl
-visits_suc shop list (suc passes) jobs = visits_suc shop list passes (visited shop list jobs)
+-- ---- one more pass
 
 pub visits_more : (shop : FlowShop) (list : List ℕ) (passes : ℕ) (jobs : List ℕ)
     → after_visits shop list (passes + 1) jobs ≡ visited shop list (after_visits shop list passes jobs)
-visits_more shop list passes jobs = rw add-one (visits_suc shop list passes jobs)
+visits_more shop list zero jobs = refl
+visits_more shop list (suc passes) jobs = rw suc-add (visits_more shop list passes (visited shop list jobs))
+
+-- ---- jobs of a list that are in a sequence
+
+pub members_all : (sequence list : List ℕ) → All (λ job. Contains sequence job) list
+    → members_fault sequence list ≡ None
+members_all sequence list among =
+    let found = list_all-from_AllPass (λ job. list_any (nat_eq job) sequence) list
+    (λ k d lt. list_any-from_Contains nat_eq_equiv (get_or list k d) sequence (among k d lt)) in
+    rw found refl
+
+pub members_out : (sequence list : List ℕ) (i : ℕ) → i < length list → (Contains sequence (get_or list i 0) → ⊥)
+    → members_fault sequence list ≡ Some Job
+members_out sequence list i within absent =
+    let job : ℕ = get_or list i 0 in
+    let wrong = list_all_at (λ job. list_any (nat_eq job) sequence) list i 0 within (absent_any sequence job absent) in
+    rw wrong refl
+
+-- ---- what the calls find
+
+-- jobs that are inserted are in range
+pub more_small : (size : ℕ) (first more : List ℕ) → IsSequence size (first ++ more) → All (λ job. job < size) more
+more_small size first more together k d lt = rw (get_or-append-add first more k d) at
+    (together.in_range (length first + k) d (omega (arith, length-append {A = ℕ}, lt)))
+
+pub construct_is : (shop : FlowShop) (sequence more found : List ℕ) → IsSequence shop.jobs (sequence ++ more)
+    → found ≡ after_visits shop more 1 sequence
+    → IsConstructed shop sequence more found (makespan shop found)
+construct_is shop sequence more found together is =
+    let turned = joined shop.jobs sequence more together in
+    let same : found ≡ with_jobs shop sequence more = is ∙ visited_absent shop shop.jobs more sequence turned in
+    let all = with_jobs_all shop more sequence in
+    rw same (record {
+      found = refl;
+      long = omega (arith, length_permutation (more ++ sequence) _ all, length-append {A = ℕ});
+      distinct = IsSequence-permutation shop.jobs (more ++ sequence) _ all turned;
+      spanned = refl;
+    })
+
+pub search_is : (shop : FlowShop) (sequence list : List ℕ) (passes : ℕ) (found : List ℕ)
+    → IsSequence shop.jobs sequence → All (λ job. Contains sequence job) list
+    → found ≡ after_visits shop list passes sequence
+    → IsLocalSearch shop sequence list passes found (makespan shop found)
+search_is shop sequence list passes found distinct among is =
+    let kept = visits_kept shop sequence distinct list passes among in
+    rw is (record {
+      found = refl;
+      long = length_permutation sequence (after_visits shop list passes sequence) kept.same;
+      distinct = IsSequence-permutation shop.jobs sequence (after_visits shop list passes sequence) kept.same distinct;
+      spanned = refl;
+      no_longer = kept.shorter;
+    })
 
 -- ---- laws
 
@@ -133,4 +159,4 @@ all_jobs_law shop zero jobs = refl
 all_jobs_law shop (suc passes) jobs = all_jobs_law shop passes (visited shop (all_jobs shop.jobs) jobs)
 
 pub visits_law : VisitsLaw
-visits_law shop list jobs passes sequence among = (visits_kept shop shop.jobs list passes jobs sequence among).shorter
+visits_law shop list jobs passes sequence among = (visits_kept shop jobs sequence list passes among).shorter

@@ -10,11 +10,13 @@ pub fn neh()
 }
 
 /// The passes of a round are passes over all jobs in the order of their numbers.
+#[tactic(auto, using(crate::proofs::Visits::all_jobs_law))]
 pub fn all_jobs()
     ensures { AllJobsLaw }
 {}
 
 /// Passes over jobs of a sequence make it no longer.
+#[tactic(auto, using(crate::proofs::Visits::visits_law))]
 pub fn no_longer()
     ensures { VisitsLaw }
 {}

@@ -44,7 +44,7 @@ IsSequence-head size job jobs h (k, within, at) =
 pub IsSequence-first : (size job : ℕ) (jobs : List ℕ) → IsSequence size (job ∷ jobs) → job < size
 IsSequence-first size job jobs h = All-head (λ j. j < size) job jobs h.in_range
 
-IsSequence-rest : (size job : ℕ) (jobs : List ℕ) → IsSequence size (job ∷ jobs) → IsSequence size jobs
+pub IsSequence-rest : (size job : ℕ) (jobs : List ℕ) → IsSequence size (job ∷ jobs) → IsSequence size jobs
 IsSequence-rest size job jobs h = record {
   in_range = All-tail (λ j. j < size) job jobs h.in_range;
   distinct = IsDistinct-tail eqb job jobs h.distinct;
@@ -139,7 +139,7 @@ pub ruleset all_jobs_steps = (length-all_jobs, insert-all_jobs)
 -- ---- a job that is removed and inserted again
 
 -- without an absent job, all jobs are left
-others-absent : (job : ℕ) (jobs : List ℕ) → (Contains jobs job → ⊥) → filter (λ other. not (eqb other job)) jobs ≡ jobs
+pub others-absent : (job : ℕ) (jobs : List ℕ) → (Contains jobs job → ⊥) → filter (λ other. not (eqb other job)) jobs ≡ jobs
 others-absent job [] absent = refl
 others-absent job (first ∷ jobs) absent =
     let apart = ne_eqb first job (λ same. absent (0, omega arith, same)) in

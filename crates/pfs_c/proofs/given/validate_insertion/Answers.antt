@@ -2,7 +2,7 @@ use Rattle.std.proofs.Common.{◌<◌, ◌++◌, ◌∷◌, [], Contains, refl}
 use Rattle.std.proofs.lemmas.Result.{IfOk-weaker}
 use Rattle.pfs_order.specs.Sequence.{IsSequence}
 use Rattle.pfs_order.proofs.Published.Sequences.{IsSequence-cons, IsSequence-head, IsSequence-first}
-use Rattle.pfs_c.proofs.Jobs.{insertion_is, insertion_right, joined}
+use Rattle.pfs_c.proofs.Jobs.{insertion_right, jobs_more, joined}
 use Rattle.pfs_c.proofs.given.validate_insertion.Goals as goal
 
 pub returns-then-not-marks-job-clause-validated : goal.returns-then-not-marks-job-clause-validated
@@ -12,13 +12,13 @@ returns-then-not-marks-job-clause-validated c =
     let jobs = c.args.sequence.now in
     let absent : Contains jobs job → ⊥ =
     λ among. let marked = (c.is_sequence.ensures.marked c.if-is_sequence.true job).1 among in cc in
-    rw (insertion_right size job jobs (IsSequence-cons size job jobs c.if-job-size.true absent
-    (c.is_sequence.ensures.sequence.0 c.if-is_sequence.true))) refl
+    let right = (insertion_right size job jobs).1 (IsSequence-cons size job jobs c.if-job-size.true absent
+    (c.is_sequence.ensures.sequence.0 c.if-is_sequence.true)) in
+    rw right refl
 
 pub returns-clause-validated : goal.returns-clause-validated
 returns-clause-validated c =
-    let sequence = c.in_ok-validate_jobs.ensures.sequence.0 refl in
-    rw (insertion_is c.args.size c.args.job c.args.sequence.now sequence) c.validate_more.ensures.validated
+    rw (← jobs_more c.args.size c.args.sequence.now c.args.job) c.validate_more.ensures.validated
 
 pub returns-clause-in_range : goal.returns-clause-in_range
 returns-clause-in_range c =

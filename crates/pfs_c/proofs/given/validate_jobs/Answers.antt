@@ -18,4 +18,6 @@ validate_more-requires c = IsSequence-nil c.args.size
 
 pub returns-clause-sequence : goal.returns-clause-sequence
 returns-clause-sequence c =
-    valid_is c.validate_more.result c.args.size c.args.jobs.now c.validate_more.ensures.validated
+    let right = jobs_right c.args.size c.args.jobs.now in
+    let is = valid_is c.validate_more.result _ c.validate_more.ensures.validated in
+    (λ ok. right.0 (is.0 ok), λ sequence. is.1 (right.1 sequence))

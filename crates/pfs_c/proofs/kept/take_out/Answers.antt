@@ -1,6 +1,5 @@
 use Rattle.std.proofs.Common.{Contains, ap, sym, ◌∙◌, rules}
-use Rattle.pfs_order.proofs.Published.Sequences.{absent-remove, others_are}
-use Rattle.pfs_c.proofs.Visits.{others_absent}
+use Rattle.pfs_order.proofs.Published.Sequences.{absent-remove, others-absent, others_are}
 use Rattle.pfs_c.proofs.kept.take_out.Goals as goal
 
 pub returns-then-has-clause-jobs : goal.returns-then-has-clause-jobs
@@ -23,4 +22,4 @@ pub returns-else-has-clause-jobs : goal.returns-else-has-clause-jobs
 returns-else-has-clause-jobs c =
     let seq = c.args.seq.now in
     let absent : Contains seq.jobs c.args.job → ⊥ = search rules in
-    ap (λ jobs. record seq { jobs = jobs }) (sym (others_absent c.args.job seq.jobs absent))
+    ap (λ jobs. record seq { jobs = jobs }) (sym (others-absent c.args.job seq.jobs absent))

@@ -1,8 +1,8 @@
 use Rattle.std.proofs.Common.{◌≡◌, ap, get_or, insert, sym, ◌∙◌}
+use Rattle.std.proofs.lemmas.List.Sums.{fold_more}
 use Rattle.pfs_insert.specs.Insertion.{with_job}
 use Rattle.pfs_order.specs.Sequence.{Sequence}
 use Rattle.pfs_search.specs.Greedy.{moved}
-use Rattle.pfs_c.proofs.Visits.{visited_more}
 use Rattle.pfs_c.proofs.kept.visit_once.Goals as goal
 
 pub loop-job-preserved : goal.loop-job-preserved
@@ -22,5 +22,6 @@ loop-job-preserved c =
       search = c.best-best.ensures.still;
       size = ap (λ (s : Sequence). s.size) step ∙ c.loop-job.invariant.size;
       order = step ∙ ap (λ (s : Sequence). record s { jobs = moved shop s.jobs job }) c.loop-job.invariant.order
-          ∙ ap (λ jobs. record seq { jobs = jobs }) (sym (visited_more shop list seq.jobs done c.loop-job-test.true));
+          ∙ ap (λ jobs. record seq { jobs = jobs })
+          (sym (fold_more (moved shop) seq.jobs list done 0 c.loop-job-test.true));
     }

@@ -2,7 +2,7 @@ use Rattle.std.proofs.Common.{ℕ, length, drop, refl, arith}
 use Rattle.std.proofs.lemmas.Bool.{eqb-true}
 use Rattle.std.proofs.lemmas.List.{length-append, length-drop, take_at}
 use Rattle.pfs_c.specs.Building.{visited}
-use Rattle.pfs_c.proofs.Gathered.{construct_is, more_small}
+use Rattle.pfs_c.proofs.Visits.{construct_is, more_small}
 use Rattle.pfs_c.proofs.searching.construct_in.Goals as goal
 
 pub visit-requires-clause-small : goal.visit-requires-clause-small

@@ -1,7 +1,7 @@
 use Rattle.std.proofs.Common.{refl, sym}
 use Rattle.std.proofs.Math.Seq.{take-length}
 use Rattle.pfs_c.specs.Building.{after_visits}
-use Rattle.pfs_c.proofs.Gathered.{search_is}
+use Rattle.pfs_c.proofs.Visits.{search_is}
 use Rattle.pfs_c.proofs.searching.local_search_in.Goals as goal
 
 pub visit-requires-clause-long : goal.visit-requires-clause-long

@@ -1,7 +1,8 @@
 use Rattle.std.proofs.Common.{◌≡◌, refl, arith, rules, Err}
 use Rattle.pfs_c.specs.Many.{sequence_at}
-use Rattle.pfs_c.proofs.Jobs.{jobs_right}
-use Rattle.pfs_c.proofs.ManyLemmas.{each_right, one_wrong}
+use Rattle.pfs_c.specs.Validation.{jobs_fault}
+use Rattle.pfs_c.proofs.Jobs.{jobs_right, none_below}
+use Rattle.pfs_c.proofs.ManyLemmas.{one_wrong}
 use Rattle.pfs_c.proofs.Returning.{passed}
 use Rattle.pfs_c.proofs.spans.validate_many.Goals as goal
 
@@ -16,8 +17,8 @@ returns-in_err-validate_jobs-clause-validated c =
 
 pub returns-clause-validated : goal.returns-clause-validated
 returns-clause-validated c =
-    let right = each_right c.args.jobs c.args.count c.args.long c.args.sequences.now
-    (λ k lt. c.loop-index.invariant k (omega (arith, lt, c.loop-index-test.false))) in
+    let right = none_below (λ index. jobs_fault c.args.jobs (sequence_at c.args.long c.args.sequences.now index))
+    c.args.count (λ k lt. c.loop-index.invariant k (omega (arith, lt, c.loop-index-test.false))) in
     let room = passed _ _ _ c.in_ok-validate_product.ensures.validated in
     rw (room, right) refl
 

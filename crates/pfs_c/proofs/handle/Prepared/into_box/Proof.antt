@@ -22,7 +22,7 @@ use Rattle.pfs_c.proofs.HandleSteps.{◌≡◌, List, [], ◌∷◌, refl, sym, 
 use Rattle.pfs_c.proofs.HandleSteps.{Global, global, ghosts, dict, global-lowered, passed, kept, handle, Prepared}
 use Rattle.pfs_c.proofs.HandleSteps.{lowered, lowers, Ura, dnil, Val, of_list, Fml, ftrue, full_share, ent, sep, via}
 use Rattle.pfs_c.proofs.HandleSteps.{id⊢, Model, fact, Running, tables, Logic, sem, ‵, raw, ◌⊛◌, some, later, ◌$◌, ◌∵◌}
-use Rattle.pfs_c.proofs.HandleSteps.{!, qed, use0, use1, use2, await, pick, split, join, fsplit, fpick, suffices, keep}
+use Rattle.pfs_c.proofs.HandleSteps.{ !, qed, use0, use1, use2, await, pick, split, join, fsplit, fpick, suffices, keep}
 use Rattle.pfs_c.proofs.HandleSteps.{move, drop, done, agg, sub, whole, enter, of_opd, lit, and_then, no_more, returns}
 use Rattle.pfs_c.proofs.HandleSteps.{fld, stop, alloc_all, pass_all, free_all, look_at, get, get_in, sets, yes, Is}
 use Rattle.pfs_c.proofs.HandleSteps.{shows, glues, Ptr, null_ptr, rawptr_Lawful, plain, heard, nothing, owned, peeks}
