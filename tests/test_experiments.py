@@ -27,7 +27,7 @@ on_slurm = pytest.mark.xdist_group("slurm")
 
 
 def ended(count: int, failed: int = 0, left: int = 0, said: str = "", name: str = "out.csv") -> Done:
-    """The result of a start that has made so many runs."""
+    """The result of a start that has made this number of runs."""
     line = f"{name}: {count} runs, {failed} of them failed, {left} still to run\n"
     return Done(1 if failed or left else 0, "", said + line)
 
