@@ -134,14 +134,16 @@ static uint64_t reinsert(const char *form, uint32_t *sequence, size_t length, co
 /* The rounds of pfs_rounds, made of the library's other functions. */
 static uint64_t own_rounds(const char *form, uint32_t rounds, uint64_t makespan) {
     static uint32_t sequence[PFS_MOST_JOBS];
-    uint32_t words[TAKE], removed[TAKE];
-    size_t take = jobs < TAKE ? jobs : TAKE;
+    uint32_t take = jobs < TAKE ? (uint32_t)jobs : TAKE, removed[TAKE];
+    uint32_t *words = malloc(rounds * take * sizeof *words), *word = words;
+    if (words == NULL)
+        exit(2);
+    check(pfs_random(1, 0, words, rounds * take));
     for (uint32_t round = 0; round < rounds; ++round) {
-        size_t length = jobs;
-        check(pfs_random(1, round * take, words, take));
+        uint32_t length = (uint32_t)jobs;
         memcpy(sequence, order, jobs * sizeof *order);
-        for (size_t index = 0; index < take; ++index) {
-            size_t place = words[index] % length;
+        for (uint32_t index = 0; index < take; ++index) {
+            uint32_t place = *word++ % length;
             removed[index] = sequence[place];
             memmove(sequence + place, sequence + place + 1, (--length - place) * sizeof *sequence);
         }
@@ -151,6 +153,7 @@ static uint64_t own_rounds(const char *form, uint32_t rounds, uint64_t makespan)
             memcpy(order, sequence, jobs * sizeof *order);
         }
     }
+    free(words);
     return makespan;
 }
 

@@ -138,14 +138,32 @@ pub(crate) fn validate_insertion(size: usize, sequence: &[u32], job: u32) -> Res
     ensures in_range { IfOk result (λ done. job < size) }
     ensures absent { IfOk result (λ done. Contains sequence.now job → ⊥) }
 {
-    if size <= FEW_JOBS && (job as usize) < size {
-        let mut marks = [false; FEW_JOBS];
-        if is_sequence(size as u32, sequence, &mut marks) && !marks[job as usize] {
-            return Ok(());
-        }
+    if is_insertion(size as u32, sequence, job) {
+        return Ok(());
     }
     validate_jobs(size, sequence)?;
     validate_more(size, sequence, &[job])
+}
+
+// Whether there are few jobs, the sequence is valid, and the job to insert into it too.
+#[inline(always)]
+fn is_insertion(size: u32, sequence: &[u32], job: u32) -> bool
+    ensures { IsTrue result → IsSequence size sequence.now × (job < size) × (Contains sequence.now job → ⊥) }
+{
+    if size <= 64 {
+        is_marked(size, sequence, job, &mut [false; 64])
+    } else {
+        size <= FEW_JOBS as u32 && is_marked(size, sequence, job, &mut [false; FEW_JOBS])
+    }
+}
+
+#[inline(always)]
+fn is_marked(size: u32, sequence: &[u32], job: u32, marks: &mut [bool]) -> bool
+    requires enough { size ≤ length marks.old }
+    requires none { All (λ mark. mark ≡ false) marks.old }
+    ensures { IsTrue result → IsSequence size sequence.now × (job < size) × (Contains sequence.now job → ⊥) }
+{
+    job < size && is_sequence(size, sequence, marks) && !marks[job as usize]
 }
 
 // Whether the jobs are distinct and below the size. If so, they are marked. No job is marked before.

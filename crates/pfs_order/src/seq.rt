@@ -183,14 +183,25 @@ fn copy_in_room(jobs: &mut Vec<usize>, others: &[usize])
     }
 }
 
-// Makes a list equal to a list of 32-bit jobs, for which it has room.
+// Makes a list equal to a list of 32-bit jobs, for which it has room. With a slice of fixed length the compiler
+// vectorizes the loop.
 fn set_in_room(jobs: &mut Vec<usize>, others: &[u32])
     requires { length others.now ≤ vec_capacity jobs.old }
     ensures items { jobs.new.items ≡ others.now }
     ensures capacity { vec_capacity jobs.old ≤ vec_capacity jobs.new }
 {
-    jobs.clear();
-    for job in others {
-        jobs.push_reserved(*job as usize);
+    match jobs.resize(others.len(), 0) {
+        Ok(()) => copy_jobs(jobs.as_mut_slice(), others),
+        Err(_) => unreachable!(),
+    }
+}
+
+// Writes 32-bit jobs over as many jobs.
+fn copy_jobs(jobs: &mut [usize], others: &[u32])
+    requires { length jobs.old ≡ length others.now }
+    ensures { jobs.new ≡ others.now }
+{
+    for place in 0..others.len() {
+        jobs[place] = others[place] as usize;
     }
 }

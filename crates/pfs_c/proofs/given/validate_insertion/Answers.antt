@@ -5,15 +5,13 @@ use Rattle.pfs_order.proofs.Published.Sequences.{IsSequence-cons, IsSequence-hea
 use Rattle.pfs_c.proofs.Jobs.{insertion_right, jobs_more, joined}
 use Rattle.pfs_c.proofs.given.validate_insertion.Goals as goal
 
-pub returns-then-not-marks-job-clause-validated : goal.returns-then-not-marks-job-clause-validated
-returns-then-not-marks-job-clause-validated c =
+pub returns-then-is_insertion-clause-validated : goal.returns-then-is_insertion-clause-validated
+returns-then-is_insertion-clause-validated c =
     let size = c.args.size in
     let job = c.args.job in
     let jobs = c.args.sequence.now in
-    let absent : Contains jobs job → ⊥ =
-    λ among. let marked = (c.is_sequence.ensures.marked c.if-is_sequence.true job).1 among in cc in
-    let right = (insertion_right size job jobs).1 (IsSequence-cons size job jobs c.if-job-size.true absent
-    (c.is_sequence.ensures.sequence.0 c.if-is_sequence.true)) in
+    let is = c.is_insertion.ensures c.if-is_insertion.true in
+    let right = (insertion_right size job jobs).1 (IsSequence-cons size job jobs is.1 is.2 is.0) in
     rw right refl
 
 pub returns-clause-validated : goal.returns-clause-validated
