@@ -127,9 +127,8 @@ pub(crate) fn validate_more(size: usize, sequence: &[u32], more: &[u32]) -> Resu
     Ok(())
 }
 
-/// Validates a sequence from the left, and then a job to insert into it. For the first of these jobs that is invalid it
-/// returns `Job` if that job is not below the size, and `Repeated` if it is equal to an earlier one. It allocates
-/// nothing.
+/// Validates a sequence from the left, and then a job to insert into it. For the first invalid one of these jobs it
+/// returns `Job` if that is not below the size, and `Repeated` if it is equal to an earlier one. It allocates nothing.
 pub(crate) fn validate_insertion(size: usize, sequence: &[u32], job: u32) -> Result<(), CallFault>
     requires { size ≤ MOST_JOBS }
     ensures validated { Validates result
@@ -138,32 +137,25 @@ pub(crate) fn validate_insertion(size: usize, sequence: &[u32], job: u32) -> Res
     ensures in_range { IfOk result (λ done. job < size) }
     ensures absent { IfOk result (λ done. Contains sequence.now job → ⊥) }
 {
-    if is_insertion(size as u32, sequence, job) {
+    if size <= 64 {
+        if is_insertion::<64>(size as u32, sequence, job) {
+            return Ok(());
+        }
+    } else if size <= FEW_JOBS && is_insertion::<FEW_JOBS>(size as u32, sequence, job) {
         return Ok(());
     }
     validate_jobs(size, sequence)?;
     validate_more(size, sequence, &[job])
 }
 
-// Whether there are few jobs, the sequence is valid, and the job to insert into it too.
+// Whether a sequence is valid, and a job to insert into it, with marks for at most N jobs.
 #[inline(always)]
-fn is_insertion(size: u32, sequence: &[u32], job: u32) -> bool
+fn is_insertion<const N: usize>(size: u32, sequence: &[u32], job: u32) -> bool
+    requires { (size ≤ N) × (N ≤ FEW_JOBS) }
     ensures { IsTrue result → IsSequence size sequence.now × (job < size) × (Contains sequence.now job → ⊥) }
 {
-    if size <= 64 {
-        is_marked(size, sequence, job, &mut [false; 64])
-    } else {
-        size <= FEW_JOBS as u32 && is_marked(size, sequence, job, &mut [false; FEW_JOBS])
-    }
-}
-
-#[inline(always)]
-fn is_marked(size: u32, sequence: &[u32], job: u32, marks: &mut [bool]) -> bool
-    requires enough { size ≤ length marks.old }
-    requires none { All (λ mark. mark ≡ false) marks.old }
-    ensures { IsTrue result → IsSequence size sequence.now × (job < size) × (Contains sequence.now job → ⊥) }
-{
-    job < size && is_sequence(size, sequence, marks) && !marks[job as usize]
+    let mut marks = [false; N];
+    job < size && is_sequence(size, sequence, &mut marks) && !marks[job as usize]
 }
 
 // Whether the jobs are distinct and below the size. If so, they are marked. No job is marked before.

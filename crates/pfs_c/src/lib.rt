@@ -1,7 +1,7 @@
 //! The library for C. C gives no guarantees, so each function first validates its arguments, in the order that its
 //! declaration in `lib/pfs.h` says. A call on a prepared instance takes the instance out of the struct of C (`handle`),
-//! works on it and puts it back. Processing times are stored job by job:
-//! `times[job * machines + machine]`. Jobs, machines and places count from 0.
+//! works on it and puts it back. Processing times are stored job by job: `times[job * machines + machine]`. Jobs,
+//! machines and places count from 0.
 #![tactic(auto)]
 
 mod given;

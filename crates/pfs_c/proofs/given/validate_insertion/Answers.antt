@@ -1,17 +1,26 @@
-use Rattle.std.proofs.Common.{◌<◌, ◌++◌, ◌∷◌, [], Contains, refl}
+use Rattle.std.proofs.Common.{◌≡◌, ℕ, ◌<◌, ◌++◌, ◌∷◌, [], List, None, Contains, refl}
+use Rattle.pfs_base.specs.Lists.{first_some}
+use Rattle.pfs_c.specs.Validation.{job_fault, jobs_fault}
 use Rattle.std.proofs.lemmas.Result.{IfOk-weaker}
 use Rattle.pfs_order.specs.Sequence.{IsSequence}
 use Rattle.pfs_order.proofs.Published.Sequences.{IsSequence-cons, IsSequence-head, IsSequence-first}
 use Rattle.pfs_c.proofs.Jobs.{insertion_right, jobs_more, joined}
 use Rattle.pfs_c.proofs.given.validate_insertion.Goals as goal
 
+-- a list of jobs and a job to insert that are valid
+no_fault : (size job : ℕ) (jobs : List ℕ) → IsSequence size jobs × (job < size) × (Contains jobs job → ⊥)
+    → first_some (jobs_fault size jobs ∷ job_fault size jobs job ∷ []) ≡ None
+no_fault size job jobs is = (insertion_right size job jobs).1 (IsSequence-cons size job jobs is.1 is.2 is.0)
+
 pub returns-then-is_insertion-clause-validated : goal.returns-then-is_insertion-clause-validated
 returns-then-is_insertion-clause-validated c =
-    let size = c.args.size in
-    let job = c.args.job in
-    let jobs = c.args.sequence.now in
-    let is = c.is_insertion.ensures c.if-is_insertion.true in
-    let right = (insertion_right size job jobs).1 (IsSequence-cons size job jobs is.1 is.2 is.0) in
+    let right = no_fault c.args.size c.args.job c.args.sequence.now (c.is_insertion.ensures c.if-is_insertion.true) in
+    rw right refl
+
+pub returns-then-is_insertion-2-clause-validated : goal.returns-then-is_insertion-2-clause-validated
+returns-then-is_insertion-2-clause-validated c =
+    let is = c.is_insertion-then-size-le-FEW_JOBS.ensures c.if-is_insertion-2.true in
+    let right = no_fault c.args.size c.args.job c.args.sequence.now is in
     rw right refl
 
 pub returns-clause-validated : goal.returns-clause-validated
