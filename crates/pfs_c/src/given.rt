@@ -46,8 +46,7 @@ pub(crate) fn validate_sizes(jobs: usize, machines: usize) -> Result<(), CallFau
     }
 }
 
-/// Validates the length of a list that must have `count * long` entries. If that product overflows, the length is
-/// wrong.
+/// Validates the length of a list of `count * long` entries. If that product overflows, the length is wrong.
 pub(crate) fn validate_product(length: usize, count: usize, long: usize) -> Result<(), CallFault>
     ensures validated { Validates result (length_fault length (count * long)) }
     ensures equal { IfOk result (λ done. length ≡ count * long) }
