@@ -4,7 +4,7 @@ ghost use Rattle.std.specs.List.{All, slice_index_or};
 ghost use Rattle.pfs_wave.specs.Private.HeldRows.{IsHolding, IsKept, IsPadded, part_from};
 
 use crate::band::Stored;
-use crate::times::{Changed, fill_times, move_back, move_front};
+use crate::times::{fill_times, move_back, move_front};
 
 /// The numbers of rows of a sequence that are rows of the sequence before: at its front, and at its end.
 #[derive(Clone, Copy, Debug, PartialEq, Eq)]
@@ -159,22 +159,11 @@ pub fn hold<T: Stored, const N: usize>(
     write_rows(order, seq, jobs, kept.front, longest);
     let steps = jobs + 8;
     let first = start_for(kept, start, jobs, len, seq.len());
-    if first == start {
+    let changed = if first == start {
         let times = &mut table[start * N..(start + steps) * N];
-        let changed = move_back::<T, N>(times, len, seq.len(), kept, steps);
-        fill_times::<T, N>(rows, order, times, changed);
-        return start;
-    }
-    move_front::<T, N>(table, start, first, kept.front);
-    let end = if kept.back == 0 {
-        steps
+        move_back::<T, N>(times, len, seq.len(), kept, steps)
     } else {
-        seq.len() - kept.back + 8
-    };
-    let changed = Changed {
-        from: kept.front,
-        to: end,
-        end,
+        move_front::<T, N>(table, start, first, seq.len(), kept, steps)
     };
     fill_times::<T, N>(
         rows,

@@ -180,23 +180,39 @@ pub fn move_back<T: Stored, const N: usize>(
     }
 }
 
-/// Moves the steps that have rows of the front of a sequence, from the step `start` of a table to the step `first`.
+/// Moves the steps that have rows of the front of a sequence of `new` jobs, from the step `start` of a table to the step
+/// `first`. Returns the rows that are not right yet, where the rows at the end are those of the steps before.
 #[inline(always)]
 pub fn move_front<T: Stored, const N: usize>(
     table: &mut [T],
     start: usize,
     first: usize,
-    front: usize,
-)
+    new: usize,
+    kept: Kept,
+    steps: usize,
+) -> Changed
     requires some { 1 ≤ N }
-    requires start { (start + front + 8) * N ≤ length table.old }
-    requires first { (first + front + 8) * N ≤ length table.old }
+    requires kept { kept.front + kept.back ≤ new }
+    requires new { new + 8 ≤ steps }
+    requires start { (start + steps) * N ≤ length table.old }
+    requires first { (first + steps) * N ≤ length table.old }
     requires small { length table.old < 2 ^ 32 }
     ensures length { length table.new ≡ length table.old }
-    ensures moved { (k step : ℕ) → k < N → step < front + 8 → column N (map T.lanes table.new) k (first + step)
+    ensures from { result.from ≡ kept.front }
+    ensures to { result.to ≡ result.end }
+    ensures none { kept.back ≡ 0 → result.end ≡ steps }
+    ensures kept { 0 < kept.back → result.end ≡ new - kept.back + 8 }
+    ensures moved { (k step : ℕ) → k < N → step < kept.front + 8 → column N (map T.lanes table.new) k (first + step)
         ≡ column N (map T.lanes table.old) k (start + step) }
-    ensures after { (k step : ℕ) → k < N → first + front + 8 ≤ step
+    ensures after { (k step : ℕ) → k < N → first + kept.front + 8 ≤ step
         → column N (map T.lanes table.new) k step ≡ column N (map T.lanes table.old) k step }
 {
-    table.copy_within(start * N..(start + front + 8) * N, first * N);
+    let from = kept.front;
+    let end = if kept.back == 0 {
+        steps
+    } else {
+        new - kept.back + 8
+    };
+    table.copy_within(start * N..(start + from + 8) * N, first * N);
+    Changed { from, to: end, end }
 }
