@@ -7,7 +7,7 @@ use crate::band::Stored;
 use crate::times::{fill_times, move_back, move_front};
 
 /// The numbers of rows of a sequence that are rows of the sequence before: at its front, and at its end.
-#[derive(Clone, Copy, Debug, PartialEq, Eq)]
+#[derive(Clone, Copy)]
 pub struct Kept {
     pub front: usize,
     pub back: usize,
@@ -24,14 +24,11 @@ fn are_same(held: &[usize], seq: &[usize], a: usize, b: usize) -> bool
     ensures same { result ≡ true → (row : ℕ) → row < 8
         → slice_index_or held.now (a + row) 0 ≡ slice_index_or seq.now (b + row) 0 }
 {
-    (held[a] == seq[b])
-        & (held[a + 1] == seq[b + 1])
-        & (held[a + 2] == seq[b + 2])
-        & (held[a + 3] == seq[b + 3])
-        & (held[a + 4] == seq[b + 4])
-        & (held[a + 5] == seq[b + 5])
-        & (held[a + 6] == seq[b + 6])
-        & (held[a + 7] == seq[b + 7])
+    let mut are_same = true;
+    for row in 0..8 {
+        are_same &= held[a + row] == seq[b + row];
+    }
+    are_same
 }
 
 /// The number of rows that are the same at the front, or up to seven fewer.

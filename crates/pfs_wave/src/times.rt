@@ -12,7 +12,7 @@ use crate::hold::Kept;
 use crate::vectors::put;
 
 /// The rows from `from` to before `to`, at the steps before `end`.
-#[derive(Clone, Copy, Debug, PartialEq, Eq)]
+#[derive(Clone, Copy)]
 pub struct Changed {
     pub from: usize,
     pub to: usize,
