@@ -69,8 +69,58 @@ fn filled_end(changed: Changed, room: usize) -> usize
     if fours <= room { fours } else { end }
 }
 
-// Fills vector k of the steps from `from` to before `to`. With four rows in each turn of the loop the blends stay in
-// registers and are not copied.
+// Fills vector k of the step of a row. The blends are of the rows before it, and then also of this one.
+#[inline(always)]
+fn fill_vector<T: Stored, const N: usize>(
+    rows: &[T],
+    order: &[usize],
+    times: &mut [T],
+    row: usize,
+    k: usize,
+    last: Blends<T>,
+) -> Blends<T>
+    requires jobs { All (λ job. job * N + N ≤ length rows.now) order.now }
+    requires k { k < N }
+    requires row { row < length order.now }
+    requires small { length order.now * N + N < 2 ^ 32 }
+    requires steps { length times.old ≡ length order.now * N }
+    requires last { AreBlends T.lanes (past_at (rows_at N (map T.lanes rows.now) order.now k) row) last }
+    ensures filled { IsFilled N k (rows_at N (map T.lanes rows.now) order.now k) row (row + 1) (map T.lanes times.old)
+        (map T.lanes times.new) }
+    ensures next { AreBlends T.lanes (past_at (rows_at N (map T.lanes rows.now) order.now k) (row + 1)) result }
+{
+    let one = last.push(vector_of::<T, N>(rows, order, row, k));
+    put(times, row * N + k, one.row);
+    one.next
+}
+
+// Fills vector k of the steps of four rows. After as many the blends are back in the same registers, and none is copied.
+#[inline(always)]
+fn fill_four<T: Stored, const N: usize>(
+    rows: &[T],
+    order: &[usize],
+    times: &mut [T],
+    row: usize,
+    k: usize,
+    last: Blends<T>,
+) -> Blends<T>
+    requires jobs { All (λ job. job * N + N ≤ length rows.now) order.now }
+    requires k { k < N }
+    requires row { row + 4 ≤ length order.now }
+    requires small { length order.now * N + N < 2 ^ 32 }
+    requires steps { length times.old ≡ length order.now * N }
+    requires last { AreBlends T.lanes (past_at (rows_at N (map T.lanes rows.now) order.now k) row) last }
+    ensures filled { IsFilled N k (rows_at N (map T.lanes rows.now) order.now k) row (row + 4) (map T.lanes times.old)
+        (map T.lanes times.new) }
+    ensures next { AreBlends T.lanes (past_at (rows_at N (map T.lanes rows.now) order.now k) (row + 4)) result }
+{
+    let one = fill_vector::<T, N>(rows, order, times, row, k, last);
+    let two = fill_vector::<T, N>(rows, order, times, row + 1, k, one);
+    let three = fill_vector::<T, N>(rows, order, times, row + 2, k, two);
+    fill_vector::<T, N>(rows, order, times, row + 3, k, three)
+}
+
+// Fills vector k of the steps from `from` to before `to`.
 #[inline(always)]
 fn fill_vectors<T: Stored, const N: usize>(
     rows: &[T],
@@ -92,21 +142,10 @@ fn fill_vectors<T: Stored, const N: usize>(
     let mut last = blends_before::<T, N>(rows, order, from, k);
     let turns = (to - from) / 4;
     for turn in 0..turns {
-        let row = from + 4 * turn;
-        let a = last.push(vector_of::<T, N>(rows, order, row, k));
-        let b = a.next.push(vector_of::<T, N>(rows, order, row + 1, k));
-        let c = b.next.push(vector_of::<T, N>(rows, order, row + 2, k));
-        let d = c.next.push(vector_of::<T, N>(rows, order, row + 3, k));
-        last = d.next;
-        put(times, row * N + k, a.row);
-        put(times, (row + 1) * N + k, b.row);
-        put(times, (row + 2) * N + k, c.row);
-        put(times, (row + 3) * N + k, d.row);
+        last = fill_four::<T, N>(rows, order, times, from + 4 * turn, k, last);
     }
     for row in from + 4 * turns..to {
-        let one = last.push(vector_of::<T, N>(rows, order, row, k));
-        last = one.next;
-        put(times, row * N + k, one.row);
+        last = fill_vector::<T, N>(rows, order, times, row, k, last);
     }
 }
 
