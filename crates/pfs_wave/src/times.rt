@@ -186,14 +186,10 @@ pub fn move_back<T: Stored, const N: usize>(
             end: steps,
         };
     }
-    let moved = new - kept.back + 8;
+    let to = new - kept.back + 8;
     let first = old - kept.back + 8;
-    times.copy_within(first * N..(old + 8) * N, moved * N);
-    Changed {
-        from,
-        to: moved,
-        end: moved,
-    }
+    times.copy_within(first * N..(old + 8) * N, to * N);
+    Changed { from, to, end: to }
 }
 
 /// Moves the steps that have rows of the front of a sequence of `new` jobs, from the step `start` of a table to the step
