@@ -123,7 +123,8 @@ fn fill_vectors<T: Stored, const N: usize>(
     for turn in 0..turns {
         last = fill_some::<T, N>(rows, order, times, from + 4 * turn, 4, k, last);
     }
-    fill_some::<T, N>(rows, order, times, from + 4 * turns, (to - from) % 4, k, last);
+    let rest = (to - from) % 4;
+    fill_some::<T, N>(rows, order, times, to - rest, rest, k, last);
 }
 
 /// Skews the rows of a sequence that changed. The other rows are skewed already.

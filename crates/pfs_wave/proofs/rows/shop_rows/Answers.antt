@@ -1,4 +1,4 @@
-use Rattle.std.proofs.Common.{◌≡◌, ◌∙◌, ap, length, arith}
+use Rattle.std.proofs.Common.{◌∙◌, ap, length, arith}
 use Rattle.std.proofs.lemmas.List.{length_push}
 use Rattle.pfs_wave.proofs.RowCells.{rows_more}
 use Rattle.pfs_wave.proofs.rows.shop_rows.Goals as goal
