@@ -42,6 +42,10 @@ module _ {X : Type 0} (lanes : X → List ℕ) (count : ℕ) (table : List X) (r
       (get_or-set_other (map lanes table) at (step * count + j) (lanes new) []
       (λ is. other (same_vector count step row j k j_lt k_lt (is ∙ at_is))))
 
+pub same_long : {X : Type 0} (lanes : X → List ℕ) (old new : List X) → length (map lanes new) ≡ length (map lanes old)
+    → length new ≡ length old
+same_long lanes old new is = sym (length-map new lanes) ∙ is ∙ length-map old lanes
+
 pub filled_none : (count k : ℕ) (rows : Rows) (from : ℕ) (times : List (List ℕ))
     → IsFilled count k rows from from times times
 filled_none count k rows from times = record {

@@ -69,58 +69,37 @@ fn filled_end(changed: Changed, room: usize) -> usize
     if fours <= room { fours } else { end }
 }
 
-// Fills vector k of the step of a row. The blends are of the rows before it, and then also of this one.
+// Fills vector k of the steps of `count` rows. The blends are of the rows before them, and then also of these.
 #[inline(always)]
-fn fill_vector<T: Stored, const N: usize>(
+fn fill_some<T: Stored, const N: usize>(
     rows: &[T],
     order: &[usize],
     times: &mut [T],
     row: usize,
+    count: usize,
     k: usize,
-    last: Blends<T>,
+    mut last: Blends<T>,
 ) -> Blends<T>
     requires jobs { All (λ job. job * N + N ≤ length rows.now) order.now }
     requires k { k < N }
-    requires row { row < length order.now }
+    requires row { row + count ≤ length order.now }
     requires small { length order.now * N + N < 2 ^ 32 }
     requires steps { length times.old ≡ length order.now * N }
     requires last { AreBlends T.lanes (past_at (rows_at N (map T.lanes rows.now) order.now k) row) last }
-    ensures filled { IsFilled N k (rows_at N (map T.lanes rows.now) order.now k) row (row + 1) (map T.lanes times.old)
-        (map T.lanes times.new) }
-    ensures next { AreBlends T.lanes (past_at (rows_at N (map T.lanes rows.now) order.now k) (row + 1)) result }
+    ensures filled { IsFilled N k (rows_at N (map T.lanes rows.now) order.now k) row (row + count)
+        (map T.lanes times.old) (map T.lanes times.new) }
+    ensures next { AreBlends T.lanes (past_at (rows_at N (map T.lanes rows.now) order.now k) (row + count)) result }
 {
-    let one = last.push(vector_of::<T, N>(rows, order, row, k));
-    put(times, row * N + k, one.row);
-    one.next
+    for step in 0..count {
+        let one = last.push(vector_of::<T, N>(rows, order, row + step, k));
+        put(times, (row + step) * N + k, one.row);
+        last = one.next;
+    }
+    last
 }
 
-// Fills vector k of the steps of four rows. After as many the blends are back in the same registers, and none is copied.
-#[inline(always)]
-fn fill_four<T: Stored, const N: usize>(
-    rows: &[T],
-    order: &[usize],
-    times: &mut [T],
-    row: usize,
-    k: usize,
-    last: Blends<T>,
-) -> Blends<T>
-    requires jobs { All (λ job. job * N + N ≤ length rows.now) order.now }
-    requires k { k < N }
-    requires row { row + 4 ≤ length order.now }
-    requires small { length order.now * N + N < 2 ^ 32 }
-    requires steps { length times.old ≡ length order.now * N }
-    requires last { AreBlends T.lanes (past_at (rows_at N (map T.lanes rows.now) order.now k) row) last }
-    ensures filled { IsFilled N k (rows_at N (map T.lanes rows.now) order.now k) row (row + 4) (map T.lanes times.old)
-        (map T.lanes times.new) }
-    ensures next { AreBlends T.lanes (past_at (rows_at N (map T.lanes rows.now) order.now k) (row + 4)) result }
-{
-    let one = fill_vector::<T, N>(rows, order, times, row, k, last);
-    let two = fill_vector::<T, N>(rows, order, times, row + 1, k, one);
-    let three = fill_vector::<T, N>(rows, order, times, row + 2, k, two);
-    fill_vector::<T, N>(rows, order, times, row + 3, k, three)
-}
-
-// Fills vector k of the steps from `from` to before `to`.
+// Fills vector k of the steps from `from` to before `to`, four in a turn: the compiler unrolls these. After as many the
+// blends are back in the same registers, and none is copied.
 #[inline(always)]
 fn fill_vectors<T: Stored, const N: usize>(
     rows: &[T],
@@ -142,11 +121,10 @@ fn fill_vectors<T: Stored, const N: usize>(
     let mut last = blends_before::<T, N>(rows, order, from, k);
     let turns = (to - from) / 4;
     for turn in 0..turns {
-        last = fill_four::<T, N>(rows, order, times, from + 4 * turn, k, last);
+        last = fill_some::<T, N>(rows, order, times, from + 4 * turn, 4, k, last);
     }
-    for row in from + 4 * turns..to {
-        last = fill_vector::<T, N>(rows, order, times, row, k, last);
-    }
+    let rest = (to - from) % 4;
+    fill_some::<T, N>(rows, order, times, to - rest, rest, k, last);
 }
 
 /// Skews the rows of a sequence that changed. The other rows are skewed already.
@@ -209,14 +187,10 @@ pub fn move_back<T: Stored, const N: usize>(
             end: steps,
         };
     }
-    let moved = new - kept.back + 8;
+    let to = new - kept.back + 8;
     let first = old - kept.back + 8;
-    times.copy_within(first * N..(old + 8) * N, moved * N);
-    Changed {
-        from,
-        to: moved,
-        end: moved,
-    }
+    times.copy_within(first * N..(old + 8) * N, to * N);
+    Changed { from, to, end: to }
 }
 
 /// Moves the steps that have rows of the front of a sequence of `new` jobs, from the step `start` of a table to the step

@@ -1,22 +1,25 @@
-use Rattle.std.proofs.Common.{refl, arith, rules, ◌≡◌, ◌-◌, ◌/◌}
+use Rattle.std.proofs.Common.{refl, arith, ◌≡◌, ◌+◌, ◌-◌, ◌*◌, ◌%◌}
 use Rattle.pfs_wave.proofs.SkewedTimes.{filled_then}
 use Rattle.pfs_wave.proofs.times.fill_vectors.Goals as goal
 
 pub loop-turn-preserved : goal.loop-turn-preserved
-loop-turn-preserved g c = record {
-  filled = filled_then c.loop-turn.invariant.filled c.fill_four-last.ensures.filled refl (omega arith) (omega arith)
-      (omega arith);
-  blends = search rules;
-}
+loop-turn-preserved g c =
+    let row = c.args.from + 4 * c.loop-turn.turn in
+    let next : c.args.from + 4 * (c.loop-turn.turn + 1) ≡ row + 4 = omega arith in
+    record {
+      filled = filled_then c.loop-turn.invariant.filled c.fill_some-last.ensures.filled refl (omega arith) (omega arith)
+          (omega arith);
+      blends = rw next c.fill_some-last.ensures.next;
+    }
 
-pub loop-row-preserved : goal.loop-row-preserved
-loop-row-preserved g c = record {
-  filled = filled_then c.loop-row.invariant.filled c.fill_vector-last.ensures.filled refl refl (omega arith)
-      (omega arith);
-  blends = c.fill_vector-last.ensures.next;
-}
+pub fill_some-requires-clause-last : goal.fill_some-requires-clause-last
+fill_some-requires-clause-last g c =
+    let rest = (c.args.to - c.args.from) % 4 in
+    let same : c.args.to - rest ≡ c.args.from + 4 * c.loop-turn.turn = omega arith in
+    rw same c.loop-turn.invariant.blends
 
-pub loop-row-init : goal.loop-row-init
-loop-row-init g c =
-    let same : c.loop-turn.turn ≡ (c.args.to - c.args.from) / 4 = omega arith in
-    rw same at c.loop-turn.invariant
+pub returns : goal.returns
+returns g c = record {
+  filled = filled_then c.loop-turn.invariant.filled c.fill_some.ensures.filled (omega arith) (omega arith) (omega arith)
+      (omega arith);
+}

@@ -13,12 +13,3 @@ invariant-loop-turn g l =
       filled : IsFilled g.row.N l.k rows l.from row (map lanes l.fn.times) (map lanes l.times);
       blends : AreBlends lanes (past_at rows row) l.last;
     }
-
-abbrev pub invariant-loop-row : goal.invariant-loop-row
-invariant-loop-row g l =
-    let lanes = g.T.Stored.lanes in
-    let rows = rows_at g.row.N (map lanes l.rows) l.order l.k in
-    record {
-      filled : IsFilled g.row.N l.k rows l.from l.row (map lanes l.fn.times) (map lanes l.times);
-      blends : AreBlends lanes (past_at rows l.row) l.last;
-    }
