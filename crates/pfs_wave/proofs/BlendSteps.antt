@@ -2,7 +2,7 @@
 use Rattle.std.proofs.Common.{inl, inr, ◌≡◌, suc, ℕ, ◌+◌, ◌-◌, ◌≤◌, List, ◌∙◌, sym, refl, arith, add-one}
 use Rattle.std.proofs.lemmas.Bool.{cases_lt}
 use Rattle.pfs_wave.specs.Private.Lanes.{Rows}
-use Rattle.pfs_wave.specs.Private.Blending.{Past, AreBlends, pushed, past_at, diagonal, each_back}
+use Rattle.pfs_wave.specs.Private.Blending.{Past, AreBlends, pushed, past_at, each_back}
 use Rattle.pfs_wave.proofs.PastRows.{past_is, past_none}
 use Rattle.pfs_wave.specs.declared.blends.Blends.{Blends}
 
@@ -11,10 +11,6 @@ pub next_is : {B : Type 0} (lanes : B → List ℕ) (band : Rows) (row to : ℕ)
     → to ≡ row + 1 → now ≡ band row
     → AreBlends lanes (pushed now (past_at band row)) next → AreBlends lanes (past_at band to) next
 next_is lanes band row to next to_is e is = rw (to_is, add-one, ← e) is
-
-pub out_is : (band : Rows) (row : ℕ) {now out : List ℕ} → now ≡ band row
-    → out ≡ diagonal (pushed now (past_at band row)) → out ≡ diagonal (past_at band (row + 1))
-out_is band row e is = rw (add-one, ← e) is
 
 -- ---- blends that begin seven rows before a row
 

@@ -42,6 +42,10 @@ module _ {X : Type 0} (lanes : X → List ℕ) (count : ℕ) (table : List X) (r
       (get_or-set_other (map lanes table) at (step * count + j) (lanes new) []
       (λ is. other (same_vector count step row j k j_lt k_lt (is ∙ at_is))))
 
+pub same_long : {X : Type 0} (lanes : X → List ℕ) (old new : List X) → length (map lanes new) ≡ length (map lanes old)
+    → length new ≡ length old
+same_long lanes old new is = sym (length-map new lanes) ∙ is ∙ length-map old lanes
+
 pub filled_none : (count k : ℕ) (rows : Rows) (from : ℕ) (times : List (List ℕ))
     → IsFilled count k rows from from times times
 filled_none count k rows from times = record {
@@ -52,30 +56,39 @@ filled_none count k rows from times = record {
   others = λ step j lt other. refl;
 }
 
--- one more step is filled
-pub filled_more : {X : Type 0} (lanes : X → List ℕ) (count k : ℕ) (rows : Rows) (from row at to : ℕ)
-    (old : List (List ℕ)) (times : List X) {written : List X} (new : X)
-    → IsFilled count k rows from row old (map lanes times) → k < count → at ≡ row * count + k → to ≡ row + 1
-    → from ≤ row → at < length times → written ≡ slice_set times at new → lanes new ≡ diagonal (past_at rows (row + 1))
-    → IsFilled count k rows from to old (map lanes written)
-filled_more lanes count k rows from row at to old times new so_far k_lt at_is to_is later inside is new_is =
-    let here = put_here lanes count times row k at new k_lt at_is inside in
-    let there = put_there lanes count times row k at new k_lt at_is in
+-- one step is filled
+pub filled_one : {X : Type 0} (lanes : X → List ℕ) (count k : ℕ) (rows : Rows) (row : ℕ) (times : List X) (new : X)
+    {written : List X}
+    → k < count → row * count + k < length times → written ≡ slice_set times (row * count + k) new
+    → lanes new ≡ diagonal (past_at rows (suc row))
+    → IsFilled count k rows row (row + 1) (map lanes times) (map lanes written)
+filled_one lanes count k rows row times new k_lt inside is new_is =
+    let at = row * count + k in
+    let here = put_here lanes count times row k at new k_lt refl inside in
+    let there = put_there lanes count times row k at new k_lt refl in
     rw is (record {
-      long = length-map (slice_set times at new) lanes ∙ length-set times at new ∙ sym (length-map times lanes)
-          ∙ so_far.long;
-      filled = λ step le lt.
-          elim (cases_lt step row) [
-            | inl earlier ↦ there step k k_lt (λ same. omega (arith, same.0)) ∙ so_far.filled step le earlier
-            | inr last ↦
-                let same : step ≡ row = omega arith in
-                let next : row + 1 ≡ suc row = omega arith in
-                rw same (here ∙ new_is ∙ ap (λ n. diagonal (past_at rows n)) next)
-          ];
-      before = λ step lt. there step k k_lt (λ same. omega (arith, same.0)) ∙ so_far.before step lt;
-      after = λ step le. there step k k_lt (λ same. omega (arith, same.0)) ∙ so_far.after step (omega arith);
-      others = λ step j lt other. there step j lt (λ same. other same.1) ∙ so_far.others step j lt other;
+      long = length-map (slice_set times at new) lanes ∙ length-set times at new ∙ sym (length-map times lanes);
+      filled = λ step le lt. let same : step ≡ row = omega arith in rw same (here ∙ new_is);
+      before = λ step lt. there step k k_lt (λ same. omega (arith, same.0));
+      after = λ step le. there step k k_lt (λ same. omega (arith, same.0));
+      others = λ step j lt other. there step j lt (λ same. other same.1);
     })
+
+-- steps that are filled one part after the other
+pub filled_then : {count k : ℕ} {rows : Rows} {from mid here there to : ℕ} {old between new : List (List ℕ)}
+    → IsFilled count k rows from mid old between → IsFilled count k rows here there between new → here ≡ mid
+    → there ≡ to → from ≤ mid → mid ≤ to → IsFilled count k rows from to old new
+filled_then {mid = mid} first second is ends le_mid le_to = record {
+  long = second.long ∙ first.long;
+  filled = λ step le lt.
+      elim (cases_lt step mid) [
+        | inl early ↦ second.before step (omega arith) ∙ first.filled step le early
+        | inr later ↦ second.filled step (omega arith) (omega arith)
+      ];
+  before = λ step lt. second.before step (omega arith) ∙ first.before step lt;
+  after = λ step le. second.after step (omega arith) ∙ first.after step (omega arith);
+  others = λ step j lt other. second.others step j lt other ∙ first.others step j lt other;
+}
 
 -- a vector of the steps contains the rows of the sequence
 pub hold_filled : (rows : Rows) (from to stop end steps : ℕ) (old times : Rows)

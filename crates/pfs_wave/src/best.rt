@@ -87,6 +87,18 @@ pub fn first_least_key(sums: &[u16]) -> Placed<u64>
     }
 }
 
+// Writes the first sums, as many as there is room for.
+#[inline(always)]
+fn write_spans<V: Band>(sums: &[V::Number], spans: &mut [u64])
+    requires { length spans.old ≤ length sums.now }
+    ensures { (place : ℕ) → place < length spans.old
+        → slice_index_or spans.new place 0 ≡ slice_index_or (map V.number sums.now) place 0 }
+{
+    for place in 0..spans.len() {
+        spans[place] = V::wide(sums[place]);
+    }
+}
+
 /// The first place of the least sum of a job in a sequence, and that sum, from the skewed times of the sequence. Sums
 /// hold the makespans. There are as many steps more than jobs as `lanes` have machines. `sums` gets the sums from index
 /// 7 on, and `spans` the first ones, as many as it has room for.
@@ -126,10 +138,9 @@ pub fn best_place<V: Band, const N: usize>(
     let tails = &mut tails[..steps * N + N];
     fill_tails::<V, N>(for_tails, steps, times, tails);
     let paid = fill_sums::<V, N>(for_sums, steps, times, tails, job, &mut sums[..steps + 7]);
-    for place in 0..spans.len() {
-        spans[place] = V::wide(sums[7 + place]);
-    }
-    let found = V::first_least(&sums[7..steps + 8 - lanes]);
+    let sums = &sums[7..steps + 8 - lanes];
+    write_spans::<V>(sums, spans);
+    let found = V::first_least(sums);
     Placed {
         place: found.place,
         span: paid.with(found.span),

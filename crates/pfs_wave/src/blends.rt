@@ -8,7 +8,7 @@ use crate::band::Stored;
 
 /// What the blends need of the last rows: the last row, the results of the first blend for the last two rows, and the
 /// results of the second blend for the last four.
-#[derive(Clone, Copy)]
+#[derive(Drop)]
 pub struct Blends<T: Stored> {
     before: T,
     pair_one: T,
@@ -20,7 +20,7 @@ pub struct Blends<T: Stored> {
 }
 
 /// A skewed row, and what the blends of the next row need.
-#[derive(Clone, Copy)]
+#[derive(Drop)]
 pub struct Blended<T: Stored> {
     pub next: Blends<T>,
     pub row: T,

@@ -4,10 +4,10 @@ ghost use Rattle.std.specs.List.{All, slice_index_or};
 ghost use Rattle.pfs_wave.specs.Private.HeldRows.{IsHolding, IsKept, IsPadded, part_from};
 
 use crate::band::Stored;
-use crate::times::{Changed, fill_times, move_back, move_front};
+use crate::times::{fill_times, move_back, move_front};
 
 /// The numbers of rows of a sequence that are rows of the sequence before: at its front, and at its end.
-#[derive(Clone, Copy, Debug, PartialEq, Eq)]
+#[derive(Clone, Copy)]
 pub struct Kept {
     pub front: usize,
     pub back: usize,
@@ -24,14 +24,11 @@ fn are_same(held: &[usize], seq: &[usize], a: usize, b: usize) -> bool
     ensures same { result ≡ true → (row : ℕ) → row < 8
         → slice_index_or held.now (a + row) 0 ≡ slice_index_or seq.now (b + row) 0 }
 {
-    (held[a] == seq[b])
-        & (held[a + 1] == seq[b + 1])
-        & (held[a + 2] == seq[b + 2])
-        & (held[a + 3] == seq[b + 3])
-        & (held[a + 4] == seq[b + 4])
-        & (held[a + 5] == seq[b + 5])
-        & (held[a + 6] == seq[b + 6])
-        & (held[a + 7] == seq[b + 7])
+    let mut are_same = true;
+    for row in 0..8 {
+        are_same &= held[a + row] == seq[b + row];
+    }
+    are_same
 }
 
 /// The number of rows that are the same at the front, or up to seven fewer.
@@ -159,22 +156,11 @@ pub fn hold<T: Stored, const N: usize>(
     write_rows(order, seq, jobs, kept.front, longest);
     let steps = jobs + 8;
     let first = start_for(kept, start, jobs, len, seq.len());
-    if first == start {
+    let changed = if first == start {
         let times = &mut table[start * N..(start + steps) * N];
-        let changed = move_back::<T, N>(times, len, seq.len(), kept, steps);
-        fill_times::<T, N>(rows, order, times, changed);
-        return start;
-    }
-    move_front::<T, N>(table, start, first, kept.front);
-    let end = if kept.back == 0 {
-        steps
+        move_back::<T, N>(times, len, seq.len(), kept, steps)
     } else {
-        seq.len() - kept.back + 8
-    };
-    let changed = Changed {
-        from: kept.front,
-        to: end,
-        end,
+        move_front::<T, N>(table, start, first, seq.len(), kept, steps)
     };
     fill_times::<T, N>(
         rows,

@@ -118,10 +118,10 @@ impl Mixed {
         ensures { IfOk result (λ made. IsMixed instance.now.shop made) }
     {
         Ok(Mixed {
-            narrow: Blocks::new(alloc, instance)?,
-            wide: Blocks::new(alloc, instance)?,
             last: Known::new(alloc, instance, 0)?,
             kept: Known::new(alloc, instance, u64::MAX)?,
+            narrow: Blocks::new(alloc, instance)?,
+            wide: Blocks::new(alloc, instance)?,
         })
     }
 

@@ -1,23 +1,21 @@
 //! The times of a shop's jobs in vectors.
-ghost use Rattle.std.specs.Prelude.{◌≡◌, ℕ, ◌+◌, ◌*◌, ◌<◌, ◌≤◌, ◌≢◌, ◌^◌, length, map, replicate, IfOk};
+ghost use Rattle.std.specs.Prelude.{◌≡◌, ℕ, ◌+◌, ◌*◌, ◌<◌, ◌≤◌, ◌^◌, length, map, replicate, IfOk};
 ghost use Rattle.std.specs.List.{All, slice_index_or};
 ghost use Rattle.pfs_base.specs.FlowShop.{time_of};
 ghost use Rattle.pfs_wave.specs.Private.Lanes.{zeros};
-ghost use Rattle.pfs_wave.specs.Private.Blocks.{HasRows, IsRow, step_of};
+ghost use Rattle.pfs_wave.specs.Private.Blocks.{HasRows};
 ghost use Rattle.pfs_wave.specs.Private.Padded.{on_machine};
 
 use crate::band::Stored;
-use crate::vectors::put;
 use pfs_base::Instance;
 use std::alloc::{AllocError, Global};
 
-// The time of a job on a machine, and 0 after the last machine.
+// The time of a job on a machine, and 0 after the last job or machine.
 #[inline(always)]
 fn lane_time(instance: &Instance, job: usize, machine: usize) -> u32
-    requires job { job < instance.now.shop.jobs }
     ensures { result ≡ on_machine instance.now.shop (time_of instance.now.shop job) machine }
 {
-    if machine < instance.machines() {
+    if job < instance.jobs() && machine < instance.machines() {
         instance.time(job, machine)
     } else {
         0
@@ -26,7 +24,6 @@ fn lane_time(instance: &Instance, job: usize, machine: usize) -> u32
 
 // Vector k of a job's times: lane l has the time on machine l * count + k.
 fn job_vector<T: Stored>(instance: &Instance, job: usize, count: usize, k: usize) -> T
-    requires job { job < instance.now.shop.jobs }
     requires short { All (λ time. time ≤ T.CAP) instance.now.shop.times }
     requires count { count < 2 ^ 16 }
     requires k { k < count }
@@ -45,36 +42,6 @@ fn job_vector<T: Stored>(instance: &Instance, job: usize, count: usize, k: usize
     ])
 }
 
-// Writes the vectors of a job.
-fn fill_job<T: Stored>(rows: &mut [T], instance: &Instance, job: usize, count: usize)
-    requires job { job < instance.now.shop.jobs }
-    requires short { All (λ time. time ≤ T.CAP) instance.now.shop.times }
-    requires few { count ≤ 26 }
-    requires inside { job * count + count ≤ length rows.old }
-    ensures length { length rows.new ≡ length rows.old }
-    ensures job { IsRow count (on_machine instance.now.shop (time_of instance.now.shop job))
-        (step_of count (map T.lanes rows.new) job) }
-    ensures others { (other k : ℕ) → k < count → other ≢ job
-        → step_of count (map T.lanes rows.new) other k ≡ step_of count (map T.lanes rows.old) other k }
-{
-    for k in 0..count {
-        put(rows, job * count + k, job_vector(instance, job, count, k));
-    }
-}
-
-// Writes the vectors of all jobs over vectors of zeros.
-fn fill_rows<T: Stored>(rows: &mut [T], instance: &Instance, count: usize)
-    requires short { All (λ time. time ≤ T.CAP) instance.now.shop.times }
-    requires few { count ≤ 26 }
-    requires zeros { map T.lanes rows.old ≡ replicate (instance.now.shop.jobs * count + count) (zeros 8) }
-    ensures length { length rows.new ≡ length rows.old }
-    ensures rows { HasRows instance.now.shop count (map T.lanes rows.new) }
-{
-    for job in 0..instance.jobs() {
-        fill_job(rows, instance, job, count);
-    }
-}
-
 /// The times of each job of an instance in `count` vectors, and after them as many vectors of zeros. It reserves memory
 /// once, and returns `AllocError` where that fails.
 pub fn shop_rows<T: Stored>(
@@ -87,8 +54,14 @@ pub fn shop_rows<T: Stored>(
     ensures long { IfOk result (λ rows. length rows.items ≡ instance.now.shop.jobs * count + count) }
     ensures rows { IfOk result (λ rows. HasRows instance.now.shop count (map T.lanes rows.items)) }
 {
-    let mut rows = zero_vectors(alloc, instance.jobs() * count + count)?;
-    fill_rows(&mut rows, instance, count);
+    let steps = instance.jobs() + 1;
+    let mut rows = Vec::new(alloc);
+    rows.reserve_exact(steps * count)?;
+    for job in 0..steps {
+        for k in 0..count {
+            rows.push_reserved(job_vector(instance, job, count, k));
+        }
+    }
     Ok(rows)
 }
 

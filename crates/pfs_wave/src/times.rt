@@ -12,7 +12,7 @@ use crate::hold::Kept;
 use crate::vectors::put;
 
 /// The rows from `from` to before `to`, at the steps before `end`.
-#[derive(Clone, Copy, Debug, PartialEq, Eq)]
+#[derive(Clone, Copy)]
 pub struct Changed {
     pub from: usize,
     pub to: usize,
@@ -69,8 +69,37 @@ fn filled_end(changed: Changed, room: usize) -> usize
     if fours <= room { fours } else { end }
 }
 
-// Fills vector k of the steps from `from` to before `to`. With four rows in each turn of the loop the blends stay in
-// registers and are not copied.
+// Fills vector k of the steps of `count` rows. The blends are of the rows before them, and then also of these.
+#[inline(always)]
+fn fill_some<T: Stored, const N: usize>(
+    rows: &[T],
+    order: &[usize],
+    times: &mut [T],
+    row: usize,
+    count: usize,
+    k: usize,
+    mut last: Blends<T>,
+) -> Blends<T>
+    requires jobs { All (λ job. job * N + N ≤ length rows.now) order.now }
+    requires k { k < N }
+    requires row { row + count ≤ length order.now }
+    requires small { length order.now * N + N < 2 ^ 32 }
+    requires steps { length times.old ≡ length order.now * N }
+    requires last { AreBlends T.lanes (past_at (rows_at N (map T.lanes rows.now) order.now k) row) last }
+    ensures filled { IsFilled N k (rows_at N (map T.lanes rows.now) order.now k) row (row + count)
+        (map T.lanes times.old) (map T.lanes times.new) }
+    ensures next { AreBlends T.lanes (past_at (rows_at N (map T.lanes rows.now) order.now k) (row + count)) result }
+{
+    for step in 0..count {
+        let one = last.push(vector_of::<T, N>(rows, order, row + step, k));
+        put(times, (row + step) * N + k, one.row);
+        last = one.next;
+    }
+    last
+}
+
+// Fills vector k of the steps from `from` to before `to`, four in a turn: the compiler unrolls these. After as many the
+// blends are back in the same registers, and none is copied.
 #[inline(always)]
 fn fill_vectors<T: Stored, const N: usize>(
     rows: &[T],
@@ -92,22 +121,10 @@ fn fill_vectors<T: Stored, const N: usize>(
     let mut last = blends_before::<T, N>(rows, order, from, k);
     let turns = (to - from) / 4;
     for turn in 0..turns {
-        let row = from + 4 * turn;
-        let a = last.push(vector_of::<T, N>(rows, order, row, k));
-        let b = a.next.push(vector_of::<T, N>(rows, order, row + 1, k));
-        let c = b.next.push(vector_of::<T, N>(rows, order, row + 2, k));
-        let d = c.next.push(vector_of::<T, N>(rows, order, row + 3, k));
-        last = d.next;
-        put(times, row * N + k, a.row);
-        put(times, (row + 1) * N + k, b.row);
-        put(times, (row + 2) * N + k, c.row);
-        put(times, (row + 3) * N + k, d.row);
+        last = fill_some::<T, N>(rows, order, times, from + 4 * turn, 4, k, last);
     }
-    for row in from + 4 * turns..to {
-        let one = last.push(vector_of::<T, N>(rows, order, row, k));
-        last = one.next;
-        put(times, row * N + k, one.row);
-    }
+    let rest = (to - from) % 4;
+    fill_some::<T, N>(rows, order, times, to - rest, rest, k, last);
 }
 
 /// Skews the rows of a sequence that changed. The other rows are skewed already.
@@ -170,33 +187,45 @@ pub fn move_back<T: Stored, const N: usize>(
             end: steps,
         };
     }
-    let moved = new - kept.back + 8;
+    let to = new - kept.back + 8;
     let first = old - kept.back + 8;
-    times.copy_within(first * N..(old + 8) * N, moved * N);
-    Changed {
-        from,
-        to: moved,
-        end: moved,
-    }
+    times.copy_within(first * N..(old + 8) * N, to * N);
+    Changed { from, to, end: to }
 }
 
-/// Moves the steps that have rows of the front of a sequence, from the step `start` of a table to the step `first`.
+/// Moves the steps that have rows of the front of a sequence of `new` jobs, from the step `start` of a table to the step
+/// `first`. Returns the rows that are not right yet, where the rows at the end are those of the steps before.
 #[inline(always)]
 pub fn move_front<T: Stored, const N: usize>(
     table: &mut [T],
     start: usize,
     first: usize,
-    front: usize,
-)
+    new: usize,
+    kept: Kept,
+    steps: usize,
+) -> Changed
     requires some { 1 ≤ N }
-    requires start { (start + front + 8) * N ≤ length table.old }
-    requires first { (first + front + 8) * N ≤ length table.old }
+    requires kept { kept.front + kept.back ≤ new }
+    requires new { new + 8 ≤ steps }
+    requires start { (start + steps) * N ≤ length table.old }
+    requires first { (first + steps) * N ≤ length table.old }
     requires small { length table.old < 2 ^ 32 }
     ensures length { length table.new ≡ length table.old }
-    ensures moved { (k step : ℕ) → k < N → step < front + 8 → column N (map T.lanes table.new) k (first + step)
+    ensures from { result.from ≡ kept.front }
+    ensures to { result.to ≡ result.end }
+    ensures none { kept.back ≡ 0 → result.end ≡ steps }
+    ensures kept { 0 < kept.back → result.end ≡ new - kept.back + 8 }
+    ensures moved { (k step : ℕ) → k < N → step < kept.front + 8 → column N (map T.lanes table.new) k (first + step)
         ≡ column N (map T.lanes table.old) k (start + step) }
-    ensures after { (k step : ℕ) → k < N → first + front + 8 ≤ step
+    ensures after { (k step : ℕ) → k < N → first + kept.front + 8 ≤ step
         → column N (map T.lanes table.new) k step ≡ column N (map T.lanes table.old) k step }
 {
-    table.copy_within(start * N..(start + front + 8) * N, first * N);
+    let from = kept.front;
+    let end = if kept.back == 0 {
+        steps
+    } else {
+        new - kept.back + 8
+    };
+    table.copy_within(start * N..(start + from + 8) * N, first * N);
+    Changed { from, to: end, end }
 }

@@ -101,7 +101,7 @@ returns-clause-found g c shop jobs inserted is =
             (all_sums_are g c shop jobs inserted is place (omega arith));
         least_is = rw count_is at c.first_least-found.ensures;
       };
-      sums_hold = λ place lt. changed g.V.Band.Holds
-          (c.loop-place.invariant place (omega (arith, c.loop-place-test.false, lt))) refl
+      sums_hold = λ place lt. changed g.V.Band.Holds (c.write_spans.ensures place lt
+          ∙ number_of_part number (summed ++ rest) 7 n place (omega arith)) refl
           (all_sums_are g c shop jobs inserted is place (omega (arith, lt, room, some_lanes, all)));
     })

@@ -1,8 +1,7 @@
-use Rattle.std.proofs.Common.{inl, inr, ◌≡◌, length, map, ◌∙◌, sym, subst, arith}
+use Rattle.std.proofs.Common.{inl, inr, ◌≡◌, length, map, ◌∙◌, subst, arith}
 use Rattle.std.proofs.lemmas.Bool.{cases_lt}
-use Rattle.std.proofs.lemmas.List.{length-map}
 use Rattle.pfs_wave.specs.Private.HeldRows.{HoldLanes, HoldOutside, column, rows_at}
-use Rattle.pfs_wave.proofs.SkewedTimes.{hold_as, hold_filled}
+use Rattle.pfs_wave.proofs.SkewedTimes.{hold_as, hold_filled, same_long}
 use Rattle.pfs_wave.proofs.times.fill_times.Goals as goal
 
 pub loop-k-preserved : goal.loop-k-preserved
@@ -21,8 +20,7 @@ loop-k-preserved g c =
     let changed = c.args.changed in
     let ends = c.filled_end-end.ensures.enough in
     record {
-      long = sym (length-map c.fill_vectors.new.times lanes) ∙ filled.long ∙ length-map c.loop-k.times lanes
-          ∙ so_far.long;
+      long = same_long lanes c.loop-k.times c.fill_vectors.new.times filled.long ∙ so_far.long;
       done = λ j lt outside.
           elim (cases_lt j k) [
             | inl earlier ↦

@@ -1,4 +1,4 @@
-use Rattle.std.proofs.Common.{◌≡◌, length, map, ◌+◌, ◌*◌}
+use Rattle.std.proofs.Common.{map, ◌+◌, ◌*◌}
 use Rattle.pfs_wave.specs.Private.SkewedBand.{IsFilled}
 use Rattle.pfs_wave.specs.Private.Blending.{AreBlends, past_at}
 use Rattle.pfs_wave.specs.Private.HeldRows.{rows_at}
@@ -8,18 +8,8 @@ abbrev pub invariant-loop-turn : goal.invariant-loop-turn
 invariant-loop-turn g l =
     let lanes = g.T.Stored.lanes in
     let rows = rows_at g.row.N (map lanes l.rows) l.order l.k in
+    let row = l.from + 4 * l.turn in
     record {
-      long : length l.times ≡ length l.fn.times;
-      filled : IsFilled g.row.N l.k rows l.from (l.from + 4 * l.turn) (map lanes l.fn.times) (map lanes l.times);
-      blends : AreBlends lanes (past_at rows (l.from + 4 * l.turn)) l.last;
-    }
-
-abbrev pub invariant-loop-row : goal.invariant-loop-row
-invariant-loop-row g l =
-    let lanes = g.T.Stored.lanes in
-    let rows = rows_at g.row.N (map lanes l.rows) l.order l.k in
-    record {
-      long : length l.times ≡ length l.fn.times;
-      filled : IsFilled g.row.N l.k rows l.from l.row (map lanes l.fn.times) (map lanes l.times);
-      blends : AreBlends lanes (past_at rows l.row) l.last;
+      filled : IsFilled g.row.N l.k rows l.from row (map lanes l.fn.times) (map lanes l.times);
+      blends : AreBlends lanes (past_at rows row) l.last;
     }
