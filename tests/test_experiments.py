@@ -477,7 +477,7 @@ def test_a_program_that_waits_or_takes_too_long_is_ended_with_all_that_it_has_st
     env = dict(os.environ, PYTHONPATH=str(pathlib.Path(one.__file__).parents[2]))
     got = run_tool(["/usr/bin/python3", "-B", "-c", code, seconds, line], folder, env=env)
     assert (got.status, got.stderr) == (0, "") and re.fullmatch(wanted, got.stdout.strip()), got
-    left = [path for path in pathlib.Path("/proc").glob("[0-9]*/cwd") if path.exists() and path.samefile(folder)]
+    left = [path for path in pathlib.Path("/proc").glob("[0-9]*/cwd") if os.path.realpath(path) == str(folder)]
     assert left == [], "processes that are left"
 
 
