@@ -137,7 +137,7 @@ static uint64_t own_rounds(const char *form, uint32_t rounds, uint64_t makespan)
     uint32_t take = jobs < TAKE ? (uint32_t)jobs : TAKE, removed[TAKE];
     uint32_t *words = malloc(rounds * take * sizeof *words), *word = words;
     if (words == NULL)
-        exit(2);
+        check(PFS_MEMORY);
     check(pfs_random(1, 0, words, rounds * take));
     for (uint32_t round = 0; round < rounds; ++round) {
         uint32_t length = (uint32_t)jobs;
