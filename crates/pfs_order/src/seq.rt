@@ -14,7 +14,7 @@ use std::marker::Model;
 #[derive(Drop)]
 pub struct Seq {
     size: usize,
-    jobs: Vec<usize>,
+    jobs: Vec<u32>,
 }
 
 impl Model for Seq {
@@ -90,11 +90,11 @@ impl Seq {
         ensures value { result ≡ slice_index self.now.jobs place }
         ensures in_range { result < self.now.size }
     {
-        self.jobs[place]
+        self.jobs[place] as usize
     }
 
     /// The jobs in order.
-    pub fn as_slice(&self) -> &[usize]
+    pub fn as_slice(&self) -> &[u32]
         ensures value { result.now ≡ self.now.jobs }
         ensures sequence { IsSequence self.now.size self.now.jobs }
     {
@@ -105,7 +105,7 @@ impl Seq {
     pub fn has(&self, job: usize) -> bool
         ensures { IsTrue result ↔ Contains self.now.jobs job }
     {
-        self.jobs.contains(&job)
+        self.jobs.iter().any(|other| *other as usize == job)
     }
 
     /// The place of a job that the sequence contains. It is a linear search.
@@ -114,7 +114,7 @@ impl Seq {
         ensures within { result < length self.now.jobs }
         ensures job { slice_index self.now.jobs result ≡ job }
     {
-        match self.jobs.iter().position(|other| *other == job) {
+        match self.jobs.iter().position(|other| *other as usize == job) {
             Some(place) => place,
             None => unreachable!(),
         }
@@ -127,7 +127,7 @@ impl Seq {
         requires absent { Contains self.old.jobs job → ⊥ }
         ensures { self.new ≡ record self.old { jobs = insert self.old.jobs place job } }
     {
-        put_in_room(&mut self.jobs, place, job);
+        put_in_room(&mut self.jobs, place, job as u32);
     }
 
     /// Removes the job at a place and returns it; the jobs after it move up by one.
@@ -136,7 +136,7 @@ impl Seq {
         ensures job { result ≡ slice_index self.old.jobs place }
         ensures rest { self.new ≡ record self.old { jobs = remove self.old.jobs place } }
     {
-        self.jobs.remove(place)
+        self.jobs.remove(place) as usize
     }
 
     /// Replaces the sequence's jobs by these.
@@ -144,7 +144,7 @@ impl Seq {
         requires { IsSequence self.old.size jobs.now }
         ensures { self.new ≡ record self.old { jobs = jobs.now } }
     {
-        set_in_room(&mut self.jobs, jobs);
+        copy_in_room(&mut self.jobs, jobs);
     }
 
     /// Replaces the sequence's jobs by those of another sequence of the same size.
@@ -158,7 +158,7 @@ impl Seq {
 }
 
 // Inserts a job at a place of a list that has room.
-fn put_in_room(jobs: &mut Vec<usize>, place: usize, job: usize)
+fn put_in_room(jobs: &mut Vec<u32>, place: usize, job: u32)
     requires place { place ≤ vec_len jobs.old }
     requires room { vec_len jobs.old < vec_capacity jobs.old }
     ensures items { jobs.new.items ≡ insert jobs.old.items place job }
@@ -171,7 +171,7 @@ fn put_in_room(jobs: &mut Vec<usize>, place: usize, job: usize)
 }
 
 // Makes a list equal to another one, for which it has room.
-fn copy_in_room(jobs: &mut Vec<usize>, others: &[usize])
+fn copy_in_room(jobs: &mut Vec<u32>, others: &[u32])
     requires { length others.now ≤ vec_capacity jobs.old }
     ensures items { jobs.new.items ≡ others.now }
     ensures capacity { vec_capacity jobs.old ≤ vec_capacity jobs.new }
@@ -180,28 +180,5 @@ fn copy_in_room(jobs: &mut Vec<usize>, others: &[usize])
     match jobs.extend_from_slice(others) {
         Ok(()) => {}
         Err(_) => unreachable!(),
-    }
-}
-
-// Makes a list equal to a list of 32-bit jobs, for which it has room. With a slice of fixed length the compiler
-// vectorizes the loop.
-fn set_in_room(jobs: &mut Vec<usize>, others: &[u32])
-    requires { length others.now ≤ vec_capacity jobs.old }
-    ensures items { jobs.new.items ≡ others.now }
-    ensures capacity { vec_capacity jobs.old ≤ vec_capacity jobs.new }
-{
-    match jobs.resize(others.len(), 0) {
-        Ok(()) => copy_jobs(jobs.as_mut_slice(), others),
-        Err(_) => unreachable!(),
-    }
-}
-
-// Writes 32-bit jobs over as many jobs.
-fn copy_jobs(jobs: &mut [usize], others: &[u32])
-    requires { length jobs.old ≡ length others.now }
-    ensures { jobs.new ≡ others.now }
-{
-    for place in 0..others.len() {
-        jobs[place] = others[place] as usize;
     }
 }

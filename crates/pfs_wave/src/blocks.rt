@@ -66,7 +66,7 @@ pub struct Blocks<V: Band> {
     // The number of jobs of the last sequence.
     len: usize,
     // The jobs of the last sequence, and after them, for each step, the number of the vectors of zeros.
-    order: Vec<usize>,
+    order: Vec<u32>,
     // The skewed times of the last sequence, from the step `start` on, with room for them to begin earlier or later.
     times: Vec<V::Times>,
     start: usize,
@@ -128,7 +128,7 @@ impl<V: Band> Blocks<V> {
         let count = width.vectors();
         let steps = jobs + 8;
         let rows = shop_rows(alloc, instance, count)?;
-        let order = vec![in alloc; jobs; steps]?;
+        let order = vec![in alloc; jobs as u32; steps]?;
         let times = zero_vectors(alloc, (jobs + steps) * count)?;
         let tails = vec![in alloc; zeros::<V>(); (jobs + 9) * count]?;
         let sums = vec![in alloc; zeros::<V>().last(); jobs + 15]?;
@@ -152,7 +152,7 @@ impl<V: Band> Blocks<V> {
     pub fn best(
         &mut self,
         permits: Permits,
-        sequence: &[usize],
+        sequence: &[u32],
         job: usize,
         spans: &mut [u64],
     ) -> Placed<Paid>
@@ -181,7 +181,7 @@ impl<V: Band> Blocks<V> {
     fn best_in<const N: usize>(
         &mut self,
         permits: Permits,
-        sequence: &[usize],
+        sequence: &[u32],
         job: usize,
         spans: &mut [u64],
     ) -> Placed<Paid>

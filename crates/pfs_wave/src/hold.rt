@@ -18,7 +18,7 @@ const SHORT: usize = 32;
 
 // Whether eight rows are the same. The eight comparisons take one jump.
 #[inline(always)]
-fn are_same(held: &[usize], seq: &[usize], a: usize, b: usize) -> bool
+fn are_same(held: &[u32], seq: &[u32], a: usize, b: usize) -> bool
     requires held { a + 8 ≤ length held.now }
     requires seq { b + 8 ≤ length seq.now }
     ensures same { result ≡ true → (row : ℕ) → row < 8
@@ -33,7 +33,7 @@ fn are_same(held: &[usize], seq: &[usize], a: usize, b: usize) -> bool
 
 /// The number of rows that are the same at the front, or up to seven fewer.
 #[inline(always)]
-pub fn common_front(held: &[usize], seq: &[usize]) -> usize
+pub fn common_front(held: &[u32], seq: &[u32]) -> usize
     ensures in_held { result ≤ length held.now }
     ensures in_seq { result ≤ length seq.now }
     ensures same { (row : ℕ) → row < result → slice_index_or held.now row 0 ≡ slice_index_or seq.now row 0 }
@@ -50,7 +50,7 @@ pub fn common_front(held: &[usize], seq: &[usize]) -> usize
 
 // The number of rows after the front that are the same at the end, or up to seven fewer.
 #[inline(always)]
-fn common_back(held: &[usize], seq: &[usize], front: usize) -> usize
+fn common_back(held: &[u32], seq: &[u32], front: usize) -> usize
     requires front { front ≤ length held.now }
     requires longer { length held.now ≤ length seq.now }
     ensures in_held { front + result ≤ length held.now }
@@ -70,7 +70,7 @@ fn common_back(held: &[usize], seq: &[usize], front: usize) -> usize
 /// The rows of a sequence that are rows of the sequence before. A sequence that is shorter than the one before keeps
 /// none at its end, and a sequence of fewer than `SHORT` jobs keeps none.
 #[inline(always)]
-pub fn kept_rows(held: &[usize], seq: &[usize]) -> Kept
+pub fn kept_rows(held: &[u32], seq: &[u32]) -> Kept
     ensures { IsKept held.now seq.now result.front result.back }
 {
     if seq.len() < SHORT {
@@ -87,7 +87,7 @@ pub fn kept_rows(held: &[usize], seq: &[usize]) -> Kept
 
 /// Writes the jobs of a sequence from the row `from` on, and `none` to the rows after its last job up to before `to`.
 #[inline(always)]
-pub fn write_rows(order: &mut [usize], seq: &[usize], none: usize, from: usize, to: usize)
+pub fn write_rows(order: &mut [u32], seq: &[u32], none: u32, from: usize, to: usize)
     requires from { from ≤ length seq.now }
     requires longer { length seq.now ≤ to }
     requires to { to ≤ length order.old }
@@ -128,12 +128,12 @@ fn start_for(kept: Kept, start: usize, jobs: usize, old: usize, new: usize) -> u
 #[inline(always)]
 pub fn hold<T: Stored, const N: usize>(
     rows: &[T],
-    order: &mut [usize],
+    order: &mut [u32],
     table: &mut [T],
     start: usize,
     jobs: usize,
     len: usize,
-    seq: &[usize],
+    seq: &[u32],
 ) -> usize
     requires some { 1 ≤ N }
     requires rows { length rows.now ≡ jobs * N + N }
@@ -153,7 +153,7 @@ pub fn hold<T: Stored, const N: usize>(
 {
     let longest = len.max(seq.len());
     let kept = kept_rows(&order[..len], seq);
-    write_rows(order, seq, jobs, kept.front, longest);
+    write_rows(order, seq, jobs as u32, kept.front, longest);
     let steps = jobs + 8;
     let first = start_for(kept, start, jobs, len, seq.len());
     let changed = if first == start {

@@ -22,7 +22,7 @@ use std::alloc::{AllocError, Global};
 
 // The number of jobs that are the same at the front of two lists.
 #[inline(always)]
-fn common_prefix(a: &[usize], b: &[usize]) -> usize
+fn common_prefix(a: &[u32], b: &[u32]) -> usize
     ensures in_a { result ≤ length a.now }
     ensures in_b { result ≤ length b.now }
     ensures same { (row : ℕ) → row < result → slice_index_or a.now row 0 ≡ slice_index_or b.now row 0 }
@@ -40,7 +40,7 @@ fn common_prefix(a: &[usize], b: &[usize]) -> usize
 
 // Whether a sequence is another one with some jobs left out.
 #[inline(always)]
-fn is_part(part: &[usize], whole: &[usize]) -> bool
+fn is_part(part: &[u32], whole: &[u32]) -> bool
     ensures { IsTrue result ↔ IsPart part.now whole.now }
 {
     let mut part = part;
@@ -78,7 +78,7 @@ impl Known {
     // Whether these jobs are those of the sequence, or some of them left out, and the makespan plus this time is below
     // 65,535.
     #[inline(always)]
-    fn has_room(&self, jobs: &[usize], time: u64) -> bool
+    fn has_room(&self, jobs: &[u32], time: u64) -> bool
         ensures { IsTrue result ↔ ((self.now.span + time < 65535) × IsPart jobs.now self.now.seq.jobs) }
     {
         self.span.saturating_add(time) < 65_535 && is_part(jobs, self.seq.as_slice())
@@ -208,14 +208,14 @@ impl Mixed {
 
 // The most that a job can make the makespan longer, after all others: what it makes it longer after the last one alone.
 #[inline(never)]
-fn most_added(instance: &Instance, jobs: &[usize], job: usize) -> u64
+fn most_added(instance: &Instance, jobs: &[u32], job: usize) -> u64
     requires some { 1 ≤ length jobs.now }
     requires jobs { All (λ other. other < instance.now.shop.jobs) jobs.now }
     requires job { job < instance.now.shop.jobs }
     ensures { makespan_with instance.now.shop jobs.now job (length jobs.now)
         ≤ makespan instance.now.shop jobs.now + result }
 {
-    let last = jobs[jobs.len() - 1];
+    let last = jobs[jobs.len() - 1] as usize;
     let mut alone = 0;
     let mut both = 0;
     for machine in 0..instance.machines() {

@@ -21,20 +21,20 @@ pub struct Changed {
 
 // Vector k of a row of the sequence.
 #[inline(always)]
-fn vector_of<T: Stored, const N: usize>(rows: &[T], order: &[usize], row: usize, k: usize) -> T
+fn vector_of<T: Stored, const N: usize>(rows: &[T], order: &[u32], row: usize, k: usize) -> T
     requires jobs { All (λ job. job * N + N ≤ length rows.now) order.now }
     requires k { k < N }
     requires row { row < length order.now }
     ensures { T.lanes result ≡ rows_at N (map T.lanes rows.now) order.now k row }
 {
-    rows[order[row] * N + k]
+    rows[order[row] as usize * N + k]
 }
 
 // What the blends keep of the rows before a row. They need at most seven of these.
 #[inline(always)]
 fn blends_before<T: Stored, const N: usize>(
     rows: &[T],
-    order: &[usize],
+    order: &[u32],
     row: usize,
     k: usize,
 ) -> Blends<T>
@@ -73,7 +73,7 @@ fn filled_end(changed: Changed, room: usize) -> usize
 #[inline(always)]
 fn fill_some<T: Stored, const N: usize>(
     rows: &[T],
-    order: &[usize],
+    order: &[u32],
     times: &mut [T],
     row: usize,
     count: usize,
@@ -103,7 +103,7 @@ fn fill_some<T: Stored, const N: usize>(
 #[inline(always)]
 fn fill_vectors<T: Stored, const N: usize>(
     rows: &[T],
-    order: &[usize],
+    order: &[u32],
     times: &mut [T],
     from: usize,
     to: usize,
@@ -131,7 +131,7 @@ fn fill_vectors<T: Stored, const N: usize>(
 #[inline(never)]
 pub fn fill_times<T: Stored, const N: usize>(
     rows: &[T],
-    order: &[usize],
+    order: &[u32],
     times: &mut [T],
     changed: Changed,
 )
