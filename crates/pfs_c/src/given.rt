@@ -219,22 +219,5 @@ pub(crate) fn copy_sequence(seq: &Seq, out: &mut [u32])
     ensures front { out.new ≡ put_in_front seq.now.jobs out.old }
     ensures whole { length seq.now.jobs ≡ length out.old → out.new ≡ seq.now.jobs }
 {
-    for place in 0..seq.len() {
-        out[place] = seq.at(place) as u32;
-    }
-}
-
-/// Whether a sequence consists of these jobs.
-pub(crate) fn has_jobs(seq: &Seq, jobs: &[u32]) -> bool
-    ensures { IsTrue result ↔ seq.now.jobs ≡ jobs.now }
-{
-    if seq.len() != jobs.len() {
-        return false;
-    }
-    for (place, job) in jobs.iter().enumerate() {
-        if seq.at(place) != *job as usize {
-            return false;
-        }
-    }
-    true
+    out[..seq.len()].copy_from_slice(seq.as_slice());
 }

@@ -14,7 +14,7 @@ ghost use Rattle.pfs_c.specs.Searching.{rounds_fault};
 ghost use Rattle.pfs_c.specs.Validation.{insertion_fault};
 ghost use Rattle.pfs_c.specs.Private.Outcomes.{Validates};
 
-use crate::given::{copy_sequence, has_jobs, validate, validate_insertion, validate_jobs};
+use crate::given::{copy_sequence, validate, validate_insertion, validate_jobs};
 use crate::numbers::CallFault;
 use crate::rows::span_of;
 use crate::searching::RoundsOptions;
@@ -149,7 +149,7 @@ impl Kept {
         requires { IsSequence self.now.jobs sequence.now }
         ensures { result ≡ makespan self.now sequence.now }
     {
-        if self.is_span_known && has_jobs(self.search.kept.order.seq(), sequence) {
+        if self.is_span_known && self.search.kept.order.seq().as_slice() == sequence {
             self.instance.metered().reveal(self.search.kept.span)
         } else {
             span_of(&self.instance, sequence)
