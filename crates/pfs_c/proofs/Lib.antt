@@ -7,5 +7,4 @@ pub mod Marks
 pub mod MemoryLemmas
 pub mod RandomWords
 pub mod RowSteps
-pub mod Times
 pub mod Visits

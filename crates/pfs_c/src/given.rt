@@ -1,5 +1,5 @@
 //! Arguments from C: they are validated and copied into the types of the crates below.
-ghost use Rattle.std.specs.Prelude.{◌≡◌, ℕ, ◌≤◌, ◌<◌, ◌*◌, ◌↔◌, [], ◌∷◌, ◌++◌, length, false, All, Contains};
+ghost use Rattle.std.specs.Prelude.{◌≡◌, ℕ, ◌≤◌, ◌<◌, ◌+◌, ◌*◌, ◌↔◌, [], ◌∷◌, ◌++◌, length, false, All, Contains};
 ghost use Rattle.std.specs.Prelude.{◌≢◌, Err, IsOk, IsTrue, IfOk, IfErr, slice_index_or};
 ghost use Rattle.pfs_base.specs.FlowShop.{AreSizes, IsWithin};
 ghost use Rattle.pfs_base.specs.Limits.{limits};
@@ -7,6 +7,7 @@ ghost use Rattle.pfs_base.specs.Lists.{first_some};
 ghost use Rattle.pfs_order.specs.Sequence.{IsSequence};
 ghost use Rattle.pfs_c.specs.Validation.{shop_of, sizes_fault, length_fault, times_fault, shop_fault, unless};
 ghost use Rattle.pfs_c.specs.Validation.{jobs_fault, job_fault};
+ghost use Rattle.pfs_c.specs.Private.Marks.{AreMarked};
 ghost use Rattle.pfs_c.specs.Private.Outcomes.{Validates};
 ghost use Rattle.pfs_c.specs.Texts.{put_in_front};
 
@@ -62,12 +63,19 @@ pub(crate) fn validate_times(times: &[u32]) -> Result<(), CallFault>
     ensures validated { Validates result (times_fault times.now) }
     ensures short { IfOk result (λ done. All (λ time. time ≤ LONGEST_TIME) times.now) }
 {
-    // Only the greatest is compared, since a loop that may end early is not vectorized.
-    let mut longest = 0;
-    for time in times {
-        longest = longest.max(*time);
+    validate(are_below(times, LONGEST_TIME + 1), CallFault::Time)
+}
+
+// Whether all numbers are below a limit. Only the greatest is compared, since a loop that may end early is not
+// vectorized.
+fn are_below(numbers: &[u32], limit: u32) -> bool
+    ensures { IsTrue result ↔ All (λ number. number < limit) numbers.now }
+{
+    let mut greatest = 0;
+    for number in numbers {
+        greatest = greatest.max(*number);
     }
-    validate(longest <= LONGEST_TIME, CallFault::Time)
+    numbers.is_empty() || greatest < limit
 }
 
 /// Validates the sizes, then the number of times, then the times, and returns the first fault.
@@ -165,21 +173,44 @@ fn is_sequence(size: u32, jobs: &[u32], marks: &mut [bool]) -> bool
     ensures sequence { IsTrue result ↔ IsSequence size jobs.now }
     ensures marked { IsTrue result → (job : ℕ) → IsTrue (slice_index_or marks.new job false) ↔ Contains jobs.now job }
 {
-    // All jobs are compared, since a loop that may end early is not vectorized.
-    let mut is_below = true;
-    for job in jobs {
-        is_below &= *job < size;
-    }
-    if !is_below {
+    if !are_below(jobs, size) {
         return false;
     }
-    // A repeated job does not end the loop, so each job is marked without a branch.
+    // Eight in a turn: the compiler unrolls these.
+    let eights = jobs.len() / 8;
     let mut is_repeated = false;
-    for job in jobs {
-        is_repeated |= marks[*job as usize];
-        marks[*job as usize] = true;
+    for eight in 0..eights {
+        is_repeated = mark_some(jobs, marks, 8 * eight, 8, is_repeated);
     }
-    !is_repeated
+    !mark_some(
+        jobs,
+        marks,
+        8 * eights,
+        jobs.len() - 8 * eights,
+        is_repeated,
+    )
+}
+
+// Marks some jobs from a place on. Returns whether there is a repeated job up to the last of them, if `is_repeated` is
+// that for the jobs before the place. A repeated job does not end the loop, so each job is marked without a branch.
+#[inline(always)]
+fn mark_some(
+    jobs: &[u32],
+    marks: &mut [bool],
+    place: usize,
+    count: usize,
+    mut is_repeated: bool,
+) -> bool
+    requires place { place + count ≤ length jobs.now }
+    requires marked { AreMarked jobs.now marks.old is_repeated place }
+    ensures { AreMarked jobs.now marks.new result (place + count) }
+{
+    for next in place..place + count {
+        let job = jobs[next] as usize;
+        is_repeated |= marks[job];
+        marks[job] = true;
+    }
+    is_repeated
 }
 
 /// Makes an instance of validated times. It allocates once, and returns `Memory` if that fails; it has no other error.
