@@ -172,10 +172,7 @@ impl Kept {
     {
         validate_insertion(self.instance.jobs(), sequence, job)?;
         self.is_span_known = false;
-        self.sequence.set(sequence);
-        let best = self
-            .search
-            .best(&self.instance, &self.sequence, job as usize);
+        let best = self.search.best(&self.instance, sequence, job as usize);
         *place = best.place;
         *span = best.span;
         Ok(())
@@ -197,9 +194,8 @@ impl Kept {
         validate(makespans.len() == sequence.len() + 1, CallFault::Length)?;
         validate_insertion(self.instance.jobs(), sequence, job)?;
         self.is_span_known = false;
-        self.sequence.set(sequence);
         self.search
-            .insertions(&self.instance, &self.sequence, job as usize, makespans);
+            .insertions(&self.instance, sequence, job as usize, makespans);
         Ok(())
     }
 
@@ -255,7 +251,7 @@ fn visit_once(instance: &Instance, search: &mut Search, seq: &mut Seq, list: &[u
     for job in list {
         let job = *job as usize;
         take_out(seq, job);
-        let best = search.best(instance, seq, job);
+        let best = search.best(instance, seq.as_slice(), job);
         seq.insert_at(best.place, job);
     }
 }

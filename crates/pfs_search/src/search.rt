@@ -14,7 +14,7 @@ use crate::rounds::Rounds;
 use crate::searcher::Searcher;
 use pfs_base::{Bench, Instance, Length, Span};
 use pfs_insert::Placed;
-use pfs_order::{Order, Seq};
+use pfs_order::Order;
 use pfs_wave::{LaneTables, MeteredLanes, OfShop, Wavefront};
 use rand_core::SeedableRng;
 use rand_pcg::Pcg32;
@@ -124,34 +124,34 @@ impl Search {
     }
 
     /// The best place for a job that is not in a sequence, and the makespan with the job there.
-    pub fn best(&mut self, instance: &Instance, seq: &Seq, job: usize) -> Placed<u64>
+    pub fn best(&mut self, instance: &Instance, jobs: &[u32], job: usize) -> Placed<u64>
         requires own { ⟦<Search as OfShop>⟧.is_of self.old instance.now.shop }
-        requires size { seq.now.size ≡ instance.now.shop.jobs }
-        requires job { job < seq.now.size }
-        requires absent { Contains seq.now.jobs job → ⊥ }
-        ensures best { IsBestPlace instance.now.shop seq.now.jobs job result.place result.span }
+        requires sequence { IsSequence instance.now.shop.jobs jobs.now }
+        requires job { job < instance.now.shop.jobs }
+        requires absent { Contains jobs.now job → ⊥ }
+        ensures best { IsBestPlace instance.now.shop jobs.now job result.place result.span }
         ensures still { ⟦<Search as OfShop>⟧.is_of self.new instance.now.shop }
     {
         match &mut self.tables {
-            Some(tables) => tables.best(instance, seq, job, &mut []),
+            Some(tables) => tables.best(instance, jobs, job, &mut []),
             None => unreachable!(),
         }
     }
 
     /// Writes the makespan with a job at each place of a sequence. The job must not be in the sequence.
-    pub fn insertions(&mut self, instance: &Instance, seq: &Seq, job: usize, spans: &mut [u64])
+    pub fn insertions(&mut self, instance: &Instance, jobs: &[u32], job: usize, spans: &mut [u64])
         requires own { ⟦<Search as OfShop>⟧.is_of self.old instance.now.shop }
-        requires size { seq.now.size ≡ instance.now.shop.jobs }
-        requires job { job < seq.now.size }
-        requires absent { Contains seq.now.jobs job → ⊥ }
-        requires room { length spans.old ≡ length seq.now.jobs + 1 }
-        ensures spans { (place : ℕ) → place ≤ length seq.now.jobs
-            → slice_index spans.new place ≡ makespan_with instance.now.shop seq.now.jobs job place }
+        requires sequence { IsSequence instance.now.shop.jobs jobs.now }
+        requires job { job < instance.now.shop.jobs }
+        requires absent { Contains jobs.now job → ⊥ }
+        requires room { length spans.old ≡ length jobs.now + 1 }
+        ensures spans { (place : ℕ) → place ≤ length jobs.now
+            → slice_index spans.new place ≡ makespan_with instance.now.shop jobs.now job place }
         ensures still { ⟦<Search as OfShop>⟧.is_of self.new instance.now.shop }
     {
         match &mut self.tables {
             Some(tables) => {
-                let _best = tables.best(instance, seq, job, spans);
+                let _best = tables.best(instance, jobs, job, spans);
             }
             None => unreachable!(),
         }

@@ -1,10 +1,9 @@
 -- Tables of both sizes of lanes, and the insertions that are known to fit in narrow ones.
-use Rattle.std.proofs.Common.{ℕ, ◌+◌, ◌<◌, ◌≤◌, ◌≡◌, Bool, true, false, length, nat_eq, nat_le}
+use Rattle.std.proofs.Common.{ℕ, ◌+◌, ◌<◌, ◌≤◌, Bool, true, false, length, nat_eq, nat_le}
 use Rattle.std.proofs.Common.{if◌then◌else◌, arith, List}
 use Rattle.pfs_base.specs.FlowShop.{FlowShop}
 use Rattle.pfs_base.specs.Paths.{makespan}
 use Rattle.pfs_insert.specs.Inserter.{IsBestPlace}
-use Rattle.pfs_order.specs.Sequence.{Sequence}
 use Rattle.pfs_wave.specs.Parts.{IsPart}
 use Rattle.pfs_wave.specs.Private.Mixed.{IsKnown, IsMixed, after_best, known_with}
 use Rattle.pfs_wave.specs.declared.mixed.Known.{Known}
@@ -18,19 +17,20 @@ either P false one other is_one is_other = is_other
 
 -- tables of a shop are so after an insertion at the best place
 pub mixed_after : (shop : FlowShop) (mixed : Mixed) → IsMixed shop mixed
-    → (seq : Sequence) (job place span : ℕ) → seq.size ≡ shop.jobs → IsBestPlace shop seq.jobs job place span
-    → IsMixed shop (after_best mixed seq job place span)
-mixed_after shop mixed are seq job place span size best =
-    let with_job = known_with seq job place span in
-    let is_known : IsKnown shop with_job = record { size = size; span = omega (arith, best.span_is) } in
+    → (jobs : List ℕ) (job place span : ℕ) → IsBestPlace shop jobs job place span
+    → IsMixed shop (after_best mixed jobs job place span)
+mixed_after shop mixed are jobs job place span best =
+    let more = known_with mixed.kept jobs job place span in
+    let is_known : IsKnown shop more = record { size = are.kept.size; span = omega (arith, best.span_is) } in
     let no_longer = nat_le span mixed.kept.span in
     record {
       narrow = are.narrow;
       wide = are.wide;
-      last = is_known;
+      last = record { size = are.last.size; span = is_known.span };
       kept =
-          either (IsKnown shop) (nat_eq (length seq.jobs + 1) seq.size) (if no_longer then with_job else mixed.kept)
-          mixed.kept (either (IsKnown shop) no_longer with_job mixed.kept is_known are.kept) are.kept;
+          either (IsKnown shop) (nat_eq (length jobs + 1) mixed.last.seq.size)
+          (if no_longer then more else mixed.kept) mixed.kept
+          (either (IsKnown shop) no_longer more mixed.kept is_known are.kept) are.kept;
     }
 
 -- a part of a known sequence has at most its makespan

@@ -64,7 +64,9 @@ impl<'a> MeteredLanes<'a> {
             ≡ ⟦<MeteredLanes<'a> as Bench>⟧.shop self.old }
     {
         let permits = Permits::count(&mut self.bench, seq.len());
-        let best = self.tables.find(permits, self.instance, seq, job, &mut []);
+        let best = self
+            .tables
+            .find(permits, self.instance, seq.as_slice(), job, &mut []);
         Placed {
             place: best.place,
             span: self.bench.length(best.span),

@@ -5,6 +5,7 @@ ghost use Rattle.pfs_base.specs.FlowShop.{FlowShop};
 ghost use Rattle.pfs_base.specs.Paths.{makespan};
 ghost use Rattle.pfs_insert.specs.Inserter.{IsBestPlace};
 ghost use Rattle.pfs_insert.specs.Insertion.{makespan_with};
+ghost use Rattle.pfs_order.specs.Sequence.{IsSequence};
 ghost use Rattle.pfs_wave.specs.Parts.{IsPart};
 ghost use Rattle.pfs_wave.specs.Private.Blocks.{longest_path};
 ghost use Rattle.pfs_wave.specs.Private.Mixed.{IsKnown, IsMixed, after_best, known_with};
@@ -86,14 +87,14 @@ impl Known {
 
     // Makes it a sequence with a job at its best place.
     #[inline(always)]
-    fn set(&mut self, seq: &Seq, job: usize, best: Placed<u64>)
-        requires size { self.old.seq.size ≡ seq.now.size }
-        requires place { best.place ≤ length seq.now.jobs }
-        requires job { job < seq.now.size }
-        requires absent { Contains seq.now.jobs job → ⊥ }
-        ensures { self.new ≡ known_with seq.now job best.place best.span }
+    fn set(&mut self, jobs: &[u32], job: usize, best: Placed<u64>)
+        requires sequence { IsSequence self.old.seq.size jobs.now }
+        requires place { best.place ≤ length jobs.now }
+        requires job { job < self.old.seq.size }
+        requires absent { Contains jobs.now job → ⊥ }
+        ensures { self.new ≡ known_with self.old jobs.now job best.place best.span }
     {
-        self.seq.copy_from(seq);
+        self.seq.set(jobs);
         self.seq.insert_at(best.place, job);
         self.span = best.span;
     }
@@ -127,11 +128,10 @@ impl Mixed {
 
     // Whether the makespan of a sequence plus this time is known to be below 65,535.
     #[inline(always)]
-    fn has_room(&self, seq: &Seq, time: u64) -> bool
+    fn has_room(&self, jobs: &[u32], time: u64) -> bool
         ensures { IsTrue result → (shop : FlowShop) → 1 ≤ shop.machines → IsMixed shop self.now
-            → makespan shop seq.now.jobs + time < 65535 }
+            → makespan shop jobs.now + time < 65535 }
     {
-        let jobs = seq.as_slice();
         self.last.has_room(jobs, time) || self.kept.has_room(jobs, time)
     }
 
@@ -139,32 +139,31 @@ impl Mixed {
     // that at its best place, is below 65,535. The job makes the makespan longer by at most its total time. The sharper
     // bound by the last job takes longer to compute, so it comes second.
     #[inline(always)]
-    fn fits(&self, instance: &Instance, seq: &Seq, job: usize) -> bool
+    fn fits(&self, instance: &Instance, jobs: &[u32], job: usize) -> bool
         requires own { IsMixed instance.now.shop self.now }
-        requires size { seq.now.size ≡ instance.now.shop.jobs }
-        requires job { job < seq.now.size }
+        requires jobs { All (λ other. other < instance.now.shop.jobs) jobs.now }
+        requires job { job < instance.now.shop.jobs }
         ensures { IsTrue result
-            → makespan_with instance.now.shop seq.now.jobs job (length seq.now.jobs) < 65535 }
+            → makespan_with instance.now.shop jobs.now job (length jobs.now) < 65535 }
     {
-        let jobs = seq.as_slice();
-        self.has_room(seq, instance.metered().total(job))
-            || (!jobs.is_empty() && self.has_room(seq, most_added(instance, jobs, job)))
+        self.has_room(jobs, instance.metered().total(job))
+            || (!jobs.is_empty() && self.has_room(jobs, most_added(instance, jobs, job)))
     }
 
     // Keeps a sequence with a job at its best place.
     #[inline(always)]
-    fn keep(&mut self, seq: &Seq, job: usize, best: Placed<u64>)
-        requires last { self.old.last.seq.size ≡ seq.now.size }
-        requires kept { self.old.kept.seq.size ≡ seq.now.size }
-        requires place { best.place ≤ length seq.now.jobs }
-        requires job { job < seq.now.size }
-        requires absent { Contains seq.now.jobs job → ⊥ }
-        ensures { self.new ≡ after_best self.old seq.now job best.place best.span }
+    fn keep(&mut self, jobs: &[u32], job: usize, best: Placed<u64>)
+        requires sizes { self.old.kept.seq.size ≡ self.old.last.seq.size }
+        requires sequence { IsSequence self.old.last.seq.size jobs.now }
+        requires place { best.place ≤ length jobs.now }
+        requires job { job < self.old.last.seq.size }
+        requires absent { Contains jobs.now job → ⊥ }
+        ensures { self.new ≡ after_best self.old jobs.now job best.place best.span }
     {
-        let is_order = seq.len() + 1 == seq.size();
-        self.last.set(seq, job, best);
+        let is_order = jobs.len() + 1 == self.last.seq.size();
+        self.last.set(jobs, job, best);
         if is_order && best.span <= self.kept.span {
-            self.kept.set(seq, job, best);
+            self.kept.set(jobs, job, best);
         }
     }
 
@@ -176,23 +175,22 @@ impl Mixed {
         &mut self,
         permits: Permits,
         instance: &Instance,
-        seq: &Seq,
+        jobs: &[u32],
         job: usize,
         spans: &mut [u64],
     ) -> Placed<Paid>
         requires own { IsMixed instance.now.shop self.old }
-        requires size { seq.now.size ≡ instance.now.shop.jobs }
-        requires job { job < seq.now.size }
-        requires absent { Contains seq.now.jobs job → ⊥ }
-        requires room { length spans.old ≤ length seq.now.jobs + 1 }
-        requires paid { IsPaid permits.tails permits.sums (length seq.now.jobs) instance.now.shop.machines }
-        ensures best { IsBestPlace instance.now.shop seq.now.jobs job result.place result.span }
+        requires sequence { IsSequence instance.now.shop.jobs jobs.now }
+        requires job { job < instance.now.shop.jobs }
+        requires absent { Contains jobs.now job → ⊥ }
+        requires room { length spans.old ≤ length jobs.now + 1 }
+        requires paid { IsPaid permits.tails permits.sums (length jobs.now) instance.now.shop.machines }
+        ensures best { IsBestPlace instance.now.shop jobs.now job result.place result.span }
         ensures spans { (place : ℕ) → place < length spans.old
-            → slice_index_or spans.new place 0 ≡ makespan_with instance.now.shop seq.now.jobs job place }
+            → slice_index_or spans.new place 0 ≡ makespan_with instance.now.shop jobs.now job place }
         ensures still { IsMixed instance.now.shop self.new }
     {
-        let jobs = seq.as_slice();
-        let best = if spans.is_empty() && self.fits(instance, seq, job) {
+        let best = if spans.is_empty() && self.fits(instance, jobs, job) {
             self.narrow.best(permits, jobs, job, spans)
         } else {
             self.wide.best(permits, jobs, job, spans)
@@ -201,7 +199,7 @@ impl Mixed {
             place: best.place,
             span: best.span.number(),
         };
-        self.keep(seq, job, kept);
+        self.keep(jobs, job, kept);
         best
     }
 }

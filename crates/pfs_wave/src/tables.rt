@@ -6,6 +6,7 @@ ghost use Rattle.pfs_base.specs.Limits.{limits};
 ghost use Rattle.pfs_base.specs.Paths.{greatest};
 ghost use Rattle.pfs_insert.specs.Inserter.{IsBestPlace};
 ghost use Rattle.pfs_insert.specs.Insertion.{makespan_with};
+ghost use Rattle.pfs_order.specs.Sequence.{IsSequence};
 ghost use Rattle.pfs_wave.specs.Private.Blocks.{longest_path};
 ghost use Rattle.pfs_wave.specs.Private.Payment.{IsPaid};
 ghost use Rattle.pfs_wave.specs.Tables.{HasLanes};
@@ -17,7 +18,6 @@ use crate::mixed::Mixed;
 use crate::short::Short;
 use pfs_base::{Instance, Paid};
 use pfs_insert::Placed;
-use pfs_order::Seq;
 use std::alloc::{AllocError, Global};
 
 /// Tables, or other memory, that are filled for one shop and kept between calls.
@@ -91,22 +91,22 @@ impl LaneTables {
     pub fn best(
         &mut self,
         instance: &Instance,
-        seq: &Seq,
+        jobs: &[u32],
         job: usize,
         spans: &mut [u64],
     ) -> Placed<u64>
         requires own { ⟦<LaneTables as OfShop>⟧.is_of self.old instance.now.shop }
-        requires size { seq.now.size ≡ instance.now.shop.jobs }
-        requires job { job < seq.now.size }
-        requires absent { Contains seq.now.jobs job → ⊥ }
-        requires room { length spans.old ≤ length seq.now.jobs + 1 }
-        ensures best { IsBestPlace instance.now.shop seq.now.jobs job result.place result.span }
+        requires sequence { IsSequence instance.now.shop.jobs jobs.now }
+        requires job { job < instance.now.shop.jobs }
+        requires absent { Contains jobs.now job → ⊥ }
+        requires room { length spans.old ≤ length jobs.now + 1 }
+        ensures best { IsBestPlace instance.now.shop jobs.now job result.place result.span }
         ensures spans { (place : ℕ) → place < length spans.old
-            → slice_index_or spans.new place 0 ≡ makespan_with instance.now.shop seq.now.jobs job place }
+            → slice_index_or spans.new place 0 ≡ makespan_with instance.now.shop jobs.now job place }
         ensures still { ⟦<LaneTables as OfShop>⟧.is_of self.new instance.now.shop }
     {
-        let permits = Permits::count(&mut instance.metered(), seq.len());
-        let best = self.find(permits, instance, seq, job, spans);
+        let permits = Permits::count(&mut instance.metered(), jobs.len());
+        let best = self.find(permits, instance, jobs, job, spans);
         Placed {
             place: best.place,
             span: best.span.number(),
@@ -119,25 +119,24 @@ impl LaneTables {
         &mut self,
         permits: Permits,
         instance: &Instance,
-        seq: &Seq,
+        jobs: &[u32],
         job: usize,
         spans: &mut [u64],
     ) -> Placed<Paid>
         requires own { HasLanes instance.now.shop self.old }
-        requires size { seq.now.size ≡ instance.now.shop.jobs }
-        requires job { job < seq.now.size }
-        requires absent { Contains seq.now.jobs job → ⊥ }
-        requires room { length spans.old ≤ length seq.now.jobs + 1 }
-        requires paid { IsPaid permits.tails permits.sums (length seq.now.jobs) instance.now.shop.machines }
-        ensures best { IsBestPlace instance.now.shop seq.now.jobs job result.place result.span }
+        requires sequence { IsSequence instance.now.shop.jobs jobs.now }
+        requires job { job < instance.now.shop.jobs }
+        requires absent { Contains jobs.now job → ⊥ }
+        requires room { length spans.old ≤ length jobs.now + 1 }
+        requires paid { IsPaid permits.tails permits.sums (length jobs.now) instance.now.shop.machines }
+        ensures best { IsBestPlace instance.now.shop jobs.now job result.place result.span }
         ensures spans { (place : ℕ) → place < length spans.old
-            → slice_index_or spans.new place 0 ≡ makespan_with instance.now.shop seq.now.jobs job place }
+            → slice_index_or spans.new place 0 ≡ makespan_with instance.now.shop jobs.now job place }
         ensures still { HasLanes instance.now.shop self.new }
     {
-        let jobs = seq.as_slice();
         match &mut self.wave {
             Wave::Short(blocks) => blocks.best(permits, jobs, job, spans),
-            Wave::Mixed(mixed) => mixed.best(permits, instance, seq, job, spans),
+            Wave::Mixed(mixed) => mixed.best(permits, instance, jobs, job, spans),
             Wave::Long(blocks) => blocks.best(permits, jobs, job, spans),
             Wave::Wide(blocks) => blocks.best(permits, jobs, job, spans),
         }

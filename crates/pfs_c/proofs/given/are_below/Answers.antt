@@ -10,8 +10,7 @@ returns-else-is_empty c =
     let numbers = c.args.numbers.now in
     let all = take_all c.loop-number.number-index numbers (omega (arith, c.loop-number-test.false)) in
     let is : c.loop-number.greatest ≡ greatest numbers = rw all at c.loop-number.invariant in
-    let any : 0 < length numbers = grind (arith, nat_tests, c.if-is_empty.false, c.is_empty.ensures) in
-    (
+    let any : 0 < length numbers = grind (arith, nat_tests, c.if-is_empty.false, c.is_empty.ensures) in (
       λ yes. each_below c.args.limit numbers (grind (arith, nat_tests, is, yes)),
       λ each.
           let some : 0 < c.args.limit = let first = each 0 0 any in omega arith in

@@ -14,9 +14,10 @@ loop-job-preserved c =
     let old = c.loop-job.seq in
     let left = c.take_out.new.seq in
     let job = get_or list done 0 in
+    let best = rw c.as_slice.ensures.value at c.best-best.ensures.best in
     let step : c.insert_at.new.self ≡ record old { jobs = moved shop old.jobs job } =
     c.insert_at.ensures
-    ∙ ap (λ place. record left { jobs = insert left.jobs place job }) c.best-best.ensures.best.place_is
+    ∙ ap (λ place. record left { jobs = insert left.jobs place job }) best.place_is
     ∙ ap (λ (s : Sequence). record s { jobs = with_job shop s.jobs job }) c.take_out.ensures.jobs in
     record {
       search = c.best-best.ensures.still;

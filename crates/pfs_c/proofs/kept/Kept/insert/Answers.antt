@@ -1,4 +1,4 @@
 use Rattle.pfs_c.proofs.kept.Kept.insert.Goals as goal
 
 pub returns-clause-best : goal.returns-clause-best
-returns-clause-best c = rw (← c.self.view_is) (rw c.set.ensures at c.best-best.ensures.best)
+returns-clause-best c = rw (← c.self.view_is) c.best-best.ensures.best

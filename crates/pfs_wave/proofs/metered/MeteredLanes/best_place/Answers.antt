@@ -12,7 +12,8 @@ length-requires c =
     let few = length-lt-size seq.size c.args.job seq.jobs (omega (arith, c.requires.job, c.requires.size))
     c.requires.absent c.len.ensures.sequence in
     best_span shop seq.jobs c.args.job c.find-best.result.place c.find-best.result.span self.within
-    (omega (arith, few, c.requires.size)) (rw self.same at c.find-best.ensures.best)
+    (omega (arith, few, c.requires.size)) (rw self.same at (rw c.as_slice.ensures.value at c.find-best.ensures.best))
 
 pub returns-clause-best : goal.returns-clause-best
-returns-clause-best c = rw c.length.ensures (rw c.args.self.now.same at c.find-best.ensures.best)
+returns-clause-best c =
+    rw c.length.ensures (rw c.args.self.now.same at (rw c.as_slice.ensures.value at c.find-best.ensures.best))

@@ -1,4 +1,4 @@
-use Rattle.std.proofs.Common.{length, refl, arith, ap}
+use Rattle.std.proofs.Common.{length, refl, arith}
 use Rattle.std.proofs.lemmas.Bool.Decides.{nat_tests}
 use Rattle.pfs_order.proofs.Published.Sequences.{length-le-size, length-lt-size}
 use Rattle.pfs_wave.specs.Private.Mixed.{IsMixed}
@@ -12,67 +12,60 @@ pub best-best-requires-clause-few : goal.best-best-requires-clause-few
 best-best-requires-clause-few c =
     omega (
       arith,
-      length-le-size c.args.seq.now.size c.args.seq.now.jobs c.as_slice-jobs.ensures.sequence,
-      c.requires.size,
+      length-le-size c.args.instance.now.shop.jobs c.args.jobs.now c.requires.sequence,
       c.requires.own.narrow.jobs,
-      ap length c.as_slice-jobs.ensures.value,
     )
 
 pub best-best-requires-else-is_empty-clause-few : goal.best-best-requires-else-is_empty-clause-few
 best-best-requires-else-is_empty-clause-few c =
     omega (
       arith,
-      length-le-size c.args.seq.now.size c.args.seq.now.jobs c.as_slice-jobs.ensures.sequence,
-      c.requires.size,
+      length-le-size c.args.instance.now.shop.jobs c.args.jobs.now c.requires.sequence,
       c.requires.own.wide.has.jobs,
-      ap length c.as_slice-jobs.ensures.value,
     )
 
 pub returns-clause-best : goal.returns-clause-best
 returns-clause-best c =
     let shop = c.args.instance.now.shop in
-    let jobs = c.args.seq.now.jobs in
+    let jobs = c.args.jobs.now in
     let own = c.requires.own in
-    let less = length-lt-size c.args.seq.now.size c.args.job jobs c.requires.job c.requires.absent
-    c.as_slice-jobs.ensures.sequence in
+    let less = length-lt-size shop.jobs c.args.job jobs c.requires.job c.requires.absent c.requires.sequence in
     elim c.if-is_empty.branch [
       | then-is_empty+then-fits w ↦
-          let is = rw c.as_slice-jobs.ensures.value at w.best-best.ensures.found in
+          let is = w.best-best.ensures.found in
           rw w.best-is (found shop jobs c.args.job 65535 (is shop own.narrow c.requires.paid).best refl
           (length jobs) (omega arith) (omega (arith, w.if-fits.ensures refl)))
       | else-is_empty w ↦
-          let is = rw c.as_slice-jobs.ensures.value at w.best-best-else-is_empty.ensures.found in
+          let is = w.best-best-else-is_empty.ensures.found in
           rw w.best-is (served_below shop 4294967295 own.wide.has.some own.wide.short jobs c.args.job
-          (omega (arith, less, c.requires.size)) c.requires.room (is shop own.wide.has c.requires.paid)).0
+          less c.requires.room (is shop own.wide.has c.requires.paid)).0
     ]
 
 pub returns-clause-spans : goal.returns-clause-spans
 returns-clause-spans c place lt =
     let shop = c.args.instance.now.shop in
-    let jobs = c.args.seq.now.jobs in
+    let jobs = c.args.jobs.now in
     let own = c.requires.own in
-    let less = length-lt-size c.args.seq.now.size c.args.job jobs c.requires.job c.requires.absent
-    c.as_slice-jobs.ensures.sequence in
+    let less = length-lt-size shop.jobs c.args.job jobs c.requires.job c.requires.absent c.requires.sequence in
     elim c.if-is_empty.branch [
       | then-is_empty+then-fits w ↦
           let test = w.if-is_empty.true in
           let is = c.is_empty.ensures in
           absurd (grind (arith, nat_tests))
       | else-is_empty w ↦
-          let is = rw c.as_slice-jobs.ensures.value at w.best-best-else-is_empty.ensures.found in
+          let is = w.best-best-else-is_empty.ensures.found in
           rw w.spans-is ((served_below shop 4294967295 own.wide.has.some own.wide.short jobs c.args.job
-          (omega (arith, less, c.requires.size)) c.requires.room (is shop own.wide.has c.requires.paid)).1 place lt)
+          less c.requires.room (is shop own.wide.has c.requires.paid)).1 place lt)
     ]
 
 pub returns-clause-still : goal.returns-clause-still
 returns-clause-still c =
     let shop = c.args.instance.now.shop in
-    let seq = c.args.seq.now in
     let best = returns-clause-best c in
     let own : IsMixed shop c.if-is_empty.self =
     elim c.if-is_empty.branch [
       | then-is_empty+then-fits w ↦ rw (w.self-is, w.best-best.ensures.same) c.requires.own
       | else-is_empty w ↦ rw (w.self-is, w.best-best-else-is_empty.ensures.same) c.requires.own
     ] in
-    rw (c.keep.ensures, c.number.ensures) (mixed_after shop c.if-is_empty.self own seq c.args.job
-    c.if-is_empty.best.place c.if-is_empty.best.span c.requires.size best)
+    rw (c.keep.ensures, c.number.ensures) (mixed_after shop c.if-is_empty.self own c.args.jobs.now c.args.job
+    c.if-is_empty.best.place c.if-is_empty.best.span best)

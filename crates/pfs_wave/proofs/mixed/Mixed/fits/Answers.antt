@@ -10,6 +10,6 @@ returns-then-has_room c is =
     omega (
       arith,
       c.has_room.ensures is shop some c.requires.own,
-      appended_law shop c.args.seq.now.jobs c.args.job some,
+      appended_law shop c.args.jobs.now c.args.job some,
       c.total.ensures ∙ ap (λ s. total_of s c.args.job) c.metered.ensures.shop,
     )

@@ -1,4 +1,4 @@
-use Rattle.std.proofs.Common.{length, arith, ap}
+use Rattle.std.proofs.Common.{arith}
 use Rattle.pfs_order.proofs.Published.Sequences.{length-le-size, length-lt-size}
 use Rattle.pfs_wave.specs.declared.tables.Wave.TheVariants as wave
 use Rattle.pfs_wave.proofs.ServedPaths.{has_lanes, served_below, served_capped}
@@ -18,30 +18,28 @@ best-requires-clause-few c =
     let is = c.requires.own.short c.in-Short.blocks c.in-Short.is in
     omega (
       arith,
-      length-le-size c.args.seq.now.size c.args.seq.now.jobs c.as_slice-jobs.ensures.sequence,
-      c.requires.size,
+      length-le-size c.args.instance.now.shop.jobs c.args.jobs.now c.requires.sequence,
       is.has.jobs,
-      ap length c.as_slice-jobs.ensures.value,
     )
 
 pub returns-in-Short-clause-best : goal.returns-in-Short-clause-best
 returns-in-Short-clause-best c =
     let shop = c.args.instance.now.shop in
     let is = c.requires.own.short c.in-Short.blocks c.in-Short.is in
-    let less = length-lt-size c.args.seq.now.size c.args.job c.args.seq.now.jobs c.requires.job c.requires.absent
-    c.as_slice-jobs.ensures.sequence in
-    let found = rw c.as_slice-jobs.ensures.value at c.best.ensures.found in
-    (served_capped shop 65535 is.has.some is.short c.args.seq.now.jobs c.args.job (omega (arith, less, c.requires.size))
+    let less = length-lt-size shop.jobs c.args.job c.args.jobs.now c.requires.job c.requires.absent
+    c.requires.sequence in
+    let found = c.best.ensures.found in
+    (served_capped shop 65535 is.has.some is.short c.args.jobs.now c.args.job less
     c.requires.room (found shop is.has c.requires.paid)).0
 
 pub returns-in-Short-clause-spans : goal.returns-in-Short-clause-spans
 returns-in-Short-clause-spans c =
     let shop = c.args.instance.now.shop in
     let is = c.requires.own.short c.in-Short.blocks c.in-Short.is in
-    let less = length-lt-size c.args.seq.now.size c.args.job c.args.seq.now.jobs c.requires.job c.requires.absent
-    c.as_slice-jobs.ensures.sequence in
-    let found = rw c.as_slice-jobs.ensures.value at c.best.ensures.found in
-    (served_capped shop 65535 is.has.some is.short c.args.seq.now.jobs c.args.job (omega (arith, less, c.requires.size))
+    let less = length-lt-size shop.jobs c.args.job c.args.jobs.now c.requires.job c.requires.absent
+    c.requires.sequence in
+    let found = c.best.ensures.found in
+    (served_capped shop 65535 is.has.some is.short c.args.jobs.now c.args.job less
     c.requires.room (found shop is.has c.requires.paid)).1
 
 pub returns-in-Short-clause-still : goal.returns-in-Short-clause-still
@@ -54,30 +52,28 @@ best-requires-in-Long-clause-few c =
     let is = (c.requires.own.long c.in-Long.blocks c.in-Long.is).1 in
     omega (
       arith,
-      length-le-size c.args.seq.now.size c.args.seq.now.jobs c.as_slice-jobs.ensures.sequence,
-      c.requires.size,
+      length-le-size c.args.instance.now.shop.jobs c.args.jobs.now c.requires.sequence,
       is.has.jobs,
-      ap length c.as_slice-jobs.ensures.value,
     )
 
 pub returns-in-Long-clause-best : goal.returns-in-Long-clause-best
 returns-in-Long-clause-best c =
     let shop = c.args.instance.now.shop in
     let is = (c.requires.own.long c.in-Long.blocks c.in-Long.is).1 in
-    let less = length-lt-size c.args.seq.now.size c.args.job c.args.seq.now.jobs c.requires.job c.requires.absent
-    c.as_slice-jobs.ensures.sequence in
-    let found = rw c.as_slice-jobs.ensures.value at c.best-in-Long.ensures.found in
-    (served_below shop 4294967295 is.has.some is.short c.args.seq.now.jobs c.args.job (omega (arith, less, c.requires.size))
+    let less = length-lt-size shop.jobs c.args.job c.args.jobs.now c.requires.job c.requires.absent
+    c.requires.sequence in
+    let found = c.best-in-Long.ensures.found in
+    (served_below shop 4294967295 is.has.some is.short c.args.jobs.now c.args.job less
     c.requires.room (found shop is.has c.requires.paid)).0
 
 pub returns-in-Long-clause-spans : goal.returns-in-Long-clause-spans
 returns-in-Long-clause-spans c =
     let shop = c.args.instance.now.shop in
     let is = (c.requires.own.long c.in-Long.blocks c.in-Long.is).1 in
-    let less = length-lt-size c.args.seq.now.size c.args.job c.args.seq.now.jobs c.requires.job c.requires.absent
-    c.as_slice-jobs.ensures.sequence in
-    let found = rw c.as_slice-jobs.ensures.value at c.best-in-Long.ensures.found in
-    (served_below shop 4294967295 is.has.some is.short c.args.seq.now.jobs c.args.job (omega (arith, less, c.requires.size))
+    let less = length-lt-size shop.jobs c.args.job c.args.jobs.now c.requires.job c.requires.absent
+    c.requires.sequence in
+    let found = c.best-in-Long.ensures.found in
+    (served_below shop 4294967295 is.has.some is.short c.args.jobs.now c.args.job less
     c.requires.room (found shop is.has c.requires.paid)).1
 
 pub returns-in-Long-clause-still : goal.returns-in-Long-clause-still
@@ -90,30 +86,28 @@ best-requires-in-Wide-clause-few c =
     let is = (c.requires.own.wide c.in-Wide.blocks c.in-Wide.is).1 in
     omega (
       arith,
-      length-le-size c.args.seq.now.size c.args.seq.now.jobs c.as_slice-jobs.ensures.sequence,
-      c.requires.size,
+      length-le-size c.args.instance.now.shop.jobs c.args.jobs.now c.requires.sequence,
       is.has.jobs,
-      ap length c.as_slice-jobs.ensures.value,
     )
 
 pub returns-in-Wide-clause-best : goal.returns-in-Wide-clause-best
 returns-in-Wide-clause-best c =
     let shop = c.args.instance.now.shop in
     let is = (c.requires.own.wide c.in-Wide.blocks c.in-Wide.is).1 in
-    let less = length-lt-size c.args.seq.now.size c.args.job c.args.seq.now.jobs c.requires.job c.requires.absent
-    c.as_slice-jobs.ensures.sequence in
-    let found = rw c.as_slice-jobs.ensures.value at c.best-in-Wide.ensures.found in
-    (served_below shop 9223372036854775807 is.has.some is.short c.args.seq.now.jobs c.args.job (omega (arith, less, c.requires.size))
+    let less = length-lt-size shop.jobs c.args.job c.args.jobs.now c.requires.job c.requires.absent
+    c.requires.sequence in
+    let found = c.best-in-Wide.ensures.found in
+    (served_below shop 9223372036854775807 is.has.some is.short c.args.jobs.now c.args.job less
     c.requires.room (found shop is.has c.requires.paid)).0
 
 pub returns-in-Wide-clause-spans : goal.returns-in-Wide-clause-spans
 returns-in-Wide-clause-spans c =
     let shop = c.args.instance.now.shop in
     let is = (c.requires.own.wide c.in-Wide.blocks c.in-Wide.is).1 in
-    let less = length-lt-size c.args.seq.now.size c.args.job c.args.seq.now.jobs c.requires.job c.requires.absent
-    c.as_slice-jobs.ensures.sequence in
-    let found = rw c.as_slice-jobs.ensures.value at c.best-in-Wide.ensures.found in
-    (served_below shop 9223372036854775807 is.has.some is.short c.args.seq.now.jobs c.args.job (omega (arith, less, c.requires.size))
+    let less = length-lt-size shop.jobs c.args.job c.args.jobs.now c.requires.job c.requires.absent
+    c.requires.sequence in
+    let found = c.best-in-Wide.ensures.found in
+    (served_below shop 9223372036854775807 is.has.some is.short c.args.jobs.now c.args.job less
     c.requires.room (found shop is.has c.requires.paid)).1
 
 pub returns-in-Wide-clause-still : goal.returns-in-Wide-clause-still
@@ -124,32 +118,29 @@ returns-in-Wide-clause-still c =
 pub best-requires-clause-jobs : goal.best-requires-clause-jobs
 best-requires-clause-jobs c =
     let is = c.requires.own.short c.in-Short.blocks c.in-Short.is in
-    rw c.as_slice-jobs.ensures.value (λ k d lt.
-    omega (arith, c.as_slice-jobs.ensures.sequence.in_range k d lt, c.requires.size, is.has.jobs))
+    λ k d lt. omega (arith, c.requires.sequence.in_range k d lt, is.has.jobs)
 
 pub best-requires-clause-job : goal.best-requires-clause-job
 best-requires-clause-job c =
     let is = c.requires.own.short c.in-Short.blocks c.in-Short.is in
-    omega (arith, c.requires.job, c.requires.size, is.has.jobs)
+    omega (arith, c.requires.job, is.has.jobs)
 
 pub best-requires-in-Long-clause-jobs : goal.best-requires-in-Long-clause-jobs
 best-requires-in-Long-clause-jobs c =
     let is = (c.requires.own.long c.in-Long.blocks c.in-Long.is).1 in
-    rw c.as_slice-jobs.ensures.value (λ k d lt.
-    omega (arith, c.as_slice-jobs.ensures.sequence.in_range k d lt, c.requires.size, is.has.jobs))
+    λ k d lt. omega (arith, c.requires.sequence.in_range k d lt, is.has.jobs)
 
 pub best-requires-in-Long-clause-job : goal.best-requires-in-Long-clause-job
 best-requires-in-Long-clause-job c =
     let is = (c.requires.own.long c.in-Long.blocks c.in-Long.is).1 in
-    omega (arith, c.requires.job, c.requires.size, is.has.jobs)
+    omega (arith, c.requires.job, is.has.jobs)
 
 pub best-requires-in-Wide-clause-jobs : goal.best-requires-in-Wide-clause-jobs
 best-requires-in-Wide-clause-jobs c =
     let is = (c.requires.own.wide c.in-Wide.blocks c.in-Wide.is).1 in
-    rw c.as_slice-jobs.ensures.value (λ k d lt.
-    omega (arith, c.as_slice-jobs.ensures.sequence.in_range k d lt, c.requires.size, is.has.jobs))
+    λ k d lt. omega (arith, c.requires.sequence.in_range k d lt, is.has.jobs)
 
 pub best-requires-in-Wide-clause-job : goal.best-requires-in-Wide-clause-job
 best-requires-in-Wide-clause-job c =
     let is = (c.requires.own.wide c.in-Wide.blocks c.in-Wide.is).1 in
-    omega (arith, c.requires.job, c.requires.size, is.has.jobs)
+    omega (arith, c.requires.job, is.has.jobs)
