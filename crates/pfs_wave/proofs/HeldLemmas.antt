@@ -9,7 +9,7 @@ use Rattle.std.specs.List.{All}
 use Rattle.pfs_base.specs.FlowShop.{FlowShop}
 use Rattle.pfs_wave.specs.Private.Lanes.{Holding, Rows, zeros}
 use Rattle.pfs_wave.specs.Private.Blocks.{AreTimes, Cells, HasRows, step_of}
-use Rattle.pfs_wave.specs.Private.HeldRows.{AreMoved, HoldLanes, HoldOutside, IsHolding, IsKept, IsPadded, column}
+use Rattle.pfs_wave.specs.Private.HeldRows.{HoldLanes, HoldOutside, IsHolding, IsKept, IsPadded, column}
 use Rattle.pfs_wave.specs.Private.HeldRows.{part_from, rows_at}
 use Rattle.pfs_wave.specs.Private.Padded.{padded_time}
 use Rattle.pfs_wave.proofs.SkewedTimes.{vector_inside}
@@ -112,6 +112,13 @@ resized_none items count len value none is =
     let all : count - len ≡ count = omega arith in
     ap (λ l. take count l ++ replicate (count - len) value) none ∙ none_taken count (replicate (count - len) value)
     ∙ ap (λ n. replicate n value) all
+
+-- each step from `from` to before `to` is the old step that is `by` steps before it, and those before `front` and from
+-- `to` to before `steps` are unchanged
+pub record AreMoved (front from to by steps : ℕ) (old new : Rows) : Type 0 where
+  pub moved : (step : ℕ) → from ≤ step → step < to → new step ≡ old (step - by)
+  pub before : (step : ℕ) → step < front → new step ≡ old step
+  pub after : (step : ℕ) → to ≤ step → step < steps → new step ≡ old step
 
 -- the skewed times that are right for the new sequence already
 module _ {count jobs len size front back steps k : ℕ} {rows table : List (List ℕ)} {order : List ℕ}

@@ -5,7 +5,7 @@ ghost use Rattle.pfs_wave.specs.Private.HeldRows.{HoldOutside, IsHeld, IsHolding
 ghost use Rattle.pfs_wave.specs.Private.HeldRows.{column, part_from, rows_at};
 
 use crate::band::Stored;
-use crate::times::{Changed, fill_times, move_back, move_front};
+use crate::times::{Changed, fill_times};
 
 /// The numbers of rows of a sequence that are rows of the sequence before: at its front, and at its end.
 #[derive(Clone, Copy)]
@@ -122,8 +122,9 @@ fn start_for(kept: Kept, start: usize, jobs: usize, old: usize, new: usize) -> u
     }
 }
 
-// Moves the times of the kept rows of a sequence of `old` jobs to a table that begins at the step `first`, for one of
-// `new` jobs. Returns the rows that are not right yet.
+// Moves the times of the rows that are kept to the steps of a sequence that grew from `old` to `new` jobs, whose table
+// begins at the step `first`. Returns the rows that are not right yet. A step has rows of both parts up to eight steps
+// after the first row that moves, so the rows at the end move from there on.
 #[inline(always)]
 fn move_kept<T: Stored, const N: usize>(
     table: &mut [T],
@@ -150,13 +151,29 @@ fn move_kept<T: Stored, const N: usize>(
         → HoldOutside (rows_at N rows others k) result.from result.to result.end (jobs + 8)
         (column N (map T.lanes (part_from first (jobs + 8) N table.new)) k) }
 {
+    let from = kept.front;
     let steps = jobs + 8;
-    if first == start {
-        let times = &mut table[start * N..(start + steps) * N];
-        move_back::<T, N>(times, old, new, kept, steps)
-    } else {
-        move_front::<T, N>(table, start, first, new, kept, steps)
+    if first != start {
+        let end = if kept.back == 0 {
+            steps
+        } else {
+            new - kept.back + 8
+        };
+        table.copy_within(start * N..(start + from + 8) * N, first * N);
+        return Changed { from, to: end, end };
     }
+    if kept.back == 0 || new <= old {
+        let to = old.max(new) - kept.back;
+        return Changed {
+            from,
+            to,
+            end: steps,
+        };
+    }
+    let to = new - kept.back + 8;
+    let begin = old - kept.back + 8;
+    table.copy_within((start + begin) * N..(start + old + 8) * N, (start + to) * N);
+    Changed { from, to, end: to }
 }
 
 /// A sequence of an instance's jobs, and its skewed times.

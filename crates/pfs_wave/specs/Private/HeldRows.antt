@@ -48,13 +48,6 @@ pub record HoldOutside (rows : Rows) (first last end steps : ℕ) (times : Rows)
       → lane_of times (row + lane) lane ≡ lane_of rows row lane
   pub none_before : (step lane : ℕ) → step < lane → lane < 8 → step < steps → lane_of times step lane ≡ 0
 
--- each step from `from` to before `to` is the old step that is `by` steps before it, and those before `front` and from
--- `to` to before `steps` are unchanged
-pub record AreMoved (front from to by steps : ℕ) (old new : Rows) : Type 0 where
-  pub moved : (step : ℕ) → from ≤ step → step < to → new step ≡ old (step - by)
-  pub before : (step : ℕ) → step < front → new step ≡ old step
-  pub after : (step : ℕ) → to ≤ step → step < steps → new step ≡ old step
-
 -- `order` is a sequence of `len` of the jobs, followed by the number of the row after those of all jobs; `times` are the
 -- skewed times of all its rows
 pub record IsHolding (count jobs : ℕ) (rows : List (List ℕ)) (len : ℕ) (order : List ℕ) (times : List (List ℕ)) :
