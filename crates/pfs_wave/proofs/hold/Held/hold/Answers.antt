@@ -1,11 +1,64 @@
-use Rattle.std.proofs.Common.{ℕ, refl, ◌≡◌, ◌+◌, ◌-◌, ◌*◌, ◌<◌, ◌≤◌, ◌++◌, length, map, take, drop, ◌∙◌, ap, sym, arith}
-use Rattle.std.proofs.Math.Nat.{mul-le-mul_right}
-use Rattle.std.proofs.lemmas.List.{length-append, length-drop, length-map, length-take-le, take_at, with_items_is}
+use Rattle.std.proofs.Common.{ℕ, ◌^◌, refl, ◌≡◌, ◌+◌, ◌-◌, ◌*◌, ◌<◌, ◌≤◌, ◌++◌, length, map, take, drop, ◌∙◌, ap, sym, arith}
+use Rattle.std.proofs.Math.Nat.{mul-le-mul_left, mul-le-mul_right}
+use Rattle.std.proofs.lemmas.List.{get_or-take, get_or_default, get_or_past, length-append, length-drop, length-map, length-take, length-take-le, take_at, with_items_is}
 use Rattle.std.proofs.lemmas.Slice.{between-put_mid}
 use borrow.Rule.Slice.PartMut.{put_mid}
 use Rattle.pfs_wave.specs.Private.HeldRows.{part_from}
 use Rattle.pfs_wave.proofs.HeldLemmas.{holding_more, padded_in, taken_is}
 use Rattle.pfs_wave.proofs.hold.Held.hold.Goals as goal
+
+pub write_rows-requires-clause-front : goal.write_rows-requires-clause-front
+write_rows-requires-clause-front g c row lt =
+    let order = c.as_mut_slice-order.result.now in
+    let seq = c.args.seq.now in
+    let kept = c.kept_rows-kept.ensures in
+    let long = c.as_mut_slice-order.ensures.len in
+    let in_held = length-take c.args.self.now.len order in
+    sym (get_or-take c.args.self.now.len order row 0 (omega (arith, kept.in_held, in_held))) ∙ kept.same_front row lt
+    ∙ get_or_default seq row 0 c.args.self.now.jobs (omega (arith, kept.in_seq))
+
+pub write_rows-requires-clause-rest : goal.write_rows-requires-clause-rest
+write_rows-requires-clause-rest g c row past lt =
+    let most = c.max.ensures in
+    let was = rw (← c.as_mut_slice-order.ensures.value) at c.requires.held.holds.rest in
+    was row (omega arith) lt ∙ sym (get_or_past c.args.seq.now row c.args.self.now.jobs (omega arith))
+
+-- the steps of a table that begins at a step fit their types
+steps_fit : (jobs start count : ℕ) → start ≤ jobs → 1 ≤ count → (2 * jobs + 9) * count < 2 ^ 32
+    → (jobs + 8 < 2 ^ 32) × (start + (jobs + 8) < 2 ^ 32) × (start * count < 2 ^ 32)
+    × ((start + (jobs + 8)) * count < 2 ^ 32)
+steps_fit jobs start count within some small =
+    let enough = mul-le-mul_left (2 * jobs + 9) some in
+    let inside = mul-le-mul_right count within in
+    (omega arith, omega arith, omega arith, omega arith)
+
+pub overflow_add-steps : goal.overflow_add-steps
+overflow_add-steps g c =
+    omega (arith, (steps_fit c.args.self.now.jobs 0 g.row.N (omega arith) c.requires.some c.requires.small).0)
+
+pub overflow_mul-times : goal.overflow_mul-times
+overflow_mul-times g c =
+    omega (
+      arith,
+      (steps_fit c.args.self.now.jobs c.start_for-start.result g.row.N c.start_for-start.ensures.within
+          c.requires.some c.requires.small).2,
+    )
+
+pub overflow_add-times : goal.overflow_add-times
+overflow_add-times g c =
+    omega (
+      arith,
+      (steps_fit c.args.self.now.jobs c.start_for-start.result g.row.N c.start_for-start.ensures.within
+          c.requires.some c.requires.small).1,
+    )
+
+pub overflow_mul-times-2 : goal.overflow_mul-times-2
+overflow_mul-times-2 g c =
+    omega (
+      arith,
+      (steps_fit c.args.self.now.jobs c.start_for-start.result g.row.N c.start_for-start.ensures.within
+          c.requires.some c.requires.small).3,
+    )
 
 pub fill_times-requires-clause-jobs : goal.fill_times-requires-clause-jobs
 fill_times-requires-clause-jobs g c row d lt =
