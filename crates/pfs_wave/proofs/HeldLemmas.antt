@@ -113,13 +113,6 @@ resized_none items count len value none is =
     ap (λ l. take count l ++ replicate (count - len) value) none ∙ none_taken count (replicate (count - len) value)
     ∙ ap (λ n. replicate n value) all
 
--- each step from `from` to before `to` is the old step that is `by` steps before it, and those before `front` and from
--- `to` to before `steps` are unchanged
-pub record AreMoved (front from to by steps : ℕ) (old new : Rows) : Type 0 where
-  pub moved : (step : ℕ) → from ≤ step → step < to → new step ≡ old (step - by)
-  pub before : (step : ℕ) → step < front → new step ≡ old step
-  pub after : (step : ℕ) → to ≤ step → step < steps → new step ≡ old step
-
 -- the skewed times that are right for the new sequence already
 module _ {count jobs len size front back steps k : ℕ} {rows table : List (List ℕ)} {order : List ℕ}
     (others seq : List ℕ) (holding : IsHolding count jobs rows len order table)
@@ -215,22 +208,24 @@ module _ {count jobs len size front back steps k : ℕ} {rows table : List (List
 
   -- a sequence that grew
   module _ (to : ℕ) (new : Rows) (longer : len < size) (room : size + 8 ≤ to)
-      (moved : AreMoved (front + 8) (size - back + 8) to (size - len) steps times new) where
+      (before : (step : ℕ) → step < front + 8 → new step ≡ times step)
+      (moved : (step : ℕ) → size - back + 8 ≤ step → step < to → new step ≡ times (step - (size - len)))
+      (after : (step : ℕ) → to ≤ step → step < steps → new step ≡ times step) where
     at_later_steps : (row lane : ℕ) → size - back + 8 ≤ row + lane → lane < 8 → row + lane < steps
         → get_or (new (row + lane)) lane 0 ≡ get_or (to_skew row) lane 0
-    at_later_steps row lane after lt inside =
+    at_later_steps row lane late lt inside =
         let in_held = kept.in_held in
         let in_seq = kept.in_seq in
         let by = size - len in
         elim (cases_lt (row + lane) to) [
           | inl within ↦
               let at : row + lane - by ≡ (row - by) + lane = omega arith in
-              ap (λ l. get_or l lane 0) (moved.moved (row + lane) (omega arith) within)
+              ap (λ l. get_or l lane 0) (moved (row + lane) (omega arith) within)
               ∙ ap (λ n. get_or (times n) lane 0) at
               ∙ same_row row (row - by) lane lt (omega arith)
               (back_job row (omega arith) (omega arith) (omega arith) (omega arith))
           | inr beyond ↦
-              ap (λ l. get_or l lane 0) (moved.after (row + lane) beyond inside)
+              ap (λ l. get_or l lane 0) (after (row + lane) beyond inside)
               ∙ same_row row row lane lt inside (none_job row (omega arith) (omega arith) (omega arith))
         ]
 
@@ -239,13 +234,13 @@ module _ {count jobs len size front back steps k : ℕ} {rows table : List (List
         let in_held = kept.in_held in
         let in_seq = kept.in_seq in
         record {
-          front = λ row lane before lt inside.
-              ap (λ l. get_or l lane 0) (moved.before (row + lane) (omega arith))
-              ∙ same_row row row lane lt inside (front_job row before (omega arith));
-          back = λ row lane after lt inside. at_later_steps row lane (omega arith) lt inside;
-          later = λ row lane after lt inside. at_later_steps row lane after lt inside;
+          front = λ row lane early lt inside.
+              ap (λ l. get_or l lane 0) (before (row + lane) (omega arith))
+              ∙ same_row row row lane lt inside (front_job row early (omega arith));
+          back = λ row lane late lt inside. at_later_steps row lane (omega arith) lt inside;
+          later = λ row lane late lt inside. at_later_steps row lane late lt inside;
           none_before = λ step lane early lt inside.
-              ap (λ l. get_or l lane 0) (moved.before step (omega arith)) ∙ none_before step lane early lt inside;
+              ap (λ l. get_or l lane 0) (before step (omega arith)) ∙ none_before step lane early lt inside;
         }
 
   -- only the steps of the rows at the front are moved

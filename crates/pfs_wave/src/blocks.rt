@@ -191,13 +191,12 @@ impl<V: Band> Blocks<V> {
         ensures same { self.new ≡ self.old }
     {
         self.held.hold::<N>(&self.rows, sequence);
-        let start = self.held.start;
         let steps = sequence.len() + self.lanes;
         best_place::<V, N>(
             permits,
             self.lanes,
             steps,
-            &self.held.times[start * N..(start + steps) * N],
+            self.held.first_steps::<N>(steps),
             &self.rows[job * N..job * N + N],
             &mut self.tails,
             &mut self.sums,

@@ -225,4 +225,17 @@ impl<T: Stored> Held<T> {
         self.start = start;
         self.len = seq.len();
     }
+
+    /// The skewed times of the first steps.
+    #[inline(always)]
+    pub fn first_steps<const N: usize>(&self, steps: usize) -> &[T]
+        requires some { 1 ≤ N }
+        requires small { (2 * self.now.jobs + 9) * N < 2 ^ 32 }
+        requires start { self.now.start ≤ self.now.jobs }
+        requires room { length self.now.times.items ≡ (2 * self.now.jobs + 8) * N }
+        requires steps { steps ≤ self.now.jobs + 8 }
+        ensures { result.now ≡ part_from self.now.start steps N self.now.times.items }
+    {
+        &self.times[self.start * N..(self.start + steps) * N]
+    }
 }

@@ -44,18 +44,16 @@ returns-then-first-start-clause-held g c rows order others seq k k_lt size_is al
         | inr grown ↦
             let more = c.args.new - c.args.old in
             rw (w.end-is) (outside_moved others seq holds kept is (held_len holds) size_is all holds.steps
-            k_lt steps moved grown.1 (omega arith) (record {
-              moved = λ step le lt.
-                  let here : first + step ≡ start + (step - more) = omega (arith, grown.2) in
-                  let past : (first + (front + 8)) * count ≤ (first + step) * count = mul-le-mul_right count (omega arith) in
-                  part_step lanes count first steps made k step k_lt lt
-                  ∙ unchanged lanes table made ((first + step) * count + k)
-                  (λ d. is_copied.2 ((first + step) * count + k) d (omega arith)) long
-                  ∙ ap (column count (map lanes table) k) here
-                  ∙ sym (part_step lanes count start steps table k (step - more) k_lt (omega arith));
-              before = at_front;
-              after = λ step le lt. absurd (omega arith);
-            }))
+            k_lt steps moved grown.1 (omega arith) at_front
+            (λ step le lt.
+            let here : first + step ≡ start + (step - more) = omega (arith, grown.2) in
+            let past : (first + (front + 8)) * count ≤ (first + step) * count = mul-le-mul_right count (omega arith) in
+            part_step lanes count first steps made k step k_lt lt
+            ∙ unchanged lanes table made ((first + step) * count + k)
+            (λ d. is_copied.2 ((first + step) * count + k) d (omega arith)) long
+            ∙ ap (column count (map lanes table) k) here
+            ∙ sym (part_step lanes count start steps table k (step - more) k_lt (omega arith)))
+            (λ step le lt. absurd (omega arith)))
       ]
     ]
 
@@ -122,30 +120,29 @@ returns-clause-held g c rows order others seq k k_lt size_is all is kept holds =
     let is_copied = c.copy_within-2.ensures.by_index in
     let at : c.args.first ≡ start = omega (arith, c.if-first-start.false) in
     rw (at) (outside_moved others seq holds kept is (held_len holds) size_is all holds.steps k_lt (new + 8)
-    (column count (map lanes (part_from start steps count made)) k) (omega arith) (omega arith) (record {
-      moved = λ step le lt.
-          let s = step - to in
-          let there = ap (λ n. n * count) (let e : start + step ≡ start + to + s = omega arith in e) in
-          let from = ap (λ n. n * count) (let e : start + (step - by) ≡ start + begin + s = omega arith in e) in
-          let after = step_after count (start + step) (start + new + 8) (omega arith) in
-          let source = step_after count (start + (step - by)) (start + old + 8) (omega arith) in
-          let here : (start + begin) * count + ((start + step) * count + k - (start + to) * count)
-          ≡ (start + (step - by)) * count + k = omega arith in
-          part_step lanes count start steps made k step k_lt (omega arith)
-          ∙ copied lanes table made ((start + step) * count + k) ((start + (step - by)) * count + k)
-          (λ d. is_copied.0 ((start + step) * count + k) d (omega arith) (omega arith) ∙ ap (λ i. get_or table i d) here)
-          (omega arith) (omega arith)
-          ∙ sym (part_step lanes count start steps table k (step - by) k_lt (omega arith));
-      before = λ step lt.
-          let after = step_after count (start + step) (start + to) (omega arith) in
-          part_step lanes count start steps made k step k_lt (omega arith)
-          ∙ unchanged lanes table made ((start + step) * count + k)
-          (λ d. is_copied.1 ((start + step) * count + k) d (omega arith)) long
-          ∙ sym (part_step lanes count start steps table k step k_lt (omega arith));
-      after = λ step le lt.
-          let more : (start + new + 8) * count ≤ (start + step) * count = mul-le-mul_right count (omega arith) in
-          part_step lanes count start steps made k step k_lt lt
-          ∙ unchanged lanes table made ((start + step) * count + k)
-          (λ d. is_copied.2 ((start + step) * count + k) d (omega arith)) long
-          ∙ sym (part_step lanes count start steps table k step k_lt lt);
-    }))
+    (column count (map lanes (part_from start steps count made)) k) (omega arith) (omega arith)
+    (λ step lt.
+    let after = step_after count (start + step) (start + to) (omega arith) in
+    part_step lanes count start steps made k step k_lt (omega arith)
+    ∙ unchanged lanes table made ((start + step) * count + k)
+    (λ d. is_copied.1 ((start + step) * count + k) d (omega arith)) long
+    ∙ sym (part_step lanes count start steps table k step k_lt (omega arith)))
+    (λ step le lt.
+    let s = step - to in
+    let there = ap (λ n. n * count) (let e : start + step ≡ start + to + s = omega arith in e) in
+    let from = ap (λ n. n * count) (let e : start + (step - by) ≡ start + begin + s = omega arith in e) in
+    let after = step_after count (start + step) (start + new + 8) (omega arith) in
+    let source = step_after count (start + (step - by)) (start + old + 8) (omega arith) in
+    let here : (start + begin) * count + ((start + step) * count + k - (start + to) * count)
+    ≡ (start + (step - by)) * count + k = omega arith in
+    part_step lanes count start steps made k step k_lt (omega arith)
+    ∙ copied lanes table made ((start + step) * count + k) ((start + (step - by)) * count + k)
+    (λ d. is_copied.0 ((start + step) * count + k) d (omega arith) (omega arith) ∙ ap (λ i. get_or table i d) here)
+    (omega arith) (omega arith)
+    ∙ sym (part_step lanes count start steps table k (step - by) k_lt (omega arith)))
+    (λ step le lt.
+    let more : (start + new + 8) * count ≤ (start + step) * count = mul-le-mul_right count (omega arith) in
+    part_step lanes count start steps made k step k_lt lt
+    ∙ unchanged lanes table made ((start + step) * count + k)
+    (λ d. is_copied.2 ((start + step) * count + k) d (omega arith)) long
+    ∙ sym (part_step lanes count start steps table k step k_lt lt)))

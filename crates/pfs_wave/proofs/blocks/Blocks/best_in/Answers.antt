@@ -76,5 +76,5 @@ passed g c shop has paid =
 
 pub returns-clause-found : goal.returns-clause-found
 returns-clause-found g c shop has paid =
-    let found = rw (c.deref-2.ensures.value, c.deref-3.ensures.value) at c.best_place.ensures.found in
+    let found = rw (c.first_steps.ensures, c.deref-2.ensures.value) at c.best_place.ensures.found in
     found shop c.args.sequence.now c.args.job (passed g c shop has paid)
