@@ -1,5 +1,5 @@
 -- Skewed times that are kept from one sequence to the next.
-use Rattle.std.proofs.Common.{inl, inr, max, ◌≡◌, ℕ, zero, suc, ◌+◌, ◌-◌, ◌*◌, ◌<◌, ◌≤◌, List, [], ◌++◌, length, take, drop}
+use Rattle.std.proofs.Common.{inl, inr, max, ◌≡◌, ℕ, ◌+◌, ◌-◌, ◌*◌, ◌<◌, ◌≤◌, List, [], length, take, drop}
 use Rattle.std.proofs.Common.{get_or, replicate, map, ap, ◌∙◌, sym, refl, arith}
 use Rattle.std.proofs.lemmas.Bool.{cases_lt, lt-ltb, le-ltb}
 use Rattle.std.proofs.lemmas.List.{drop-map, get_or-drop, get_or-take, get_or-replicate, get_or_default, get_or_past}
@@ -100,18 +100,6 @@ holding_more {count} {jobs} {rows} {len} {order} {times} seq others new old belo
   all_times = all ∙ old.all_times ∙ ap (λ n. n * count) (sym steps);
   lanes = lanes;
 }
-
--- an empty list, resized
-none_taken : {X : Type 0} (count : ℕ) (rest : List X) → take count [] ++ rest ≡ rest
-none_taken zero rest = refl
-none_taken (suc count) rest = refl
-
-pub resized_none : {X : Type 0} (items : List X) (count len : ℕ) (value : X) → items ≡ [] → len ≡ 0
-    → take count items ++ replicate (count - len) value ≡ replicate count value
-resized_none items count len value none is =
-    let all : count - len ≡ count = omega arith in
-    ap (λ l. take count l ++ replicate (count - len) value) none ∙ none_taken count (replicate (count - len) value)
-    ∙ ap (λ n. replicate n value) all
 
 -- the skewed times that are right for the new sequence already
 module _ {count jobs len size front back steps k : ℕ} {rows table : List (List ℕ)} {order : List ℕ}
