@@ -1,5 +1,5 @@
 -- Skewed times that are kept from one sequence to the next.
-use Rattle.std.proofs.Common.{inl, inr, max, ◌≡◌, ℕ, zero, suc, ◌+◌, ◌-◌, ◌*◌, ◌<◌, ◌≤◌, List, [], ◌++◌, length, take, drop}
+use Rattle.std.proofs.Common.{inl, inr, max, ◌≡◌, ℕ, ◌+◌, ◌-◌, ◌*◌, ◌<◌, ◌≤◌, List, [], length, take, drop}
 use Rattle.std.proofs.Common.{get_or, replicate, map, ap, ◌∙◌, sym, refl, arith}
 use Rattle.std.proofs.lemmas.Bool.{cases_lt, lt-ltb, le-ltb}
 use Rattle.std.proofs.lemmas.List.{drop-map, get_or-drop, get_or-take, get_or-replicate, get_or_default, get_or_past}
@@ -9,7 +9,7 @@ use Rattle.std.specs.List.{All}
 use Rattle.pfs_base.specs.FlowShop.{FlowShop}
 use Rattle.pfs_wave.specs.Private.Lanes.{Holding, Rows, zeros}
 use Rattle.pfs_wave.specs.Private.Blocks.{AreTimes, Cells, HasRows, step_of}
-use Rattle.pfs_wave.specs.Private.HeldRows.{AreMoved, HoldLanes, HoldOutside, IsHolding, IsKept, IsPadded, column}
+use Rattle.pfs_wave.specs.Private.HeldRows.{HoldLanes, HoldOutside, IsHolding, IsKept, IsPadded, column}
 use Rattle.pfs_wave.specs.Private.HeldRows.{part_from, rows_at}
 use Rattle.pfs_wave.specs.Private.Padded.{padded_time}
 use Rattle.pfs_wave.proofs.SkewedTimes.{vector_inside}
@@ -92,7 +92,6 @@ pub holding_more : {count jobs : ℕ} {rows : List (List ℕ)} {len : ℕ} {orde
 holding_more {count} {jobs} {rows} {len} {order} {times} seq others new old below few steps padded all lanes = record {
   some = few;
   steps = omega (arith, old.steps, steps);
-  rows_in = padded_in seq others jobs below padded;
   jobs_in = λ row lt.
       let inside : row < length others = omega (arith, few, old.steps, steps) in
       let here = get_or_default seq row jobs 0 lt in
@@ -102,157 +101,148 @@ holding_more {count} {jobs} {rows} {len} {order} {times} seq others new old belo
   lanes = lanes;
 }
 
--- an empty list, resized
-none_taken : {X : Type 0} (count : ℕ) (rest : List X) → take count [] ++ rest ≡ rest
-none_taken zero rest = refl
-none_taken (suc count) rest = refl
-
-pub resized_none : {X : Type 0} (items : List X) (count len : ℕ) (value : X) → items ≡ [] → len ≡ 0
-    → take count items ++ replicate (count - len) value ≡ replicate count value
-resized_none items count len value none is =
-    let all : count - len ≡ count = omega arith in
-    ap (λ l. take count l ++ replicate (count - len) value) none ∙ none_taken count (replicate (count - len) value)
-    ∙ ap (λ n. replicate n value) all
-
 -- the skewed times that are right for the new sequence already
-module _ (count : ℕ) (rows : List (List ℕ)) (order others held seq : List ℕ) (none front back k : ℕ) (times new : Rows)
-    (old : HoldLanes (rows_at count rows order k) (length order) times) (kept : IsKept held seq front back)
-    (was : IsPadded order held none) (is : IsPadded others seq none) (same_steps : length others ≡ length order) where
+module _ {count jobs len size front back steps k : ℕ} {rows table : List (List ℕ)} {order : List ℕ}
+    (others seq : List ℕ) (holding : IsHolding count jobs rows len order table)
+    (kept : IsKept (take len order) seq front back) (is : IsPadded others seq jobs) (long : length (take len order) ≡ len)
+    (size_is : length seq ≡ size) (all : length others ≡ steps) (all_old : length order ≡ steps) (k_lt : k < count) where
+  abbrev held : List ℕ
+  held = take len order
+
+  abbrev times : Rows
+  times = column count table k
+
   abbrev to_skew : Rows
   to_skew = rows_at count rows others k
 
   -- a row of the new order has the times of a row of the order before, where both have the same job
-  same_row : (row other lane : ℕ) → get_or order other 0 ≡ get_or others row 0
-      → get_or (rows_at count rows order k other) lane 0 ≡ get_or (to_skew row) lane 0
-  same_row row other lane same = ap (λ job. get_or (step_of count rows job k) lane 0) same
+  same_row : (row other lane : ℕ) → lane < 8 → other + lane < steps → get_or order other 0 ≡ get_or others row 0
+      → get_or (times (other + lane)) lane 0 ≡ get_or (to_skew row) lane 0
+  same_row row other lane lt inside same =
+      (holding.lanes k k_lt).times_are other lane lt (omega arith)
+      ∙ ap (λ job. get_or (step_of count rows job k) lane 0) same
+
+  none_before : (step lane : ℕ) → step < lane → lane < 8 → step < steps → get_or (times step) lane 0 ≡ 0
+  none_before step lane early lt inside = (holding.lanes k k_lt).none_before step lane early lt (omega arith)
 
   -- rows with the same job
-  same_job : (row other : ℕ) → row < length others → other < length order → get_or held other none ≡ get_or seq row none
+  same_job : (row other : ℕ) → row < steps → other < steps → get_or held other jobs ≡ get_or seq row jobs
       → get_or order other 0 ≡ get_or others row 0
-  same_job row other inside before same = was other before ∙ same ∙ sym (is row inside)
+  same_job row other inside before same =
+      padded_take holding other (omega arith) ∙ same ∙ sym (is row (omega arith))
 
-  front_job : (row : ℕ) → row < front → row < length others → get_or order row 0 ≡ get_or others row 0
+  front_job : (row : ℕ) → row < front → row < steps → get_or order row 0 ≡ get_or others row 0
   front_job row lt inside =
       let in_held = kept.in_held in
       let in_seq = kept.in_seq in
       let some : row < length held = omega arith in
       let some_more : row < length seq = omega arith in
-      same_job row row inside (omega arith)
-      (get_or_default held row none 0 some ∙ kept.same_front row lt ∙ get_or_default seq row 0 none some_more)
+      same_job row row inside inside
+      (get_or_default held row jobs 0 some ∙ kept.same_front row lt ∙ get_or_default seq row 0 jobs some_more)
 
-  back_job : (row : ℕ) → length held ≤ length seq → length seq ≤ row + back → length seq - length held ≤ row
-      → row < length others → get_or order (row - (length seq - length held)) 0 ≡ get_or others row 0
+  back_job : (row : ℕ) → len ≤ size → size ≤ row + back → size - len ≤ row → row < steps
+      → get_or order (row - (size - len)) 0 ≡ get_or others row 0
   back_job row longer le enough inside =
       let by = length seq - length held in
-      same_job row (row - by) inside (omega arith)
+      let by_is : size - len ≡ by = omega arith in
+      ap (λ n. get_or order (row - n) 0) by_is ∙ same_job row (row - by) inside (omega arith)
       (elim (cases_lt row (length seq)) [
         | inl some ↦
             let some_held : row - by < length held = omega arith in
-            get_or_default held (row - by) none 0 some_held ∙ kept.same_back row some le
-            ∙ get_or_default seq row 0 none some
+            get_or_default held (row - by) jobs 0 some_held ∙ kept.same_back row some (omega arith)
+            ∙ get_or_default seq row 0 jobs some
         | inr after ↦
             let none_held : length held ≤ row - by = omega arith in
-            get_or_past held (row - by) none none_held ∙ sym (get_or_past seq row none after)
+            get_or_past held (row - by) jobs none_held ∙ sym (get_or_past seq row jobs after)
       ])
 
-  none_job : (row : ℕ) → length held ≤ row → length seq ≤ row → row < length others
-      → get_or order row 0 ≡ get_or others row 0
+  none_job : (row : ℕ) → len ≤ row → size ≤ row → row < steps → get_or order row 0 ≡ get_or others row 0
   none_job row past_held past_seq inside =
-      same_job row row inside (omega arith) (get_or_past held row none past_held
-      ∙ sym (get_or_past seq row none past_seq))
+      same_job row row inside inside (get_or_past held row jobs (omega arith)
+      ∙ sym (get_or_past seq row jobs (omega arith)))
 
   -- a sequence that keeps no row at its end
-  pub outside_none : HoldOutside to_skew front (max (length held) (length seq)) (length others) (length others) times
+  pub outside_none : HoldOutside to_skew front (max len size) steps steps times
   outside_none =
       let in_held = kept.in_held in
       record {
-        front = λ row lane before lt inside.
-            old.times_are row lane lt (omega arith) ∙ same_row row row lane (front_job row before (omega arith));
+        front = λ row lane before lt inside. same_row row row lane lt inside (front_job row before (omega arith));
         back = λ row lane after lt inside.
-            old.times_are row lane lt (omega arith)
-            ∙ same_row row row lane (none_job row (omega arith) (omega arith) (omega arith));
+            same_row row row lane lt inside (none_job row (omega arith) (omega arith) (omega arith));
         later = λ row lane after lt inside. absurd (omega arith);
-        none_before = λ step lane early lt inside. old.none_before step lane early lt (omega arith);
+        none_before = none_before;
       }
 
   -- a sequence that is at most as long as the one before
-  pub outside_kept : length seq ≤ length held
-      → HoldOutside to_skew front (length held - back) (length others) (length others) times
+  pub outside_kept : size ≤ len → HoldOutside to_skew front (len - back) steps steps times
   outside_kept no_more =
       let in_held = kept.in_held in
       record {
-        front = λ row lane before lt inside.
-            old.times_are row lane lt (omega arith) ∙ same_row row row lane (front_job row before (omega arith));
+        front = λ row lane before lt inside. same_row row row lane lt inside (front_job row before (omega arith));
         back = λ row lane after lt inside.
-            old.times_are row lane lt (omega arith)
-            ∙ same_row row row lane
-            (elim (cases_lt (length seq) (length held)) [
+            same_row row row lane lt inside
+            (elim (cases_lt size len) [
               | inl shorter ↦
-                  let no_back = kept.no_longer shorter in
+                  let no_back = kept.no_longer (omega arith) in
                   none_job row (omega arith) (omega arith) (omega arith)
               | inr equal ↦
-                  let zero_by : row - (length seq - length held) ≡ row = omega arith in
+                  let zero_by : row - (size - len) ≡ row = omega arith in
                   ap (λ n. get_or order n 0) (sym zero_by)
                   ∙ back_job row (omega arith) (omega arith) (omega arith) (omega arith)
             ]);
         later = λ row lane after lt inside. absurd (omega arith);
-        none_before = λ step lane early lt inside. old.none_before step lane early lt (omega arith);
+        none_before = none_before;
       }
 
   -- a sequence that grew
-  module _ (to : ℕ) (longer : length held < length seq) (room : length seq + 8 ≤ to)
-      (moved : AreMoved (front + 8) (length seq - back + 8) to (length seq - length held) (length others) times new)
-    where
-      at_later_steps : (row lane : ℕ) → length seq - back + 8 ≤ row + lane → lane < 8 → row + lane < length others
-          → get_or (new (row + lane)) lane 0 ≡ get_or (to_skew row) lane 0
-      at_later_steps row lane after lt inside =
-          let in_held = kept.in_held in
-          let in_seq = kept.in_seq in
-          let by = length seq - length held in
-          elim (cases_lt (row + lane) to) [
-            | inl within ↦
-                let at : row + lane - by ≡ (row - by) + lane = omega arith in
-                ap (λ l. get_or l lane 0) (moved.moved (row + lane) (omega arith) within)
-                ∙ ap (λ n. get_or (times n) lane 0) at
-                ∙ old.times_are (row - by) lane lt (omega arith)
-                ∙ same_row row (row - by) lane (back_job row (omega arith) (omega arith) (omega arith) (omega arith))
-            | inr beyond ↦
-                ap (λ l. get_or l lane 0) (moved.after (row + lane) beyond inside)
-                ∙ old.times_are row lane lt (omega arith)
-                ∙ same_row row row lane (none_job row (omega arith) (omega arith) (omega arith))
-          ]
+  module _ (to : ℕ) (new : Rows) (longer : len < size) (room : size + 8 ≤ to)
+      (before : (step : ℕ) → step < front + 8 → new step ≡ times step)
+      (moved : (step : ℕ) → size - back + 8 ≤ step → step < to → new step ≡ times (step - (size - len)))
+      (after : (step : ℕ) → to ≤ step → step < steps → new step ≡ times step) where
+    at_later_steps : (row lane : ℕ) → size - back + 8 ≤ row + lane → lane < 8 → row + lane < steps
+        → get_or (new (row + lane)) lane 0 ≡ get_or (to_skew row) lane 0
+    at_later_steps row lane late lt inside =
+        let in_held = kept.in_held in
+        let in_seq = kept.in_seq in
+        let by = size - len in
+        elim (cases_lt (row + lane) to) [
+          | inl within ↦
+              let at : row + lane - by ≡ (row - by) + lane = omega arith in
+              ap (λ l. get_or l lane 0) (moved (row + lane) (omega arith) within)
+              ∙ ap (λ n. get_or (times n) lane 0) at
+              ∙ same_row row (row - by) lane lt (omega arith)
+              (back_job row (omega arith) (omega arith) (omega arith) (omega arith))
+          | inr beyond ↦
+              ap (λ l. get_or l lane 0) (after (row + lane) beyond inside)
+              ∙ same_row row row lane lt inside (none_job row (omega arith) (omega arith) (omega arith))
+        ]
 
-      pub outside_moved :
-          HoldOutside to_skew front (length seq - back + 8) (length seq - back + 8) (length others) new
-      outside_moved =
-          let in_held = kept.in_held in
-          let in_seq = kept.in_seq in
-          record {
-            front = λ row lane before lt inside.
-                ap (λ l. get_or l lane 0) (moved.before (row + lane) (omega arith))
-                ∙ old.times_are row lane lt (omega arith) ∙ same_row row row lane (front_job row before (omega arith));
-            back = λ row lane after lt inside. at_later_steps row lane (omega arith) lt inside;
-            later = λ row lane after lt inside. at_later_steps row lane after lt inside;
-            none_before = λ step lane early lt inside.
-                ap (λ l. get_or l lane 0) (moved.before step (omega arith))
-                ∙ old.none_before step lane early lt (omega arith);
-          }
+    pub outside_moved : HoldOutside to_skew front (size - back + 8) (size - back + 8) steps new
+    outside_moved =
+        let in_held = kept.in_held in
+        let in_seq = kept.in_seq in
+        record {
+          front = λ row lane early lt inside.
+              ap (λ l. get_or l lane 0) (before (row + lane) (omega arith))
+              ∙ same_row row row lane lt inside (front_job row early (omega arith));
+          back = λ row lane late lt inside. at_later_steps row lane (omega arith) lt inside;
+          later = λ row lane late lt inside. at_later_steps row lane late lt inside;
+          none_before = λ step lane early lt inside.
+              ap (λ l. get_or l lane 0) (before step (omega arith)) ∙ none_before step lane early lt inside;
+        }
 
   -- only the steps of the rows at the front are moved
-  pub outside_front : ((step : ℕ) → step < front + 8 → new step ≡ times step)
-      → HoldOutside to_skew front (length others) (length others) (length others) new
-  outside_front moved =
-      let in_held = kept.in_held in
-      let in_seq = kept.in_seq in
-      record {
-        front = λ row lane before lt inside.
-            ap (λ l. get_or l lane 0) (moved (row + lane) (omega arith))
-            ∙ old.times_are row lane lt (omega arith) ∙ same_row row row lane (front_job row before (omega arith));
-        back = λ row lane after lt inside. absurd (omega arith);
-        later = λ row lane after lt inside. absurd (omega arith);
-        none_before = λ step lane early lt inside.
-            ap (λ l. get_or l lane 0) (moved step (omega arith)) ∙ old.none_before step lane early lt (omega arith);
-      }
+  pub outside_front : (new : Rows) → ((step : ℕ) → step < front + 8 → new step ≡ times step)
+      → HoldOutside to_skew front steps steps steps new
+  outside_front new moved = record {
+    front = λ row lane before lt inside.
+        ap (λ l. get_or l lane 0) (moved (row + lane) (omega arith))
+        ∙ same_row row row lane lt inside (front_job row before (omega arith));
+    back = λ row lane after lt inside. absurd (omega arith);
+    later = λ row lane after lt inside. absurd (omega arith);
+    none_before = λ step lane early lt inside.
+        ap (λ l. get_or l lane 0) (moved step (omega arith)) ∙ none_before step lane early lt inside;
+  }
 
 -- a step of a part of a table
 pub part_step : {X : Type 0} (lanes : X → List ℕ) (count start steps : ℕ) (table : List X) (k step : ℕ) → k < count
@@ -286,7 +276,6 @@ holding_none count jobs shop rows order times has jobs_is order_is times_are =
     record {
       some = omega arith;
       steps = order_long;
-      rows_in = λ row d lt. omega (arith, job_is row d (omega arith));
       jobs_in = λ row none_before. absurd (omega arith);
       rest = λ row after inside. job_is row 0 (omega arith);
       all_times = ap length times_are ∙ length-replicate ((jobs + 8) * count) (zeros 8)

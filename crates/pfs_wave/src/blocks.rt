@@ -7,7 +7,7 @@ ghost use Rattle.pfs_wave.specs.Private.Payment.{IsFound, IsPaid};
 
 use crate::band::Band;
 use crate::best::{Permits, best_place};
-use crate::hold::hold;
+use crate::hold::Held;
 use crate::rows::{shop_rows, zero_vectors};
 use crate::vectors::zeros;
 use pfs_base::{Instance, MOST_JOBS, Paid};
@@ -60,16 +60,10 @@ pub struct Blocks<V: Band> {
     width: Width,
     // The number of lanes that have machines.
     lanes: usize,
-    jobs: usize,
     // The vectors of each job, and after them vectors of zeros.
     rows: Vec<V::Times>,
-    // The number of jobs of the last sequence.
-    len: usize,
-    // The jobs of the last sequence, and after them, for each step, the number of the vectors of zeros.
-    order: Vec<u32>,
-    // The skewed times of the last sequence, from the step `start` on, with room for them to begin earlier or later.
-    times: Vec<V::Times>,
-    start: usize,
+    // The last sequence.
+    held: Held<V::Times>,
     tails: Vec<V>,
     sums: Vec<V::Number>,
 }
@@ -78,28 +72,25 @@ impl<V: Band> Model for Blocks<V> {
     ghost use Rattle.std.specs.Prelude.{◌≡◌, ◌+◌, ◌*◌, ◌≤◌, length, map};
     ghost use Rattle.pfs_base.specs.declared.limits.TheConstants.{MOST_JOBS};
     ghost use Rattle.pfs_wave.specs.Private.Blocks.{BlockRows, vectors_in};
-    ghost use Rattle.pfs_wave.specs.Private.HeldRows.{IsHolding, part_from};
+    ghost use Rattle.pfs_wave.specs.Private.HeldRows.{IsHeld};
 
     ghost Value = { BlockRows };
 
     ghost view = { λ a. record {
       count = vectors_in a.width;
       lanes = a.lanes;
-      jobs = a.jobs;
+      jobs = a.held.jobs;
       rows = map V.Times.lanes a.rows.items;
     } };
 
     ghost invariant = { λ a. record {
       some : 1 ≤ a.lanes;
       eight : a.lanes ≤ 8;
-      few : a.jobs ≤ MOST_JOBS;
-      rows : length a.rows.items ≡ a.jobs * vectors_in a.width + vectors_in a.width;
-      holds : IsHolding (vectors_in a.width) a.jobs (map V.Times.lanes a.rows.items) a.len a.order.items
-          (map V.Times.lanes (part_from a.start (a.jobs + 8) (vectors_in a.width) a.times.items));
-      times : length a.times.items ≡ (2 * a.jobs + 8) * vectors_in a.width;
-      start : a.start ≤ a.jobs;
-      tails : length a.tails.items ≡ (a.jobs + 9) * vectors_in a.width;
-      sums : length a.sums.items ≡ a.jobs + 15;
+      few : a.held.jobs ≤ MOST_JOBS;
+      rows : length a.rows.items ≡ a.held.jobs * vectors_in a.width + vectors_in a.width;
+      held : IsHeld V.Times.lanes (vectors_in a.width) (map V.Times.lanes a.rows.items) a.held;
+      tails : length a.tails.items ≡ (a.held.jobs + 9) * vectors_in a.width;
+      sums : length a.sums.items ≡ a.held.jobs + 15;
     } };
 }
 
@@ -135,12 +126,14 @@ impl<V: Band> Blocks<V> {
         Ok(Blocks {
             width,
             lanes: lanes_for(machines, count),
-            jobs,
             rows,
-            len: 0,
-            order,
-            times,
-            start: jobs,
+            held: Held {
+                jobs,
+                len: 0,
+                order,
+                times,
+                start: jobs,
+            },
             tails,
             sums,
         })
@@ -197,22 +190,13 @@ impl<V: Band> Blocks<V> {
             → IsFound V.Holds shop sequence.now job result.place result.span (length spans.old) spans.new }
         ensures same { self.new ≡ self.old }
     {
-        self.start = hold::<V::Times, N>(
-            &self.rows,
-            &mut self.order,
-            &mut self.times,
-            self.start,
-            self.jobs,
-            self.len,
-            sequence,
-        );
-        self.len = sequence.len();
+        self.held.hold::<N>(&self.rows, sequence);
         let steps = sequence.len() + self.lanes;
         best_place::<V, N>(
             permits,
             self.lanes,
             steps,
-            &self.times[self.start * N..(self.start + steps) * N],
+            self.held.first_steps::<N>(steps),
             &self.rows[job * N..job * N + N],
             &mut self.tails,
             &mut self.sums,

@@ -1,10 +1,11 @@
 //! The skewed times of one sequence, made from those of the sequence before it.
-ghost use Rattle.std.specs.Prelude.{◌≡◌, ◌≢◌, ◌+◌, ◌*◌, ◌<◌, ◌≤◌, ◌^◌, ◌⊎◌, length, map, take, ℕ, ◌-◌, true};
+ghost use Rattle.std.specs.Prelude.{◌≡◌, ◌≢◌, ◌+◌, ◌*◌, ◌<◌, ◌≤◌, ◌^◌, ◌⊎◌, length, map, take, ℕ, ◌-◌, true, List};
 ghost use Rattle.std.specs.List.{All, slice_index_or};
-ghost use Rattle.pfs_wave.specs.Private.HeldRows.{IsHolding, IsKept, IsPadded, part_from};
+ghost use Rattle.pfs_wave.specs.Private.HeldRows.{HoldOutside, IsHeld, IsHolding, IsKept, IsPadded};
+ghost use Rattle.pfs_wave.specs.Private.HeldRows.{column, part_from, rows_at};
 
 use crate::band::Stored;
-use crate::times::{fill_times, move_back, move_front};
+use crate::times::{Changed, fill_times};
 
 /// The numbers of rows of a sequence that are rows of the sequence before: at its front, and at its end.
 #[derive(Clone, Copy)]
@@ -121,52 +122,126 @@ fn start_for(kept: Kept, start: usize, jobs: usize, old: usize, new: usize) -> u
     }
 }
 
-/// Skews the times of a sequence over those of a sequence of `len` jobs. Only the rows between those that are the same
-/// at the front and at the end are skewed again, and of these two parts the shorter one is moved. `order` has the jobs
-/// of the sequence, and after them the number of the row of zeros. The skewed times begin at the step `start` of the
-/// table; the result is where they begin now.
+// Moves the times of the rows that are kept to the steps of a sequence that grew from `old` to `new` jobs, whose table
+// begins at the step `first`. Returns the rows that are not right yet. A step has rows of both parts up to eight steps
+// after the first row that moves, so the rows at the end move from there on.
 #[inline(always)]
-pub fn hold<T: Stored, const N: usize>(
-    rows: &[T],
-    order: &mut [u32],
+fn move_kept<T: Stored, const N: usize>(
     table: &mut [T],
     start: usize,
+    first: usize,
+    old: usize,
+    new: usize,
+    kept: Kept,
     jobs: usize,
-    len: usize,
-    seq: &[u32],
-) -> usize
+) -> Changed
     requires some { 1 ≤ N }
-    requires rows { length rows.now ≡ jobs * N + N }
-    requires small { (2 * jobs + 9) * N < 2 ^ 32 }
+    requires kept { (kept.front + kept.back ≤ old) × (kept.front + kept.back ≤ new) }
+    requires few { (old ≤ jobs) × (new ≤ jobs) }
+    requires start { (start ≤ jobs) × (first ≤ jobs) }
+    requires moved { first ≢ start
+        → (kept.back ≡ 0) ⊎ ((0 < kept.back) × (old < new) × (first + (new - old) ≡ start)) }
     requires table { length table.old ≡ (2 * jobs + 8) * N }
-    requires start { start ≤ jobs }
-    requires jobs { All (λ job. job < jobs) seq.now }
-    requires few { length seq.now ≤ jobs }
-    requires holds { IsHolding N jobs (map T.lanes rows.now) len order.old
-        (map T.lanes (part_from start (jobs + 8) N table.old)) }
-    ensures order { length order.new ≡ length order.old }
+    requires small { (2 * jobs + 9) * N < 2 ^ 32 }
     ensures table { length table.new ≡ length table.old }
-    ensures start { result ≤ jobs }
-    ensures jobs { take (length seq.now) order.new ≡ seq.now }
-    ensures holds { IsHolding N jobs (map T.lanes rows.now) (length seq.now) order.new
-        (map T.lanes (part_from result (jobs + 8) N table.new)) }
+    ensures rows { (result.from ≤ result.to) × (result.to ≤ jobs + 8) × (result.from ≤ result.end) }
+    ensures held { (rows : List (List ℕ)) (order others seq : List ℕ) (k : ℕ) → k < N → length seq ≡ new
+        → length others ≡ jobs + 8 → IsPadded others seq jobs → IsKept (take old order) seq kept.front kept.back
+        → IsHolding N jobs rows old order (map T.lanes (part_from start (jobs + 8) N table.old))
+        → HoldOutside (rows_at N rows others k) result.from result.to result.end (jobs + 8)
+        (column N (map T.lanes (part_from first (jobs + 8) N table.new)) k) }
 {
-    let longest = len.max(seq.len());
-    let kept = kept_rows(&order[..len], seq);
-    write_rows(order, seq, jobs as u32, kept.front, longest);
+    let from = kept.front;
     let steps = jobs + 8;
-    let first = start_for(kept, start, jobs, len, seq.len());
-    let changed = if first == start {
+    if first != start {
+        let end = if kept.back == 0 {
+            steps
+        } else {
+            new - kept.back + 8
+        };
+        table.copy_within(start * N..(start + from + 8) * N, first * N);
+        return Changed { from, to: end, end };
+    }
+    if kept.back == 0 || new <= old {
+        let to = old.max(new) - kept.back;
+        return Changed {
+            from,
+            to,
+            end: steps,
+        };
+    }
+    let to = new - kept.back + 8;
+    let begin = old - kept.back + 8;
+    table.copy_within((start + begin) * N..(start + old + 8) * N, (start + to) * N);
+    Changed { from, to, end: to }
+}
+
+/// A sequence of an instance's jobs, and its skewed times.
+#[derive(Drop)]
+pub struct Held<T: Stored> {
+    // The number of jobs of the instance.
+    pub jobs: usize,
+    // The number of jobs of the sequence.
+    pub len: usize,
+    // The jobs of the sequence, and after them, for each step, the number of the vectors of zeros.
+    pub order: Vec<u32>,
+    // The skewed times, from the step `start` on, with room for them to begin earlier or later.
+    pub times: Vec<T>,
+    pub start: usize,
+}
+
+impl<T: Stored> Held<T> {
+    /// Skews the times of another sequence over those of this one. Only the rows between those that are the same at the
+    /// front and at the end are skewed again, and of these two parts the shorter one is moved.
+    #[inline(always)]
+    pub fn hold<const N: usize>(&mut self, rows: &[T], seq: &[u32])
+        requires some { 1 ≤ N }
+        requires rows { length rows.now ≡ self.old.jobs * N + N }
+        requires small { (2 * self.old.jobs + 9) * N < 2 ^ 32 }
+        requires jobs { All (λ job. job < self.old.jobs) seq.now }
+        requires few { length seq.now ≤ self.old.jobs }
+        requires held { IsHeld T.lanes N (map T.lanes rows.now) self.old }
+        ensures jobs { self.new.jobs ≡ self.old.jobs }
+        ensures sequence { take self.new.len self.new.order.items ≡ seq.now }
+        ensures held { IsHeld T.lanes N (map T.lanes rows.now) self.new }
+    {
+        let order = self.order.as_mut_slice();
+        let table = self.times.as_mut_slice();
+        let kept = kept_rows(&order[..self.len], seq);
+        write_rows(
+            order,
+            seq,
+            self.jobs as u32,
+            kept.front,
+            self.len.max(seq.len()),
+        );
+        let start = start_for(kept, self.start, self.jobs, self.len, seq.len());
+        let changed = move_kept::<T, N>(
+            table,
+            self.start,
+            start,
+            self.len,
+            seq.len(),
+            kept,
+            self.jobs,
+        );
+        let steps = self.jobs + 8;
         let times = &mut table[start * N..(start + steps) * N];
-        move_back::<T, N>(times, len, seq.len(), kept, steps)
-    } else {
-        move_front::<T, N>(table, start, first, seq.len(), kept, steps)
-    };
-    fill_times::<T, N>(
-        rows,
-        order,
-        &mut table[first * N..(first + steps) * N],
-        changed,
-    );
-    first
+        fill_times::<T, N>(rows, order, times, changed);
+        self.start = start;
+        self.len = seq.len();
+    }
+
+    /// The skewed times of the first steps.
+    #[inline(always)]
+    pub fn first_steps<const N: usize>(&self, steps: usize) -> &[T]
+        requires some { 1 ≤ N }
+        requires small { (2 * self.now.jobs + 9) * N < 2 ^ 32 }
+        requires start { self.now.start ≤ self.now.jobs }
+        requires room { length self.now.times.items ≡ (2 * self.now.jobs + 8) * N }
+        requires steps { steps ≤ self.now.jobs + 8 }
+        ensures { result.now ≡ part_from self.now.start steps N self.now.times.items }
+    {
+        &self.times[self.start * N..(self.start + steps) * N]
+    }
 }

@@ -1,14 +1,13 @@
 //! The skewed times of a sequence: at each step, lane l of vector k has lane l of vector k of the row that is l rows
 //! back. Each of the vectors is skewed on its own.
-ghost use Rattle.std.specs.Prelude.{◌≡◌, ℕ, suc, ◌+◌, ◌-◌, ◌*◌, ◌<◌, ◌≤◌, ◌^◌, length, map, max, min};
+ghost use Rattle.std.specs.Prelude.{◌≡◌, ℕ, suc, ◌+◌, ◌-◌, ◌*◌, ◌<◌, ◌≤◌, ◌^◌, length, map, min};
 ghost use Rattle.std.specs.List.{All};
-ghost use Rattle.pfs_wave.specs.Private.HeldRows.{AreMoved, HoldLanes, HoldOutside, column, rows_at};
+ghost use Rattle.pfs_wave.specs.Private.HeldRows.{HoldLanes, HoldOutside, column, rows_at};
 ghost use Rattle.pfs_wave.specs.Private.Blending.{AreBlends, past_at};
 ghost use Rattle.pfs_wave.specs.Private.SkewedBand.{IsFilled};
 
 use crate::band::Stored;
 use crate::blends::Blends;
-use crate::hold::Kept;
 use crate::vectors::put;
 
 /// The rows from `from` to before `to`, at the steps before `end`.
@@ -152,80 +151,4 @@ pub fn fill_times<T: Stored, const N: usize>(
     for k in 0..N {
         fill_vectors::<T, N>(rows, order, times, changed.from, end, k);
     }
-}
-
-/// Moves the rows that are kept at the end of a sequence that grew from `old` to `new` jobs to their new steps. Returns
-/// the rows that are not right yet. A step has rows of both parts up to eight steps after the first row that moves, so
-/// the function moves only the steps after that.
-#[inline(always)]
-pub fn move_back<T: Stored, const N: usize>(
-    times: &mut [T],
-    old: usize,
-    new: usize,
-    kept: Kept,
-    steps: usize,
-) -> Changed
-    requires old { kept.front + kept.back ≤ old }
-    requires new { new + 8 ≤ steps }
-    requires old_room { old + 8 ≤ steps }
-    requires small { steps * N + N < 2 ^ 32 }
-    requires steps { length times.old ≡ steps * N }
-    ensures steps { length times.new ≡ length times.old }
-    ensures from { result.from ≡ kept.front }
-    ensures none { kept.back ≡ 0 → (result.to ≡ max old new) × (result.end ≡ steps) × (times.new ≡ times.old) }
-    ensures kept { new ≤ old → (result.to ≡ old - kept.back) × (result.end ≡ steps) × (times.new ≡ times.old) }
-    ensures moved { 0 < kept.back → old < new → (result.to ≡ new - kept.back + 8) × (result.end ≡ new - kept.back + 8)
-        × ((k : ℕ) → k < N → AreMoved (kept.front + 8) (new - kept.back + 8) (new + 8) (new - old) steps
-        (column N (map T.lanes times.old) k) (column N (map T.lanes times.new) k)) }
-{
-    let from = kept.front;
-    if kept.back == 0 || new <= old {
-        let to = old.max(new) - kept.back;
-        return Changed {
-            from,
-            to,
-            end: steps,
-        };
-    }
-    let to = new - kept.back + 8;
-    let first = old - kept.back + 8;
-    times.copy_within(first * N..(old + 8) * N, to * N);
-    Changed { from, to, end: to }
-}
-
-/// Moves the steps that have rows of the front of a sequence of `new` jobs, from the step `start` of a table to the step
-/// `first`. Returns the rows that are not right yet, where the rows at the end are those of the steps before.
-#[inline(always)]
-pub fn move_front<T: Stored, const N: usize>(
-    table: &mut [T],
-    start: usize,
-    first: usize,
-    new: usize,
-    kept: Kept,
-    steps: usize,
-) -> Changed
-    requires some { 1 ≤ N }
-    requires kept { kept.front + kept.back ≤ new }
-    requires new { new + 8 ≤ steps }
-    requires start { (start + steps) * N ≤ length table.old }
-    requires first { (first + steps) * N ≤ length table.old }
-    requires small { length table.old < 2 ^ 32 }
-    ensures length { length table.new ≡ length table.old }
-    ensures from { result.from ≡ kept.front }
-    ensures to { result.to ≡ result.end }
-    ensures none { kept.back ≡ 0 → result.end ≡ steps }
-    ensures kept { 0 < kept.back → result.end ≡ new - kept.back + 8 }
-    ensures moved { (k step : ℕ) → k < N → step < kept.front + 8 → column N (map T.lanes table.new) k (first + step)
-        ≡ column N (map T.lanes table.old) k (start + step) }
-    ensures after { (k step : ℕ) → k < N → first + kept.front + 8 ≤ step
-        → column N (map T.lanes table.new) k step ≡ column N (map T.lanes table.old) k step }
-{
-    let from = kept.front;
-    let end = if kept.back == 0 {
-        steps
-    } else {
-        new - kept.back + 8
-    };
-    table.copy_within(start * N..(start + from + 8) * N, first * N);
-    Changed { from, to: end, end }
 }

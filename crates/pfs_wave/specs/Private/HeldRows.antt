@@ -1,9 +1,10 @@
 -- The skewed times of a sequence, kept from one sequence to the next.
-use Rattle.std.specs.Prelude.{ℕ, ◌≡◌, ◌+◌, ◌-◌, ◌*◌, ◌<◌, ◌≤◌, List, length}
-use Rattle.std.specs.List.{slice_index_or, between, All}
+use Rattle.std.specs.Prelude.{ℕ, ◌≡◌, ◌+◌, ◌-◌, ◌*◌, ◌<◌, ◌≤◌, List, length, map}
+use Rattle.std.specs.List.{slice_index_or, between}
 use Rattle.pfs_wave.specs.Private.Lanes.{Rows}
 use Rattle.pfs_wave.specs.Private.Blocks.{step_of}
 use Rattle.pfs_wave.specs.Private.Padded.{lane_of}
+use Rattle.pfs_wave.specs.declared.hold.Held.{Held}
 
 -- the jobs of a sequence, and `none` in each row after them
 abbrev pub IsPadded : List ℕ → List ℕ → ℕ → Type 0
@@ -47,21 +48,20 @@ pub record HoldOutside (rows : Rows) (first last end steps : ℕ) (times : Rows)
       → lane_of times (row + lane) lane ≡ lane_of rows row lane
   pub none_before : (step lane : ℕ) → step < lane → lane < 8 → step < steps → lane_of times step lane ≡ 0
 
--- each step from `from` to before `to` is the old step that is `by` steps before it, and those before `front` and from
--- `to` to before `steps` are unchanged
-pub record AreMoved (front from to by steps : ℕ) (old new : Rows) : Type 0 where
-  pub moved : (step : ℕ) → from ≤ step → step < to → new step ≡ old (step - by)
-  pub before : (step : ℕ) → step < front → new step ≡ old step
-  pub after : (step : ℕ) → to ≤ step → step < steps → new step ≡ old step
-
 -- `order` is a sequence of `len` of the jobs, followed by the number of the row after those of all jobs; `times` are the
 -- skewed times of all its rows
 pub record IsHolding (count jobs : ℕ) (rows : List (List ℕ)) (len : ℕ) (order : List ℕ) (times : List (List ℕ)) :
     Type 0 where
   pub some : len ≤ jobs
   pub steps : length order ≡ jobs + 8
-  pub rows_in : All (λ row. row ≤ jobs) order
   pub jobs_in : (row : ℕ) → row < len → slice_index_or order row 0 < jobs
   pub rest : (row : ℕ) → len ≤ row → row < length order → slice_index_or order row 0 ≡ jobs
   pub all_times : length times ≡ length order * count
   pub lanes : (k : ℕ) → k < count → HoldLanes (rows_at count rows order k) (length order) (column count times k)
+
+-- a sequence is held, in a table with room for its times to begin earlier or later
+pub record IsHeld {T : Type 0} (lanes : T → List ℕ) (count : ℕ) (rows : List (List ℕ)) (held : Held T) : Type 0 where
+  pub start : held.start ≤ held.jobs
+  pub room : length held.times.items ≡ (2 * held.jobs + 8) * count
+  pub holds : IsHolding count held.jobs rows held.len held.order.items
+      (map lanes (part_from held.start (held.jobs + 8) count held.times.items))

@@ -1,7 +1,19 @@
-use Rattle.std.proofs.Common.{◌∙◌, ap, length, arith}
+use Rattle.std.proofs.Common.{◌∙◌, ap, length, refl, arith}
 use Rattle.std.proofs.lemmas.List.{length_push}
 use Rattle.pfs_wave.proofs.RowCells.{rows_more}
+use Rattle.pfs_wave.proofs.SkewedTimes.{vector_inside}
 use Rattle.pfs_wave.proofs.rows.shop_rows.Goals as goal
+
+pub push_reserved-requires : goal.push_reserved-requires
+push_reserved-requires g c =
+    let so_far = c.loop-k.invariant in
+    omega (
+      arith,
+      so_far.room,
+      so_far.long,
+      vector_inside c.args.count _ c.loop-job.job c.loop-k.k _ c.loop-job-test.true
+          c.loop-k-test.true refl,
+    )
 
 pub loop-k-preserved : goal.loop-k-preserved
 loop-k-preserved g c =

@@ -30,12 +30,14 @@ invariant_of-result g c =
       eight = c.lanes_for.ensures.eight;
       few = omega (arith, jobs_are.value, jobs_are.within.sizes.few_jobs);
       rows = rw count_is at rows_long ∙ ap (λ n. n * width + width) (sym jobs_are.value);
-      holds =
-          holding_none width jobs c.args.instance.now.shop (map lanes c.in_ok-rows.rows.items) c.in_ok-order.order.items
-          (map lanes (part_from jobs (jobs + 8) width items)) (rw count_is at c.in_ok-rows.ensures.rows) jobs_are.value
-          (c.in_ok-order.ensures.items_if_clones_equal (λ y is. is)) none;
-      times = omega (arith, rw count_is at times_long);
-      start = omega arith;
+      held = record {
+        start = omega arith;
+        room = omega (arith, rw count_is at times_long);
+        holds =
+            holding_none width jobs c.args.instance.now.shop (map lanes c.in_ok-rows.rows.items) c.in_ok-order.order.items
+            (map lanes (part_from jobs (jobs + 8) width items)) (rw count_is at c.in_ok-rows.ensures.rows) jobs_are.value
+            (c.in_ok-order.ensures.items_if_clones_equal (λ y is. is)) none;
+      };
       tails = rw count_is at (sym c.in_ok-tails.tails.ok.0 ∙ c.in_ok-tails.ensures.len);
       sums = omega (arith, c.in_ok-sums.ensures.len, c.in_ok-sums.sums.ok);
     }
