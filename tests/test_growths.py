@@ -23,27 +23,39 @@ GROWING = [
     "value three",
 ]
 
+# The instance of the calls, and what a search keeps, as pfs_calls prints them.
+SHOP = b"jobs 3\nmachines 2\n" + b"".join(b"time %d\n" % time for time in (3, 2, 2, 5, 4, 1))
+
+
+def kept(order: tuple[int, int, int], makespan: int) -> bytes:
+    return b"".join(b"job %d\n" % job for job in order) + b"makespan %d\n" % makespan
+
+
+# The orders that a search keeps after NEH and after each of five rounds.
+ORDERS = [(3, 2, 1), (1, 2, 3), (2, 3, 1), (1, 2, 3), (3, 2, 1), (2, 1, 3)]
+NEH = kept(ORDERS[0], 9)
+ROUNDS = NEH + b"next word 21\n" + kept(ORDERS[5], 9)
+
+# What calls of pfs_calls print that allocate nothing after `ready`.
+STILL: dict[str, bytes] = {
+    "still_best": b"place 2\nmakespan 10\ncells 20\n",
+    "still_layout": b"SeedRange\nSeedRange\nbytes 121\ndone 0\ntimes 0\nNoBlock { found: 1 }\n"
+                    b"Read\nNoBlock { found: 0 }\nSizeCount { line: 1 }\n",
+    "still_order": b"Read\nSyntax { offset: 0 }\nSyntax { offset: 11 }\nTooLong\n",
+    "still_search": kept((3, 2, 1), 7) * 2 + b"cells 2934\n",
+}
+
 # What each call of pfs_calls prints if no allocation fails.
 CALLS: dict[str, bytes] = {
-    "instance": b"3 jobs, 2 machines\n",
-    "of_times": b"3 jobs, 2 machines, 6 times\n",
-    "generate": b"seed 2147483646\n",
-    "feed": b"49 bytes, done: true, 6 times, 3 jobs\n",
-    "read_block": b"3 jobs, 2 machines\n",
-    "seq": b"1 of 3\n",
-    "identity": b"3 jobs\n",
-    "read_order": b"3 jobs, Some(2) machines, makespan 10\n",
-    "makespan": b"makespan 11, 6 cells\n",
-    "table": b"3 rows, makespan 11\n",
-    "check": b"valid 10 10\n",
-    "check_machines": b"wrong machines 3 2\n",
-    "afresh": b"place 2, makespan 10, 18 cells\n",
-    "heads_tails": b"place 2, makespan 10, 20 cells\n",
-    "neh": b"order 2 1 3, makespan 10, 28 cells\n",
-    "round": b"order 2 1 3, makespan 10, 108 cells\n",
-    "rounds": b"order 2 1 3, makespan 10, 158 cells\nnext word 21\n",
-    "turns": b"order 1 2, makespan 8, 25 cells\nnext word 11\n",
-    "search": b"order 3 2 1, makespan 7, 54 cells\norder 3 2 1, makespan 7, 2934 cells\n",
+    "of_times": SHOP,
+    "feed": b"bytes 121\ndone 1\ntimes 6\n" + SHOP,
+    "makespan": b"cells 6\nmakespan 11\n",
+    "table": b"rows 3\nmakespan 11\n",
+    "check": b"valid 10\nbound 10\n",
+    "check_size": b"wrong size 2\n",
+    "check_machines": b"wrong machines 3\n",
+    "afresh": b"place 2\nmakespan 10\ncells 18\n",
+    "rounds": ROUNDS + kept((3, 2, 1), 9) + b"cells 119\n",
     "run_value": b"makespan 11\n",
     "run_check": b"valid\nmakespan 10\nbound 10\noptimal\n",
     "run_solve": b"order2 3 2\n2 1 3\nmakespan 10\ncells 196\n",
@@ -52,9 +64,8 @@ CALLS: dict[str, bytes] = {
                     b"5 1 873654221 0 0\nprocessing times :\n54 83 15 71 77\n",
     "run_table": b"table 3 2\n2 0 2 2 7\n1 2 5 7 9\n3 5 9 9 10\nmakespan 10\n",
     "run_table_machines": b"wrong machines\norder 3\nmachines 2\n",
+    **{call: b"ready\n" + text for call, text in STILL.items()},
 }
-
-UNCHANGED = b"memory, 3 jobs, 2 machines, times 3 2 2 5 4 1\n"
 
 # What a call of pfs_calls prints when its own allocations fail in turn, after `memory` for those that precede the call:
 # - the instance and the bench are unchanged, the reader holds no time, and only the finished rounds are kept;
@@ -64,18 +75,16 @@ UNCHANGED = b"memory, 3 jobs, 2 machines, times 3 2 2 5 4 1\n"
 # - an engine writes nothing, and reports whether the instance's allocation failed, the order's, or a later one, which
 #   is made only if the order fits the instance.
 LEFT: dict[str, list[bytes]] = {
-    "feed": [b"Memory, 0 times held\nMemory when fed again\nMemory at the end\n"],
-    "makespan": [UNCHANGED + b"bench of 3 jobs, 2 machines, 0 cells\nmakespan 11, 6 cells\n"],
-    "table": [UNCHANGED + b"3 rows, makespan 11\n"],
-    "check": [UNCHANGED + b"valid 10 10\n"],
-    "afresh": [b"memory after %d cells\nplace 2, makespan 10, %d cells\n" % (cells, cells + 18)
-               for cells in (0, 6, 12)],
-    "neh": [b"memory after 0 rounds, order 1 2 3, makespan 0\n"],
-    "round": [b"memory after 0 rounds, order 2 1 3, makespan 10\n"],
-    "rounds": [b"memory after %d rounds, order 2 1 3, makespan 10\nnext word %d\n" % (done, 4 * done + 5)
-               for done in range(5)],
-    "turns": [b"memory after %d rounds, order %s, makespan 8\nnext word %d\n"
-              % (done, b"1 2" if done % 2 else b"2 1", 2 * done + 3) for done in range(5)],
+    "feed": [b"Memory\ntimes 0\nMemory\nMemory\n"],
+    "makespan": [b"cells 0\n" + SHOP + CALLS["makespan"]],
+    "table": [SHOP + CALLS["table"]],
+    "check": [SHOP + CALLS["check"]],
+    "afresh": [b"cells %d\nplace 2\nmakespan 10\ncells %d\n" % (cells, cells + 18) for cells in (0, 6, 12)],
+    "rounds": [kept((1, 2, 3), 0) + b"memory\n",
+               *(NEH + b"next word %d\n" % (4 * done + 5) + kept(order, 9)
+                 + (b"memory after %d rounds\n" % done if done else b"memory\n")
+                 for done, order in enumerate(ORDERS[:5])),
+               ROUNDS + kept(ORDERS[5], 9) + b"memory\n"],
     "run_value": [b"Layout(Memory)\n", b"Memory\n"],
     "run_check": [b"Layout(Memory)\n", b"Order(Memory)\n", b"Memory\n"],
     "run_solve": [b"Layout(Memory)\n", b"Memory\n"],
@@ -83,20 +92,6 @@ LEFT: dict[str, list[bytes]] = {
     "run_generate": [b"Layout(Memory)\n"],
     "run_table": [b"Layout(Memory)\n", b"Order(Memory)\n", b"Memory\n"],
     "run_table_machines": [b"Layout(Memory)\n", b"Order(Memory)\n"],
-}
-
-
-# What calls of pfs_calls print that allocate nothing after `ready`.
-STILL: dict[str, bytes] = {
-    "still_audit": b"bound 8\nwrong size 3 2\n",
-    "still_best": b"place 2\n",
-    "still_feed": b"49 bytes, done: false, 0 times\nNoBlock { found: 1 }\n",
-    "still_generate": b"SeedRange\nSeedRange\n",
-    "still_put": b"8 bytes by 1 writes\n8 bytes by 3 writes\n0 bytes by 0 writes\n",
-    "still_read_block": b"Read\nNoBlock { found: 0 }\nSizeCount { line: 1 }\n",
-    "still_read_order": b"Read\nSyntax { offset: 0 }\nSyntax { offset: 11 }\nTooLong\n",
-    "still_search": b"makespan 7\nmakespan 7\n",
-    "still_write": b"%d bytes, %d bytes\n" % (len(THREE_JOBS_BY_JOB), len(b"order2 3 2\n1 2 3\nmakespan 11\n")),
 }
 
 
@@ -137,6 +132,6 @@ def test_a_call_returns_a_failed_allocation_and_keeps_its_promises(pfs_calls: Pr
 @pytest.mark.parametrize("call", STILL)
 def test_a_call_allocates_nothing(pfs_calls: Program, shim: Shim, folder: pathlib.Path, call: str) -> None:
     ran, growths = shim.run_counted(pfs_calls, [call], folder)
-    assert ran == Ran(b"ready\n" + STILL[call], b"", 0)
+    assert ran == Ran(CALLS[call], b"", 0)
     assert growths[0] > 0, "allocations for the arguments of the program"
     assert growths == growths[:1] * len(growths), "allocations before each write"

@@ -3,42 +3,41 @@
 //! `tests/test_growths.py` runs each call once for each of its allocations, and makes that one fail.
 #![tactic(auto)]
 
+ghost use Rattle.std.specs.Prelude.{◌≡◌, ◌+◌, ◌*◌, ◌<◌, ◌≤◌, ◌^◌, length};
+
+mod prints;
 mod search;
 mod still;
 
 use pfs_audit::{AuditFault, Verdict, check, makespan, table};
-use pfs_base::{BaseFault, Bench, FromRead, Instance, ToWrite};
-use pfs_desk::{
-    DeskFault, Outcome, SolveOptions, run_check, run_convert, run_generate, run_solve, run_table,
-    run_value,
-};
+use pfs_base::{BaseFault, Bench, Instance, Metered, ToWrite, put};
 use pfs_insert::InsertFault;
-use pfs_layout::{BlockReader, Layout, LayoutFault, generate, read_block};
+use pfs_layout::{BlockReader, Layout, LayoutFault};
 use pfs_order::{Order, OrderFault, OrderFile, Seq, read_order};
 use pfs_search::SearchFault;
+use pfs_tests::fakes::{Pieces, Taken};
 use pfs_tests::shops::three_jobs;
-use search::{
-    afresh_call, heads_tails_call, neh_call, round_call, rounds_call, search_call, turns_call,
-};
+use pfs_tests::tasks::Task;
+use pfs_tests::texts::{BY_MACHINE, ORDER2};
+use prints::{print_instance, print_layout_fault, print_number, print_progress};
+use search::{afresh_call, rounds_call};
 use std::alloc::{AllocError, Global};
 use std::{env, io};
-use still::{
-    still_audit, still_best, still_feed, still_generate, still_put, still_read_block,
-    still_read_order, still_search, still_write,
-};
+use still::{still_best, still_layout, still_order, still_search};
 
-const FILE: &[u8] = b"title :\n3 2 0 0 0\nprocessing times :\n3 2 4\n2 5 1\n";
-
-const ORDER: &[u8] = b"order2 3 2\n2 1 3\nmakespan 10\n";
-
-/// The same order, with another number of machines.
+/// The order of `ORDER2`, with another number of machines.
 const OTHER_MACHINES: &[u8] = b"order2 3 3\n2 1 3\nmakespan 10\n";
 
+/// An order of fewer jobs.
+const TWO_JOBS: &[u8] = b"order 2\n2 1\nmakespan 10\n";
+
 /// Why a call has no result.
-#[derive(Drop)]
+#[derive(Clone, Copy)]
 enum Stop {
     /// An allocation failed.
     Memory,
+    /// An allocation failed after this number of rounds, which isn't 0.
+    Rounds(u32),
     /// Something else: an argument is invalid, or the call returned a fault other than a failed allocation.
     Other,
 }
@@ -67,37 +66,23 @@ impl From<OrderFault> for Stop {
     }
 }
 
-impl From<LayoutFault> for Stop {
-    fn from(fault: LayoutFault) -> Stop {
-        match fault {
-            LayoutFault::Memory => Stop::Memory,
-            _ => Stop::Other,
-        }
-    }
-}
-
 impl From<AuditFault> for Stop {
-    fn from(fault: AuditFault) -> Stop {
-        match fault {
-            AuditFault::Memory => Stop::Memory,
-        }
+    fn from(_fault: AuditFault) -> Stop {
+        Stop::Memory
     }
 }
 
 impl From<InsertFault> for Stop {
-    fn from(fault: InsertFault) -> Stop {
-        match fault {
-            InsertFault::Memory => Stop::Memory,
-        }
+    fn from(_fault: InsertFault) -> Stop {
+        Stop::Memory
     }
 }
 
-// For a call without earlier rounds: a number of completed rounds other than 0 is wrong.
 impl From<SearchFault> for Stop {
     fn from(fault: SearchFault) -> Stop {
         match fault {
             SearchFault::Memory { done: 0 } => Stop::Memory,
-            SearchFault::Memory { .. } => Stop::Other,
+            SearchFault::Memory { done } => Stop::Rounds(done),
         }
     }
 }
@@ -109,329 +94,182 @@ impl From<io::Error> for Stop {
 }
 
 fn main(rt: HostRuntime) -> io::Result<()> {
-    let returned = match words_of(&rt) {
-        Ok(words) => match words.as_slice() {
-            [name] => worked_call(&rt, name.as_str()),
-            _ => Err(Stop::Other),
-        },
+    let returned = match first_word(&rt) {
+        Ok(name) => worked_call(&rt, name.as_str()),
         Err(stop) => Err(stop),
     };
     match returned {
         Ok(()) => Ok(()),
         Err(Stop::Memory) => println!(rt; "memory"),
+        Err(Stop::Rounds(done)) => println!(rt; "memory after {done} rounds"),
         Err(Stop::Other) => println!(rt; "another fault"),
     }
 }
 
-// Returns the arguments after the program's name.
-fn words_of(rt: &HostRuntime) -> Result<Vec<String>, Stop> {
+// Returns the argument after the program's name.
+fn first_word(rt: &HostRuntime) -> Result<String, Stop> {
     let Ok(args) = env::args(rt) else {
         return Err(Stop::Memory);
     };
-    let mut words = Vec::new(rt.alloc());
-    for word in args.skip(1) {
-        if words.push(word).is_err() {
-            return Err(Stop::Memory);
-        }
-    }
-    Ok(words)
+    args.skip(1).next().ok_or(Stop::Other)
 }
 
 // Runs a call on a worked example.
 fn worked_call(rt: &HostRuntime, name: &str) -> Result<(), Stop> {
     match name {
-        "instance" => instance_call(rt),
         "of_times" => of_times_call(rt),
-        "generate" => generate_call(rt),
         "feed" => feed_call(rt),
-        "read_block" => read_block_call(rt),
-        "seq" => seq_call(rt),
-        "identity" => identity_call(rt),
-        "read_order" => read_order_call(rt),
         "makespan" => makespan_call(rt),
         "table" => table_call(rt),
-        "check" => check_call(rt, ORDER),
+        "check" => check_call(rt, ORDER2),
+        "check_size" => check_call(rt, TWO_JOBS),
         "check_machines" => check_call(rt, OTHER_MACHINES),
         "afresh" => afresh_call(rt),
-        "heads_tails" => heads_tails_call(rt),
-        "neh" => neh_call(rt),
-        "round" => round_call(rt),
         "rounds" => rounds_call(rt),
-        "turns" => turns_call(rt),
-        "search" => search_call(rt),
-        "still_audit" => still_audit(rt),
         "still_best" => still_best(rt),
-        "still_feed" => still_feed(rt),
-        "still_generate" => still_generate(rt),
-        "still_put" => still_put(rt),
-        "still_read_block" => still_read_block(rt),
-        "still_read_order" => still_read_order(rt),
+        "still_layout" => still_layout(rt),
+        "still_order" => still_order(rt),
         "still_search" => still_search(rt),
-        "still_write" => still_write(rt),
-        "run_value" => run_value_call(rt),
-        "run_check" => run_check_call(rt),
-        "run_table" => run_table_call(rt, ORDER),
-        "run_table_machines" => run_table_call(rt, OTHER_MACHINES),
-        "run_solve" => run_solve_call(rt),
-        "run_convert" => run_convert_call(rt),
-        "run_generate" => run_generate_call(rt),
+        "run_value" => task_call(rt, Task::Value, ORDER2),
+        "run_check" => task_call(rt, Task::Check, ORDER2),
+        "run_table" => task_call(rt, Task::Table, ORDER2),
+        "run_table_machines" => task_call(rt, Task::Table, OTHER_MACHINES),
+        "run_solve" => task_call(rt, Task::Solve, ORDER2),
+        "run_convert" => task_call(rt, Task::Convert, ORDER2),
+        "run_generate" => task_call(rt, Task::Generate, ORDER2),
         _ => Err(Stop::Other),
     }
 }
 
 fn read_the_order(alloc: Global, text: &[u8]) -> Result<OrderFile, Stop> {
-    Ok(read_order(alloc, &mut FromRead::new(text))?)
+    Ok(read_order(alloc, &mut Pieces::whole(text))?)
 }
 
-fn instance_call(rt: &HostRuntime) -> Result<(), Stop> {
-    let instance = three_jobs(rt.alloc())?;
-    println!(rt;
-        "{} jobs, {} machines",
-        instance.jobs(),
-        instance.machines()
-    )?;
-    Ok(())
-}
-
+// Copies an instance.
 fn of_times_call(rt: &HostRuntime) -> Result<(), Stop> {
     let shop = three_jobs(rt.alloc())?;
-    let copy = Instance::of_times(
-        rt.alloc(),
-        shop.jobs(),
-        shop.machines(),
-        shop.times(),
-        shop.notes(),
-    )?;
-    println!(rt;
-        "{} jobs, {} machines, {} times",
-        copy.jobs(),
-        copy.machines(),
-        copy.times().len()
-    )?;
-    Ok(())
+    let (jobs, machines, times) = (shop.jobs(), shop.machines(), shop.times());
+    let copy = Instance::of_times(rt.alloc(), jobs, machines, times, shop.notes())?;
+    print_instance(rt, &copy)
 }
 
-fn generate_call(rt: &HostRuntime) -> Result<(), Stop> {
-    let instance = generate(rt.alloc(), 1, 1, 2147483646)?;
-    println!(rt; "seed {}", instance.notes().seed)?;
-    Ok(())
-}
-
-// Passes the whole file to a reader in one piece.
+// Passes a whole file to a reader in one piece.
 fn feed_call(rt: &HostRuntime) -> Result<(), Stop> {
     let mut reader = BlockReader::new(rt.alloc(), Layout::Taillard, 1);
-    match reader.feed(FILE) {
+    match reader.feed(BY_MACHINE) {
         Ok(progress) => {
-            let held = reader.held();
-            let instance = reader.finish()?;
-            println!(rt;
-                "{} bytes, done: {}, {held} times, {} jobs",
-                progress.used,
-                progress.done,
-                instance.jobs()
-            )?;
-            Ok(())
+            print_progress(rt, progress)?;
+            print_number(rt, "times", reader.held() as u64)?;
+            match reader.finish() {
+                Ok(instance) => print_instance(rt, &instance),
+                Err(fault) => print_layout_fault(rt, fault),
+            }
         }
         Err(fault) => print_repeated(rt, reader, fault),
     }
 }
 
-// Prints the number of processing times that a reader with a fault holds, and what its next calls return.
+// Prints a reader's fault, the number of processing times that it holds, and the faults of its next calls.
 fn print_repeated(rt: &HostRuntime, reader: BlockReader, fault: LayoutFault) -> Result<(), Stop> {
     let mut reader = reader;
-    let held = reader.held();
-    println!(rt; "{fault:?}, {held} times held")?;
-    if let Err(fault) = reader.feed(FILE) {
-        println!(rt; "{fault:?} when fed again")?;
+    print_layout_fault(rt, fault)?;
+    print_number(rt, "times", reader.held() as u64)?;
+    if let Err(fault) = reader.feed(BY_MACHINE) {
+        print_layout_fault(rt, fault)?;
     }
-    if let Err(fault) = reader.finish() {
-        println!(rt; "{fault:?} at the end")?;
+    match reader.finish() {
+        Ok(instance) => print_instance(rt, &instance),
+        Err(fault) => print_layout_fault(rt, fault),
     }
-    Ok(())
 }
 
-fn read_block_call(rt: &HostRuntime) -> Result<(), Stop> {
-    let mut reader = FromRead::new(FILE);
-    let instance = read_block(rt.alloc(), &mut reader, Layout::Taillard, 1)?;
-    println!(rt;
-        "{} jobs, {} machines",
-        instance.jobs(),
-        instance.machines()
-    )?;
-    Ok(())
-}
-
-fn seq_call(rt: &HostRuntime) -> Result<(), Stop> {
-    let mut seq = Seq::new(rt.alloc(), 3)?;
-    seq.insert_at(0, 2);
-    println!(rt; "{} of {}", seq.len(), seq.size())?;
-    Ok(())
-}
-
-fn identity_call(rt: &HostRuntime) -> Result<(), Stop> {
-    let order = Order::identity(rt.alloc(), 3)?;
-    println!(rt; "{} jobs", order.len())?;
-    Ok(())
-}
-
-fn read_order_call(rt: &HostRuntime) -> Result<(), Stop> {
-    let file = read_the_order(rt.alloc(), ORDER)?;
-    let (jobs, machines) = (file.order().len(), file.machines());
-    println!(rt;
-        "{jobs} jobs, {machines:?} machines, makespan {}",
-        file.makespan()
-    )?;
-    Ok(())
-}
-
-// Prints that an allocation failed, and what the instance is then.
-fn print_failed(rt: &HostRuntime, instance: &Instance) -> Result<(), Stop> {
-    let (jobs, machines) = (instance.jobs(), instance.machines());
-    print!(rt; "memory, {jobs} jobs, {machines} machines, times")?;
-    for job in 0..jobs {
-        for machine in 0..machines {
-            print!(rt; " {}", instance.time(job, machine))?;
-        }
-    }
-    println!(rt; "")?;
-    Ok(())
+// Prints the cells that were counted, and then the makespan or what failed.
+fn print_makespan(rt: &HostRuntime, bench: &mut Metered<'_>, seq: &Seq) -> Result<(), Stop>
+    requires size { seq.now.size ≡ (⟦<Metered<'static> as Bench>⟧.shop bench.old).jobs }
+    requires room { ⟦<Metered<'static> as Bench>⟧.counted bench.old
+        + length seq.now.jobs * (⟦<Metered<'static> as Bench>⟧.shop bench.old).machines < 2 ^ 64 }
+    ensures counted { ⟦<Metered<'static> as Bench>⟧.counted bench.new ≤ ⟦<Metered<'static> as Bench>⟧.counted bench.old
+        + length seq.now.jobs * (⟦<Metered<'static> as Bench>⟧.shop bench.old).machines }
+    ensures shop { ⟦<Metered<'static> as Bench>⟧.shop bench.new ≡ ⟦<Metered<'static> as Bench>⟧.shop bench.old }
+{
+    let span = makespan(rt.alloc(), bench, seq);
+    print_number(rt, "cells", bench.cells())?;
+    print_number(rt, "makespan", bench.reveal(span?))
 }
 
 // Computes the makespan of the jobs in the order of their numbers, and again if an allocation fails.
 fn makespan_call(rt: &HostRuntime) -> Result<(), Stop> {
     let instance = three_jobs(rt.alloc())?;
-    let order = Order::identity(rt.alloc(), instance.jobs())?;
+    let order = Order::identity(rt.alloc(), 3)?;
     let mut bench = instance.metered();
-    let span = match makespan(rt.alloc(), &mut bench, order.seq()) {
-        Ok(span) => span,
-        Err(AuditFault::Memory) => {
-            print_failed(rt, &instance)?;
-            let (jobs, machines, cells) = (bench.jobs(), bench.machines(), bench.cells());
-            println!(rt; "bench of {jobs} jobs, {machines} machines, {cells} cells")?;
-            makespan(rt.alloc(), &mut bench, order.seq())?
+    match print_makespan(rt, &mut bench, order.seq()) {
+        Err(Stop::Memory) => {
+            print_instance(rt, &instance)?;
+            print_makespan(rt, &mut bench, order.seq())
         }
-    };
-    println!(rt; "makespan {}, {} cells", bench.reveal(span), bench.cells())?;
-    Ok(())
+        returned => returned,
+    }
 }
 
+// Prints the size and the makespan of the time table of the jobs in the order of their numbers.
+fn print_table(rt: &HostRuntime, instance: &Instance, order: &Order) -> Result<(), Stop>
+    requires { length order.now ≡ instance.now.shop.jobs }
+{
+    let table = table(rt.alloc(), instance, order)?;
+    print_number(rt, "rows", table.rows() as u64)?;
+    print_number(rt, "makespan", table.makespan())
+}
+
+// Makes the time table, and again if an allocation fails.
 fn table_call(rt: &HostRuntime) -> Result<(), Stop> {
     let instance = three_jobs(rt.alloc())?;
-    let order = Order::identity(rt.alloc(), instance.jobs())?;
-    let table = match table(rt.alloc(), &instance, &order) {
-        Ok(table) => table,
-        Err(AuditFault::Memory) => {
-            print_failed(rt, &instance)?;
-            table(rt.alloc(), &instance, &order)?
+    let order = Order::identity(rt.alloc(), 3)?;
+    match print_table(rt, &instance, &order) {
+        Err(Stop::Memory) => {
+            print_instance(rt, &instance)?;
+            print_table(rt, &instance, &order)
         }
-    };
-    println!(rt; "{} rows, makespan {}", table.rows(), table.makespan())?;
-    Ok(())
+        returned => returned,
+    }
 }
 
+// Prints what a check of an order returns.
+fn print_verdict(rt: &HostRuntime, instance: &Instance, file: &OrderFile) -> Result<(), Stop> {
+    match check(rt.alloc(), instance, file)? {
+        Verdict::Valid { makespan, bound } => {
+            print_number(rt, "valid", makespan)?;
+            print_number(rt, "bound", bound)
+        }
+        Verdict::WrongSize { order, .. } => print_number(rt, "wrong size", order as u64),
+        Verdict::WrongMachines { order, .. } => print_number(rt, "wrong machines", order as u64),
+        Verdict::WrongMakespan { .. } => Err(Stop::Other),
+    }
+}
+
+// Checks an order, and again if an allocation fails.
 fn check_call(rt: &HostRuntime, order: &[u8]) -> Result<(), Stop> {
     let instance = three_jobs(rt.alloc())?;
     let file = read_the_order(rt.alloc(), order)?;
-    let verdict = match check(rt.alloc(), &instance, &file) {
-        Ok(verdict) => verdict,
-        Err(AuditFault::Memory) => {
-            print_failed(rt, &instance)?;
-            check(rt.alloc(), &instance, &file)?
+    match print_verdict(rt, &instance, &file) {
+        Err(Stop::Memory) => {
+            print_instance(rt, &instance)?;
+            print_verdict(rt, &instance, &file)
         }
-    };
-    match verdict {
-        Verdict::Valid { makespan, bound } => println!(rt; "valid {makespan} {bound}")?,
-        Verdict::WrongMachines { order, machines } => {
-            println!(rt; "wrong machines {order} {machines}")?
-        }
-        Verdict::WrongSize { .. } | Verdict::WrongMakespan { .. } => println!(rt; "wrong")?,
+        returned => returned,
     }
-    Ok(())
 }
 
-// Prints the fault of an engine, if it has one. The fault says which allocation failed: one for the instance, one for
-// the order, or a later one.
-fn print_fault(rt: &HostRuntime, returned: Result<Outcome, DeskFault>) -> Result<(), Stop> {
+// Runs an engine. Prints what it writes, and its fault if it has one. The fault says which allocation failed: one for
+// the instance, one for the order, or a later one.
+fn task_call(rt: &HostRuntime, task: Task, order: &[u8]) -> Result<(), Stop> {
+    let (mut reader, mut orders) = (Pieces::whole(BY_MACHINE), Pieces::whole(order));
+    let mut writer = Taken::new(256, 256);
+    let returned = task.run(rt.alloc(), &mut reader, &mut orders, &mut writer);
+    if put(&mut ToWrite::new(io::writer(rt)), writer.bytes(), 0).is_err() {
+        return Err(Stop::Other);
+    }
     if let Err(fault) = returned {
         println!(rt; "{fault:?}")?;
     }
     Ok(())
-}
-
-fn run_value_call(rt: &HostRuntime) -> Result<(), Stop> {
-    let mut reader = FromRead::new(FILE);
-    let mut writer = ToWrite::new(io::writer(rt));
-    let returned = run_value(rt.alloc(), &mut reader, Layout::Taillard, 1, &mut writer);
-    print_fault(rt, returned)
-}
-
-fn run_check_call(rt: &HostRuntime) -> Result<(), Stop> {
-    let mut reader = FromRead::new(FILE);
-    let mut orders = FromRead::new(ORDER);
-    let mut writer = ToWrite::new(io::writer(rt));
-    let returned = run_check(
-        rt.alloc(),
-        &mut reader,
-        Layout::Taillard,
-        1,
-        &mut orders,
-        &mut writer,
-    );
-    print_fault(rt, returned)
-}
-
-fn run_table_call(rt: &HostRuntime, order: &[u8]) -> Result<(), Stop> {
-    let mut reader = FromRead::new(FILE);
-    let mut orders = FromRead::new(order);
-    let mut writer = ToWrite::new(io::writer(rt));
-    let returned = run_table(
-        rt.alloc(),
-        &mut reader,
-        Layout::Taillard,
-        1,
-        &mut orders,
-        &mut writer,
-    );
-    print_fault(rt, returned)
-}
-
-fn run_solve_call(rt: &HostRuntime) -> Result<(), Stop> {
-    let mut reader = FromRead::new(FILE);
-    let mut writer = ToWrite::new(io::writer(rt));
-    let options = SolveOptions {
-        rounds: 5,
-        take: Some(2),
-        seed: 7,
-        passes: 0,
-        cells: true,
-    };
-    let returned = run_solve(
-        rt.alloc(),
-        &mut reader,
-        Layout::Taillard,
-        1,
-        &options,
-        &mut writer,
-    );
-    print_fault(rt, returned)
-}
-
-fn run_convert_call(rt: &HostRuntime) -> Result<(), Stop> {
-    let mut reader = FromRead::new(FILE);
-    let mut writer = ToWrite::new(io::writer(rt));
-    let returned = run_convert(
-        rt.alloc(),
-        &mut reader,
-        Layout::Taillard,
-        Layout::OrLib,
-        1,
-        &mut writer,
-    );
-    print_fault(rt, returned)
-}
-
-fn run_generate_call(rt: &HostRuntime) -> Result<(), Stop> {
-    let mut writer = ToWrite::new(io::writer(rt));
-    let returned = run_generate(rt.alloc(), 5, 1, 873654221, &mut writer);
-    print_fault(rt, returned)
 }

@@ -1,62 +1,27 @@
-//! The calls of the inserters and of the search. Only a search with `Afresh` allocates memory while it runs; one with
-//! `HeadsTails` allocates none after its parts were made.
+//! The calls of an inserter and of a search that allocate memory while they run: those of `Afresh`.
+ghost use Rattle.std.specs.Prelude.{◌≡◌};
+ghost use Rattle.pfs_search.specs.SearcherView.{AllFit};
+
 use crate::Stop;
+use crate::prints::print_number;
 use pfs_base::{Bench, Metered, Span};
-use pfs_insert::{Afresh, HeadsTails, InsertFault, Inserter};
+use pfs_insert::{Afresh, Inserter};
 use pfs_order::Order;
-use pfs_search::{Kept, SearchFault, Searcher};
-use pfs_tests::shops::{second_and_first, three_jobs, three_machines, two_jobs};
+use pfs_search::{Kept, Searcher};
+use pfs_tests::shops::{one_machine, second_and_first, three_jobs};
 use pfs_tests::words::Counting;
 use rand_core::Rng;
 
-// Prints the order and the makespan that a search keeps.
-fn print_order(rt: &HostRuntime, bench: &Metered<'_>, kept: &Kept<Span>) -> Result<(), Stop> {
-    print!(rt; "order")?;
-    for place in 0..kept.order.len() {
-        print!(rt; " {}", kept.order.at(place) + 1)?;
-    }
-    print!(rt; ", makespan {}", bench.reveal(kept.span))?;
-    Ok(())
-}
-
-// Prints what a search keeps in which an allocation failed after `done` rounds.
-fn print_failed(
-    rt: &HostRuntime,
-    bench: &Metered<'_>,
-    kept: &Kept<Span>,
-    done: u32,
-) -> Result<(), Stop> {
-    print!(rt; "memory after {done} rounds, ")?;
-    print_order(rt, bench, kept)?;
-    println!(rt; "")?;
-    Ok(())
-}
-
-/// Prints what a search keeps, and the number of cells that were counted.
+/// Prints the order and the makespan that a search keeps.
 pub(crate) fn print_kept(
     rt: &HostRuntime,
     bench: &Metered<'_>,
     kept: &Kept<Span>,
 ) -> Result<(), Stop> {
-    print_order(rt, bench, kept)?;
-    println!(rt; ", {} cells", bench.cells())?;
-    Ok(())
-}
-
-// Prints what rounds have kept, and the next random word of the generator.
-fn print_rounds(
-    rt: &HostRuntime,
-    bench: &Metered<'_>,
-    kept: &Kept<Span>,
-    returned: Result<(), SearchFault>,
-    rng: &mut Counting,
-) -> Result<(), Stop> {
-    match returned {
-        Ok(()) => print_kept(rt, bench, kept)?,
-        Err(SearchFault::Memory { done }) => print_failed(rt, bench, kept, done)?,
+    for place in 0..kept.order.len() {
+        print_number(rt, "job", kept.order.at(place) as u64 + 1)?;
     }
-    println!(rt; "next word {}", rng.next_u32())?;
-    Ok(())
+    print_number(rt, "makespan", bench.reveal(kept.span))
 }
 
 /// Finds the best place for the third job in the sequence of the second and the first. If an allocation fails, the same
@@ -66,106 +31,53 @@ pub(crate) fn afresh_call(rt: &HostRuntime) -> Result<(), Stop> {
     let seq = second_and_first(rt.alloc())?;
     let mut bench = instance.metered();
     let mut inserter = Afresh::new(rt.alloc(), &bench)?;
-    let best = match inserter.best(rt.alloc(), &mut bench, &seq, 2) {
-        Ok(best) => best,
-        Err(InsertFault::Memory) => {
-            println!(rt; "memory after {} cells", bench.cells())?;
-            inserter.best(rt.alloc(), &mut bench, &seq, 2)?
-        }
-    };
-    let (makespan, cells) = (bench.reveal(best.span), bench.cells());
-    println!(rt; "place {}, makespan {makespan}, {cells} cells", best.place)?;
-    Ok(())
-}
-
-/// The same with heads and tails, where only the making of the inserter allocates memory.
-pub(crate) fn heads_tails_call(rt: &HostRuntime) -> Result<(), Stop> {
-    let instance = three_jobs(rt.alloc())?;
-    let seq = second_and_first(rt.alloc())?;
-    let mut bench = instance.metered();
-    let mut inserter = HeadsTails::new(rt.alloc(), &bench)?;
-    let Ok(best) = inserter.best(rt.alloc(), &mut bench, &seq, 2) else {
-        return Err(Stop::Other);
-    };
-    let (makespan, cells) = (bench.reveal(best.span), bench.cells());
-    println!(rt; "place {}, makespan {makespan}, {cells} cells", best.place)?;
-    Ok(())
-}
-
-/// Runs NEH. If an allocation fails, what was kept before stays.
-pub(crate) fn neh_call(rt: &HostRuntime) -> Result<(), Stop> {
-    let instance = three_jobs(rt.alloc())?;
-    let mut bench = instance.metered();
-    let inserter = Afresh::new(rt.alloc(), &bench)?;
-    let mut searcher = Searcher::new(rt.alloc(), 3, inserter)?;
-    let mut kept = Kept::new(Order::identity(rt.alloc(), 3)?, bench.zero());
-    match searcher.neh(rt.alloc(), &mut bench, &mut kept) {
-        Ok(()) => print_kept(rt, &bench, &kept),
-        Err(SearchFault::Memory { done }) => print_failed(rt, &bench, &kept, done),
+    let mut best = inserter.best(rt.alloc(), &mut bench, &seq, 2);
+    if best.is_err() {
+        print_number(rt, "cells", bench.cells())?;
+        best = inserter.best(rt.alloc(), &mut bench, &seq, 2);
     }
+    let best = best?;
+    print_number(rt, "place", best.place as u64)?;
+    print_number(rt, "makespan", bench.reveal(best.span))?;
+    print_number(rt, "cells", bench.cells())
 }
 
-/// Runs a round after NEH, with the random words 0 and 0 and with one pass. If an allocation fails in the round or in
-/// its pass, NEH's order stays.
-pub(crate) fn round_call(rt: &HostRuntime) -> Result<(), Stop> {
-    let instance = three_jobs(rt.alloc())?;
-    let mut bench = instance.metered();
-    let inserter = Afresh::new(rt.alloc(), &bench)?;
-    let mut searcher = Searcher::new(rt.alloc(), 3, inserter)?;
-    let mut kept = Kept::new(Order::identity(rt.alloc(), 3)?, bench.zero());
-    searcher.neh(rt.alloc(), &mut bench, &mut kept)?;
-    match searcher.round(rt.alloc(), &mut bench, &mut kept, &[0, 0], 1) {
-        Ok(()) => print_kept(rt, &bench, &kept),
-        Err(SearchFault::Memory { done }) => print_failed(rt, &bench, &kept, done),
-    }
+// Runs NEH, then five rounds of two random words each, and then a round of the words 0 and 0 with one pass. Prints what
+// each of them keeps, also if it fails, and the next random word.
+fn print_rounds<'a>(
+    rt: &HostRuntime,
+    bench: &mut Metered<'a>,
+    searcher: &mut Searcher<Afresh<Metered<'a>>>,
+    kept: &mut Kept<Span>,
+) -> Result<(), Stop>
+    requires jobs { (⟦<Metered<'static> as Bench>⟧.shop bench.old).jobs ≡ 3 }
+    requires machines { (⟦<Metered<'static> as Bench>⟧.shop bench.old).machines ≡ 1 }
+    requires uncounted { ⟦<Metered<'static> as Bench>⟧.counted bench.old ≡ 0 }
+    requires fit { AllFit (⟦<Metered<'static> as Bench>⟧.shop bench.old)
+        ⟦<Afresh<Metered<'static>> as Inserter<Metered<'static>>>⟧.sizes searcher.old kept.old.order }
+{
+    let returned = searcher.neh(rt.alloc(), bench, kept);
+    print_kept(rt, bench, kept)?;
+    returned?;
+    let mut rng = Counting::new(1, 2);
+    let returned = searcher.rounds(rt.alloc(), bench, kept, 5, 2, 0, &mut rng);
+    print_number(rt, "next word", rng.next_u32() as u64)?;
+    print_kept(rt, bench, kept)?;
+    returned?;
+    let returned = searcher.round(rt.alloc(), bench, kept, &[0, 0], 1);
+    print_kept(rt, bench, kept)?;
+    returned?;
+    print_number(rt, "cells", bench.cells())
 }
 
-/// Runs five rounds after NEH, of two random words each. Each other order has a longer makespan than NEH's, so each
-/// round keeps NEH's. A round in which an allocation fails has drawn its random words.
+/// Runs a search on three jobs whose orders all have the same makespan, so that each round keeps another order than the
+/// one before. If an allocation fails, NEH and a single round leave what was kept before, and rounds have drawn the
+/// words of the failed one.
 pub(crate) fn rounds_call(rt: &HostRuntime) -> Result<(), Stop> {
-    let instance = three_jobs(rt.alloc())?;
+    let instance = one_machine(rt.alloc())?;
     let mut bench = instance.metered();
     let inserter = Afresh::new(rt.alloc(), &bench)?;
     let mut searcher = Searcher::new(rt.alloc(), 3, inserter)?;
     let mut kept = Kept::new(Order::identity(rt.alloc(), 3)?, bench.zero());
-    searcher.neh(rt.alloc(), &mut bench, &mut kept)?;
-    let mut rng = Counting::new(1, 2);
-    let returned = searcher.rounds(rt.alloc(), &mut bench, &mut kept, 5, 2, 0, &mut rng);
-    print_rounds(rt, &bench, &kept, returned, &mut rng)
-}
-
-/// Runs five rounds after NEH, of one random word each. All words are odd, so each round moves the second job to the
-/// front. A round in which an allocation fails has drawn its word, and the order shows whether the number of rounds
-/// before it is even.
-pub(crate) fn turns_call(rt: &HostRuntime) -> Result<(), Stop> {
-    let instance = two_jobs(rt.alloc())?;
-    let mut bench = instance.metered();
-    let inserter = Afresh::new(rt.alloc(), &bench)?;
-    let mut searcher = Searcher::new(rt.alloc(), 2, inserter)?;
-    let mut kept = Kept::new(Order::identity(rt.alloc(), 2)?, bench.zero());
-    searcher.neh(rt.alloc(), &mut bench, &mut kept)?;
-    let mut rng = Counting::new(1, 2);
-    let returned = searcher.rounds(rt.alloc(), &mut bench, &mut kept, 5, 1, 0, &mut rng);
-    print_rounds(rt, &bench, &kept, returned, &mut rng)
-}
-
-/// Runs NEH and twenty rounds of one pass with heads and tails; only what is made before them allocates memory.
-pub(crate) fn search_call(rt: &HostRuntime) -> Result<(), Stop> {
-    let instance = three_machines(rt.alloc())?;
-    let mut bench = instance.metered();
-    let inserter = HeadsTails::new(rt.alloc(), &bench)?;
-    let mut searcher = Searcher::new(rt.alloc(), 3, inserter)?;
-    let mut kept = Kept::new(Order::identity(rt.alloc(), 3)?, bench.zero());
-    if searcher.neh(rt.alloc(), &mut bench, &mut kept).is_err() {
-        return Err(Stop::Other);
-    }
-    print_kept(rt, &bench, &kept)?;
-    let mut rng = Counting::new(1, 2);
-    if searcher
-        .rounds(rt.alloc(), &mut bench, &mut kept, 20, 3, 1, &mut rng)
-        .is_err()
-    {
-        return Err(Stop::Other);
-    }
-    print_kept(rt, &bench, &kept)
+    print_rounds(rt, &mut bench, &mut searcher, &mut kept)
 }

@@ -1,17 +1,20 @@
 //! Calls that allocate no memory. Each prints `ready` after all that it needs was made, and then its result. Nothing is
 //! allocated after `ready`.
-use crate::{FILE, ORDER, Stop};
-use pfs_audit::{Verdict, bound, check};
-use pfs_base::{Bench, put};
-use pfs_insert::{HeadsTails, Inserter};
-use pfs_layout::{BlockReader, Layout, generate, read_block, write_block};
-use pfs_order::{Order, read_order, write_order};
-use pfs_search::{Kept, Searcher};
-use pfs_tests::fakes::{Endless, Pieces, Taken};
-use pfs_tests::shops::{second_and_first, three_jobs, three_machines, two_jobs};
-use pfs_tests::words::Counting;
+ghost use Rattle.std.specs.Prelude.{◌≡◌};
+ghost use Rattle.pfs_search.specs.SearcherView.{AllFit};
 
-const EIGHT: &[u8] = b"eight by";
+use crate::Stop;
+use crate::prints::{print_instance, print_layout_fault, print_number, print_progress};
+use crate::search::print_kept;
+use pfs_base::{Bench, Instance, Metered, Span};
+use pfs_insert::{HeadsTails, Inserter};
+use pfs_layout::{BlockReader, Layout, LayoutFault, generate, read_block};
+use pfs_order::{Order, OrderFault, OrderFile, read_order};
+use pfs_search::{Kept, Searcher};
+use pfs_tests::fakes::{Endless, Pieces};
+use pfs_tests::shops::{second_and_first, three_jobs, three_machines};
+use pfs_tests::texts::{BY_MACHINE, ORDER};
+use pfs_tests::words::Counting;
 
 fn print_ready(rt: &HostRuntime) -> Result<(), Stop> {
     println!(rt; "ready")?;
@@ -25,14 +28,34 @@ pub(crate) fn still_best(rt: &HostRuntime) -> Result<(), Stop> {
     let mut bench = instance.metered();
     let mut inserter = HeadsTails::new(rt.alloc(), &bench)?;
     print_ready(rt)?;
-    let Ok(best) = inserter.best(rt.alloc(), &mut bench, &seq, 2) else {
-        return Err(Stop::Other);
-    };
-    println!(rt; "place {}", best.place)?;
-    Ok(())
+    let best = inserter.best(rt.alloc(), &mut bench, &seq, 2)?;
+    print_number(rt, "place", best.place as u64)?;
+    print_number(rt, "makespan", bench.reveal(best.span))?;
+    print_number(rt, "cells", bench.cells())
 }
 
-/// Runs NEH and five rounds of one pass with heads and tails.
+// Runs NEH and twenty rounds of one pass, and prints what each keeps.
+fn print_search<'a>(
+    rt: &HostRuntime,
+    bench: &mut Metered<'a>,
+    searcher: &mut Searcher<HeadsTails<Metered<'a>>>,
+    kept: &mut Kept<Span>,
+) -> Result<(), Stop>
+    requires jobs { (⟦<Metered<'static> as Bench>⟧.shop bench.old).jobs ≡ 3 }
+    requires machines { (⟦<Metered<'static> as Bench>⟧.shop bench.old).machines ≡ 3 }
+    requires uncounted { ⟦<Metered<'static> as Bench>⟧.counted bench.old ≡ 0 }
+    requires fit { AllFit (⟦<Metered<'static> as Bench>⟧.shop bench.old)
+        ⟦<HeadsTails<Metered<'static>> as Inserter<Metered<'static>>>⟧.sizes searcher.old kept.old.order }
+{
+    searcher.neh(rt.alloc(), bench, kept)?;
+    print_kept(rt, bench, kept)?;
+    let mut rng = Counting::new(1, 2);
+    searcher.rounds(rt.alloc(), bench, kept, 20, 3, 1, &mut rng)?;
+    print_kept(rt, bench, kept)?;
+    print_number(rt, "cells", bench.cells())
+}
+
+/// Runs a search with heads and tails.
 pub(crate) fn still_search(rt: &HostRuntime) -> Result<(), Stop> {
     let instance = three_machines(rt.alloc())?;
     let mut bench = instance.metered();
@@ -40,127 +63,62 @@ pub(crate) fn still_search(rt: &HostRuntime) -> Result<(), Stop> {
     let mut searcher = Searcher::new(rt.alloc(), 3, inserter)?;
     let mut kept = Kept::new(Order::identity(rt.alloc(), 3)?, bench.zero());
     print_ready(rt)?;
-    if searcher.neh(rt.alloc(), &mut bench, &mut kept).is_err() {
-        return Err(Stop::Other);
-    }
-    println!(rt; "makespan {}", bench.reveal(kept.span))?;
-    let mut rng = Counting::new(1, 2);
-    if searcher
-        .rounds(rt.alloc(), &mut bench, &mut kept, 5, 3, 1, &mut rng)
-        .is_err()
-    {
-        return Err(Stop::Other);
-    }
-    println!(rt; "makespan {}", bench.reveal(kept.span))?;
-    Ok(())
+    print_search(rt, &mut bench, &mut searcher, &mut kept)
 }
 
-/// Generates instances from seeds that are out of range.
-pub(crate) fn still_generate(rt: &HostRuntime) -> Result<(), Stop> {
+fn print_made(rt: &HostRuntime, made: Result<Instance, LayoutFault>) -> Result<(), Stop> {
+    match made {
+        Ok(instance) => print_instance(rt, &instance),
+        Err(fault) => print_layout_fault(rt, fault),
+    }
+}
+
+/// Generates instances from seeds that are out of range; passes to a reader a whole block before the one that it is to
+/// read; and reads files whose fault comes before the end of the size line of the block that is read.
+pub(crate) fn still_layout(rt: &HostRuntime) -> Result<(), Stop> {
     print_ready(rt)?;
     for seed in [0, 2147483647] {
-        match generate(rt.alloc(), 1, 1, seed) {
-            Ok(_) => println!(rt; "an instance")?,
-            Err(fault) => println!(rt; "{fault:?}")?,
-        }
+        print_made(rt, generate(rt.alloc(), 1, 1, seed))?;
     }
-    Ok(())
-}
-
-/// Passes to a reader a whole block before the one that it is to read.
-pub(crate) fn still_feed(rt: &HostRuntime) -> Result<(), Stop> {
     let mut reader = BlockReader::new(rt.alloc(), Layout::Taillard, 2);
-    print_ready(rt)?;
-    let progress = reader.feed(FILE)?;
-    println!(rt;
-        "{} bytes, done: {}, {} times",
-        progress.used,
-        progress.done,
-        reader.held()
-    )?;
-    match reader.finish() {
-        Ok(_) => println!(rt; "an instance")?,
-        Err(fault) => println!(rt; "{fault:?}")?,
+    if let Ok(progress) = reader.feed(BY_MACHINE) {
+        print_progress(rt, progress)?;
+        print_number(rt, "times", reader.held() as u64)?;
+    }
+    print_made(rt, reader.finish())?;
+    for (text, fails_at) in [
+        (BY_MACHINE, Some(1)),
+        (b"".as_slice(), None),
+        (b"3 2 0 0".as_slice(), None),
+    ] {
+        let mut source = Pieces::new(text, 64, fails_at);
+        print_made(rt, read_block(rt.alloc(), &mut source, Layout::Taillard, 1))?;
     }
     Ok(())
 }
 
-/// Reads files whose fault comes before the end of the size line of the block that is read.
-pub(crate) fn still_read_block(rt: &HostRuntime) -> Result<(), Stop> {
-    print_ready(rt)?;
-    for (text, fails_at) in [(FILE, Some(1)), (b"", None), (b"3 2 0 0", None)] {
-        match read_block(
-            rt.alloc(),
-            &mut Pieces::new(text, 64, fails_at),
-            Layout::Taillard,
-            1,
-        ) {
-            Ok(_) => println!(rt; "an instance")?,
-            Err(fault) => println!(rt; "{fault:?}")?,
+fn print_read(rt: &HostRuntime, read: Result<OrderFile, OrderFault>) -> Result<(), Stop> {
+    match read {
+        Ok(file) => print_number(rt, "makespan", file.makespan()),
+        Err(fault) => {
+            println!(rt; "{fault:?}")?;
+            Ok(())
         }
     }
-    Ok(())
+}
+
+// Reads this order file, 4 bytes a call.
+fn print_short(rt: &HostRuntime, text: &[u8], fails_at: Option<u64>) -> Result<(), Stop> {
+    let mut source = Pieces::new(text, 4, fails_at);
+    print_read(rt, read_order(rt.alloc(), &mut source))
 }
 
 /// Reads order files that fail: one whose read fails, two that aren't texts of the grammar, and one that is too long.
-pub(crate) fn still_read_order(rt: &HostRuntime) -> Result<(), Stop> {
+pub(crate) fn still_order(rt: &HostRuntime) -> Result<(), Stop> {
     print_ready(rt)?;
-    for (text, fails_at) in [(ORDER, Some(1)), (b"", None), (b"order 3\n2 1\n", None)] {
-        match read_order(rt.alloc(), &mut Pieces::new(text, 4, fails_at)) {
-            Ok(_) => println!(rt; "an order")?,
-            Err(fault) => println!(rt; "{fault:?}")?,
-        }
-    }
-    match read_order(rt.alloc(), &mut Endless::new(b'o', 65_537, false)) {
-        Ok(_) => println!(rt; "an order")?,
-        Err(fault) => println!(rt; "{fault:?}")?,
-    }
-    Ok(())
-}
-
-/// Computes the lower bound, and checks an order of another size.
-pub(crate) fn still_audit(rt: &HostRuntime) -> Result<(), Stop> {
-    let instance = two_jobs(rt.alloc())?;
-    let file = read_order(rt.alloc(), &mut Pieces::whole(ORDER))?;
-    print_ready(rt)?;
-    println!(rt; "bound {}", bound(&instance))?;
-    match check(rt.alloc(), &instance, &file)? {
-        Verdict::WrongSize { order, jobs } => println!(rt; "wrong size {order} {jobs}")?,
-        _ => println!(rt; "another verdict")?,
-    }
-    Ok(())
-}
-
-/// Writes an instance and an order to sinks.
-pub(crate) fn still_write(rt: &HostRuntime) -> Result<(), Stop> {
-    let instance = three_jobs(rt.alloc())?;
-    let order = Order::identity(rt.alloc(), 3)?;
-    let (mut block, mut file) = (Taken::new(256, 256), Taken::new(256, 256));
-    print_ready(rt)?;
-    if write_block(&mut block, &instance, Layout::OrLib).is_err() {
-        return Err(Stop::Other);
-    }
-    if write_order(&mut file, &order, Some(2), 11).is_err() {
-        return Err(Stop::Other);
-    }
-    println!(rt;
-        "{} bytes, {} bytes",
-        block.bytes().len(),
-        file.bytes().len()
-    )?;
-    Ok(())
-}
-
-/// Writes texts to sinks, and prints how many writes each text needs: as few as the sink's limit for a call allows, and
-/// none for an empty text.
-pub(crate) fn still_put(rt: &HostRuntime) -> Result<(), Stop> {
-    print_ready(rt)?;
-    for (bytes, most) in [(EIGHT, 8), (EIGHT, 3), (b"", 8)] {
-        let mut taken = Taken::new(256, most);
-        match put(&mut taken, bytes, 0) {
-            Ok(sent) => println!(rt; "{sent} bytes by {} writes", taken.calls())?,
-            Err(fault) => println!(rt; "failed after {}", fault.written)?,
-        }
-    }
-    Ok(())
+    print_short(rt, ORDER, Some(1))?;
+    print_short(rt, b"", None)?;
+    print_short(rt, b"order 3\n2 1\n", None)?;
+    let mut source = Endless::new(b'o', 65_537, false);
+    print_read(rt, read_order(rt.alloc(), &mut source))
 }

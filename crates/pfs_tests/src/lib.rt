@@ -5,11 +5,9 @@
 pub mod any_bench;
 #[cfg(test)]
 mod buffers;
+#[cfg(test)]
+mod devices;
 pub mod events;
-#[cfg(test)]
-mod failing;
-#[cfg(test)]
-mod failing_engines;
 pub mod fakes;
 #[cfg(test)]
 mod logs;
@@ -18,6 +16,6 @@ mod long_inputs;
 #[cfg(test)]
 mod memory_files;
 pub mod shops;
-#[cfg(test)]
-mod texts;
+pub mod tasks;
+pub mod texts;
 pub mod words;

@@ -50,12 +50,12 @@ pub fn three_jobs(alloc: Global) -> Result<Instance, BaseFault>
     shop(alloc, 3, 2, &[3, 2, 2, 5, 4, 1])
 }
 
-/// Two jobs on one machine. Both orders have the same makespan, so a removed job is inserted at the first place.
-pub fn two_jobs(alloc: Global) -> Result<Instance, BaseFault>
-    ensures jobs { IfOk result (λ made. made.shop.jobs ≡ 2) }
+/// Three jobs on one machine. All orders have the same makespan, so a removed job is inserted at the first place.
+pub fn one_machine(alloc: Global) -> Result<Instance, BaseFault>
+    ensures jobs { IfOk result (λ made. made.shop.jobs ≡ 3) }
     ensures machines { IfOk result (λ made. made.shop.machines ≡ 1) }
 {
-    shop(alloc, 2, 1, &[5, 3])
+    shop(alloc, 3, 1, &[5, 3, 1])
 }
 
 /// Three jobs on three machines. Only one order has the least makespan.

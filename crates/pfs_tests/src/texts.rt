@@ -1,4 +1,4 @@
-//! Files that the tests share.
+//! Files that tests share.
 
 /// An instance of three jobs on two machines in Taillard's layout, 121 bytes long.
 pub const BY_MACHINE: &[u8] =
@@ -7,6 +7,9 @@ pub const BY_MACHINE: &[u8] =
 
 /// The same three jobs in the OR-Library's layout.
 pub const BY_JOB: &[u8] = b"flow shop instance\n3 2\n0 3 1 2\n0 2 1 5\n0 4 1 1\n";
+
+/// The same again, as the second of three blocks.
+pub const LATER: &[u8] = b"first\n1 1\n0 7\nsecond\n3 2\n0 3 1 2\n0 2 1 5\n0 4 1 1\nthird\n";
 
 /// Five jobs on one machine, drawn from the published seed.
 pub const FIVE_JOBS: &[u8] =
