@@ -14,7 +14,7 @@ use std::alloc::Global;
 
 /// What a task does. The engines read the instance of three jobs in Taillard's layout, `Check` and `Table` also its
 /// order file, and `Later` the second block of a file in the OR-Library's layout.
-#[derive(Clone, Copy, Debug, PartialEq, Eq)]
+#[derive(Clone, Copy)]
 pub enum Task {
     Value,
     Solve,

@@ -1,6 +1,6 @@
 use Rattle.std.proofs.Common.{ℕ, ◌^◌, refl, ◌≡◌, ◌+◌, ◌-◌, ◌*◌, ◌<◌, ◌≤◌, ◌++◌, length, map, take, drop, ◌∙◌, ap, sym, arith}
 use Rattle.std.proofs.Math.Nat.{mul-le-mul_left, mul-le-mul_right}
-use Rattle.std.proofs.lemmas.List.{get_or-take, get_or_default, get_or_past, length-append, length-drop, length-map, length-take, length-take-le, take_at, with_items_is}
+use Rattle.std.proofs.lemmas.List.{get_or-take, get_or_default, length-append, length-drop, length-map, length-take, length-take-le, take_at, with_items_is}
 use Rattle.std.proofs.lemmas.Slice.{between-put_mid}
 use borrow.Rule.Slice.PartMut.{put_mid}
 use Rattle.pfs_wave.specs.Private.HeldRows.{part_from}
@@ -16,12 +16,6 @@ write_rows-requires-clause-front g c row lt =
     let in_held = length-take c.args.self.now.len order in
     sym (get_or-take c.args.self.now.len order row 0 (omega (arith, kept.in_held, in_held))) ∙ kept.same_front row lt
     ∙ get_or_default seq row 0 c.args.self.now.jobs (omega (arith, kept.in_seq))
-
-pub write_rows-requires-clause-rest : goal.write_rows-requires-clause-rest
-write_rows-requires-clause-rest g c row past lt =
-    let most = c.max.ensures in
-    let was = rw (← c.as_mut_slice-order.ensures.value) at c.requires.held.holds.rest in
-    was row (omega arith) lt ∙ sym (get_or_past c.args.seq.now row c.args.self.now.jobs (omega arith))
 
 -- the steps of a table that begins at a step fit their types
 steps_fit : (jobs start count : ℕ) → start ≤ jobs → 1 ≤ count → (2 * jobs + 9) * count < 2 ^ 32
