@@ -30,7 +30,7 @@ right_sizes : (jobs machines : ℕ) → AreSizes limits jobs machines → ((nat_
     && (nat_le 1 machines && nat_le machines MOST_MACHINES)) ≡ true
 right_sizes jobs machines h = grind (arith, nat_tests, h.some_job, h.few_jobs, h.some_machine, h.few_machines)
 
-pub short : (times : List ℕ)
+short : (times : List ℕ)
     → (list_all (λ time. nat_le time LONGEST_TIME) times ≡ true) ↔ All (λ time. time ≤ LONGEST_TIME) times
 short = Decides-by_and (λ time. nat_le time LONGEST_TIME) (λ time. time ≤ LONGEST_TIME)
     (list_all (λ time. nat_le time LONGEST_TIME)) (λ time. (leb-true time LONGEST_TIME, le-leb time LONGEST_TIME))

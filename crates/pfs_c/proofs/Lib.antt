@@ -7,4 +7,5 @@ pub mod Marks
 pub mod MemoryLemmas
 pub mod RandomWords
 pub mod RowSteps
+pub mod Times
 pub mod Visits

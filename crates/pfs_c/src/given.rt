@@ -1,6 +1,6 @@
 //! Arguments from C: they are validated and copied into the types of the crates below.
 ghost use Rattle.std.specs.Prelude.{◌≡◌, ℕ, ◌≤◌, ◌<◌, ◌+◌, ◌*◌, ◌↔◌, [], ◌∷◌, ◌++◌, length, false, All, Contains};
-ghost use Rattle.std.specs.Prelude.{◌≢◌, Err, IsOk, IsTrue, IfOk, IfErr, slice_index_or};
+ghost use Rattle.std.specs.Prelude.{◌≢◌, Err, IsOk, IsTrue, IfOk, IfErr, IfSome, IfNone, slice_index_or};
 ghost use Rattle.pfs_base.specs.FlowShop.{AreSizes, IsWithin};
 ghost use Rattle.pfs_base.specs.Limits.{limits};
 ghost use Rattle.pfs_base.specs.Lists.{first_some};
@@ -23,8 +23,7 @@ pub(crate) const NO_NOTES: Notes = Notes {
     lower: 0,
 };
 
-// If there are at most this many jobs, sequences are validated with few marks: clearing many marks takes longer than
-// validating a few jobs.
+// Up to this many jobs, sequences are validated with few marks, since clearing many takes longer than the rest.
 const FEW_JOBS: usize = 512;
 
 /// Returns an error unless a test succeeds.
@@ -63,19 +62,12 @@ pub(crate) fn validate_times(times: &[u32]) -> Result<(), CallFault>
     ensures validated { Validates result (times_fault times.now) }
     ensures short { IfOk result (λ done. All (λ time. time ≤ LONGEST_TIME) times.now) }
 {
-    validate(are_below(times, LONGEST_TIME + 1), CallFault::Time)
-}
-
-// Whether all numbers are below a limit. Only the greatest is compared, since a loop that may end early is not
-// vectorized.
-fn are_below(numbers: &[u32], limit: u32) -> bool
-    ensures { IsTrue result ↔ All (λ number. number < limit) numbers.now }
-{
-    let mut greatest = 0;
-    for number in numbers {
-        greatest = greatest.max(*number);
+    // Only the greatest is compared, since a loop that may end early is not vectorized.
+    let mut longest = 0;
+    for time in times {
+        longest = longest.max(*time);
     }
-    numbers.is_empty() || greatest < limit
+    validate(longest <= LONGEST_TIME, CallFault::Time)
 }
 
 /// Validates the sizes, then the number of times, then the times, and returns the first fault.
@@ -173,47 +165,49 @@ fn is_sequence(size: u32, jobs: &[u32], marks: &mut [bool]) -> bool
     ensures sequence { IsTrue result ↔ IsSequence size jobs.now }
     ensures marked { IsTrue result → (job : ℕ) → IsTrue (slice_index_or marks.new job false) ↔ Contains jobs.now job }
 {
-    if !are_below(jobs, size) {
-        return false;
-    }
-    // Eight in a turn: the compiler unrolls these.
-    let eights = jobs.len() / 8;
+    // Four in a turn: the compiler unrolls these.
+    let fours = jobs.len() / 4;
     let mut is_repeated = false;
-    for eight in 0..eights {
-        is_repeated = mark_some(jobs, marks, 8 * eight, 8, is_repeated);
+    for four in 0..fours {
+        match mark_some(size, jobs, marks, 4 * four, 4, is_repeated) {
+            Some(repeated) => is_repeated = repeated,
+            None => return false,
+        }
     }
-    !mark_some(
-        jobs,
-        marks,
-        8 * eights,
-        jobs.len() - 8 * eights,
-        is_repeated,
-    )
+    let rest = jobs.len() - 4 * fours;
+    mark_some(size, jobs, marks, 4 * fours, rest, is_repeated) == Some(false)
 }
 
-// Marks some jobs from a place on. Returns whether there is a repeated job up to the last of them, if `is_repeated` is
-// that for the jobs before the place. A repeated job does not end the loop, so each job is marked without a branch.
+// Marks some jobs from a place on. Returns whether a job up to the last of them is repeated, if `is_repeated` is that
+// before the place, or `None` if one of them is not below the size. A repeated job ends no loop, which takes no branch.
 #[inline(always)]
 fn mark_some(
+    size: u32,
     jobs: &[u32],
     marks: &mut [bool],
     place: usize,
     count: usize,
     mut is_repeated: bool,
-) -> bool
+) -> Option<bool>
     requires place { place + count ≤ length jobs.now }
-    requires marked { AreMarked jobs.now marks.old is_repeated place }
-    ensures { AreMarked jobs.now marks.new result (place + count) }
+    requires marked { AreMarked size jobs.now marks.old is_repeated place }
+    ensures beyond { IfNone result (IsSequence size jobs.now → ⊥) }
+    ensures marked { IfSome result (λ repeated. AreMarked size jobs.now marks.new repeated (place + count)) }
 {
+    for next in place..place + count {
+        if jobs[next] >= size {
+            return None;
+        }
+    }
     for next in place..place + count {
         let job = jobs[next] as usize;
         is_repeated |= marks[job];
         marks[job] = true;
     }
-    is_repeated
+    Some(is_repeated)
 }
 
-/// Makes an instance of validated times. It allocates once, and returns `Memory` if that fails; it has no other error.
+/// Makes an instance of validated times. It allocates once, and its only error is `Memory`.
 pub(crate) fn instance_of(
     alloc: Global,
     times: &[u32],
@@ -228,8 +222,7 @@ pub(crate) fn instance_of(
     Instance::of_times(alloc, jobs, machines, times, notes).or(Err(CallFault::Memory))
 }
 
-/// Makes an order of validated jobs, which are all jobs. It allocates once, and returns `Memory` if that fails; it has
-/// no other error.
+/// Makes an order of validated jobs, which are all jobs. It allocates once, and its only error is `Memory`.
 pub(crate) fn order_of(alloc: Global, jobs: &[u32]) -> Result<Order, CallFault>
     requires some { 1 ≤ length jobs.now }
     requires few { length jobs.now ≤ MOST_JOBS }

@@ -101,8 +101,7 @@ impl Kept {
         self.instance.metered().reveal(self.search.kept.span)
     }
 
-    /// Makes rounds from an order, and overwrites it with the result. Writes the makespan of the result and the number
-    /// of cells.
+    /// Makes rounds from an order, which it overwrites. Writes the makespan of the result and the number of cells.
     pub(crate) fn rounds(
         &mut self,
         alloc: Global,

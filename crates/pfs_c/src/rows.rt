@@ -40,8 +40,7 @@ fn index_in_turn(count: usize, turn: usize, back: bool) -> usize
     if back { count - 1 - turn } else { turn }
 }
 
-// The machine that comes at a turn, if `left` machines come after it. A loop that computes it from the number of all is
-// slower.
+// The machine that comes at a turn, if `left` machines come after it. To compute it from the number of all is slower.
 #[inline(always)]
 fn machine_at(turn: usize, left: usize, back: bool) -> usize
     ensures { result ≡ in_turn back (turn + 1 + left) turn }

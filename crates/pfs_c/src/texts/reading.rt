@@ -21,8 +21,7 @@ use pfs_order::{OrderFault, OrderFile, read_order};
 use std::alloc::Global;
 
 /// Reads a block, counted from 1, of an instance file in memory, in the layout that a number names. The processing
-/// times are stored in the front of `times`, job by job. If they do not fit there, the function returns `PFS_ROOM` and
-/// still sets `found`.
+/// times are stored in the front of `times`, job by job. If they do not fit, it returns `PFS_ROOM` and sets `found`.
 ///
 /// It returns `PFS_LAYOUT` if no layout has the number, `PFS_BLOCK` if the block's number is invalid, and a number from
 /// `PFS_NO_BLOCK` on if the file has a fault; then `place` is the fault's count, line or offset. Memory for the times

@@ -1,5 +1,9 @@
+use Rattle.std.proofs.Common.{ℕ, ◌<◌, ◌≤◌, get_or}
 use Rattle.pfs_c.specs.Private.Marks.{AreMarked}
 use Rattle.pfs_c.proofs.given.mark_some.Given as goal
 
 abbrev pub invariant-loop-next : goal.invariant-loop-next
-invariant-loop-next l = AreMarked l.jobs l.marks l.is_repeated l.next
+invariant-loop-next l = (at : ℕ) → l.place ≤ at → at < l.next → get_or l.jobs at 0 < l.size
+
+abbrev pub invariant-loop-next-2 : goal.invariant-loop-next-2
+invariant-loop-next-2 l = AreMarked l.size l.jobs l.marks l.is_repeated l.next
