@@ -1,3 +1,4 @@
+use Rattle.std.proofs.lemmas.Grind.{common_steps}
 use Rattle.std.proofs.Common.{◌∙◌, ap, length, refl, arith}
 use Rattle.std.proofs.lemmas.List.{length_push}
 use Rattle.pfs_wave.proofs.RowCells.{rows_more}
@@ -31,3 +32,6 @@ loop-k-preserved g c =
       rows = rw is (rows_more g.T.Stored.lanes c.args.instance.now.shop c.args.count rows c.loop-job.job c.loop-k.k vector
           so_far.rows long c.loop-k-test.true c.job_vector.ensures);
     }
+
+pub returns-clause-rows : goal.returns-clause-rows
+returns-clause-rows g c = grind (arith, common_steps)

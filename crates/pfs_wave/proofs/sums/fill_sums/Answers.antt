@@ -1,3 +1,4 @@
+use Rattle.std.proofs.lemmas.Grind.{common_steps}
 use Rattle.std.proofs.Common.{ℕ, suc, ◌≡◌, ◌+◌, ◌-◌, ◌*◌, ◌<◌, length, map, take, drop, get_or, ap, ◌∙◌, refl}
 use Rattle.std.proofs.Common.{min, arith, inl, inr}
 use Rattle.std.proofs.lemmas.Bool.{cases_lt}
@@ -101,3 +102,9 @@ returns-clause-sums g c t rows machines paid of job_of are times_are tails_are j
           (ap (λ lanes. t.sum place (lanes * g.row.N)) all)
           (filled.summed.sum_is place lane (omega arith) le (omega arith))
     ]
+
+pub array_of-job-requires : goal.array_of-job-requires
+array_of-job-requires g c = grind (arith, common_steps)
+
+pub step_sums-carry-requires : goal.step_sums-carry-requires
+step_sums-carry-requires g c = grind (arith, common_steps)

@@ -1,3 +1,4 @@
+use Rattle.std.proofs.lemmas.Grind.{common_steps}
 use Rattle.std.proofs.Common.{◌≡◌, ◌+◌, ◌∙◌, length, map, refl, arith}
 use Rattle.pfs_wave.specs.Private.Blending.{past_at}
 use Rattle.pfs_wave.specs.Private.HeldRows.{rows_at}
@@ -37,3 +38,6 @@ loop-step-preserved g c =
           next_is lanes rows row (c.args.row + (c.loop-step.step + 1)) c.push-one.result.next (omega arith) c.vector_of.ensures
           (c.push-one.ensures.next (past_at rows row) so_far.blends);
     }
+
+pub overflow_add-row-in-loop-step-2 : goal.overflow_add-row-in-loop-step-2
+overflow_add-row-in-loop-step-2 g c = grind (arith, common_steps)

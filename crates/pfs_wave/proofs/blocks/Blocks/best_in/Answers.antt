@@ -1,3 +1,4 @@
+use Rattle.std.proofs.lemmas.Grind.{common_steps}
 use Rattle.std.proofs.Common.{◌≡◌, ◌+◌, ◌-◌, ◌*◌, length, map, take, drop, get_or, ap, ◌∙◌, sym, refl, arith}
 use Rattle.std.proofs.lemmas.List.{with_items_is}
 use Rattle.pfs_base.specs.FlowShop.{FlowShop}
@@ -78,3 +79,6 @@ pub returns-clause-found : goal.returns-clause-found
 returns-clause-found g c shop has paid =
     let found = rw (c.first_steps.ensures, c.deref-2.ensures.value) at c.best_place.ensures.found in
     found shop c.args.sequence.now c.args.job (passed g c shop has paid)
+
+pub best_place-requires-clause-times : goal.best_place-requires-clause-times
+best_place-requires-clause-times g c = grind (arith, common_steps)

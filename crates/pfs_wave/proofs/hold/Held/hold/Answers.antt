@@ -1,3 +1,4 @@
+use Rattle.std.proofs.lemmas.Grind.{common_steps}
 use Rattle.std.proofs.Common.{ℕ, ◌^◌, refl, ◌≡◌, ◌+◌, ◌-◌, ◌*◌, ◌<◌, ◌≤◌, ◌++◌, length, map, take, drop, ◌∙◌, ap, sym, arith}
 use Rattle.std.proofs.Math.Nat.{mul-le-mul_left, mul-le-mul_right}
 use Rattle.std.proofs.lemmas.List.{get_or-take, get_or_default, length-append, length-drop, length-map, length-take, length-take-le, take_at, with_items_is}
@@ -109,3 +110,12 @@ returns-clause-held g c =
           c.fill_times.ensures.held k k_lt (rw (all) ((rw (c.as_mut_slice-table.ensures.value) at c.move_kept-changed.ensures.held) (map lanes c.args.rows.now)
           held.order.items others c.args.seq.now k k_lt refl all c.write_rows.ensures.rows (rw order_value at c.kept_rows-kept.ensures) holds))));
     }
+
+pub fill_times-requires-clause-small : goal.fill_times-requires-clause-small
+fill_times-requires-clause-small g c = grind (arith, common_steps)
+
+pub fill_times-requires-clause-steps : goal.fill_times-requires-clause-steps
+fill_times-requires-clause-steps g c = grind (arith, common_steps)
+
+pub offset_bounds-table-start : goal.offset_bounds-table-start
+offset_bounds-table-start g c = grind (arith, common_steps)

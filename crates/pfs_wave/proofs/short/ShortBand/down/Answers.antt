@@ -1,0 +1,5 @@
+use Rattle.pfs_wave.proofs.EightLanes.{lanes_down}
+use Rattle.pfs_wave.proofs.short.ShortBand.down.Goals as goal
+
+pub returns : goal.returns
+returns c = lanes_down c.args.self.values c.args.self.eight
