@@ -4,7 +4,7 @@ import pathlib
 from itertools import groupby
 
 import pytest
-from support.files import THREE_JOBS, THREE_JOBS_BY_JOB
+from support.files import THREE_JOBS
 from support.growths import Shim
 from support.lines import ANSWERS, EACH, refused
 from support.program import Program, Ran, Words
