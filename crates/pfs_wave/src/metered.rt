@@ -63,10 +63,9 @@ impl<'a> MeteredLanes<'a> {
         ensures shop { ⟦<MeteredLanes<'a> as Bench>⟧.shop self.new
             ≡ ⟦<MeteredLanes<'a> as Bench>⟧.shop self.old }
     {
-        let permits = Permits::count(&mut self.bench, seq.len());
-        let best = self
-            .tables
-            .find(permits, self.instance, seq.as_slice(), job, &mut []);
+        let jobs = seq.as_slice();
+        let permits = Permits::count(&mut self.bench, jobs.len());
+        let best = self.tables.find(permits, self.instance, jobs, job, &mut []);
         Placed {
             place: best.place,
             span: self.bench.length(best.span),

@@ -10,10 +10,10 @@ length-requires c =
     let shop : FlowShop = record { jobs = self.bench.jobs; machines = self.bench.machines; times = self.bench.times.now } in
     let seq = c.args.seq.now in
     let few = length-lt-size seq.size c.args.job seq.jobs (omega (arith, c.requires.job, c.requires.size))
-    c.requires.absent c.len.ensures.sequence in
+    c.requires.absent c.as_slice-jobs.ensures.sequence in
     best_span shop seq.jobs c.args.job c.find-best.result.place c.find-best.result.span self.within
-    (omega (arith, few, c.requires.size)) (rw self.same at (rw c.as_slice.ensures.value at c.find-best.ensures.best))
+    (omega (arith, few, c.requires.size)) (rw self.same at (rw c.as_slice-jobs.ensures.value at c.find-best.ensures.best))
 
 pub returns-clause-best : goal.returns-clause-best
 returns-clause-best c =
-    rw c.length.ensures (rw c.args.self.now.same at (rw c.as_slice.ensures.value at c.find-best.ensures.best))
+    rw c.length.ensures (rw c.args.self.now.same at (rw c.as_slice-jobs.ensures.value at c.find-best.ensures.best))
