@@ -462,7 +462,7 @@ LINES = [
     ("0.1", "exec >&- 2>&-; sleep 1000", "still running, .*"),
     ("0.1", f"{SLEEP} & {SLEEP} > /dev/null 2>&1 & sleep 0.1; echo 1", "1 2"), ("0.1", "sleep 1; echo 2", "2 0"),
     ("0.2", f"({SPIN} &); sleep 1000", r"took too long: [01]\.\d\d s of processor time instead of 0.2 s"),
-    ("0.05", "for each in $(seq 200); do (for at in $(seq 9000); do :; done); done; echo 3", "took too long: .*"),
+    ("0.05", "for each in $(seq 200); do (for at in $(seq 30000); do :; done); done; echo 3", "took too long: .*"),
     ("0.01", "python3 -c 'import time\nwhile time.process_time() < 0.3: pass'; echo 4", "4 0"),
     ("9", "kill -9 $$", "signal 9"),
 ]
