@@ -189,18 +189,21 @@ fn mark_some(
     count: usize,
     mut is_repeated: bool,
 ) -> Option<bool>
-    requires place { place + count ≤ length jobs.now }
+    requires place { (count ≤ 4) × (place + count ≤ length jobs.now) }
     requires marked { AreMarked size jobs.now marks.old is_repeated place }
     ensures beyond { IfNone result (IsSequence size jobs.now → ⊥) }
     ensures marked { IfSome result (λ repeated. AreMarked size jobs.now marks.new repeated (place + count)) }
 {
-    for next in place..place + count {
-        if jobs[next] >= size {
+    // All are read before one is marked, as the compiler can't tell that marks are no jobs.
+    let mut some = [0; 4];
+    for next in 0..count {
+        some[next] = jobs[place + next];
+        if some[next] >= size {
             return None;
         }
     }
-    for next in place..place + count {
-        let job = jobs[next] as usize;
+    for next in 0..count {
+        let job = some[next] as usize;
         is_repeated |= marks[job];
         marks[job] = true;
     }

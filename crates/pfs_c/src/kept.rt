@@ -198,8 +198,7 @@ impl Kept {
         Ok(())
     }
 
-    /// Makes passes over a list of jobs, from the sequence of the first `count` jobs of `order`, and overwrites `order`
-    /// with the result. Returns the makespan of the result.
+    /// Makes passes over a list of jobs from the first `count` of `order`, which it overwrites. Returns the makespan.
     pub(crate) fn visit(
         &mut self,
         list: &[u32],

@@ -69,8 +69,7 @@ fn add_job(instance: &Instance, sequence: &[u32], count: usize, row: &mut [u64],
     }
 }
 
-// Adds two jobs to a row of heads. The cells of the second job wait for other cells than those of the first, so the
-// processor computes both at once.
+// Adds two jobs to a row of heads. The cells of both wait for different cells, so the processor computes both at once.
 #[inline(always)]
 fn add_two_jobs(instance: &Instance, sequence: &[u32], count: usize, heads: &mut [u64])
     requires sequence { IsSequence instance.now.shop.jobs sequence.now }

@@ -123,8 +123,7 @@ fn file_answer(fault: LayoutFault) -> (CallFault, u64)
 /// order does not fit, the function returns `PFS_ROOM` and still sets jobs, machines and makespan.
 ///
 /// It returns a number from `PFS_SYNTAX` on if the file has a fault; then `place` is the fault's offset, or its place
-/// in the order, counted from 1. Memory for the order is allocated once the text is known to match the grammar, before
-/// its jobs are validated.
+/// in the order, counted from 1. Memory is allocated once the text matches the grammar, before its jobs are validated.
 #[unsafe(no_mangle)]
 pub extern "C" fn pfs_read_order(
     alloc: Global,
