@@ -179,7 +179,7 @@ fn is_sequence(size: u32, jobs: &[u32], marks: &mut [bool]) -> bool
 }
 
 // Marks some jobs from a place on. Returns whether a job up to the last of them is repeated, if `is_repeated` is that
-// before the place, or `None` if one of them is not below the size. A repeated job ends no loop, which takes no branch.
+// before the place, or `None` if one of them is not below the size. No branch depends on whether a job is repeated.
 #[inline(always)]
 fn mark_some(
     size: u32,
