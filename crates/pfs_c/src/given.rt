@@ -194,7 +194,7 @@ fn mark_some(
     ensures beyond { IfNone result (IsSequence size jobs.now → ⊥) }
     ensures marked { IfSome result (λ repeated. AreMarked size jobs.now marks.new repeated (place + count)) }
 {
-    // All are read before one is marked, as the compiler can't tell that marks are no jobs.
+    // All are read before one is marked: for the compiler a mark may overwrite a job.
     let mut some = [0; 4];
     for next in 0..count {
         some[next] = jobs[place + next];

@@ -19,6 +19,7 @@ pub(crate) fn print_instance(rt: &HostRuntime, instance: &Instance) -> Result<()
     Ok(())
 }
 
+/// Prints a fault of an instance file.
 pub(crate) fn print_layout_fault(rt: &HostRuntime, fault: LayoutFault) -> Result<(), Stop> {
     println!(rt; "{fault:?}")?;
     Ok(())
