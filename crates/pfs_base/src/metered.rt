@@ -5,9 +5,10 @@ ghost use Rattle.std.specs.Simd.Lanes.{chunk};
 ghost use Rattle.pfs_base.specs.Joins.{greatest_join};
 ghost use Rattle.pfs_base.specs.Paths.{greatest};
 ghost use Rattle.pfs_base.specs.Limits.{limits};
-ghost use Rattle.pfs_base.specs.FlowShop.{FlowShop, IsWithin};
+ghost use Rattle.pfs_base.specs.FlowShop.{FlowShop, IsWithin, time_of};
 
 use crate::bench::{Bench, Length, SPAN_MAX, Shop};
+use crate::limits::LONGEST_TIME;
 use crate::permit::{Paid, Permit};
 use std::marker::Model;
 use std::simd::prelude::*;
@@ -126,6 +127,17 @@ impl<'a> Metered<'a> {
             times,
             cells: 0,
         }
+    }
+
+    /// The time of a job on a machine, in the instance's own unit of time. It counts nothing.
+    #[inline(always)]
+    pub fn time(&self, job: usize, machine: usize) -> u32
+        requires job { job < (⟦<Metered<'a> as Bench>⟧.shop self.now).jobs }
+        requires machine { machine < (⟦<Metered<'a> as Bench>⟧.shop self.now).machines }
+        ensures value { result ≡ time_of (⟦<Metered<'a> as Bench>⟧.shop self.now) job machine }
+        ensures short { result ≤ LONGEST_TIME }
+    {
+        self.times[job * self.machines + machine]
     }
 
     /// Adds to the count the cells of a pass over the same instance, and returns the permit that the pass spends.

@@ -95,10 +95,12 @@ impl Kept {
         ensures found { IsNeh self.old order.new result cells.new }
         ensures shop { self.new ≡ self.old }
     {
-        *cells = self.search.neh(alloc, &self.instance);
+        self.search.cells = 0;
+        let bench = self.search.neh(alloc, self.instance.metered());
+        *cells = bench.cells();
         self.is_span_known = true;
         copy_sequence(self.search.kept.order.seq(), order);
-        self.instance.metered().reveal(self.search.kept.span)
+        bench.reveal(self.search.kept.span)
     }
 
     /// Makes rounds from an order, which it overwrites. Writes the makespan of the result and the number of cells.
@@ -133,13 +135,17 @@ impl Kept {
             seed: options.seed,
         };
         let start_span = self.span_of(order);
-        self.search.start(&self.instance, order, start_span);
-        *cells = self
+        // The cells of the makespan that the rounds begin with are not theirs, so another bench counts them.
+        self.search
+            .start(&mut self.instance.metered(), order, start_span);
+        self.search.cells = 0;
+        let bench = self
             .search
-            .rounds(alloc, &self.instance, options.first, rounds);
+            .rounds(alloc, self.instance.metered(), options.first, rounds);
+        *cells = bench.cells();
         self.is_span_known = true;
         copy_sequence(self.search.kept.order.seq(), order);
-        *span = self.instance.metered().reveal(self.search.kept.span);
+        *span = bench.reveal(self.search.kept.span);
         Ok(())
     }
 
@@ -170,10 +176,10 @@ impl Kept {
         ensures kept_span { IfErr result (λ _. span.new ≡ span.old) }
     {
         validate_insertion(self.instance.jobs(), sequence, job)?;
-        self.is_span_known = false;
-        let best = self.search.best(&self.instance, sequence, job as usize);
+        let mut bench = self.instance.metered();
+        let best = self.search.best(&mut bench, sequence, job as usize);
         *place = best.place;
-        *span = best.span;
+        *span = bench.reveal(best.span);
         Ok(())
     }
 
@@ -192,9 +198,9 @@ impl Kept {
     {
         validate(makespans.len() == sequence.len() + 1, CallFault::Length)?;
         validate_insertion(self.instance.jobs(), sequence, job)?;
-        self.is_span_known = false;
+        let mut bench = self.instance.metered();
         self.search
-            .insertions(&self.instance, sequence, job as usize, makespans);
+            .insertions(&mut bench, sequence, job as usize, makespans);
         Ok(())
     }
 
@@ -214,7 +220,6 @@ impl Kept {
         ensures span { result ≡ makespan self.old order.new }
         ensures shop { self.new ≡ self.old }
     {
-        self.is_span_known = false;
         let seq = &mut self.sequence;
         seq.set(&order[..count]);
         make_visits(&self.instance, &mut self.search, seq, list, passes);
@@ -232,6 +237,7 @@ fn make_visits(instance: &Instance, search: &mut Search, seq: &mut Seq, list: &[
     requires small { All (λ job. job < instance.now.shop.jobs) list.now }
     ensures jobs { seq.new ≡ record seq.old { jobs = after_visits instance.now.shop list.now passes seq.old.jobs } }
     ensures search { IsSearchOf instance.now.shop search.new }
+    ensures kept { search.new.kept ≡ search.old.kept }
 {
     for _pass in 0..passes {
         visit_once(instance, search, seq, list);
@@ -245,11 +251,12 @@ fn visit_once(instance: &Instance, search: &mut Search, seq: &mut Seq, list: &[u
     requires small { All (λ job. job < instance.now.shop.jobs) list.now }
     ensures jobs { seq.new ≡ record seq.old { jobs = visited instance.now.shop list.now seq.old.jobs } }
     ensures search { IsSearchOf instance.now.shop search.new }
+    ensures kept { search.new.kept ≡ search.old.kept }
 {
     for job in list {
         let job = *job as usize;
         take_out(seq, job);
-        let best = search.best(instance, seq.as_slice(), job);
+        let best = search.best(&mut instance.metered(), seq.as_slice(), job);
         seq.insert_at(best.place, job);
     }
 }

@@ -1,6 +1,6 @@
 -- The result and the count of a search, and of some of its rounds from a given order.
-use Rattle.std.proofs.Common.{◌≡◌, ℕ, ◌+◌, ◌-◌, ◌*◌, ◌<◌, ◌≤◌, ◌^◌, List, length, refl, ◌∙◌, arith, lit<}
-use Rattle.std.proofs.Math.Nat.{mul-le-mul, mul-le-mul_left, zero-add}
+use Rattle.std.proofs.Common.{◌≡◌, ℕ, ◌+◌, ◌-◌, ◌*◌, ◌<◌, ◌≤◌, ◌^◌, List, length, refl, ap, ◌∙◌, arith, lit<}
+use Rattle.std.proofs.Math.Nat.{mul-le-mul, mul-le-mul_left, mul-le-mul_right, zero-add}
 use Rattle.rand_core.specs.Pcg32Seed.{pcg32_seed}
 use Rattle.rand_core.specs.Steps.{stream_of, steps_u32}
 use Rattle.rand_core.specs.Stream.{Stream}
@@ -12,6 +12,7 @@ use Rattle.pfs_base.specs.FlowShop.{FlowShop, IsWithin}
 use Rattle.pfs_base.specs.Paths.{makespan}
 use Rattle.pfs_base.proofs.Published.Heads.{none_longer}
 use Rattle.pfs_order.specs.Sequence.{IsSequence}
+use Rattle.pfs_order.proofs.Published.Sequences.{length-le-size}
 use Rattle.pfs_insert.specs.Insertion.{heads_tails_cost}
 use Rattle.pfs_search.specs.Costs.{neh_cost, round_cost, HasClosedCosts}
 use Rattle.pfs_search.specs.Greedy.{after_rounds, words_of}
@@ -43,6 +44,16 @@ rounds_cells_few : (shop : FlowShop) (rounds take passes : ℕ) → take ≤ sho
     → rounds_cells shop rounds take passes ≤ rounds * (take + passes * shop.jobs) * shop.machines * (4 * shop.jobs - 2)
 rounds_cells_few shop rounds take passes few =
     rw (rounds_cells_are shop rounds take passes few) at (closed.rounds rounds shop.jobs shop.machines take passes few)
+
+-- the cells of NEH and of rounds on a bench over the same shop
+pub neh_cost_is : (own shop : FlowShop) → own ≡ shop → neh_cost heads_tails_cost own.jobs own.machines ≡ neh_cells shop
+neh_cost_is own shop same = closed.neh own.jobs own.machines ∙ ap neh_cells same
+
+pub rounds_cost_is : (own shop : FlowShop) (rounds take passes : ℕ) → own ≡ shop → take ≤ shop.jobs
+    → rounds * round_cost heads_tails_cost own.jobs own.machines take passes ≡ rounds_cells shop rounds take passes
+rounds_cost_is own shop rounds take passes same few =
+    ap (λ (s : FlowShop). rounds * round_cost heads_tails_cost s.jobs s.machines take passes) same
+    ∙ rounds_cells_are shop rounds take passes few
 
 -- the cells of all rounds are the sum of the cells of two parts
 cells_of_parts : (a b put_back passed : ℕ)
@@ -92,25 +103,22 @@ few_rounds_cells shop rounds take passes within few short scarce =
     through _ _ most_rounds_cells (rounds_cells_few shop rounds take passes few)
     (mul-le-mul (mul-le-mul (mul-le-mul short moved) sizes.few_machines) width)
 
--- a count of 64 bits has room for these cells
-pub neh_room : (shop : FlowShop) → IsWithin limits shop → neh_cost heads_tails_cost shop.jobs shop.machines < 2 ^ 62
-neh_room shop within = rw (closed.neh shop.jobs shop.machines)
-    (below_room _ most_neh_cells (few_neh_cells shop within) (lit< tt))
+-- a count has room for these cells
+pub neh_fits : (shop : FlowShop) → IsWithin limits shop → neh_cells shop < 2 ^ 62
+neh_fits shop within = below_room _ most_neh_cells (few_neh_cells shop within) (lit< tt)
 
-pub rounds_room : (shop : FlowShop) (rounds take passes : ℕ) → IsWithin limits shop → take ≤ shop.jobs
-    → rounds ≤ MOST_ROUNDS → passes ≤ MOST_PASSES
-    → rounds * round_cost heads_tails_cost shop.jobs shop.machines take passes < 2 ^ 62
-rounds_room shop rounds take passes within few short scarce = rw (rounds_cells_are shop rounds take passes few)
-    (below_room _ most_rounds_cells (few_rounds_cells shop rounds take passes within few short scarce) (lit< tt))
+pub rounds_fit : (shop : FlowShop) (rounds take passes : ℕ) → IsWithin limits shop → take ≤ shop.jobs
+    → rounds ≤ MOST_ROUNDS → passes ≤ MOST_PASSES → rounds_cells shop rounds take passes < 2 ^ 62
+rounds_fit shop rounds take passes within few short scarce =
+    below_room _ most_rounds_cells (few_rounds_cells shop rounds take passes within few short scarce) (lit< tt)
 
-pub both_fit : (shop : FlowShop) (rounds take passes one other : ℕ) → IsWithin limits shop → take ≤ shop.jobs
-    → rounds ≤ MOST_ROUNDS → passes ≤ MOST_PASSES → one ≡ neh_cells shop → other ≡ rounds_cells shop rounds take passes
-    → one + other < 2 ^ 64
-both_fit shop rounds take passes one other within few short scarce is_one is_other =
-    let one_fits : one < 2 ^ 62 = rw is_one (below_room _ most_neh_cells (few_neh_cells shop within) (lit< tt)) in
-    let other_fits : other < 2 ^ 62 =
-    rw is_other (below_room _ most_rounds_cells (few_rounds_cells shop rounds take passes within few short scarce) (lit< tt)) in
-    omega (arith, one_fits, other_fits)
+pub insertion_fits : (shop : FlowShop) (jobs : List ℕ) → IsWithin limits shop → IsSequence shop.jobs jobs
+    → heads_tails_cost (length jobs + 1) shop.machines < 2 ^ 62
+insertion_fits shop jobs within sequence =
+    let few : 4 * (length jobs + 1) - 2 ≤ 20002 =
+    omega (arith, length-le-size shop.jobs jobs sequence, within.sizes.few_jobs) in
+    let cells = mul-le-mul_right shop.machines few in
+    omega (arith, cells, within.sizes.few_machines)
 
 -- ---- makespans
 
@@ -121,29 +129,27 @@ makespan_short shop order within e = omega (arith, none_longer shop order within
 -- ---- results
 
 -- a number of rounds on the random words of a stream are completed
-pub record RoundsDone (shop : FlowShop) (rounds take passes : ℕ) (stream : Stream) (old : List ℕ)
-    (old_span old_cells : ℕ) (order : List ℕ) (span cells : ℕ) : Type 0 where
+pub record RoundsDone (shop : FlowShop) (rounds take passes : ℕ) (stream : Stream) (old : List ℕ) (old_span : ℕ)
+    (order : List ℕ) (span : ℕ) : Type 0 where
   pub is_order : order ≡ after_rounds shop passes rounds take old (words_of (rounds * take) stream)
   pub is_span : span ≡ makespan shop order
   pub never_rises : span ≤ old_span
-  pub counted : cells ≡ old_cells + rounds * round_cost heads_tails_cost shop.jobs shop.machines take passes
 
 pub improved_is : (shop : FlowShop) (first count take passes seed : ℕ) (generator : Lcg) (start : List ℕ)
-    (start_span old_cells : ℕ) (order : List ℕ) (span cells : ℕ) → take ≤ shop.jobs
+    (start_span : ℕ) (order : List ℕ) (span : ℕ) → take ≤ shop.jobs
     → generator ≡ advance 64 multiplier_64 (first * take) (pcg32_of_seed (pcg32_seed 16 seed))
-    → start_span ≡ makespan shop start → old_cells ≡ 0
-    → RoundsDone shop count take passes (stream_of (steps_u32 pcg32) generator) start start_span old_cells order span
-    cells
+    → start_span ≡ makespan shop start
+    → RoundsDone shop count take passes (stream_of (steps_u32 pcg32) generator) start start_span order span
     → length order ≡ shop.jobs → IsSequence shop.jobs order
-    → IsImproved shop start first count take passes seed order span cells
-improved_is shop first count take passes seed generator start start_span old_cells order span cells few advanced spanned
-    fresh done all distinct = record {
+    → IsImproved shop start first count take passes seed order span (rounds_cells shop count take passes)
+improved_is shop first count take passes seed generator start start_span order span few advanced spanned done all
+    distinct = record {
       found = done.is_order ∙ rw (words_after_are seed generator first count take advanced);
       all = all;
       distinct = distinct;
       spanned = done.is_span;
       no_longer = rw (← spanned) done.never_rises;
-      counted = done.counted ∙ rw (fresh, zero-add) (rounds_cells_are shop count take passes few);
+      counted = refl;
       few_cells = rounds_cells_few shop count take passes few;
     }
 

@@ -9,7 +9,7 @@ use crate::kept::Kept;
 use crate::rounds::Rounds;
 use crate::search::Search;
 use pfs_audit::makespan;
-use pfs_base::{Instance, Span};
+use pfs_base::{Bench, Instance, Span};
 use pfs_order::Order;
 use std::alloc::Global;
 
@@ -37,12 +37,12 @@ pub fn solve(alloc: Global, instance: &Instance, rounds: Rounds) -> Result<Solut
     ensures fault { IfErr result (λ fault. fault ≡ SearchFault.Memory 0) }
 {
     let mut search = Search::new(alloc, instance)?;
-    let neh = search.neh(alloc, instance);
-    let cells = search.rounds(alloc, instance, 0, rounds);
+    let bench = search.neh(alloc, instance.metered());
+    let bench = search.rounds(alloc, bench, 0, rounds);
     Ok(Solution {
-        makespan: instance.metered().reveal(search.kept.span),
+        makespan: bench.reveal(search.kept.span),
         order: search.kept.order,
-        cells: neh + cells,
+        cells: bench.cells(),
     })
 }
 
@@ -65,11 +65,11 @@ pub fn improve(
 {
     let mut search = Search::new(alloc, instance)?;
     search.kept = measure(alloc, instance, order)?;
-    let cells = search.rounds(alloc, instance, first, rounds);
+    let bench = search.rounds(alloc, instance.metered(), first, rounds);
     Ok(Solution {
-        makespan: instance.metered().reveal(search.kept.span),
+        makespan: bench.reveal(search.kept.span),
         order: search.kept.order,
-        cells,
+        cells: bench.cells(),
     })
 }
 

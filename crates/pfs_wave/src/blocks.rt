@@ -3,6 +3,7 @@ ghost use Rattle.std.specs.Prelude.{◌≡◌, ℕ, ◌+◌, ◌*◌, ◌<◌, �
 ghost use Rattle.std.specs.List.{All};
 ghost use Rattle.pfs_base.specs.FlowShop.{FlowShop};
 ghost use Rattle.pfs_wave.specs.Private.Blocks.{HasShop, vectors_in};
+ghost use Rattle.pfs_wave.specs.declared.blocks.Width.{Width};
 ghost use Rattle.pfs_wave.specs.Private.Payment.{IsFound, IsPaid};
 
 use crate::band::Band;
@@ -39,7 +40,8 @@ impl Width {
     /// The least number whose lanes have room for this number of machines.
     pub fn for_machines(machines: usize) -> Width
         requires { machines ≤ 208 }
-        ensures { machines ≤ 8 * vectors_in result }
+        ensures enough { machines ≤ 8 * vectors_in result }
+        ensures least { (other : Width) → machines ≤ 8 * vectors_in other → vectors_in result ≤ vectors_in other }
     {
         match machines {
             0..=8 => Width::One,
@@ -102,6 +104,7 @@ fn lanes_for(machines: usize, count: usize) -> usize
     ensures enough { machines ≤ result * count }
     ensures some { 1 ≤ result }
     ensures eight { result ≤ 8 }
+    ensures least { result * count < machines + count }
 {
     (machines + count - 1) / count
 }

@@ -6,9 +6,8 @@ ghost use Rattle.pfs_insert.specs.Inserter.{IsBestPlace};
 ghost use Rattle.pfs_insert.specs.Insertion.{heads_tails_cost};
 ghost use Rattle.pfs_wave.specs.Tables.{HasLanes};
 
-use crate::best::Permits;
 use crate::tables::{LaneTables, OfShop};
-use pfs_base::{Bench, Instance, Length, Metered, Shop, Span};
+use pfs_base::{Bench, Length, Metered, Shop, Span};
 use pfs_insert::{InsertFault, Inserter, Placed};
 use pfs_order::Seq;
 use std::alloc::Global;
@@ -18,32 +17,30 @@ use std::marker::Model;
 #[derive(Drop)]
 pub struct MeteredLanes<'a> {
     bench: Metered<'a>,
-    instance: &'a Instance,
     tables: LaneTables,
     ghost within: { IsWithin limits (⟦<Metered<'static> as Bench>⟧.shop bench) },
-    ghost same: { instance.now.shop ≡ ⟦<Metered<'static> as Bench>⟧.shop bench },
     ghost own: { HasLanes (⟦<Metered<'static> as Bench>⟧.shop bench) tables },
 }
 
 impl<'a> MeteredLanes<'a> {
-    /// A bench over an instance and its tables, with a count of 0 cells.
-    pub fn over(instance: &'a Instance, tables: LaneTables) -> MeteredLanes<'a>
-        requires { ⟦<LaneTables as OfShop>⟧.is_of tables instance.now.shop }
-        ensures shop { ⟦<MeteredLanes<'a> as Bench>⟧.shop result ≡ instance.now.shop }
-        ensures counted { ⟦<MeteredLanes<'a> as Bench>⟧.counted result ≡ 0 }
+    /// A bench that counts on another one, and has the tables of its shop.
+    pub fn over(bench: Metered<'a>, tables: LaneTables) -> MeteredLanes<'a>
+        requires { ⟦<LaneTables as OfShop>⟧.is_of tables (⟦<Metered<'static> as Bench>⟧.shop bench) }
+        ensures shop { ⟦<MeteredLanes<'a> as Bench>⟧.shop result ≡ ⟦<Metered<'static> as Bench>⟧.shop bench.entry }
+        ensures counted { ⟦<MeteredLanes<'a> as Bench>⟧.counted result
+            ≡ ⟦<Metered<'static> as Bench>⟧.counted bench.entry }
     {
-        MeteredLanes {
-            bench: instance.metered(),
-            instance,
-            tables,
-        }
+        MeteredLanes { bench, tables }
     }
 
-    /// The tables, for another bench over the same instance.
-    pub fn into_tables(self) -> LaneTables
-        ensures { ⟦<LaneTables as OfShop>⟧.is_of result (⟦<MeteredLanes<'a> as Bench>⟧.shop self.entry) }
+    /// The bench with its count, and the tables, for another bench over the same instance.
+    pub fn into_parts(self) -> (Metered<'a>, LaneTables)
+        ensures tables { ⟦<LaneTables as OfShop>⟧.is_of result.1 (⟦<MeteredLanes<'a> as Bench>⟧.shop self.entry) }
+        ensures shop { ⟦<Metered<'static> as Bench>⟧.shop result.0 ≡ ⟦<MeteredLanes<'a> as Bench>⟧.shop self.entry }
+        ensures counted { ⟦<Metered<'static> as Bench>⟧.counted result.0
+            ≡ ⟦<MeteredLanes<'a> as Bench>⟧.counted self.entry }
     {
-        self.tables
+        (self.bench, self.tables)
     }
 
     /// The best place for a job that is not in the sequence, and the makespan with the job there. It counts the cells
@@ -63,13 +60,8 @@ impl<'a> MeteredLanes<'a> {
         ensures shop { ⟦<MeteredLanes<'a> as Bench>⟧.shop self.new
             ≡ ⟦<MeteredLanes<'a> as Bench>⟧.shop self.old }
     {
-        let jobs = seq.as_slice();
-        let permits = Permits::count(&mut self.bench, jobs.len());
-        let best = self.tables.find(permits, self.instance, jobs, job, &mut []);
-        Placed {
-            place: best.place,
-            span: self.bench.length(best.span),
-        }
+        self.tables
+            .best(&mut self.bench, seq.as_slice(), job, &mut [])
     }
 
     /// The length as a number, for printing. It counts no cells.

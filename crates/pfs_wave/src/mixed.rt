@@ -1,5 +1,5 @@
 //! Insertions in lanes of 16 bits where the makespans are known to fit in them, and else of 32.
-ghost use Rattle.std.specs.Prelude.{◌≡◌, ◌≢◌, ℕ, ◌+◌, ◌<◌, ◌≤◌, ◌↔◌, ◌⊎◌, [], length, Contains, IsTrue, IfOk};
+ghost use Rattle.std.specs.Prelude.{◌≡◌, ◌≢◌, ℕ, ◌+◌, ◌-◌, ◌^◌, ◌<◌, ◌≤◌, ◌↔◌, ◌⊎◌, [], length, Contains, IsTrue, IfOk};
 ghost use Rattle.std.specs.List.{All, slice_index_or};
 ghost use Rattle.pfs_base.specs.FlowShop.{FlowShop};
 ghost use Rattle.pfs_base.specs.Paths.{makespan};
@@ -16,7 +16,7 @@ use crate::blocks::Blocks;
 use crate::hold::common_front;
 use crate::long::Long;
 use crate::short::Short;
-use pfs_base::{Instance, Paid, Shop};
+use pfs_base::{Bench, Instance, Metered, Paid, Shop};
 use pfs_insert::Placed;
 use pfs_order::Seq;
 use std::alloc::{AllocError, Global};
@@ -68,7 +68,8 @@ impl Known {
     // A sequence of no jobs, with this number for its makespan. It reserves memory for all jobs, and returns
     // `AllocError` where that fails.
     fn new(alloc: Global, instance: &Instance, span: u64) -> Result<Known, AllocError>
-        ensures { IfOk result (λ made. IsKnown instance.now.shop made) }
+        ensures known { IfOk result (λ made. IsKnown instance.now.shop made) }
+        ensures bound { IfOk result (λ made. made.span ≡ span) }
     {
         match Seq::new(alloc, instance.jobs()) {
             Ok(seq) => Ok(Known { seq, span }),
@@ -116,7 +117,8 @@ impl Mixed {
     pub fn new(alloc: Global, instance: &Instance) -> Result<Mixed, AllocError>
         requires times { All (λ time. time ≤ 65535) instance.now.shop.times }
         requires paths { longest_path instance.now.shop < 4294967295 }
-        ensures { IfOk result (λ made. IsMixed instance.now.shop made) }
+        ensures made { IfOk result (λ made. IsMixed instance.now.shop made) }
+        ensures none_kept { IfOk result (λ made. made.kept.span ≡ 2 ^ 64 - 1) }
     {
         Ok(Mixed {
             last: Known::new(alloc, instance, 0)?,
@@ -139,15 +141,15 @@ impl Mixed {
     // that at its best place, is below 65,535. The job makes the makespan longer by at most its total time. The sharper
     // bound by the last job takes longer to compute, so it comes second.
     #[inline(always)]
-    fn fits(&self, instance: &Instance, jobs: &[u32], job: usize) -> bool
-        requires own { IsMixed instance.now.shop self.now }
-        requires jobs { All (λ other. other < instance.now.shop.jobs) jobs.now }
-        requires job { job < instance.now.shop.jobs }
+    fn fits(&self, bench: &Metered, jobs: &[u32], job: usize) -> bool
+        requires own { IsMixed (⟦<Metered<'static> as Bench>⟧.shop bench.now) self.now }
+        requires jobs { All (λ other. other < (⟦<Metered<'static> as Bench>⟧.shop bench.now).jobs) jobs.now }
+        requires job { job < (⟦<Metered<'static> as Bench>⟧.shop bench.now).jobs }
         ensures { IsTrue result
-            → makespan_with instance.now.shop jobs.now job (length jobs.now) < 65535 }
+            → makespan_with (⟦<Metered<'static> as Bench>⟧.shop bench.now) jobs.now job (length jobs.now) < 65535 }
     {
-        self.has_room(jobs, instance.metered().total(job))
-            || (!jobs.is_empty() && self.has_room(jobs, most_added(instance, jobs, job)))
+        self.has_room(jobs, bench.total(job))
+            || (!jobs.is_empty() && self.has_room(jobs, most_added(bench, jobs, job)))
     }
 
     // Keeps a sequence with a job at its best place.
@@ -174,23 +176,25 @@ impl Mixed {
     pub fn best(
         &mut self,
         permits: Permits,
-        instance: &Instance,
+        bench: &Metered,
         jobs: &[u32],
         job: usize,
         spans: &mut [u64],
     ) -> Placed<Paid>
-        requires own { IsMixed instance.now.shop self.old }
-        requires sequence { IsSequence instance.now.shop.jobs jobs.now }
-        requires job { job < instance.now.shop.jobs }
+        requires own { IsMixed (⟦<Metered<'static> as Bench>⟧.shop bench.now) self.old }
+        requires sequence { IsSequence (⟦<Metered<'static> as Bench>⟧.shop bench.now).jobs jobs.now }
+        requires job { job < (⟦<Metered<'static> as Bench>⟧.shop bench.now).jobs }
         requires absent { Contains jobs.now job → ⊥ }
         requires room { length spans.old ≤ length jobs.now + 1 }
-        requires paid { IsPaid permits.tails permits.sums (length jobs.now) instance.now.shop.machines }
-        ensures best { IsBestPlace instance.now.shop jobs.now job result.place result.span }
+        requires paid { IsPaid permits.tails permits.sums (length jobs.now) (⟦<Metered<'static> as Bench>⟧.shop bench.now).machines }
+        ensures best { IsBestPlace (⟦<Metered<'static> as Bench>⟧.shop bench.now) jobs.now job result.place result.span }
         ensures spans { (place : ℕ) → place < length spans.old
-            → slice_index_or spans.new place 0 ≡ makespan_with instance.now.shop jobs.now job place }
-        ensures still { IsMixed instance.now.shop self.new }
+            → slice_index_or spans.new place 0 ≡ makespan_with (⟦<Metered<'static> as Bench>⟧.shop bench.now) jobs.now job place }
+        ensures still { IsMixed (⟦<Metered<'static> as Bench>⟧.shop bench.now) self.new }
+        ensures last { self.new.last ≡ known_with self.old.last jobs.now job result.place result.span }
+        ensures order { self.new.kept ≡ (after_best self.old jobs.now job result.place result.span).kept }
     {
-        let best = if spans.is_empty() && self.fits(instance, jobs, job) {
+        let best = if spans.is_empty() && self.fits(bench, jobs, job) {
             self.narrow.best(permits, jobs, job, spans)
         } else {
             self.wide.best(permits, jobs, job, spans)
@@ -206,19 +210,19 @@ impl Mixed {
 
 // The most that a job can make the makespan longer, after all others: what it makes it longer after the last one alone.
 #[inline(never)]
-fn most_added(instance: &Instance, jobs: &[u32], job: usize) -> u64
+fn most_added(bench: &Metered, jobs: &[u32], job: usize) -> u64
     requires some { 1 ≤ length jobs.now }
-    requires jobs { All (λ other. other < instance.now.shop.jobs) jobs.now }
-    requires job { job < instance.now.shop.jobs }
-    ensures { makespan_with instance.now.shop jobs.now job (length jobs.now)
-        ≤ makespan instance.now.shop jobs.now + result }
+    requires jobs { All (λ other. other < (⟦<Metered<'static> as Bench>⟧.shop bench.now).jobs) jobs.now }
+    requires job { job < (⟦<Metered<'static> as Bench>⟧.shop bench.now).jobs }
+    ensures { makespan_with (⟦<Metered<'static> as Bench>⟧.shop bench.now) jobs.now job (length jobs.now)
+        ≤ makespan (⟦<Metered<'static> as Bench>⟧.shop bench.now) jobs.now + result }
 {
     let last = jobs[jobs.len() - 1] as usize;
     let mut alone = 0;
     let mut both = 0;
-    for machine in 0..instance.machines() {
-        alone += u64::from(instance.time(last, machine));
-        both = alone.max(both) + u64::from(instance.time(job, machine));
+    for machine in 0..bench.machines() {
+        alone += u64::from(bench.time(last, machine));
+        both = alone.max(both) + u64::from(bench.time(job, machine));
     }
     both - alone
 }

@@ -5,7 +5,7 @@ ghost use Rattle.pfs_base.specs.FlowShop.{FlowShop, IsWithin};
 ghost use Rattle.pfs_base.specs.Limits.{limits};
 ghost use Rattle.pfs_base.specs.Paths.{greatest};
 ghost use Rattle.pfs_insert.specs.Inserter.{IsBestPlace};
-ghost use Rattle.pfs_insert.specs.Insertion.{makespan_with};
+ghost use Rattle.pfs_insert.specs.Insertion.{heads_tails_cost, makespan_with};
 ghost use Rattle.pfs_order.specs.Sequence.{IsSequence};
 ghost use Rattle.pfs_wave.specs.Private.Blocks.{longest_path};
 ghost use Rattle.pfs_wave.specs.Private.Payment.{IsPaid};
@@ -16,7 +16,7 @@ use crate::blocks::Blocks;
 use crate::long::{Long, LongTimes, Wide};
 use crate::mixed::Mixed;
 use crate::short::Short;
-use pfs_base::{Instance, Paid};
+use pfs_base::{Bench, Instance, Metered, Paid, Span};
 use pfs_insert::Placed;
 use std::alloc::{AllocError, Global};
 
@@ -87,56 +87,63 @@ impl LaneTables {
     }
 
     /// The best place for a job that is not in the sequence, and the makespan with the job there. `spans` gets the
-    /// makespans with the job at the first places, as many as it has room for. It allocates nothing.
+    /// makespans with the job at the first places, as many as it has room for. It allocates nothing, and the bench counts
+    /// the cells of the insertion (`Permits::count`).
+    #[inline(always)]
     pub fn best(
         &mut self,
-        instance: &Instance,
+        bench: &mut Metered,
         jobs: &[u32],
         job: usize,
         spans: &mut [u64],
-    ) -> Placed<u64>
-        requires own { ⟦<LaneTables as OfShop>⟧.is_of self.old instance.now.shop }
-        requires sequence { IsSequence instance.now.shop.jobs jobs.now }
-        requires job { job < instance.now.shop.jobs }
+    ) -> Placed<Span>
+        requires own { ⟦<LaneTables as OfShop>⟧.is_of self.old (⟦<Metered<'static> as Bench>⟧.shop bench.old) }
+        requires sequence { IsSequence (⟦<Metered<'static> as Bench>⟧.shop bench.old).jobs jobs.now }
+        requires job { job < (⟦<Metered<'static> as Bench>⟧.shop bench.old).jobs }
         requires absent { Contains jobs.now job → ⊥ }
-        requires room { length spans.old ≤ length jobs.now + 1 }
-        ensures best { IsBestPlace instance.now.shop jobs.now job result.place result.span }
+        requires spans { length spans.old ≤ length jobs.now + 1 }
+        requires room { ⟦<Metered<'static> as Bench>⟧.counted bench.old
+            + heads_tails_cost (length jobs.now + 1) (⟦<Metered<'static> as Bench>⟧.shop bench.old).machines < 2 ^ 64 }
+        ensures best { IsBestPlace (⟦<Metered<'static> as Bench>⟧.shop bench.old) jobs.now job result.place result.span }
         ensures spans { (place : ℕ) → place < length spans.old
-            → slice_index_or spans.new place 0 ≡ makespan_with instance.now.shop jobs.now job place }
-        ensures still { ⟦<LaneTables as OfShop>⟧.is_of self.new instance.now.shop }
+            → slice_index_or spans.new place 0 ≡ makespan_with (⟦<Metered<'static> as Bench>⟧.shop bench.old) jobs.now job place }
+        ensures counted { ⟦<Metered<'static> as Bench>⟧.counted bench.new ≡ ⟦<Metered<'static> as Bench>⟧.counted bench.old
+            + heads_tails_cost (length jobs.now + 1) (⟦<Metered<'static> as Bench>⟧.shop bench.old).machines }
+        ensures shop { ⟦<Metered<'static> as Bench>⟧.shop bench.new ≡ ⟦<Metered<'static> as Bench>⟧.shop bench.old }
+        ensures still { ⟦<LaneTables as OfShop>⟧.is_of self.new (⟦<Metered<'static> as Bench>⟧.shop bench.old) }
     {
-        let permits = Permits::count(&mut instance.metered(), jobs.len());
-        let best = self.find(permits, instance, jobs, job, spans);
+        let permits = Permits::count(bench, jobs.len());
+        let best = self.find(permits, bench, jobs, job, spans);
         Placed {
             place: best.place,
-            span: best.span.number(),
+            span: bench.length(best.span),
         }
     }
 
-    /// `best`, where the permits pay for its cells.
+    // `best`, where the permits pay for its cells.
     #[inline(always)]
-    pub(crate) fn find(
+    fn find(
         &mut self,
         permits: Permits,
-        instance: &Instance,
+        bench: &Metered,
         jobs: &[u32],
         job: usize,
         spans: &mut [u64],
     ) -> Placed<Paid>
-        requires own { HasLanes instance.now.shop self.old }
-        requires sequence { IsSequence instance.now.shop.jobs jobs.now }
-        requires job { job < instance.now.shop.jobs }
+        requires own { HasLanes (⟦<Metered<'static> as Bench>⟧.shop bench.now) self.old }
+        requires sequence { IsSequence (⟦<Metered<'static> as Bench>⟧.shop bench.now).jobs jobs.now }
+        requires job { job < (⟦<Metered<'static> as Bench>⟧.shop bench.now).jobs }
         requires absent { Contains jobs.now job → ⊥ }
         requires room { length spans.old ≤ length jobs.now + 1 }
-        requires paid { IsPaid permits.tails permits.sums (length jobs.now) instance.now.shop.machines }
-        ensures best { IsBestPlace instance.now.shop jobs.now job result.place result.span }
+        requires paid { IsPaid permits.tails permits.sums (length jobs.now) (⟦<Metered<'static> as Bench>⟧.shop bench.now).machines }
+        ensures best { IsBestPlace (⟦<Metered<'static> as Bench>⟧.shop bench.now) jobs.now job result.place result.span }
         ensures spans { (place : ℕ) → place < length spans.old
-            → slice_index_or spans.new place 0 ≡ makespan_with instance.now.shop jobs.now job place }
-        ensures still { HasLanes instance.now.shop self.new }
+            → slice_index_or spans.new place 0 ≡ makespan_with (⟦<Metered<'static> as Bench>⟧.shop bench.now) jobs.now job place }
+        ensures still { HasLanes (⟦<Metered<'static> as Bench>⟧.shop bench.now) self.new }
     {
         match &mut self.wave {
             Wave::Short(blocks) => blocks.best(permits, jobs, job, spans),
-            Wave::Mixed(mixed) => mixed.best(permits, instance, jobs, job, spans),
+            Wave::Mixed(mixed) => mixed.best(permits, bench, jobs, job, spans),
             Wave::Long(blocks) => blocks.best(permits, jobs, job, spans),
             Wave::Wide(blocks) => blocks.best(permits, jobs, job, spans),
         }

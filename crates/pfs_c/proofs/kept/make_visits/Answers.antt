@@ -11,6 +11,7 @@ loop-pass-preserved c =
     let list = c.args.list.now in
     record {
       search = c.visit_once.ensures.search;
+      kept = c.visit_once.ensures.kept ∙ c.loop-pass.invariant.kept;
       size = ap (λ (s : Sequence). s.size) c.visit_once.ensures.jobs ∙ c.loop-pass.invariant.size;
       order = c.visit_once.ensures.jobs
           ∙ ap (λ (s : Sequence). record s { jobs = visited shop list s.jobs }) c.loop-pass.invariant.order

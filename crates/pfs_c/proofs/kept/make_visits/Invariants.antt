@@ -6,6 +6,7 @@ use Rattle.pfs_c.proofs.kept.make_visits.Given as goal
 abbrev pub invariant-loop-pass : goal.invariant-loop-pass
 invariant-loop-pass l = record {
   search : IsSearchOf l.instance.shop l.search;
+  kept : l.search.kept ≡ l.fn.search.kept;
   size : l.seq.size ≡ l.instance.shop.jobs;
   order : l.seq ≡ record l.fn.seq { jobs = after_visits l.instance.shop l.list l._pass l.fn.seq.jobs };
 }

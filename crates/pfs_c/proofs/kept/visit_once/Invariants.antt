@@ -6,6 +6,7 @@ use Rattle.pfs_c.proofs.kept.visit_once.Given as goal
 abbrev pub invariant-loop-job : goal.invariant-loop-job
 invariant-loop-job l = record {
   search : IsSearchOf l.instance.shop l.search;
+  kept : l.search.kept ≡ l.fn.search.kept;
   size : l.seq.size ≡ l.instance.shop.jobs;
   order : l.seq ≡ record l.fn.seq { jobs = visited l.instance.shop (take l.job-index l.list) l.fn.seq.jobs };
 }

@@ -1,33 +1,41 @@
-use Rattle.std.proofs.Common.{◌≤◌, subst, arith}
-use Rattle.pfs_base.specs.FlowShop.{IsWithin}
-use Rattle.pfs_base.specs.Limits.{limits}
-use Rattle.pfs_base.specs.declared.limits.TheConstants.{MOST_ROUNDS}
-use Rattle.pfs_search.proofs.Found.{both_fit, found_after, makespan_short}
+use Rattle.std.proofs.Common.{◌≡◌, ◌+◌, ap, subst, ◌∙◌, arith}
+use Rattle.pfs_base.specs.FlowShop.{FlowShop}
+use Rattle.pfs_search.specs.Solution.{IsImproved, IsNeh, neh_cells, rounds_cells}
+use Rattle.pfs_search.proofs.Found.{neh_fits, found_after, makespan_short}
 use Rattle.pfs_search.proofs.solution.solve.Goals as goal
 
-pub overflow_add-result : goal.overflow_add-result
-overflow_add-result c =
-    let rounds = c.args.rounds in
-    let limited = c.requires.limits in
-    let within = subst (IsWithin limits) c.metered.ensures.shop c.metered.result.within in
-    let short : rounds.count ≤ MOST_ROUNDS = omega (arith, limited.count) in
-    let room = both_fit c.args.instance.now.shop rounds.count rounds.take rounds.passes c.neh-neh.result
-    c.rounds-cells.result within limited.few short limited.passes c.neh-neh.ensures.found.counted
-    c.rounds-cells.ensures.found.counted in
-    omega (arith, room)
+pub rounds-bench-requires-clause-room : goal.rounds-bench-requires-clause-room
+rounds-bench-requires-clause-room c =
+    let neh = c.neh-bench.ensures in
+    omega (arith, neh_fits _ c.metered.result.within, c.metered.ensures.counted, neh.counted, neh.cells)
 
 pub returns-clause-found : goal.returns-clause-found
 returns-clause-found c =
     let rounds = c.args.rounds in
-    let neh = c.neh-neh.new.self.kept in
-    let kept = c.rounds-cells.new.self.kept in
-    rw c.reveal.ensures
-    (found_after c.args.instance.now.shop rounds.count rounds.take rounds.passes rounds.seed neh.order kept.order
-    neh.span kept.span c.neh-neh.result c.rounds-cells.result c.neh-neh.ensures.found c.rounds-cells.ensures.found)
+    let shop = c.args.instance.now.shop in
+    let fresh = c.metered.ensures in
+    let neh = c.neh-bench.ensures in
+    let done = c.rounds-bench.ensures in
+    let start = c.neh-bench.new.self.kept in
+    let kept = c.rounds-bench.new.self.kept in
+    let same = neh.shop ∙ fresh.shop in
+    let begun = subst (λ (s : FlowShop). IsNeh s start.order start.span (neh_cells s)) fresh.shop neh.found in
+    let gone_on = subst (λ (s : FlowShop). IsImproved s start.order 0 rounds.count rounds.take rounds.passes rounds.seed
+    kept.order kept.span (rounds_cells s rounds.count rounds.take rounds.passes)) same done.found in
+    let cells : c.cells.result ≡ neh_cells shop + rounds_cells shop rounds.count rounds.take rounds.passes = omega (
+      arith,
+      c.cells.ensures,
+      done.counted,
+      neh.counted,
+      fresh.counted,
+      ap neh_cells fresh.shop,
+      ap (λ s. rounds_cells s rounds.count rounds.take rounds.passes) same,
+    ) in
+    rw (c.reveal.ensures, cells) (found_after shop rounds.count rounds.take rounds.passes rounds.seed start.order kept.order
+    start.span kept.span _ _ begun gone_on)
 
 pub returns-clause-short : goal.returns-clause-short
 returns-clause-short c =
-    let found = c.rounds-cells.ensures.found in
-    let within = subst (IsWithin limits) c.metered.ensures.shop c.metered.result.within in
-    let short = makespan_short c.args.instance.now.shop c.rounds-cells.new.self.kept.order within found.all in
+    let found = c.rounds-bench.ensures.found in
+    let short = makespan_short _ c.rounds-bench.new.self.kept.order c.neh-bench.result.within found.all in
     omega (arith, short, found.spanned, c.reveal.ensures)

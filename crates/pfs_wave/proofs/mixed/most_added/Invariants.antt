@@ -8,5 +8,5 @@ invariant-loop-machine l = record {
   alone_small : l.alone ≤ l.machine * 1000000000;
   both_small : l.both ≤ l.machine * 2000000000;
   less : l.alone ≤ l.both;
-  are : AreAlone (time_of l.instance.shop l.last) (time_of l.instance.shop l.job) l.machine l.alone l.both;
+  are : AreAlone (time_of (record { jobs = l.bench.jobs; machines = l.bench.machines; times = l.bench.times.now }) l.last) (time_of (record { jobs = l.bench.jobs; machines = l.bench.machines; times = l.bench.times.now }) l.job) l.machine l.alone l.both;
 }

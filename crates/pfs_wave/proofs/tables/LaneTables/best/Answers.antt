@@ -1,16 +1,16 @@
-use Rattle.std.proofs.Common.{◌≡◌, ◌+◌, ◌-◌, ◌*◌, ◌≤◌, length, ap, arith}
-use Rattle.std.proofs.Math.Nat.{mul-le-mul_right}
+use Rattle.std.proofs.Common.{arith}
 use Rattle.pfs_base.specs.FlowShop.{FlowShop}
-use Rattle.pfs_order.proofs.Published.Sequences.{length-le-size}
+use Rattle.pfs_order.proofs.Published.Sequences.{length-lt-size}
+use Rattle.pfs_wave.proofs.ServedPaths.{best_span}
 use Rattle.pfs_wave.proofs.tables.LaneTables.best.Goals as goal
 
-pub count-permits-requires : goal.count-permits-requires
-count-permits-requires c =
-    let shop = c.args.instance.now.shop in
-    let jobs = c.args.jobs.now in
-    let sizes = c.metered.result.within.sizes in
-    let same : c.metered.result.jobs ≡ shop.jobs = ap (λ (s : FlowShop). s.jobs) c.metered.ensures.shop in
-    let few : 4 * (length jobs + 1) - 2 ≤ 20002 =
-    omega (arith, length-le-size shop.jobs jobs c.requires.sequence, sizes.few_jobs, same) in
-    let cells = mul-le-mul_right c.metered.result.machines few in
-    record { room = omega (arith, cells, sizes.few_machines, c.metered.ensures.counted) }
+pub length-requires : goal.length-requires
+length-requires c =
+    let bench = c.args.bench.now in
+    let shop : FlowShop = record { jobs = bench.jobs; machines = bench.machines; times = bench.times.now } in
+    let few = length-lt-size shop.jobs c.args.job c.args.jobs.now c.requires.job c.requires.absent c.requires.sequence in
+    best_span shop c.args.jobs.now c.args.job c.find-best.result.place c.find-best.result.span bench.within few
+    (rw c.count-permits.ensures.shop at c.find-best.ensures.best)
+
+pub returns-clause-best : goal.returns-clause-best
+returns-clause-best c = rw (c.length.ensures, ← c.count-permits.ensures.shop) c.find-best.ensures.best

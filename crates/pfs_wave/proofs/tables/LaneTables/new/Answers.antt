@@ -52,7 +52,7 @@ returns c =
           rw w.wave-is (
             omega (arith, path.value, w.if-path-lt65535.false),
             omega (arith, longest, w.if-longest-le65535.true),
-            w.in_ok-new-2.ensures,
+            w.in_ok-new-2.ensures.made,
           )
       | else-path-lt65535+else-longest-le65535+then-path-lt4294967295+in_ok-new-3 w ↦
           rw w.wave-is (
