@@ -109,3 +109,40 @@ def test_each_file_keeps_the_rules_of_editorconfig() -> None:
     faults = {str(path.relative_to(TOP)): faults_of(path) for path in files_below(TOP)}
     assert len(faults) > 500
     assert {path: found for path, found in faults.items() if found} == {}
+
+
+# Mutants
+
+FUNCTION = re.compile(r"^( *)(?:pub(?:\(\w+\))? )?(?:unsafe )?(?:extern \"C\" )?fn (\w+)", re.MULTILINE)
+CLAUSE = re.compile(r"^ *(?:ensures(?: (\w+))? \{|ghost (from_gives) =)", re.MULTILINE)
+CONDITION = re.compile(r"^ *requires (\w+) \{", re.MULTILINE)
+MUTANTS = {f"{path.parts[-3]}/{path.stem}": path for path in sorted(TOP.glob("crates/*/must-fail/*.edit"))}
+
+
+@functools.cache
+def contracts(clauses: re.Pattern[str]) -> dict[str, set[str]]:
+    """The functions of all crates by their names, with the names of their clauses; `ensures` is one without a name."""
+    found: dict[str, set[str]] = {}
+    for source in TOP.glob("crates/*/src/**/*.rt"):
+        _, *parts = FUNCTION.split(source.read_text())
+        for name, text in zip(parts[1::3], parts[2::3], strict=True):
+            found.setdefault(name, set()).update("".join(names) or "ensures" for names in clauses.findall(text))
+    return found
+
+
+@pytest.mark.parametrize("mutant", MUTANTS)
+def test_a_mutant_is_named_after_the_function_that_it_edits_and_a_clause_of_it(mutant: str) -> None:
+    """FUNCTION.CLAUSE.edit, where FUNCTION may begin with the name of a type. The clause is one that the function
+    ensures, the `invariant` of the type that it returns, or a condition of a function that it calls. A mutant that edits
+    what is outside of functions is named after one that this changes."""
+    path = MUTANTS[mutant]
+    name, clause = path.name.split(".")[:2]
+    text = path.read_text()
+    file, line = re.findall(r"^(?:file|old): (.*)$", text, re.MULTILINE)[:2]
+    before, _ = (path.parent.parent / file).read_text().split(line)
+    [*_, edited] = [None, *FUNCTION.finditer(before)]
+    if edited and f"\n{edited[1]}}}\n" not in before[edited.end():]:
+        assert f"_{name}".endswith(f"_{edited[2]}")
+    ensured = [names for function, names in contracts(CLAUSE).items() if f"_{name}".endswith(f"_{function}")]
+    called = [names for function, names in contracts(CONDITION).items() if re.search(rf"\b{function}\(", text)]
+    assert ensured and clause in {"invariant"}.union(*ensured, *called)
