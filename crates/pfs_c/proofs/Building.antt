@@ -1,4 +1,4 @@
--- Jobs of a list that leave their places for their best ones in turn, and what construction and local search find.
+-- What construction and local search find.
 use Rattle.std.proofs.Common.{◌≡◌, ℕ, zero, suc, ◌+◌, ◌<◌, ◌≤◌, ◌++◌, List, [], ◌∷◌, length, All, Contains, Some, None}
 use Rattle.std.proofs.Common.{get_or, insert, remove, nat_eq, refl, ap, sym, ◌∙◌, suc-add, arith}
 use Rattle.std.specs.List.{list_any}
@@ -20,67 +20,24 @@ use Rattle.pfs_order.proofs.Published.Sequences.{IsSequence-head, IsSequence-mov
 use Rattle.pfs_order.proofs.Published.Sequences.{insert-remove, others-absent, others_are}
 use Rattle.pfs_insert.specs.Insertion.{best_place}
 use Rattle.pfs_insert.proofs.Published.BestPlaces.{best_place_least}
-use Rattle.pfs_search.specs.Greedy.{moved}
+use Rattle.pfs_search.specs.Greedy.{pass_over, passes_over}
 use Rattle.pfs_search.specs.Neh.{with_jobs}
 use Rattle.pfs_c.specs.declared.numbers.CallFault.TheVariants.{Job}
-use Rattle.pfs_c.specs.Building.{members_fault, visited, after_visits, AllJobsLaw, VisitsLaw}
-use Rattle.pfs_c.specs.Building.{IsConstructed, IsLocalSearch}
+use Rattle.pfs_search.proofs.Published.Moves.{passes_keep}
+use Rattle.pfs_c.specs.Building.{members_fault, IsConstructed, IsLocalSearch}
 use Rattle.pfs_c.proofs.Jobs.{absent_any, joined}
-
--- ---- jobs of a sequence
-
-module _ (shop : FlowShop) (old : List ℕ) (distinct : IsSequence shop.jobs old) where
-  -- a sequence with the same jobs that is no longer
-  pub record IsNoLonger (new : List ℕ) : Type 0 where
-    pub same : IsPermutation old new
-    pub shorter : makespan shop new ≤ makespan shop old
-
-  moved_kept : (jobs : List ℕ) (job : ℕ) → Contains old job → IsNoLonger jobs → IsNoLonger (moved shop jobs job)
-  moved_kept jobs job among kept =
-      let (place, within, is) = Contains-permutation old jobs job kept.same among in
-      let at : job ≡ get_or jobs place 0 = sym is ∙ get_or_default jobs place job 0 within in
-      let rest : List ℕ = remove jobs place in
-      let best : ℕ = best_place shop rest job in
-      let fewer = length-remove jobs place within in
-      let least = best_place_least shop rest job place (omega arith) in
-      let back = ap (makespan shop) (insert-remove place job jobs within at) in
-      let sequence = IsSequence-permutation shop.jobs old jobs kept.same distinct in
-      rw (others_are shop.jobs place job jobs sequence within at) (record {
-        same = IsPermutation-trans old jobs (insert rest best job) kept.same
-            (IsPermutation-trans jobs (job ∷ rest) (insert rest best job)
-            (IsPermutation-remove jobs place job within (sym is)) (IsPermutation-insert rest best job));
-        shorter = omega (arith, back, least, kept.shorter);
-      })
-
-  visited_kept : (list jobs : List ℕ) → All (λ job. Contains old job) list → IsNoLonger jobs
-      → IsNoLonger (visited shop list jobs)
-  visited_kept [] jobs among kept = kept
-  visited_kept (job ∷ list) jobs among kept =
-      visited_kept list (moved shop jobs job) (All-tail (λ j. Contains old j) job list among)
-      (moved_kept jobs job (All-head (λ j. Contains old j) job list among) kept)
-
-  passes_kept : (list : List ℕ) (passes : ℕ) (jobs : List ℕ) → All (λ job. Contains old job) list → IsNoLonger jobs
-      → IsNoLonger (after_visits shop list passes jobs)
-  passes_kept list zero jobs among kept = kept
-  passes_kept list (suc passes) jobs among kept =
-      passes_kept list passes (visited shop list jobs) among (visited_kept list jobs among kept)
-
-  pub visits_kept : (list : List ℕ) (passes : ℕ) → All (λ job. Contains old job) list
-      → IsNoLonger (after_visits shop list passes old)
-  visits_kept list passes among =
-      passes_kept list passes old among (record { same = IsPermutation-refl old; shorter = omega arith })
 
 -- ---- jobs that are not in a sequence
 
 -- absent jobs are inserted
-pub visited_absent : (shop : FlowShop) (size : ℕ) (more jobs : List ℕ) → IsSequence size (more ++ jobs)
-    → visited shop more jobs ≡ with_jobs shop jobs more
-visited_absent shop size [] jobs together = refl
-visited_absent shop size (job ∷ more) jobs together =
+pub pass_absent : (shop : FlowShop) (size : ℕ) (more jobs : List ℕ) → IsSequence size (more ++ jobs)
+    → pass_over shop more jobs ≡ with_jobs shop jobs more
+pass_absent shop size [] jobs together = refl
+pass_absent shop size (job ∷ more) jobs together =
     let absent : Contains jobs job → ⊥ =
     λ among. IsSequence-head size job (more ++ jobs) together (Contains-append_right more jobs job among) in
     let best : ℕ = best_place shop jobs job in
-    let rest = visited_absent shop size more (insert jobs best job)
+    let rest = pass_absent shop size more (insert jobs best job)
     (IsSequence-moved size job best more jobs together) in
     rw (others-absent job jobs absent) rest
 
@@ -93,13 +50,6 @@ with_jobs_all shop (job ∷ more) jobs =
     (IsPermutation-sym (more ++ (job ∷ jobs)) (job ∷ (more ++ jobs)) (IsPermutation-middle more job jobs))
     (IsPermutation-append_right more (job ∷ jobs) next (IsPermutation-insert jobs (best_place shop jobs job) job)))
     (with_jobs_all shop more next)
-
--- ---- one more pass
-
-pub visits_more : (shop : FlowShop) (list : List ℕ) (passes : ℕ) (jobs : List ℕ)
-    → after_visits shop list (passes + 1) jobs ≡ visited shop list (after_visits shop list passes jobs)
-visits_more shop list zero jobs = refl
-visits_more shop list (suc passes) jobs = rw suc-add (visits_more shop list passes (visited shop list jobs))
 
 -- ---- jobs of a list that are in a sequence
 
@@ -125,11 +75,11 @@ more_small size first more together k d lt = rw (get_or-append-add first more k 
     (together.in_range (length first + k) d (omega (arith, length-append {A = ℕ}, lt)))
 
 pub construct_is : (shop : FlowShop) (sequence more found : List ℕ) → IsSequence shop.jobs (sequence ++ more)
-    → found ≡ after_visits shop more 1 sequence
+    → found ≡ passes_over shop more 1 sequence
     → IsConstructed shop sequence more found (makespan shop found)
 construct_is shop sequence more found together is =
     let turned = joined shop.jobs sequence more together in
-    let same : found ≡ with_jobs shop sequence more = is ∙ visited_absent shop shop.jobs more sequence turned in
+    let same : found ≡ with_jobs shop sequence more = is ∙ pass_absent shop shop.jobs more sequence turned in
     let all = with_jobs_all shop more sequence in
     rw same (record {
       found = refl;
@@ -140,23 +90,14 @@ construct_is shop sequence more found together is =
 
 pub search_is : (shop : FlowShop) (sequence list : List ℕ) (passes : ℕ) (found : List ℕ)
     → IsSequence shop.jobs sequence → All (λ job. Contains sequence job) list
-    → found ≡ after_visits shop list passes sequence
+    → found ≡ passes_over shop list passes sequence
     → IsLocalSearch shop sequence list passes found (makespan shop found)
 search_is shop sequence list passes found distinct among is =
-    let kept = visits_kept shop sequence distinct list passes among in
+    let kept = passes_keep shop sequence distinct list passes among in
     rw is (record {
       found = refl;
-      long = length_permutation sequence (after_visits shop list passes sequence) kept.same;
-      distinct = IsSequence-permutation shop.jobs sequence (after_visits shop list passes sequence) kept.same distinct;
+      long = length_permutation sequence (passes_over shop list passes sequence) kept.same;
+      distinct = IsSequence-permutation shop.jobs sequence (passes_over shop list passes sequence) kept.same distinct;
       spanned = refl;
       no_longer = kept.shorter;
     })
-
--- ---- laws
-
-pub all_jobs_law : AllJobsLaw
-all_jobs_law shop zero jobs = refl
-all_jobs_law shop (suc passes) jobs = all_jobs_law shop passes (visited shop (all_jobs shop.jobs) jobs)
-
-pub visits_law : VisitsLaw
-visits_law shop list jobs passes sequence among = (visits_kept shop jobs sequence list passes among).shorter
