@@ -111,6 +111,28 @@ def test_each_file_keeps_the_rules_of_editorconfig() -> None:
     assert {path: found for path, found in faults.items() if found} == {}
 
 
+# What a count of cells rests on
+
+# How often each source file makes a bench, and uses a permit. A bench whose count is dropped makes work free.
+COUNTING = {
+    "pfs_audit/src/bounds.rt": ["metered"],  # totals, which count nothing
+    "pfs_audit/src/verdicts.rt": ["metered"],
+    "pfs_base/src/permit.rt": ["spend"],  # in `pay`
+    "pfs_c/src/kept.rt": ["metered"] * 7,  # each call's own
+    "pfs_desk/src/engines/value.rt": ["metered"],
+    "pfs_search/src/search.rt": ["metered", "pay"],  # in `new`, which computes nothing, and in `start`
+    "pfs_search/src/solution.rt": ["metered"] * 3,  # of `solve`, of `improve`, and of the makespan that it begins with
+    "pfs_wave/src/sums.rt": ["pay"],
+    "pfs_wave/src/tails.rt": ["spend"],
+}
+
+
+def test_benches_are_made_and_permits_used_in_known_places() -> None:
+    found = {str(path.relative_to(TOP / "crates")): re.findall(r"\.(metered|spend|pay)\(\)", path.read_text())
+             for path in TOP.glob("crates/*/src/**/*.rt") if path.parts[-3] not in ("pfs_tests", "pfs_calls")}
+    assert {path: calls for path, calls in found.items() if calls} == COUNTING
+
+
 # Mutants
 
 FUNCTION = re.compile(r"^( *)(?:pub(?:\(\w+\))? )?(?:unsafe )?(?:extern \"C\" )?fn (\w+)", re.MULTILINE)
