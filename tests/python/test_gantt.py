@@ -21,8 +21,7 @@ from support.needs import tool
 from support.program import Program
 from support.tools import Done, run_main, run_tool, with_path
 
-pytestmark = pytest.mark.long
-TOP = pathlib.Path(__file__).resolve().parent.parent
+TOP = pathlib.Path(__file__).resolve().parents[2]
 PAGE, MANUAL = (TOP / "docs" / "COOKBOOK.md").read_text(), (TOP / "python" / "pfs-gantt.1").read_text()
 THREE = "table 3 2\n2 0 2 2 7\n1 2 5 7 9\n3 5 9 9 10\nmakespan 10\n"
 IDLE = "#d9d9d9"

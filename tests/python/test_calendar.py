@@ -10,10 +10,10 @@ from xml.etree import ElementTree
 import numpy as np
 import pfs
 import pytest
-from browser import PEN, looked_at
 from hypothesis import assume, given
 from hypothesis import strategies as st
 from pfs._calendar import Clock
+from support.browser import PEN, looked_at
 
 DAY = datetime.timedelta(days=1)
 DAYS = ["mon", "tue", "wed", "thu", "fri", "sat", "sun"]

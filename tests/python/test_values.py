@@ -13,10 +13,10 @@ from typing import Any
 
 import numpy as np
 import pfs
-import plainly
 import pytest
 from hypothesis import given
 from hypothesis import strategies as st
+from support import plainly
 
 
 @pytest.mark.quick

@@ -8,12 +8,12 @@ from typing import Any
 import numpy as np
 import numpy.typing as npt
 import pfs
-import plainly
 import pytest
 from hypothesis import given
 from hypothesis import strategies as st
 from hypothesis.extra import numpy as arrays
 from pfs import _instance, _library, _validate
+from support import plainly
 
 TIMES = [[3, 2], [2, 5], [4, 1]]
 KINDS = ["<u1", "<i1", "<u2", ">u2", "<i4", ">i4", "<u4", ">u4", "<i8", ">i8", "<u8", ">u8", "<f2", ">f4", "<f8", ">f8"]

@@ -31,7 +31,7 @@ def test_what_the_tests_need_is_in_a_package(top: pathlib.Path) -> None:
     """Every command and module that a test looks for is in one package."""
     asked = re.compile(r"\b(?:tool|require_module|require_debian_module)\(\"([\w+-]+)\"\)"
                        r"|\bshutil\.which\(\"([\w-]+)\"\)")
-    names = {first or second for folder in ("tests", "python/tests") for path in (top / folder).rglob("*.py")
+    names = {first or second for path in (top / "tests").rglob("*.py")
              for first, second in asked.findall(path.read_text())} - {"rt"}
     assert len(names) > 15 and {name for name in names if package_of(name) is None} == set()
     listed = [package.name for package in packages()]

@@ -11,7 +11,7 @@ from support.needs import missing, tool
 from support.program import Program
 from support.tools import Done, run_tool, with_path
 
-TOP = pathlib.Path(__file__).resolve().parent.parent
+TOP = pathlib.Path(__file__).resolve().parents[2]
 ORDER = "order2 3 2\n2 1 3\nmakespan 10\n"
 
 

@@ -10,7 +10,7 @@ import pytest
 from support.needs import tool
 from support.tools import require_debian_module, run_tool
 
-TOP = pathlib.Path(__file__).resolve().parent.parent
+TOP = pathlib.Path(__file__).resolve().parents[2]
 
 pytestmark = [pytest.mark.long, pytest.mark.seconds(20), pytest.mark.xdist_group("site")]
 

@@ -11,7 +11,7 @@ from support.lines import ANSWERS, EACH, PRINTING, WITH_INSTANCE, WITH_ORDER, re
 from support.needs import missing, tool
 from support.program import Program, Ran
 
-TOP = pathlib.Path(__file__).resolve().parent.parent
+TOP = pathlib.Path(__file__).resolve().parents[2]
 COMMANDS, MANUAL = (TOP / "docs" / "COMMANDS.md").read_text(), (TOP / "share" / "pfs.1").read_text()
 # The longest part of a text that goes into the buffer of standard output at once is the title of a file in Taillard's
 # layout.

@@ -12,12 +12,12 @@ import subprocess
 import sys
 
 import pfs
-import plainly
 import pytest
+from support import plainly
 
-HERE = pathlib.Path(__file__).resolve().parents[1]
-PAGE = HERE / "README.md"
-PLAN = HERE.parent / "docs" / "PLAN.md"
+TOP = pathlib.Path(__file__).resolve().parents[2]
+PAGE = TOP / "python" / "README.md"
+PLAN = TOP / "docs" / "PLAN.md"
 MODULES = sorted(module.name for module in pkgutil.iter_modules(pfs.__path__) if module.name != "__main__")
 
 
@@ -54,7 +54,7 @@ def test_each_public_name_is_described(name: str) -> None:
 
 
 def test_the_defaults_of_docstrings_are_the_packages() -> None:
-    """The limits are in tests/test_limits.py."""
+    """The limits are in test_limits.py."""
     texts = {name: " ".join((inspect.getdoc(public()[name]) or "").split())
              for name in ("Instance.solve", "Instance", "taillard")}
     for name, text in (("Instance.solve", "The default is 1,000"), ("Instance.solve", "The default is 4"),
@@ -138,7 +138,7 @@ def test_the_command_lines_of_a_page(page: pathlib.Path, files: pathlib.Path, pr
 def test_the_examples(tmp_path: pathlib.Path) -> None:
     pytest.importorskip("pandas")
     pytest.importorskip("matplotlib")
-    done = plainly.python(HERE / "examples" / "compare.py", "out", cwd=tmp_path)
+    done = plainly.python(TOP / "python" / "examples" / "compare.py", "out", cwd=tmp_path)
     assert (done.returncode, done.stderr) == (0, "")
     rows = [line.split(",") for line in (tmp_path / "out" / "compare.csv").read_text().splitlines()]
     assert rows[0] == ["instance", "method", "makespan", "gap"] and len(rows) == 31
@@ -150,7 +150,7 @@ def test_the_examples(tmp_path: pathlib.Path) -> None:
         assert float(gap) == pytest.approx(100 * (int(makespan) / shop.lower - 1), abs=0.001)
         assert re.search(rf"^{name}\b.*\b{makespan}\b", done.stdout, re.MULTILINE)
     assert (tmp_path / "out" / "compare.png").read_bytes().startswith(b"\x89PNG")
-    script, shop = HERE / "examples" / "ig_temperature.py", pfs.taillard(1)
+    script, shop = TOP / "python" / "examples" / "ig_temperature.py", pfs.taillard(1)
     shop.write(tmp_path / "ta001")
     for words, most in (("ta001", "1", "0"), shop.neh().makespan), (("ta001", "1", "2"), shop.upper):
         done = plainly.python(script, *words, cwd=tmp_path)

@@ -8,7 +8,7 @@ from typing import Any
 
 import pfs
 import pytest
-from plainly import written
+from support.plainly import written
 
 MISSING = "the time is missing: write 0 where a job skips a machine (it still waits there for its turn)"
 SAVE_AS = "save it as CSV UTF-8 (Excel), or as CSV with the character set Unicode (UTF-8) (LibreOffice)"

@@ -14,12 +14,12 @@ from collections.abc import Callable, Iterator
 from typing import Any
 
 import pfs
-import plainly
 import pytest
 from hypothesis import given
 from hypothesis import strategies as st
 from pfs import _search, _state
-from plainly import written
+from support import plainly
+from support.plainly import written
 
 TITLE = "number of jobs, number of machines, initial seed, upper bound and lower bound :\n"
 THREE = TITLE + "3 2 7 9 8\nprocessing times :\n3 2 4\n2 5 1\n"

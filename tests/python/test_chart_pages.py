@@ -13,8 +13,8 @@ from typing import Any, NamedTuple
 import numpy as np
 import pfs
 import pytest
-from browser import PEN, looked_at, printed, with_script
 from pfs import _drawing
+from support.browser import PEN, looked_at, printed, with_script
 from support.colours import hexadecimal
 
 IDLE = "#d9d9d9"

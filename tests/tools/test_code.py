@@ -9,12 +9,12 @@ import pytest
 from support.needs import tool
 from support.tree import files_below
 
-TOP = pathlib.Path(__file__).resolve().parent.parent
+TOP = pathlib.Path(__file__).resolve().parents[2]
 # By what their first lines name, or by the endings of their names.
 KINDS = {"python3": "python", "sh": "shell", "bash": "shell"}
 ENDINGS = {".py": "python", ".bash": "shell"}
 # Folders whose scripts are typed together.
-TYPED = [("tests/", "tools/"), ("bench/",)]
+TYPED = [("tests/", "tools/", "python/"), ("bench/",)]
 
 
 @functools.cache
@@ -46,15 +46,7 @@ def test_scripts_are_found_by_their_first_lines() -> None:
 @pytest.mark.parametrize("folders", TYPED, ids=",".join)
 def test_python_is_typed(folders: tuple[str, ...]) -> None:
     typed = [path for path in scripts("python") if path.startswith(folders)]
-    assert_silent([tool("mypy"), "--strict", "--scripts-are-modules", "--no-error-summary",
-                   f"--cache-dir={TOP}/out/mypy-{folders[0][:-1]}", *typed])
-
-
-@pytest.mark.seconds(20)
-def test_the_package_for_python_is_typed() -> None:
-    """By its own settings: its tests have names that those here have too."""
-    assert_silent([tool("mypy"), "--no-error-summary", f"--cache-dir={TOP}/out/mypy-python", "src", "tests",
-                   "examples"], TOP / "python")
+    assert_silent([tool("mypy"), "--no-error-summary", f"--cache-dir={TOP}/out/mypy-{folders[0][:-1]}", *typed])
 
 
 @pytest.mark.seconds(20)
@@ -64,8 +56,8 @@ def test_nothing_is_used_that_the_oldest_python_lacks() -> None:
     [version] = re.findall(r'^requires-python = ">=(.*)"$', settings, re.MULTILINE)
     needed = re.findall(r"^X-Python3-Version: >= ([\d.]+)$", (TOP / "debian" / "control").read_text(), re.MULTILINE)
     assert needed == [version], "Debian's packages need the same version as the wheel"
-    assert_silent([tool("mypy"), "--strict", "--no-error-summary", f"--python-version={version}",
-                   f"--cache-dir={TOP}/out/mypy-oldest", "src"], TOP / "python")
+    assert_silent([tool("mypy"), "--no-error-summary", f"--python-version={version}",
+                   f"--cache-dir={TOP}/out/mypy-oldest", "python/src"])
 
 
 def test_pyflakes_finds_nothing() -> None:

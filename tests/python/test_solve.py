@@ -14,12 +14,12 @@ from typing import Any
 
 import numpy as np
 import pfs
-import plainly
 import pytest
 from hypothesis import given
 from hypothesis import strategies as st
 from pfs import _commands, _library, _search
 from pfs.experiments import one
+from support import plainly
 
 
 class Clock:

@@ -9,11 +9,11 @@ from typing import Any
 import numpy as np
 import pandas
 import pfs
-import plainly
 import pytest
 from pfs.experiments import ExperimentError
 from pfs.experiments.__main__ import command_line
 from pfs.experiments.audit import audit
+from support import plainly
 
 def makespan(shop: pfs.Instance, order: Sequence[int]) -> int:
     return plainly.makespan(shop.times.tolist(), order)

@@ -21,10 +21,10 @@ from collections.abc import Callable, Iterator
 from typing import Any
 
 import pfs
-import plainly
 import pytest
 from pfs import _commands, _library, _search, _state
-from plainly import environment
+from support import plainly
+from support.plainly import environment
 from support.terminals import Terminal
 from support.tools import run_main, wait_until
 

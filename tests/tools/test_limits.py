@@ -5,7 +5,7 @@ import re
 
 import pytest
 
-TOP = pathlib.Path(__file__).resolve().parent.parent
+TOP = pathlib.Path(__file__).resolve().parents[2]
 SOURCES = ["pfs_base/src/limits.rt", "pfs_order/src/reading.rt", "pfs_layout/src/generator.rt"]
 
 

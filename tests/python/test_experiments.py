@@ -22,7 +22,7 @@ from support.servers import Cluster, Server
 from support.terminals import Terminal
 from support.tools import Done, csv_rows, run_tool, wait_until, with_path, write_script
 
-README = (pathlib.Path(__file__).resolve().parent.parent / "experiments" / "README.md").read_text()
+README = (pathlib.Path(__file__).resolve().parents[2] / "experiments" / "README.md").read_text()
 on_slurm = pytest.mark.xdist_group("slurm")
 
 

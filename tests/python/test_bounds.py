@@ -79,14 +79,14 @@ def touching(tmp_path_factory: pytest.TempPathFactory) -> dict[str, str]:
 
 
 def ran(words: list[str], env: dict[str, str]) -> subprocess.CompletedProcess[str]:
-    return subprocess.run([sys.executable, *words], cwd=TOP / "python", capture_output=True, text=True, timeout=500,
+    return subprocess.run([sys.executable, *words], cwd=TOP, capture_output=True, text=True, timeout=500,
                           env=os.environ | {"PYTHONDONTWRITEBYTECODE": "1"} | env)
 
 
 def assert_passed_again(env: dict[str, str]) -> None:
     words = ["-m", "pytest", "-q", "-s", "-p", "no:cacheprovider", "-p", "no:xdist", "-x", "-o", "addopts=",
              "--hypothesis-profile=few"]
-    done = ran([*words, "tests/test_py_validate.py", "tests/test_py_values.py"], env)
+    done = ran([*words, "tests/python/test_validate.py", "tests/python/test_values.py"], env)
     assert done.returncode == 0, done.stdout + done.stderr
 
 
@@ -113,5 +113,5 @@ print(_library.library.pfs_prepare(times.ctypes.data, 200, 20, 10, ctypes.byref(
 
 @pytest.mark.parametrize("size, is_found", [(200, False), (199, True)])
 def test_the_sanitizers_find_a_list_that_is_too_short(touching: dict[str, str], size: int, is_found: bool) -> None:
-    done = ran(["-c", PLANTED.format(size=size)], touching | {"PYTHONPATH": "src"})
+    done = ran(["-c", PLANTED.format(size=size)], touching | {"PYTHONPATH": "python/src"})
     assert (done.stdout == "0\n", "heap-buffer-overflow" in done.stderr) == (not is_found, is_found), done

@@ -18,7 +18,7 @@ from support.program import Program, Ran
 from support.tools import Done, run_tool, with_path, write_script
 from support.usage import LAYOUTS, LINES, commands
 
-TOP = pathlib.Path(__file__).resolve().parent.parent
+TOP = pathlib.Path(__file__).resolve().parents[2]
 COMMANDS, FORMATS, TROUBLESHOOTING = ((TOP / "docs" / f"{name}.md").read_text()
                                       for name in ("COMMANDS", "FORMATS", "TROUBLESHOOTING"))
 MANUAL = (TOP / "share" / "pfs.1").read_text()

@@ -7,7 +7,7 @@ from typing import Any
 import pytest
 from support.program import Program, Ran
 
-EXPECTED = pathlib.Path(__file__).resolve().parent.parent / "bench" / "expected" / "searches.json"
+EXPECTED = pathlib.Path(__file__).resolve().parents[2] / "bench" / "expected" / "searches.json"
 SEARCHES = json.loads(EXPECTED.read_text())
 LINE = "solve --layout taillard --rounds {rounds} --take {take} --seed {seed} --passes {passes} --cells shop"
 

@@ -18,9 +18,9 @@ from typing import Any
 
 import numpy as np
 import pfs
-import plainly
 import pytest
 from pfs import _library
+from support import plainly
 
 TOP = pathlib.Path(__file__).resolve().parents[2]
 MAJOR = int(pfs.__version__.split(".")[0])

@@ -13,7 +13,7 @@ from support.terminals import Terminal
 from support.tools import output_of, with_path
 from support.usage import LAYOUTS, commands
 
-TOP = pathlib.Path(__file__).resolve().parent.parent
+TOP = pathlib.Path(__file__).resolve().parents[2]
 SCRIPT, MANUAL = TOP / "share" / "pfs.bash", TOP / "python" / "pfs-experiments.1"
 FILES = {"best", "three", "two words"}
 # What is offered where each line ends, for the program and for the package's programs.

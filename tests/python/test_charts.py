@@ -1,5 +1,5 @@
 """Pictures of schedules, and what they have in common with pages. Bars are drawn as by pfs-gantt, which
-tests/test_gantt.py tests."""
+test_gantt.py tests."""
 import json
 import pathlib
 import re
@@ -8,9 +8,9 @@ from typing import Any
 from xml.etree import ElementTree
 
 import pfs
-import plainly
 import pytest
-from test_py_chart_pages import LENGTHS, MACHINES, NAMES, ORDER, TIMES, plan
+from support import plainly
+from test_chart_pages import LENGTHS, MACHINES, NAMES, ORDER, TIMES, plan
 
 matplotlib = pytest.importorskip("matplotlib")
 
