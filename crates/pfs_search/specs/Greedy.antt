@@ -1,7 +1,7 @@
 -- Iterated greedy (Ruiz and Stützle 2007): rounds that remove some jobs and insert each again at its best place. The
 -- words are random words, which choose the jobs to remove.
 use Rattle.std.specs.Prelude.{◌≡◌, ℕ, zero, suc, ◌%◌, ◌≤◌, not, List, [], ◌∷◌, length, fold, filter}
-use Rattle.std.specs.Prelude.{nat_le, nat_eq, slice_index, remove, if◌then◌else◌}
+use Rattle.std.specs.Prelude.{Contains, nat_le, nat_eq, slice_index, remove, if◌then◌else◌}
 use Rattle.std.specs.Prelude.{take as front, drop}
 use Rattle.std.specs.List.{All}
 use Rattle.rand_core.specs.Stream.{Stream, next_u32}
