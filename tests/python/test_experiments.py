@@ -32,9 +32,9 @@ def ended(count: int, failed: int = 0, left: int = 0, said: str = "", name: str 
     return Done(1 if failed or left else 0, "", said + line)
 
 
-def assert_refused(got: Done, *said: str) -> None:
+def assert_refused(got: Done, *said: str, status: int = 2) -> None:
     """With one line, which has these texts."""
-    assert (got.status, got.stdout, got.stderr.count("\n")) == (2, "", 1), got.stderr[-500:]
+    assert (got.status, got.stdout, got.stderr.count("\n")) == (status, "", 1), got.stderr[-500:]
     assert [text for text in said if text not in got.stderr] == [], got.stderr[-500:]
 
 
@@ -68,7 +68,7 @@ INVALID = {
 
 @pytest.mark.parametrize(("named", "text"), INVALID.items(), ids=INVALID)
 def test_an_invalid_plan_is_rejected_with_its_fault(text: str, named: str, experiment: Experiment) -> None:
-    assert_refused(experiment.plan(text).run(), "pfs-experiments run: ", named)
+    assert_refused(experiment.plan(text).run(), "pfs-experiments run: ", named, status=4 if named == "none.csv" else 2)
     assert sorted(os.listdir(experiment.folder)) == ["plan.toml", "shops"]
 
 
@@ -89,29 +89,31 @@ def test_readme_has_the_keys_of_a_plan_with_their_defaults_the_columns_and_the_n
 
 NO_PFS = {"prints nothing": "#!/bin/sh\n", "prints its words": "#!/bin/sh\necho \"$@\"\n",
           "prints without end": "#!/bin/sh\nyes\n", "is a text": "some words\n", "is a binary": "\x7fELF"}
-PATHS = ("shops", "plan.toml/out.csv", "x" * 255, "\udcff.csv")
-# The arguments, what is said, the text of a program that isn't pfs, and variables.
-REFUSED: dict[str, tuple[str, str, str, dict[str, str]]] = {
-    **{f"the CSV {path[:20]!r}": (f"run plan.toml {path}", "", "", {}) for path in PATHS},
-    **{f"a program that {what}": ("run plan.toml out.csv", "program is not pfs: ", text, {})
+PATHS = {"shops": 2, "plan.toml/out.csv": 4, "x" * 255: 4, "\udcff.csv": 2}
+# The status, the arguments, what is said, the text of a program that isn't pfs, and variables.
+REFUSED: dict[str, tuple[int, str, str, str, dict[str, str]]] = {
+    **{f"the CSV {path[:20]!r}": (status, f"run plan.toml {path}", "", "", {}) for path, status in PATHS.items()},
+    **{f"a program that {what}": (2, "run plan.toml out.csv", "program is not pfs: ", text, {})
        for what, text in NO_PFS.items()},
-    **{f"a library that is {path}": ("run timed.toml out.csv", path, "", {"PFS_LIBRARY": path})
+    **{f"a library that is {path}": (4, "run timed.toml out.csv", path, "", {"PFS_LIBRARY": path})
        for path in ("./none.so", "./plan.toml")},
-    "no GNU parallel": ("run plan.toml out.csv", "parallel is not installed (Debian: parallel)", "", {"PATH": "/none"}),
-    "no Slurm": ("slurm plan.toml out.csv", "sbatch is not installed (Debian: slurm-client)", "", {"PATH": "/none"}),
-    "no words": ("run", "usage: pfs-experiments run ", "", {}),
-    "another option": ("check out.csv --jobs", "--jobs", "", {}),
+    "no GNU parallel": (4, "run plan.toml out.csv", "parallel is not installed (Debian: parallel)", "",
+                        {"PATH": "/none"}),
+    "no Slurm": (4, "slurm plan.toml out.csv", "sbatch is not installed (Debian: slurm-client)", "", {"PATH": "/none"}),
+    "no words": (3, "run", "required: PLAN, CSV (pfs-experiments run --help ", "", {}),
+    "another option": (3, "check out.csv --jobs", "--jobs", "", {}),
 }
 
 
-@pytest.mark.parametrize(("words", "said", "text", "env"), REFUSED.values(), ids=REFUSED)
-def test_a_start_is_refused_before_anything_is_written(words: str, said: str, text: str, env: dict[str, str],
-                                                       experiment: Experiment) -> None:
+@pytest.mark.parametrize(("status", "words", "said", "text", "env"), REFUSED.values(), ids=REFUSED)
+def test_a_start_is_refused_before_anything_is_written(status: int, words: str, said: str, text: str,
+                                                       env: dict[str, str], experiment: Experiment) -> None:
     """Or is run: the replacement would note it."""
     program = write_script(experiment.folder / "program", text) if text else experiment.replacement()
     (experiment.folder / "timed.toml").write_text(ALL + "time_factors = [1]\n")
     before = sorted(os.listdir(experiment.folder))
-    assert_refused(experiment.script(*words.split(), program=program, env={**os.environ, **env}), said)
+    assert_refused(experiment.script(*words.split(), program=program, env={**os.environ, **env}), said,
+                   status=status)
     assert sorted(os.listdir(experiment.folder)) == before
 
 
@@ -131,7 +133,7 @@ def test_the_csv_is_what_pfs_gives_and_a_second_start_makes_nothing_again(experi
     (experiment.folder / "victim").write_text("kept\n")
     experiment.runs.mkdir()
     (experiment.runs / "lock").symlink_to(experiment.folder / "victim")
-    assert_refused(experiment.run())
+    assert_refused(experiment.run(), status=4)
     (experiment.runs / "lock").unlink()
     assert experiment.run() == ended(12)
     assert experiment.rows() == experiment.wanted()
@@ -298,7 +300,7 @@ def test_a_full_disk_is_reported(kib: int, experiment: Experiment) -> None:
     status, got, again, halves = ((experiment.folder / name).read_text() for name in
                                   ("status", "report", "again", "halves"))
     refused = re.fullmatch("pfs-experiments run: [^\n]*: No space left on device\n", got)
-    assert (status == "2\n" and refused) or (status == "0\n" and kib > 100), got
+    assert (status == "4\n" and refused) or (status == "0\n" and kib > 100), got
     assert halves == "", "what is left of files that had no room"
     assert again == f"small/{ended(6).stderr}0\n" and experiment.rows("all.csv") == experiment.wanted(rounds=(10,))
 
@@ -813,5 +815,5 @@ def test_the_lines_of_the_way_lead_to_a_report(top: pathlib.Path, pfs: Program, 
         assert run_tool(line.split(" "), folder, env=with_path(folder / "bin")).status == 0, line
     assert sum(int(row["runs"]) for row in csv_rows(folder / "report" / "table.csv")) == 3 * (1 + 2 * 3)
     got = dict(re.findall(r"^\.It (\d)\n([^.]*\.)", sections["EXIT STATUS"], re.MULTILINE))
-    assert list(got) == ["0", "1", "2"] and got["0"] == "Done." and "rejected" in got["2"]
+    assert list(got) == ["0", "1", "2", "3", "4"] and got["0"] == "Done." and "rejected" in got["2"]
     assert "failed" in got["1"] and "wrong" in got["1"]
