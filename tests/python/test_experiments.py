@@ -13,6 +13,8 @@ import time
 from typing import Any
 
 import pytest
+from pfs import _rounds
+from pfs._rounds import Rounds
 from pfs.experiments import one, plan, run
 from support.experiments import HALF, HEAD, PLAN, Experiment
 from support.library import Library
@@ -346,33 +348,34 @@ def test_readmes_plans_by_time(experiment: Experiment, with_library: dict[str, s
 def test_a_search_by_time_continues_with_another_seed(libpfs: Library, monkeypatch: pytest.MonkeyPatch) -> None:
     """After the last round of a seed, here the eighth. No part goes beyond it. If NEH takes as long as there is, no
     round begins. By the clock NEH takes 3 s and a round 1 s."""
-    def search(number: int) -> one.Search:
-        return one.Search([at * at % 97 for at in range(1, 201)], 20, 10, 4, 0, number % 2 ** 64)
+    def search(number: int) -> Rounds:
+        return Rounds(one.caller([at * at % 97 for at in range(1, 201)], 20, 10), 20, 4, 0, number % 2 ** 64)
 
-    def spent_by(found: one.Search, seconds: float) -> float:
-        monkeypatch.setattr(time, "process_time", lambda: 10.0 + 3 * (found.cells > 0) + found.rounds)
+    def spent_by(found: Rounds, seconds: float) -> float:
+        monkeypatch.setattr(time, "process_time", lambda: 10.0 + (3 + found.last.total if found.last else 0))
         return one.search(found, seconds)
 
     monkeypatch.setattr(one, "HERE", str(libpfs.path.parent))
     monkeypatch.setattr(one, "LIBRARY", libpfs.path.name)
     for seconds, spent, rounds in ((2.5, 3, 0), (5, 4, 1)):
         found = search(1)
-        assert (spent_by(found, seconds), found.rounds) == (spent, rounds)
-    monkeypatch.setattr(one, "PART", 5)
-    monkeypatch.setattr(one, "MOST_ROUNDS", 8)
+        assert (spent_by(found, seconds), found.finished().total) == (spent, rounds)
+    monkeypatch.setattr(_rounds, "PART", 5)
+    monkeypatch.setattr(_rounds, "MOST_ROUNDS", 8)
     seed, step = 2 ** 64 - 5, 11400714819323198485
     found = search(seed)
-    assert spent_by(found, 18) <= 18 and found.rounds > 12
-    monkeypatch.setattr(one, "MOST_ROUNDS", 1_000_000)
+    assert spent_by(found, 18) <= 18 and found.finished().total > 12
+    monkeypatch.setattr(_rounds, "MOST_ROUNDS", 1_000_000)
     orders = []
     for second in (seed + step, seed):
         again, other = search(seed), search(second)
-        again.call("pfs_neh")
+        again.begin()
         again.run_rounds(8)
-        other.order[:] = list(again.order)
-        other.run_rounds(found.rounds - 8)
-        orders.append(other.order[:])
-    assert orders[0] == found.order[:] != orders[1], "rounds of two seeds"
+        other.begin()
+        other.finished().order[:] = list(again.finished().order)
+        other.run_rounds(found.finished().total - 8)
+        orders.append(list(other.finished().order))
+    assert orders[0] == list(found.finished().order) != orders[1], "rounds of two seeds"
 
 
 # Other programs
