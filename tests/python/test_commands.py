@@ -23,6 +23,7 @@ from typing import Any
 import pfs
 import pytest
 from pfs import _commands, _library, _search, _state
+from pfs._cli import Misused
 from support import plainly
 from support.plainly import environment
 from support.terminals import Terminal
@@ -403,7 +404,7 @@ def test_the_help_states_the_ranges(folder: pathlib.Path) -> None:
 def is_taken(words: list[str]) -> bool:
     try:
         _commands.words().parse_args(words)
-    except SystemExit:
+    except Misused:
         return False
     return True
 

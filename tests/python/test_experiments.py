@@ -13,6 +13,8 @@ import time
 from typing import Any
 
 import pytest
+from pfs import _rounds
+from pfs._rounds import Rounds
 from pfs.experiments import one, plan, run
 from support.experiments import HALF, HEAD, PLAN, Experiment
 from support.library import Library
@@ -32,9 +34,9 @@ def ended(count: int, failed: int = 0, left: int = 0, said: str = "", name: str 
     return Done(1 if failed or left else 0, "", said + line)
 
 
-def assert_refused(got: Done, *said: str) -> None:
+def assert_refused(got: Done, *said: str, status: int = 2) -> None:
     """With one line, which has these texts."""
-    assert (got.status, got.stdout, got.stderr.count("\n")) == (2, "", 1), got.stderr[-500:]
+    assert (got.status, got.stdout, got.stderr.count("\n")) == (status, "", 1), got.stderr[-500:]
     assert [text for text in said if text not in got.stderr] == [], got.stderr[-500:]
 
 
@@ -68,7 +70,7 @@ INVALID = {
 
 @pytest.mark.parametrize(("named", "text"), INVALID.items(), ids=INVALID)
 def test_an_invalid_plan_is_rejected_with_its_fault(text: str, named: str, experiment: Experiment) -> None:
-    assert_refused(experiment.plan(text).run(), "pfs-experiments run: ", named)
+    assert_refused(experiment.plan(text).run(), "pfs-experiments run: ", named, status=4 if named == "none.csv" else 2)
     assert sorted(os.listdir(experiment.folder)) == ["plan.toml", "shops"]
 
 
@@ -89,29 +91,31 @@ def test_readme_has_the_keys_of_a_plan_with_their_defaults_the_columns_and_the_n
 
 NO_PFS = {"prints nothing": "#!/bin/sh\n", "prints its words": "#!/bin/sh\necho \"$@\"\n",
           "prints without end": "#!/bin/sh\nyes\n", "is a text": "some words\n", "is a binary": "\x7fELF"}
-PATHS = ("shops", "plan.toml/out.csv", "x" * 255, "\udcff.csv")
-# The arguments, what is said, the text of a program that isn't pfs, and variables.
-REFUSED: dict[str, tuple[str, str, str, dict[str, str]]] = {
-    **{f"the CSV {path[:20]!r}": (f"run plan.toml {path}", "", "", {}) for path in PATHS},
-    **{f"a program that {what}": ("run plan.toml out.csv", "program is not pfs: ", text, {})
+PATHS = {"shops": 2, "plan.toml/out.csv": 4, "x" * 255: 4, "\udcff.csv": 2}
+# The status, the arguments, what is said, the text of a program that isn't pfs, and variables.
+REFUSED: dict[str, tuple[int, str, str, str, dict[str, str]]] = {
+    **{f"the CSV {path[:20]!r}": (status, f"run plan.toml {path}", "", "", {}) for path, status in PATHS.items()},
+    **{f"a program that {what}": (2, "run plan.toml out.csv", "program is not pfs: ", text, {})
        for what, text in NO_PFS.items()},
-    **{f"a library that is {path}": ("run timed.toml out.csv", path, "", {"PFS_LIBRARY": path})
+    **{f"a library that is {path}": (4, "run timed.toml out.csv", path, "", {"PFS_LIBRARY": path})
        for path in ("./none.so", "./plan.toml")},
-    "no GNU parallel": ("run plan.toml out.csv", "parallel is not installed (Debian: parallel)", "", {"PATH": "/none"}),
-    "no Slurm": ("slurm plan.toml out.csv", "sbatch is not installed (Debian: slurm-client)", "", {"PATH": "/none"}),
-    "no words": ("run", "usage: pfs-experiments run ", "", {}),
-    "another option": ("check out.csv --jobs", "--jobs", "", {}),
+    "no GNU parallel": (4, "run plan.toml out.csv", "parallel is not installed (Debian: parallel)", "",
+                        {"PATH": "/none"}),
+    "no Slurm": (4, "slurm plan.toml out.csv", "sbatch is not installed (Debian: slurm-client)", "", {"PATH": "/none"}),
+    "no words": (3, "run", "required: PLAN, CSV (pfs-experiments run --help ", "", {}),
+    "another option": (3, "check out.csv --jobs", "--jobs", "", {}),
 }
 
 
-@pytest.mark.parametrize(("words", "said", "text", "env"), REFUSED.values(), ids=REFUSED)
-def test_a_start_is_refused_before_anything_is_written(words: str, said: str, text: str, env: dict[str, str],
-                                                       experiment: Experiment) -> None:
+@pytest.mark.parametrize(("status", "words", "said", "text", "env"), REFUSED.values(), ids=REFUSED)
+def test_a_start_is_refused_before_anything_is_written(status: int, words: str, said: str, text: str,
+                                                       env: dict[str, str], experiment: Experiment) -> None:
     """Or is run: the replacement would note it."""
     program = write_script(experiment.folder / "program", text) if text else experiment.replacement()
     (experiment.folder / "timed.toml").write_text(ALL + "time_factors = [1]\n")
     before = sorted(os.listdir(experiment.folder))
-    assert_refused(experiment.script(*words.split(), program=program, env={**os.environ, **env}), said)
+    assert_refused(experiment.script(*words.split(), program=program, env={**os.environ, **env}), said,
+                   status=status)
     assert sorted(os.listdir(experiment.folder)) == before
 
 
@@ -131,7 +135,7 @@ def test_the_csv_is_what_pfs_gives_and_a_second_start_makes_nothing_again(experi
     (experiment.folder / "victim").write_text("kept\n")
     experiment.runs.mkdir()
     (experiment.runs / "lock").symlink_to(experiment.folder / "victim")
-    assert_refused(experiment.run())
+    assert_refused(experiment.run(), status=4)
     (experiment.runs / "lock").unlink()
     assert experiment.run() == ended(12)
     assert experiment.rows() == experiment.wanted()
@@ -298,7 +302,7 @@ def test_a_full_disk_is_reported(kib: int, experiment: Experiment) -> None:
     status, got, again, halves = ((experiment.folder / name).read_text() for name in
                                   ("status", "report", "again", "halves"))
     refused = re.fullmatch("pfs-experiments run: [^\n]*: No space left on device\n", got)
-    assert (status == "2\n" and refused) or (status == "0\n" and kib > 100), got
+    assert (status == "4\n" and refused) or (status == "0\n" and kib > 100), got
     assert halves == "", "what is left of files that had no room"
     assert again == f"small/{ended(6).stderr}0\n" and experiment.rows("all.csv") == experiment.wanted(rounds=(10,))
 
@@ -344,33 +348,34 @@ def test_readmes_plans_by_time(experiment: Experiment, with_library: dict[str, s
 def test_a_search_by_time_continues_with_another_seed(libpfs: Library, monkeypatch: pytest.MonkeyPatch) -> None:
     """After the last round of a seed, here the eighth. No part goes beyond it. If NEH takes as long as there is, no
     round begins. By the clock NEH takes 3 s and a round 1 s."""
-    def search(number: int) -> one.Search:
-        return one.Search([at * at % 97 for at in range(1, 201)], 20, 10, 4, 0, number % 2 ** 64)
+    def search(number: int) -> Rounds:
+        return Rounds(one.caller([at * at % 97 for at in range(1, 201)], 20, 10), 20, 4, 0, number % 2 ** 64)
 
-    def spent_by(found: one.Search, seconds: float) -> float:
-        monkeypatch.setattr(time, "process_time", lambda: 10.0 + 3 * (found.cells > 0) + found.rounds)
+    def spent_by(found: Rounds, seconds: float) -> float:
+        monkeypatch.setattr(time, "process_time", lambda: 10.0 + (3 + found.last.total if found.last else 0))
         return one.search(found, seconds)
 
     monkeypatch.setattr(one, "HERE", str(libpfs.path.parent))
     monkeypatch.setattr(one, "LIBRARY", libpfs.path.name)
     for seconds, spent, rounds in ((2.5, 3, 0), (5, 4, 1)):
         found = search(1)
-        assert (spent_by(found, seconds), found.rounds) == (spent, rounds)
-    monkeypatch.setattr(one, "PART", 5)
-    monkeypatch.setattr(one, "MOST_ROUNDS", 8)
+        assert (spent_by(found, seconds), found.finished().total) == (spent, rounds)
+    monkeypatch.setattr(_rounds, "PART", 5)
+    monkeypatch.setattr(_rounds, "MOST_ROUNDS", 8)
     seed, step = 2 ** 64 - 5, 11400714819323198485
     found = search(seed)
-    assert spent_by(found, 18) <= 18 and found.rounds > 12
-    monkeypatch.setattr(one, "MOST_ROUNDS", 1_000_000)
+    assert spent_by(found, 18) <= 18 and found.finished().total > 12
+    monkeypatch.setattr(_rounds, "MOST_ROUNDS", 1_000_000)
     orders = []
     for second in (seed + step, seed):
         again, other = search(seed), search(second)
-        again.call("pfs_neh")
+        again.begin()
         again.run_rounds(8)
-        other.order[:] = list(again.order)
-        other.run_rounds(found.rounds - 8)
-        orders.append(other.order[:])
-    assert orders[0] == found.order[:] != orders[1], "rounds of two seeds"
+        other.begin()
+        other.finished().order[:] = list(again.finished().order)
+        other.run_rounds(found.finished().total - 8)
+        orders.append(list(other.finished().order))
+    assert orders[0] == list(found.finished().order) != orders[1], "rounds of two seeds"
 
 
 # Other programs
@@ -813,5 +818,5 @@ def test_the_lines_of_the_way_lead_to_a_report(top: pathlib.Path, pfs: Program, 
         assert run_tool(line.split(" "), folder, env=with_path(folder / "bin")).status == 0, line
     assert sum(int(row["runs"]) for row in csv_rows(folder / "report" / "table.csv")) == 3 * (1 + 2 * 3)
     got = dict(re.findall(r"^\.It (\d)\n([^.]*\.)", sections["EXIT STATUS"], re.MULTILINE))
-    assert list(got) == ["0", "1", "2"] and got["0"] == "Done." and "rejected" in got["2"]
+    assert list(got) == ["0", "1", "2", "3", "4"] and got["0"] == "Done." and "rejected" in got["2"]
     assert "failed" in got["1"] and "wrong" in got["1"]

@@ -53,8 +53,6 @@ BAD = {
 }
 BAD_WORDS = {
     "a picture without an ending": ["table", "picture"],
-    "a folder's name": ["table", "folder.svg"],
-    "a folder that is missing": ["table", "nowhere/picture.svg"],
     "a bound above the makespan": ["--bound", "11", "table", "picture.svg"],
     "a bound that isn't a number": ["--bound", "x", "table", "picture.svg"],
     "a width that isn't a number": ["--width", "nan", "table", "picture.svg"],
@@ -63,10 +61,15 @@ BAD_WORDS = {
     "more pixels than memory has room for": ["--width", "50", "--dpi", "2400", "table", "picture.svg"],
     "a unit with a line end": ["--unit", "a\nb", "table", "picture.svg"],
     "a unit with a byte that XML doesn't have": ["--unit", "a\x01b", "table", "picture.svg"],
-    "a table that is missing": ["missing", "picture.svg"],
-    "a table whose name has control characters": ["missing\x1b[2J", "picture.svg"],
     "such an option": ["--x\x1b[2J", "table", "picture.svg"],
     "a name that is not UTF-8": ["table", os.fsdecode(b"ch\xe4rt.gif")],
+}
+# What the system refuses.
+REFUSED = {
+    "a folder's name": ["table", "folder.svg"],
+    "a folder that is missing": ["table", "nowhere/picture.svg"],
+    "a table that is missing": ["missing", "picture.svg"],
+    "a table whose name has control characters": ["missing\x1b[2J", "picture.svg"],
 }
 
 
@@ -398,7 +401,8 @@ def test_the_pages_state_the_defaults_and_the_exit_statuses(folder: pathlib.Path
             assert is_same == is_usual, f"--{option} {number}, where the page states {value} as its default"
     source = MANUAL.partition("\n.Sh EXIT STATUS\n")[2].partition("\n.Sh ")[0]
     assert re.findall(r"^\.It (\d)\n(.*)$", source, re.MULTILINE) == [
-        ("0", "The picture is written."), ("2", "The time table or the command line is rejected.")]
+        ("0", "The picture is written."), ("2", "The time table is rejected."), ("3", "The command line is rejected."),
+        ("4", "A file can't be read or written, or a package is missing.")]
     assert re.findall(r"rejected with one line on standard error and status (\d)", PAGE) == ["2"]
 
 
@@ -501,7 +505,7 @@ def test_a_full_disk_keeps_the_old_picture(scripts: pathlib.Path, folder: pathli
     (folder / "table").write_text(THREE)
     (folder / f"picture.{ending}").write_text("the old one")
     got = run_tool([tool("prlimit"), "--fsize=1000", scripts / "pfs-gantt", "table", f"picture.{ending}"], folder)
-    assert got == Done(2, "", f"pfs-gantt: [Errno 27] File too large: 'picture.{ending}'\n")
+    assert got == Done(4, "", f"pfs-gantt: picture.{ending}: File too large\n")
     assert (folder / f"picture.{ending}").read_text() == "the old one", "the picture was written in place"
     assert sorted(os.listdir(folder)) == [f"picture.{ending}", "table"]
 
@@ -519,7 +523,7 @@ def test_a_missing_module_is_named_with_its_package(line: str, what: str, module
     (folder / "runs").write_text("instance,makespan\na,1\n")
     got = run_tool([scripts / line.split()[0], *line.split()[1:]], folder,
                    env=dict(os.environ, PYTHONPATH=str(folder / "without"), PYTHONDONTWRITEBYTECODE="1"))
-    assert got == Done(2, "", f"{what} needs {module} (Debian: python3-{module}; pip install 'pfs[charts]')\n")
+    assert got == Done(4, "", f"{what} needs {module} (Debian: python3-{module}; pip install 'pfs[charts]')\n")
     assert not (folder / "made.svg").exists()
 
 
@@ -537,14 +541,17 @@ def test_sizes_over_the_limits_are_rejected_at_once(folder: pathlib.Path, size: 
     assert got == Done(2, "", "pfs-gantt: a time table has at most 5,000 jobs and 200 machines\n")
 
 
-@pytest.mark.parametrize(("words", "text"), [*((["table", "picture.svg"], text) for text in BAD.values()),
-                                             *((words, THREE) for words in BAD_WORDS.values())], ids=[*BAD, *BAD_WORDS])
-def test_what_is_rejected_leaves_the_old_picture(words: list[str], text: str, folder: pathlib.Path) -> None:
+@pytest.mark.parametrize(("status", "words", "text"), [
+    *((2, ["table", "picture.svg"], text) for text in BAD.values()),
+    *((3, words, THREE) for words in BAD_WORDS.values()), *((4, words, THREE) for words in REFUSED.values())],
+    ids=[*BAD, *BAD_WORDS, *REFUSED])
+def test_what_is_rejected_leaves_the_old_picture(status: int, words: list[str], text: str,
+                                                 folder: pathlib.Path) -> None:
     """With nothing but one line on standard error."""
     (folder / "picture.svg").write_text("old")
     (folder / "folder.svg").mkdir()
     got = gantt(folder, *words, text=text)
-    assert (got.status, got.stdout) == (2, "") and re.fullmatch("pfs-gantt: [^\n]+\n", got.stderr), got
+    assert (got.status, got.stdout) == (status, "") and re.fullmatch("pfs-gantt: [^\n]+\n", got.stderr), got
     assert got.stderr[:-1].isprintable(), f"a terminal interprets a part of this as a command: {got.stderr!r}"
     assert sorted(os.listdir(folder)) == ["folder.svg", "picture.svg", "table"]
     assert (folder / "picture.svg").read_text() == "old"

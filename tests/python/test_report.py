@@ -105,22 +105,26 @@ def test_a_report_has_its_table_and_its_plots(ending: str, begin: bytes, report:
 BAD = [("20,5,0", "20,5,0.5"), ("ok\n", "ok,a,b,c,d\n"), (",110,", f",{'1' * 320},"), (",110,", f",1{'0' * 19},"),
        ("10.0000", "1e308"), ("10.0000", "nan"), ("10.0000", "x"), ("0.001000", "inf"), ("0.001000", "-0.1"),
        ("0.001000", "1_0"), ("0.001000", "\N{ARABIC-INDIC DIGIT ONE}"), (REPORTED[len(HEAD):], "")]
-WORDS = {"none.csv report": "none.csv: ", "--width 0 out.csv report": "'0' is not a number of inches",
-         "--dpi 25.5 out.csv report": "'25.5' is not a whole number from 20 to 1,200", "out.csv out.csv": "out.csv: ",
-         "out.csv out.csv/report": "out.csv/report: ", "--reference none out.csv report": "none: ",
-         "--reference other.csv out.csv report": "other.csv: no column makespan",
-         "--reference two.csv out.csv report": "two.csv: a has two makespans",
-         "out.csv other.csv report": "other.csv: no column makespan", "means.csv report": "published means are columns"}
+# The status, the arguments, and what is said.
+WORDS = [(4, "none.csv report", "none.csv: "), (3, "--width 0 out.csv report", "'0' is not a number of inches"),
+         (3, "--dpi 25.5 out.csv report", "'25.5' is not a whole number from 20 to 1,200"),
+         (4, "out.csv out.csv", "out.csv: "), (4, "out.csv out.csv/report", "out.csv/report: "),
+         (4, "--reference none out.csv report", "none: "),
+         (2, "--reference other.csv out.csv report", "other.csv: no column makespan"),
+         (2, "--reference two.csv out.csv report", "two.csv: a has two makespans"),
+         (2, "out.csv other.csv report", "other.csv: no column makespan"),
+         (2, "means.csv report", "published means are columns")]
 
 
-@pytest.mark.parametrize(("text", "words", "said"), [
-    *((REPORTED.replace(*change), "out.csv report", "out.csv: ") for change in BAD),
-    *((REPORTED, *pair) for pair in WORDS.items())], ids=[*(f"{new[:9]!r}" for _, new in BAD), *WORDS])
-def test_what_is_refused_is_said_on_one_line_and_nothing_is_left(text: str, words: str, said: str, report: Reported,
-                                                                 folder: pathlib.Path) -> None:
+@pytest.mark.parametrize(("text", "status", "words", "said"), [
+    *((REPORTED.replace(*change), 2, "out.csv report", "out.csv: ") for change in BAD),
+    *((REPORTED, *each) for each in WORDS)],
+    ids=[*(f"{new[:9]!r}" for _, new in BAD), *(words for _, words, _ in WORDS)])
+def test_what_is_refused_is_said_on_one_line_and_nothing_is_left(text: str, status: int, words: str, said: str,
+                                                                 report: Reported, folder: pathlib.Path) -> None:
     got = report(words=words, out=text, other="instance,length\na,1\n", means="jobs,machines,rpd\n2,2,1\n",
                  two="instance,makespan\na,50\na,51\n")
-    assert (got.status, got.stdout) == (2, "")
+    assert (got.status, got.stdout) == (status, "")
     assert re.fullmatch(f"pfs-experiments report: [^\n]*{re.escape(said)}[^\n]*\n", got.stderr), got.stderr
     assert sorted(os.listdir(folder)) == ["means.csv", "other.csv", "out.csv", "two.csv"]
 

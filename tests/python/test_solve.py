@@ -17,8 +17,7 @@ import pfs
 import pytest
 from hypothesis import given
 from hypothesis import strategies as st
-from pfs import _commands, _library, _search
-from pfs.experiments import one
+from pfs import _commands, _library, _rounds, _search
 from support import plainly
 
 
@@ -47,7 +46,7 @@ class Clock:
             self.parts.append(count)
 
         monkeypatch.setattr(_search.Search, "run_rounds", run_rounds)
-        for module in (_search, _commands):
+        for module in (_rounds, _search, _commands):
             monkeypatch.setattr(module, "time", self)
 
 
@@ -271,7 +270,7 @@ def test_a_signal_loses_nothing(seconds: float) -> None:
     assert on.to_text() == whole.to_text() and done.cells + on.cells == whole.cells
 
 
-TRACED = {str(pathlib.Path(pfs.__file__).with_name(f"_{name}.py")) for name in ("search", "solution", "faults")}
+TRACED = {str(pathlib.Path(pfs.__file__).with_name(f"_{name}.py")) for name in ("rounds", "search", "solution", "faults")}
 
 
 class Interrupting:
@@ -519,7 +518,7 @@ def test_a_search_by_time_continues_with_another_seed(monkeypatch: pytest.Monkey
     words: dict[str, Any] = {"start": range(6), "take": 2, "target": 0, "history": True}
     found = shop.solve(time_limit=300 / 1024, first=999_900, seed=2**64 - 1, progress=lambda made, _: got.append(made),
                        **words)
-    next_seed = one.STEP - 1
+    next_seed = 11400714819323198485 - 1
     assert (found.seed, found.rounds) == (next_seed, got[-1] - 100) and got == sorted(set(got)) and got[-1] > 250
     before = shop.solve(100, first=999_900, seed=2**64 - 1, start=range(6), take=2)
     assert (before.seed, before.rounds) == (2**64 - 1, 1_000_000)

@@ -5,5 +5,4 @@ pub mod NoLonger
 pub mod OneRanking
 pub mod Parts
 pub mod SortedJobs
-pub mod Taking
 pub mod Words
