@@ -17,13 +17,14 @@ from support import second_program
 from support.colours import contrast, hexadecimal, least_difference
 from support.files import generated
 from support.large import run_limited
+from support.lines import TIME_TABLE
 from support.needs import tool
 from support.program import Program
 from support.tools import Done, run_main, run_tool, with_path
 
 TOP = pathlib.Path(__file__).resolve().parents[2]
 PAGE, MANUAL = (TOP / "docs" / "COOKBOOK.md").read_text(), (TOP / "python" / "pfs-gantt.1").read_text()
-THREE = "table 3 2\n2 0 2 2 7\n1 2 5 7 9\n3 5 9 9 10\nmakespan 10\n"
+THREE = TIME_TABLE.decode()
 IDLE = "#d9d9d9"
 # The sizes of the letters on bars, and how wide a digit is in these sizes.
 LETTERS, SMALL, DIGIT = 8, 7, 0.636
