@@ -242,7 +242,8 @@ def test_a_jobs_colour_is_that_of_its_number_and_not_of_its_place(folder: pathli
 
 # How much the colours of jobs differ, as the page says.
 COLOURS = re.search(r"Any two of up to (\d+) jobs have colours that differ by ([\d.]+) or more \(CIEDE2000; of (\d+) "
-                    r"jobs by ([\d.]+)\).* Of more jobs, neighbours in the order differ by ([\d.]+) or more", PAGE)
+                    r"jobs by ([\d.]+)\).* Of more jobs, neighbours in the order differ by ([\d.]+) or more",
+                    (TOP / "docs" / "DECISIONS.md").read_text())
 assert COLOURS, "no sentence on the colours"
 FEW, SOME = int(COLOURS[1]), int(COLOURS[3])
 LEAST, LEAST_OF_SOME, OF_NEIGHBOURS = float(COLOURS[2]), float(COLOURS[4]), float(COLOURS[5])
