@@ -18,12 +18,12 @@ import pytest
 from hypothesis import given
 from hypothesis import strategies as st
 from pfs import _search, _state
-from support import plainly
+from support import files, plainly
 from support.plainly import written
 
-TITLE = "number of jobs, number of machines, initial seed, upper bound and lower bound :\n"
+TITLE = files.TITLE.decode()
 THREE = TITLE + "3 2 7 9 8\nprocessing times :\n3 2 4\n2 5 1\n"
-THREE_BY_JOB = "flow shop instance\n3 2\n0 3 1 2\n0 2 1 5\n0 4 1 1\n"
+THREE_BY_JOB = files.THREE_JOBS_BY_JOB.decode()
 TWO_BLOCKS = "+++\ninstance 1\n+++\nfirst\n1 1\n0 7\n+++\nsecond\n3 2\n0 3 1 2\n0 2 1 5\n0 4 1 1\n+++\n"
 
 # A file, its layout, and of its fault the name, the place, the line, the column and the hint.

@@ -9,8 +9,9 @@ from typing import NamedTuple
 import pytest
 from support.files import THREE_JOBS
 from support.library import Library
+from support.lines import ANSWERS, VALUE
 from support.needs import missing, tool
-from support.program import Program, Ran
+from support.program import Program
 from support.tools import Done, output_of, run_tool, with_path, write_script
 
 TOP = pathlib.Path(__file__).resolve().parent.parent.parent
@@ -130,7 +131,7 @@ def assert_usual_modes(folder: pathlib.Path) -> None:
 
 def assert_runs(program: pathlib.Path, folder: pathlib.Path) -> None:
     (folder / "three").write_bytes(THREE_JOBS)
-    assert Program(program).run("value --layout taillard three", folder) == Ran(b"makespan 11\n", b"", 0)
+    assert Program(program).run(VALUE, folder) == ANSWERS[VALUE]
 
 
 def assert_completions_are_found(root: pathlib.Path, prefix: pathlib.Path, folder: pathlib.Path) -> None:
