@@ -137,13 +137,13 @@ def test_orders_of_papers(text: str, first: int, due: list[int]) -> None:
 
 
 @pytest.mark.parametrize(("text", "first", "kind", "why"), [
-    ("", 0, ValueError, "'' isn't a list of whole numbers"), ("1,,2", 1, ValueError, "isn't a list of whole numbers"),
-    ("1, -2", 1, ValueError, "isn't a list"), ("1.5", 1, ValueError, "isn't a list"),
-    ("j1 j2", 1, ValueError, "isn't a list"), ("\u0661", 1, ValueError, "isn't a list"),
+    ("", 0, ValueError, "there is no order"), ("1,,2", 1, ValueError, "'' at place 2 isn't the number of a job"),
+    ("1, -2", 1, ValueError, "'-2' at place 2"), ("1.5", 1, ValueError, "'1.5' isn't a list of jobs"),
+    ("j1 k2", 1, ValueError, "'k2' at place 2"), ("\u0661", 1, ValueError, "isn't a list"),
     ("2 1 3", 0, ValueError, "3 at place 2 isn't a job: the 3 jobs are 0 to 2"),
     ("0 1", 1, ValueError, "0 at place 0 isn't a job: the 2 jobs are 1 to 2"),
     ("2 1 2", 1, ValueError, "job 2 occurs twice, at places 0 and 2"),
-    ("1 " + "9" * 5000, 1, ValueError, "9{20} at place 1 isn't a job"), ("0 " * 5001, 0, ValueError, "5,001 jobs"),
+    ("1 " + "9" * 5000, 1, ValueError, "'9{20}' at place 2 isn't"), ("0 " * 5001, 0, ValueError, "5,001 jobs"),
     (b"1 2", 1, TypeError, "text must be a str"), ([1, 2], 1, TypeError, "text must be a str"),
     ("1 2", 2, ValueError, "first must be from 0 to 1, not 2"), ("1 2", True, TypeError, "first must be")])
 def test_orders_of_papers_that_are_rejected(text: Any, first: Any, kind: type[Exception], why: str) -> None:

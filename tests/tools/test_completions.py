@@ -30,7 +30,8 @@ OFFERED = {
     "pfs-experiments run th": {"three"},
     "pfs-gantt --": {"--help", "--critical", "--bound", "--unit", "--width", "--dpi", "--title"},
     "pfs-gantt th": {"three"},
-    "pfs-plan --s": {"--seconds", "--seed", "--shift", "--schedule"}, "pfs-plan --decimal=": {"point", "comma"},
+    "pfs-plan --s": {"--seconds", "--seed", "--sheet", "--shift", "--schedule"},
+    "pfs-plan --decimal=": {"point", "comma"},
 }
 
 # For each line: bash's words, of which the `=` of `--layout=orlib` is one. Where nothing is offered, bash offers files.

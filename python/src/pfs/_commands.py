@@ -38,7 +38,7 @@ DECIMAL_SIGNS = {"point": ".", "comma": ","}
 SCHEDULES = ("", ".csv", ".tsv", ".txt", ".xlsx")
 # The options for the arguments that messages about tables name, and the beginnings of messages about other options.
 OPTIONS = {"decimal": "--decimal point or --decimal comma", "allow_totals": "--allow-totals", "unit": "--unit",
-           "machines": "--machines"}
+           "machines": "--machines", "sheet": "--sheet"}
 ARGUMENT = re.compile(f"`({'|'.join(OPTIONS)})`")
 NUMBER_OPTION = re.compile("^(?=(?:rounds|take|passes|seed) must |start has )")
 VERSION_OPTION: dict[str, Any] = {"action": "version", "version": f"pfs {VERSION}"}
@@ -142,8 +142,10 @@ def plan_command(given: argparse.Namespace) -> int:
     calendar = calendar_of(given)
     check_outputs([given.table, given.order, given.compare], given.schedule, given.chart)
     machines = None if given.machines is None else given.machines.split(",")
-    shop, delimiter, has_mark = table_of(given.table, given.unit, DECIMAL_SIGNS.get(given.decimal),
-                                         given.allow_totals, machines)
+    shop, delimiter, has_mark, note = table_of(given.table, given.unit, DECIMAL_SIGNS.get(given.decimal),
+                                               given.allow_totals, machines, given.sheet)
+    if note:
+        written(sys.stderr, f"{line_of(note)}\n")
     clock = None if calendar is None else Clock(calendar, shop)
     written(sys.stderr, f"{shown(described(shop))}\n")
     search = plan_search(given, shop)
@@ -335,6 +337,7 @@ def add_plan_words(plan: argparse.ArgumentParser) -> None:
     add("--allow-totals", action="store_true",
         help="take rows and columns with the names of sums, means or quantities, and a last one with the sums of the "
         "others, as jobs and machines")
+    add("--sheet", metavar="NAME", help="the sheet of a workbook, else the one that it opens with")
     add_order_words(plan.add_argument_group("the order").add_argument)
     add_date_words(plan.add_argument_group("dates and shifts").add_argument)
     add = plan.add_argument_group("what is written").add_argument

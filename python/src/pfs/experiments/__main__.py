@@ -35,7 +35,8 @@ ARGUMENTS: list[tuple[str, str, dict[str, Any]]] = [
     ("run", "--sshloginfile", {"metavar": "FILE", "help": "a file with the machines for GNU parallel"}),
     ("slurm", "--tasks", {"metavar": "N", "type": number(1, 10 ** 9), "help": "the most tasks of the array"}),
     ("slurm", "--dry-run", {"action": "store_true", "help": "print the call of sbatch"}),
-    ("audit", "table", {"metavar": "TABLE", "help": "a CSV with the columns instance, makespan and order"}),
+    ("audit", "table", {"metavar": "TABLE", "help": "a CSV or workbook with the columns instance (or problem), "
+                                 "makespan (or Cmax) and order (or sequence, permutation, Reihenfolge)"}),
     ("audit", "--instances", {"metavar": "FOLDER", "type": pathlib.Path, "help": "the folder of the instance files"}),
     ("audit", "--layout", {"choices": ("taillard", "orlib", "matrix"), "help": "the layout of all files"}),
     ("audit", "--first", {"type": int, "choices": (0, 1), "help": "the number of the first job in all orders"}),

@@ -29,9 +29,11 @@ from types import FrameType
 from typing import TYPE_CHECKING, NamedTuple
 
 if TYPE_CHECKING or __package__:
+    from pfs._order_text import numbers_in
     from pfs._rounds import Pace, Rounds
 else:  # among the copies, where nothing else is left
     sys.dont_write_bytecode = True
+    from order_text import numbers_in
     from rounds import Pace, Rounds
 
 HERE = os.path.dirname(os.path.abspath(__file__))
@@ -184,11 +186,8 @@ def order_of(text: str) -> tuple[str, list[str]]:
         raise Failed("nothing printed")
     if re.match("order2? ", lines[0]):
         return text if text.endswith("\n") else f"{text}\n", []
-    listed = re.sub(r"^\s*\w+\s*[=:]", "", lines[0]).strip(" \t,[]()")
-    jobs = [re.fullmatch("[A-Za-z]*_?([0-9]{1,9})", job, re.ASCII)
-            for job in re.split(r"[\s,;]+|(?<=[0-9])-(?=\w)", listed)]
-    numbers = [int(job[1]) for job in jobs if job]
-    if len(lines) > 1 or len(numbers) < len(jobs):
+    numbers = numbers_in(lines[0])
+    if len(lines) > 1 or isinstance(numbers, str):
         raise Failed(f"no order printed: {lines[0][:40]!r}")
     if 0 in numbers:
         raise Failed("job 0: jobs count from 1")
