@@ -1,10 +1,8 @@
 pub mod Published
 pub mod Found
 pub mod InTurn
-pub mod Moves
 pub mod NoLonger
 pub mod OneRanking
 pub mod Parts
 pub mod SortedJobs
-pub mod Taking
 pub mod Words
