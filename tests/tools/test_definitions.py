@@ -57,6 +57,16 @@ def test_each_promise_of_a_crate_is_in_the_list_of_proofs(crate: str, top: pathl
     assert promised(top / "crates" / crate) and promised(top / "crates" / crate) - listed == set()
 
 
+def test_each_wrong_body_in_the_list_of_proofs_has_its_mutant_or_test(top: pathlib.Path) -> None:
+    section = (top / "docs" / "PROOFS.md").read_text().partition("\n## Wrong bodies that must stay rejected\n")[2]
+    rows = re.findall(r"^\| [^|]+ \| (`[^|]+`) \|$", section.partition("\n## ")[0], re.MULTILINE)
+    named = [name for row in rows for name in re.findall("`([^`]+)`", row)]
+    files = [top / name if name.startswith("tests/") else top / "crates" / name.replace("/", "/must-fail/", 1)
+             for name in named]
+    missing = [path for path in files if not path.with_name(path.name + ".edit" * (path.suffix != ".py")).is_file()]
+    assert len(rows) > 20 and missing == []
+
+
 # A crate over another one: what is reached of these
 
 LOW = """-- twice the number
