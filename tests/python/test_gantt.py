@@ -20,9 +20,8 @@ from support.large import run_limited
 from support.lines import TIME_TABLE
 from support.needs import tool
 from support.program import Program
-from support.tools import Done, run_main, run_tool, with_path
+from support.tools import TOP, Done, run_main, run_tool, with_path
 
-TOP = pathlib.Path(__file__).resolve().parents[2]
 PAGE, MANUAL = (TOP / "docs" / "COOKBOOK.md").read_text(), (TOP / "python" / "pfs-gantt.1").read_text()
 THREE = TIME_TABLE.decode()
 IDLE = "#d9d9d9"
