@@ -10,7 +10,7 @@ import signal
 import sys
 from typing import Any
 
-from pfs._cli import CommandLine, inches, number, run
+from pfs._cli import CommandLine, ShowVersion, inches, number, run
 from pfs._optional import optional
 
 # Where the program is searched for: on the path, and in the folder of pfs-experiments.
@@ -53,6 +53,7 @@ ARGUMENTS: list[tuple[str, str, dict[str, Any]]] = [
 def command_line() -> CommandLine:
     """Returns the parser of the command line."""
     parser = CommandLine("pfs-experiments", description="Many searches, audited, in one CSV, and reports of it.")
+    parser.add_argument("--version", action=ShowVersion)
     commands = parser.add_subparsers(dest="command", required=True, metavar="COMMAND")
     for name, (module, text) in COMMANDS.items():
         made = commands.add_parser(name, help=text, description=text, allow_abbrev=name not in ("run", "slurm"))

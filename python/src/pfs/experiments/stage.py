@@ -24,7 +24,7 @@ from typing import Any, NamedTuple
 from pfs import _order_text, _rounds
 from pfs._atomic import atomic_write
 from pfs._benchmarks import taillard_rows
-from pfs._version import VERSION
+from pfs._cli import version
 from pfs.experiments import ExperimentError, listed, one, plain
 from pfs.experiments.plan import Reference, Row, read_plan, reference_for, reference_of
 
@@ -220,7 +220,7 @@ def note_start(stage: pathlib.Path, plan: dict[str, Any], inputs: dict[str, str]
                    "processors": os.cpu_count(), "system": platform.platform(), "python": platform.python_version()})
     sums = {name: hashlib.sha256((stage / to).read_bytes()).hexdigest()
             for to, name in {"pfs": "pfs", one.LIBRARY: one.LIBRARY, **inputs}.items() if (stage / to).exists()}
-    text = json.dumps({"version": VERSION, "plan": plan, "sha256": sums, "starts": starts}, indent=1)
+    text = json.dumps({"version": version(), "plan": plan, "sha256": sums, "starts": starts}, indent=1)
     write_text(path, f"{text}\n")
 
 
