@@ -29,12 +29,15 @@ settings.load_profile("pfs")
 # The folders of tests so far.
 NUMBERS = itertools.count()
 # The fixtures of what is proved and built.
-BUILT = {"pfs", "pfs_calls", "libpfs"}
+BUILT = {"pfs", "pfs_by_rattle", "pfs_calls", "libpfs"}
+# Those that only `rt ci` leaves.
+LEFT_BY_CI = {"pfs_by_rattle", "pfs_calls"}
 
 
 def pytest_addoption(parser: pytest.Parser) -> None:
-    for name in ("pfs", "pfs_calls"):
-        built = TOP / "crates" / name / "out" / name
+    for name, file in (("pfs", "pfs/out/pfs"), ("pfs_by_rattle", "pfs/out/pfs.by-rattle"),
+                       ("pfs_calls", "pfs_calls/out/pfs_calls")):
+        built = TOP / "crates" / file
         parser.addoption(f"--{name.replace('_', '-')}", type=pathlib.Path, default=built, metavar="PATH",
                          help=f"the built program {name} that is tested (default: {built})")
     library = os.environ.get("PFS_LIBRARY") or TOP / "lib" / "out" / "libpfs.so.1"
@@ -69,9 +72,9 @@ def pytest_xdist_auto_num_workers() -> int | None:
 
 @pytest.hookimpl(tryfirst=True)  # type: ignore[misc]  # pluggy has no types
 def pytest_collection_modifyitems(items: list[pytest.Item]) -> None:
-    """Marks the tests that `make check` runs and those of pfs_calls, and puts the longest tests first."""
+    """Marks the tests that `make check` runs and those of what `rt ci` leaves, and puts the longest tests first."""
     for item in items:
-        if "pfs_calls" in getattr(item, "fixturenames", ()):
+        if LEFT_BY_CI.intersection(getattr(item, "fixturenames", ())):
             item.add_marker("calls")
         if needs_nothing_built(item) and item.get_closest_marker("long") is None:
             item.add_marker("check")
@@ -119,9 +122,19 @@ def program(pfs: Program) -> str:
 
 
 @pytest.fixture(scope="session")
+def pfs_by_rattle(pytestconfig: pytest.Config) -> Program:
+    """The program as Rattle's own compiler builds it."""
+    return left_by_ci(pytestconfig, "pfs_by_rattle")
+
+
+@pytest.fixture(scope="session")
 def pfs_calls(pytestconfig: pytest.Config) -> Program:
-    """The built test program, which only `rt ci` leaves."""
-    path = pytestconfig.getoption("pfs_calls").resolve()
+    """The built test program."""
+    return left_by_ci(pytestconfig, "pfs_calls")
+
+
+def left_by_ci(config: pytest.Config, option: str) -> Program:
+    path = config.getoption(option).resolve()
     return Program(path) if path.is_file() else missing(f"no program {path}: `rt ci` builds it")
 
 
