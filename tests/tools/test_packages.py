@@ -234,7 +234,8 @@ def test_the_packages_have_their_files_where_debian_looks(extracted: pathlib.Pat
               for path, file in places.items()}
     pages = "usr/share/doc/python3-pfs"
     places |= {f"usr/share/man/man1/{name}.1": f"python/{name}.1" for name in PROGRAMS} \
-        | {f"{pages}/README.md": "python/README.md"}
+        | {f"{pages}/README.md": "python/README.md"} \
+        | {f"usr/share/lintian/overrides/{name}": f"debian/{name}.lintian-overrides" for name in ("pfs", LIBPFS)}
     for folder, to in (("python/src/pfs", f"{MODULES}/pfs"), ("python/examples", f"{pages}/examples")):
         places |= {f"{to}/{name}": f"{folder}/{name}" for name in contents_of(made.copy.top / folder)}
     found = contents_of(extracted)
@@ -257,11 +258,11 @@ def test_the_packages_have_their_files_where_debian_looks(extracted: pathlib.Pat
 
 
 def test_debians_tools_accept_the_packages(made: Made, folder: pathlib.Path) -> None:
-    """Lintian but for what the bytes that were proved have, since they stay as they are, and for the changelog, which
-    closes no bug of Debian. Other packages depend on the library as it says."""
+    """Lintian but for the archive, which has the bytes that were proved, and for the changelog, which closes no bug of
+    Debian. Other packages depend on the library as it says."""
     got = run_tool([tool("lintian"), "--allow-root", "--fail-on", "error,warning", "--suppress-tags",
-                    "initial-upload-closes-no-bugs,script-not-executable,unstripped-binary-or-object,"
-                    "unstripped-static-library", *(made.path(f"/{package}_") for package in PACKAGES)], made.folder)
+                    "initial-upload-closes-no-bugs,script-not-executable,unstripped-static-library",
+                    *(made.path(f"/{package}_") for package in PACKAGES)], made.folder)
     assert (got.status, got.stdout) == (0, "")
     number = f"{BETWEEN}-1"
     needs = {"pfs": {"libc6 (>= 2.34)"}, LIBPFS: set[str](), "libpfs-dev": {f"{LIBPFS} (= {number})"},
