@@ -20,7 +20,8 @@ use Rattle.pfs_search.specs.MostCells.{most_neh_cells, most_rounds_cells, FewNeh
 use Rattle.pfs_search.specs.Neh.{neh_order}
 use Rattle.pfs_search.specs.Solution.{neh_cells, rounds_cells, searched, improved, IsFound, IsImproved, IsNeh}
 use Rattle.pfs_search.specs.Solution.{JoinedPartsLaw, LongerSearchLaw}
-use Rattle.pfs_search.proofs.Parts.{words_after_are, parts_law, searched_law}
+use Rattle.pfs_search.proofs.Parts.{parts_law, searched_law}
+use Rattle.pfs_search.proofs.Published.Words.{words_after_are}
 use Rattle.pfs_search.proofs.Published.CostSums.{costs_law}
 
 -- ---- cells

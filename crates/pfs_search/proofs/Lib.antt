@@ -6,5 +6,4 @@ pub mod NoLonger
 pub mod OneRanking
 pub mod Parts
 pub mod SortedJobs
-pub mod Taking
 pub mod Words

@@ -1,2 +1,4 @@
 -- Lemmas that the proofs of crates above this one may cite.
 pub mod CostSums
+pub mod Taking
+pub mod Words

@@ -1,24 +1,11 @@
--- The random words of a stream, and rounds on them.
-use Rattle.std.proofs.Common.{◌≡◌, ℕ, zero, suc, ◌+◌, ◌*◌, ◌≤◌, List, ◌∷◌, ◌++◌, length, take as front, drop}
-use Rattle.std.proofs.Common.{refl, ap, arith, add-one}
-use Rattle.std.proofs.Math.Nat.{zero-add, suc-add}
+-- Rounds on random words.
+use Rattle.std.proofs.Common.{◌≡◌, ℕ, zero, suc, ◌+◌, ◌*◌, ◌≤◌, List, ◌++◌, length, take as front, drop}
+use Rattle.std.proofs.Common.{arith, add-one}
 use Rattle.std.proofs.lemmas.List.{take_all, take-append-le, drop-append-le, length-drop, nil_from_length}
-use Rattle.rand_core.specs.Stream.{Stream, next_u32}
+use Rattle.rand_core.specs.Stream.{Stream}
 use Rattle.pfs_base.specs.FlowShop.{FlowShop}
 use Rattle.pfs_search.specs.Greedy.{words_of, stream_after, after_round, after_rounds}
-
-pub length-words_of : (n : ℕ) (s : Stream) → length (words_of n s) ≡ n
-length-words_of zero s = refl
-length-words_of (suc n) s = ap suc (length-words_of n (next_u32 s).1)
-
--- the next words of a stream are some words and the random words after them
-pub words_of-add : (a b : ℕ) (s : Stream) → words_of (a + b) s ≡ words_of a s ++ words_of b (stream_after a s)
-words_of-add zero b s = rw zero-add
-words_of-add (suc a) b s = rw suc-add (ap (λ l. (next_u32 s).0 ∷ l) (words_of-add a b (next_u32 s).1))
-
-pub stream_after-add : (a b : ℕ) (s : Stream) → stream_after (a + b) s ≡ stream_after b (stream_after a s)
-stream_after-add zero b s = rw zero-add
-stream_after-add (suc a) b s = rw suc-add (stream_after-add a b (next_u32 s).1)
+use Rattle.pfs_search.proofs.Published.Words.{length-words_of, words_of-add, stream_after-add}
 
 -- one more round, on the random words after those of the rounds before
 module _ (shop : FlowShop) (passes take : ℕ) where

@@ -1,7 +1,7 @@
 use Rattle.std.proofs.Common.{ℕ, ◌<◌, length, ap, sym, arith}
 use Rattle.std.proofs.lemmas.List.{take_more_set}
 use Rattle.rand_core.specs.Stream.{Stream}
-use Rattle.pfs_search.proofs.Words.{words_of-add, stream_after-add}
+use Rattle.pfs_search.proofs.Published.Words.{words_of-add, stream_after-add}
 use Rattle.pfs_search.proofs.greedy.draw_words.Goals as goal
 
 pub loop-place-preserved : goal.loop-place-preserved

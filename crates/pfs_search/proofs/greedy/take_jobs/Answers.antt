@@ -1,7 +1,7 @@
 use Rattle.std.proofs.Common.{◌<◌, length, rules, arith, ap}
 use Rattle.pfs_order.specs.Sequence.{Sequence}
 use Rattle.std.proofs.lemmas.Grind.{common_steps}
-use Rattle.pfs_search.proofs.Taking.{taken_more}
+use Rattle.pfs_search.proofs.Published.Taking.{taken_more}
 use Rattle.pfs_search.proofs.greedy.take_jobs.Goals as goal
 
 pub loop-word-preserved : goal.loop-word-preserved

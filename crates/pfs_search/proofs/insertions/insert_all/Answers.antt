@@ -4,7 +4,7 @@ use Rattle.std.proofs.lemmas.List.Edits.{length-insert}
 use Rattle.pfs_order.specs.Sequence.{Sequence}
 use Rattle.pfs_insert.specs.Insertion.{with_job}
 use Rattle.pfs_search.specs.Neh.{with_jobs}
-use Rattle.pfs_search.proofs.Taking.{next_small, next_absent, next_moved}
+use Rattle.pfs_search.proofs.Published.Taking.{next_small, next_absent, next_moved}
 use Rattle.pfs_search.proofs.Published.CostSums.{insertions_within, insertions_more}
 use Rattle.pfs_search.proofs.insertions.insert_all.Goals as goal
 

@@ -2,7 +2,8 @@ use Rattle.std.proofs.Common.{◌≡◌, ℕ, ◌+◌, ◌*◌, ◌<◌, ◌≤�
 use Rattle.std.proofs.Math.Nat.{mul-le-mul_right, le_trans, lt_of_le_of_lt}
 use Rattle.std.proofs.lemmas.List.{length-take-le}
 use Rattle.pfs_search.specs.Greedy.{words_of, stream_after}
-use Rattle.pfs_search.proofs.Words.{length-words_of, rounds_more, stream_group}
+use Rattle.pfs_search.proofs.Published.Words.{length-words_of}
+use Rattle.pfs_search.proofs.Words.{rounds_more, stream_group}
 use Rattle.pfs_search.proofs.searcher.Searcher.rounds.Goals as goal
 
 -- the cells of the rounds so far and one more are at most those of all rounds

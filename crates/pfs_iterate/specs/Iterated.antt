@@ -1,0 +1,78 @@
+-- Iterated greedy that also accepts longer orders, as a function of its words.
+use Rattle.std.specs.Prelude.{ℕ, zero, suc, ◌+◌, ◌-◌, Bool, true, not, List, ◌++◌, length, fold, filter}
+use Rattle.std.specs.Prelude.{nat_le, nat_lt, nat_eq, slice_index, insert, if◌then◌else◌, take as front, drop}
+use Rattle.std.specs.List.{list_any, slice_index_or}
+use Rattle.pfs_base.specs.FlowShop.{FlowShop}
+use Rattle.pfs_base.specs.Paths.{makespan}
+use Rattle.pfs_order.specs.Sequence.{all_jobs}
+use Rattle.pfs_insert.specs.Insertion.{first_least, makespan_with}
+use Rattle.pfs_search.specs.Greedy.{jobs_left, jobs_taken}
+use Rattle.pfs_search.specs.Solution.{words_after}
+use Rattle.pfs_iterate.specs.declared.options.Options.{Options}
+
+-- the first of the places from `held` on that gives the least makespan
+abbrev pub chosen : FlowShop → ℕ → List ℕ → ℕ → ℕ
+chosen shop held jobs job =
+    first_least (λ place. makespan_with shop jobs job (place + held)) (length jobs + 1 - held) + held
+
+-- the sequence with a job inserted there
+abbrev pub put : FlowShop → ℕ → List ℕ → ℕ → List ℕ
+put shop held jobs job = insert jobs (chosen shop held jobs job) job
+
+-- the sequence after a job that is at a place from `held` on has left it for the chosen one
+abbrev pub moved : FlowShop → ℕ → List ℕ → ℕ → List ℕ
+moved shop held jobs job =
+    if list_any (nat_eq job) (drop held jobs)
+    then put shop held (filter (λ other. not (nat_eq other job)) jobs) job
+    else jobs
+
+-- the sequence after passes over a list of jobs, until one makes it no shorter
+abbrev pub improved : FlowShop → ℕ → List ℕ → ℕ → List ℕ → List ℕ
+improved shop held list zero jobs = jobs
+improved shop held list (suc passes) jobs =
+    let next = fold (moved shop held) jobs list in
+    if nat_lt (makespan shop next) (makespan shop jobs) then improved shop held list passes next else next
+
+-- the order that a round finds by its words after the first: the next `take` words remove jobs behind the first `held`,
+-- and the words after them name all jobs in the order in which a pass visits them
+abbrev pub found : FlowShop → Options → List ℕ → List ℕ → List ℕ
+found shop options order words =
+    let removing = front options.take words in
+    let list = jobs_taken (all_jobs shop.jobs) (drop options.take words) in
+    let behind = drop options.held order in
+    let left = front options.held order ++ jobs_left behind removing in
+    improved shop options.held list options.passes
+    (fold (put shop options.held) (improved shop options.held list options.partial left) (jobs_taken behind removing))
+
+-- whether a word accepts a new makespan: one that is not greater than the old one always, one that is greater by d with
+-- the chance accept[d] of 2 ^ 32, and none beyond the end of the table
+abbrev pub is_accepted : List ℕ → ℕ → ℕ → ℕ → Bool
+is_accepted accept old new word =
+    if nat_le new old then true else nat_lt word (slice_index_or accept (new - old) 0)
+
+-- the current order, and the shortest order so far, of equally short ones the first
+pub record State : Type 0 where
+  pub current : List ℕ
+  pub best : List ℕ
+
+-- the state after a round with these words
+abbrev pub after_round : FlowShop → Options → List ℕ → State → List ℕ → State
+after_round shop options accept state words =
+    let new = found shop options state.current (drop 1 words) in
+    let span = makespan shop new in
+    record {
+      current = if is_accepted accept (makespan shop state.current) span (slice_index words 0)
+          then new else state.current;
+      best = if nat_lt span (makespan shop state.best) then new else state.best;
+    }
+
+-- the words of a round: a round has n + take + 1 words of the seed, and they follow those of the round before
+abbrev pub words_of_round : FlowShop → Options → ℕ → List ℕ
+words_of_round shop options round = words_after options.seed round 1 (shop.jobs + options.take + 1)
+
+-- the state after a number of rounds from round `first` on, counted from 0
+abbrev pub after_rounds : FlowShop → Options → List ℕ → ℕ → ℕ → State → State
+after_rounds shop options accept first zero state = state
+after_rounds shop options accept first (suc count) state =
+    after_rounds shop options accept (first + 1) count
+    (after_round shop options accept state (words_of_round shop options first))

@@ -1,0 +1,20 @@
+-- Laws of the rounds.
+use Rattle.std.specs.Prelude.{◌≡◌, ℕ, ◌+◌, List, [], ◌∷◌, ◌++◌, length}
+use Rattle.pfs_base.specs.FlowShop.{FlowShop}
+use Rattle.pfs_search.specs.Greedy.{after_round as greedy_round}
+use Rattle.pfs_iterate.specs.declared.options.Options.{Options}
+use Rattle.pfs_iterate.specs.Iterated.{State, after_round, after_rounds}
+
+-- rounds in two parts have the state that all of them have at once
+abbrev pub PartsLaw : Type 0
+PartsLaw = (shop : FlowShop) (options : Options) (accept : List ℕ) (first one other : ℕ) (state : State)
+    → after_rounds shop options accept first (one + other) state
+    ≡ after_rounds shop options accept (first + one) other (after_rounds shop options accept first one state)
+
+-- with no held jobs, no passes and an empty table a round's current order is the one that a round of `pfs_search` has,
+-- without passes, from the words that remove jobs
+abbrev pub GreedyLaw : Type 0
+GreedyLaw = (shop : FlowShop) (options : Options) (state : State) (word : ℕ) (removing others : List ℕ)
+    → options.held ≡ 0 → options.partial ≡ 0 → options.passes ≡ 0 → length removing ≡ options.take
+    → (after_round shop options [] state (word ∷ (removing ++ others))).current
+    ≡ greedy_round shop 0 state.current removing

@@ -1,0 +1,55 @@
+-- What rounds need and keep.
+use Rattle.std.specs.Prelude.{◌≡◌, ℕ, ◌+◌, ◌≤◌, ◌++◌, List, length, take, vec_capacity}
+use Rattle.pfs_base.specs.declared.limits.TheConstants.{MOST_ROUNDS}
+use Rattle.pfs_base.specs.FlowShop.{FlowShop}
+use Rattle.pfs_base.specs.Paths.{makespan}
+use Rattle.pfs_order.specs.Sequence.{IsSequence, Sequence, all_jobs}
+use Rattle.pfs_iterate.specs.Iterated.{after_rounds}
+use Rattle.pfs_iterate.specs.declared.options.Options.{Options}
+use Rattle.pfs_iterate.specs.declared.work.Work.{Work}
+
+-- an order of all jobs, and its makespan
+pub record IsMeasured (shop : FlowShop) (order : List ℕ) (span : ℕ) : Type 0 where
+  pub all : length order ≡ shop.jobs
+  pub spanned : span ≡ makespan shop order
+
+-- a sequence has the same jobs as before, whatever other jobs are distinct from them, and the first `held` ones first
+pub record IsRearranged (held : ℕ) (old new : Sequence) : Type 0 where
+  pub size : new.size ≡ old.size
+  pub count : length new.jobs ≡ length old.jobs
+  pub front : take held new.jobs ≡ take held old.jobs
+  pub same : (rest : List ℕ) → IsSequence old.size (rest ++ old.jobs) → IsSequence old.size (rest ++ new.jobs)
+
+-- memory for the rounds of shops of `size` jobs
+pub record IsWorkFor (size : ℕ) (work : Work) : Type 0 where
+  pub seq : work.seq.size ≡ size
+  pub all : work.all ≡ all_jobs size
+  pub removed : size ≤ vec_capacity work.removed
+  pub list : size ≤ vec_capacity work.list
+  pub spans : length work.spans.items ≡ size + 1
+
+-- rounds with these options can be made: they remove at least one job, and only jobs behind the held ones
+pub record CanIterate (shop : FlowShop) (options : Options) : Type 0 where
+  pub some : 1 ≤ options.take
+  pub few : options.held + options.take ≤ shop.jobs
+  pub last : options.first + options.count ≤ MOST_ROUNDS
+
+-- an order of all jobs, each once, that begins with the first `held` jobs of another one
+pub record IsOrderFrom (shop : FlowShop) (held : ℕ) (old new : List ℕ) : Type 0 where
+  pub all : length new ≡ shop.jobs
+  pub distinct : IsSequence shop.jobs new
+  pub front : take held new ≡ take held old
+
+-- the result of rounds from a current and a best order: both orders and their makespans
+pub record IsIterated (shop : FlowShop) (options : Options) (accept current best new_current : List ℕ) (current_span : ℕ)
+    (new_best : List ℕ) (best_span : ℕ) : Type 0 where
+  -- they are those after the rounds
+  pub done : record { current = new_current; best = new_best }
+      ≡ after_rounds shop options accept options.first options.count (record { current = current; best = best })
+  -- each is an order of all jobs, and its first `held` jobs are the same as before
+  pub current_order : IsOrderFrom shop options.held current new_current
+  pub best_order : IsOrderFrom shop options.held best new_best
+  pub current_spanned : current_span ≡ makespan shop new_current
+  pub best_spanned : best_span ≡ makespan shop new_best
+  -- the best order is no longer than before
+  pub no_longer : best_span ≤ makespan shop best

@@ -1,0 +1,124 @@
+//! Local search: each job leaves its place for its best one.
+ghost use Rattle.std.specs.Prelude.{◌≡◌, ◌+◌, ◌<◌, ◌≤◌, true, false, length, drop, fold, nat_eq, MatchOption};
+ghost use Rattle.std.specs.List.{list_any, slice_index_or};
+ghost use Rattle.pfs_base.specs.Paths.{makespan};
+ghost use Rattle.pfs_search.specs.Search.{IsSearchOf};
+ghost use Rattle.pfs_iterate.specs.Iterated.{improved, moved};
+ghost use Rattle.pfs_iterate.specs.Rounds.{IsRearranged};
+
+use crate::places::put;
+use pfs_base::Instance;
+use pfs_order::Seq;
+use pfs_search::Search;
+
+// The place of a job, from a place on.
+fn place_from(jobs: &[u32], held: usize, job: usize) -> Option<usize>
+    requires { held ≤ length jobs.now }
+    ensures { MatchOption result (list_any (nat_eq job) (drop held jobs.now) ≡ false)
+        (λ place. (held ≤ place) × (place < length jobs.now) × (slice_index_or jobs.now place 0 ≡ job)
+        × (list_any (nat_eq job) (drop held jobs.now) ≡ true)) }
+{
+    let behind = &jobs[held..];
+    for index in 0..behind.len() {
+        if behind[index] as usize == job {
+            return Some(held + index);
+        }
+    }
+    None
+}
+
+// Moves a job that is at a place from `held` on to its first best place there, and returns the makespan.
+#[inline(always)]
+fn visit(
+    instance: &Instance,
+    search: &mut Search,
+    spans: &mut [u64],
+    seq: &mut Seq,
+    held: usize,
+    job: usize,
+    span: u64,
+) -> u64
+    requires search { IsSearchOf instance.now.shop search.old }
+    requires size { seq.old.size ≡ instance.now.shop.jobs }
+    requires held { held ≤ length seq.old.jobs }
+    requires room { instance.now.shop.jobs + 1 ≤ length spans.old }
+    requires span { span ≡ makespan instance.now.shop seq.old.jobs }
+    ensures jobs { seq.new.jobs ≡ moved instance.now.shop held seq.old.jobs job }
+    ensures span { result ≡ makespan instance.now.shop seq.new.jobs }
+    ensures kept { IsRearranged held seq.old seq.new }
+    ensures search { IsSearchOf instance.now.shop search.new }
+    ensures long { length spans.new ≡ length spans.old }
+{
+    // Called for its contract, which says that the jobs of a sequence are distinct.
+    let _size = seq.size();
+    match place_from(seq.as_slice(), held, job) {
+        Some(place) => {
+            let job = seq.remove_at(place);
+            put(instance, search, spans, seq, held, job).span
+        }
+        None => span,
+    }
+}
+
+// Makes a pass over a list of jobs, and returns the makespan after it.
+#[inline(always)]
+fn pass(
+    instance: &Instance,
+    search: &mut Search,
+    spans: &mut [u64],
+    seq: &mut Seq,
+    held: usize,
+    list: &[usize],
+    span: u64,
+) -> u64
+    requires search { IsSearchOf instance.now.shop search.old }
+    requires size { seq.old.size ≡ instance.now.shop.jobs }
+    requires held { held ≤ length seq.old.jobs }
+    requires room { instance.now.shop.jobs + 1 ≤ length spans.old }
+    requires span { span ≡ makespan instance.now.shop seq.old.jobs }
+    ensures jobs { seq.new.jobs ≡ fold (moved instance.now.shop held) seq.old.jobs list.now }
+    ensures span { result ≡ makespan instance.now.shop seq.new.jobs }
+    ensures kept { IsRearranged held seq.old seq.new }
+    ensures search { IsSearchOf instance.now.shop search.new }
+    ensures long { length spans.new ≡ length spans.old }
+{
+    let mut span = span;
+    for job in list {
+        span = visit(instance, search, spans, seq, held, *job, span);
+    }
+    span
+}
+
+/// Makes passes until one makes the sequence no shorter, at most `passes`, and returns the makespan after them.
+#[inline(always)]
+pub(crate) fn improve(
+    instance: &Instance,
+    search: &mut Search,
+    spans: &mut [u64],
+    seq: &mut Seq,
+    held: usize,
+    list: &[usize],
+    passes: u32,
+    span: u64,
+) -> u64
+    requires search { IsSearchOf instance.now.shop search.old }
+    requires size { seq.old.size ≡ instance.now.shop.jobs }
+    requires held { held ≤ length seq.old.jobs }
+    requires room { instance.now.shop.jobs + 1 ≤ length spans.old }
+    requires span { span ≡ makespan instance.now.shop seq.old.jobs }
+    ensures jobs { seq.new.jobs ≡ improved instance.now.shop held list.now passes seq.old.jobs }
+    ensures span { result ≡ makespan instance.now.shop seq.new.jobs }
+    ensures kept { IsRearranged held seq.old seq.new }
+    ensures search { IsSearchOf instance.now.shop search.new }
+    ensures long { length spans.new ≡ length spans.old }
+{
+    let mut before = span;
+    for made in 0..passes {
+        let after = pass(instance, search, spans, seq, held, list, before);
+        if after >= before {
+            return after;
+        }
+        before = after;
+    }
+    before
+}

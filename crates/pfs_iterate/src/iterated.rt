@@ -1,0 +1,158 @@
+//! Rounds on two orders, with all their memory.
+ghost use Rattle.std.specs.Prelude.{◌≡◌, IfOk, length, take as front};
+ghost use Rattle.pfs_order.specs.Sequence.{IsSequence};
+ghost use Rattle.pfs_search.specs.Search.{IsSearchOf};
+ghost use Rattle.pfs_base.specs.Paths.{makespan};
+ghost use Rattle.pfs_iterate.specs.Rounds.{CanIterate, IsIterated, IsWorkFor};
+
+use crate::found::Found;
+use crate::options::Options;
+use crate::places::span_of;
+use crate::rounds::play;
+use crate::work::Work;
+use pfs_base::Instance;
+use pfs_order::Order;
+use pfs_search::Search;
+use std::alloc::{AllocError, Global};
+use std::marker::Model;
+
+/// The makespans of the current and of the best order.
+#[derive(Clone, Copy, Debug, PartialEq, Eq)]
+pub struct Makespans {
+    /// That of the current order.
+    pub current: u64,
+    /// That of the best order.
+    pub best: u64,
+}
+
+/// The memory of rounds, for instances of one number of jobs.
+#[derive(Drop)]
+pub struct Iterated {
+    work: Work,
+    words: Vec<u32>,
+    current: Found,
+    best: Found,
+}
+
+impl Model for Iterated {
+    ghost use Rattle.std.specs.Prelude.{◌≡◌, ℕ, ◌+◌, ◌*◌, length};
+    ghost use Rattle.pfs_iterate.specs.Rounds.{IsWorkFor};
+
+    ghost Value = { ℕ };
+
+    ghost view = { λ a. a.work.seq.size };
+
+    ghost invariant = { λ a. record {
+      work : IsWorkFor a.work.seq.size a.work;
+      words : length a.words.items ≡ 2 * a.work.seq.size + 1;
+      current : length a.current.order ≡ a.work.seq.size;
+      best : length a.best.order ≡ a.work.seq.size;
+    } };
+}
+
+impl Iterated {
+    /// Reserves the memory for an instance.
+    pub fn new(alloc: Global, instance: &Instance) -> Result<Iterated, AllocError>
+        ensures { IfOk result (λ made. made ≡ instance.now.shop.jobs) }
+    {
+        let size = instance.jobs();
+        let (Ok(current), Ok(best)) = (Order::identity(alloc, size), Order::identity(alloc, size))
+        else {
+            return Err(AllocError);
+        };
+        Ok(Iterated {
+            work: Work::new(alloc, size)?,
+            words: vec![in alloc; 0; 2 * size + 1]?,
+            current: Found {
+                order: current,
+                span: 0,
+            },
+            best: Found {
+                order: best,
+                span: 0,
+            },
+        })
+    }
+
+    /// Makes rounds on a current and a best order, which it overwrites, and returns their makespans.
+    ///
+    /// A round removes `take` jobs of the current order behind the first `held`, moves those that are left, and inserts
+    /// the removed ones, each at its first best place from `held` on; then it moves all jobs. An order that is longer by
+    /// d is taken where the round's first word is less than `accept[d]`.
+    pub fn rounds(
+        &mut self,
+        instance: &Instance,
+        search: &mut Search,
+        options: &Options,
+        accept: &[u32],
+        current: &mut [u32],
+        best: &mut [u32],
+    ) -> Makespans
+        requires search { IsSearchOf instance.now.shop search.old }
+        requires size { self.old ≡ instance.now.shop.jobs }
+        requires options { CanIterate instance.now.shop options.now }
+        requires current_all { length current.old ≡ instance.now.shop.jobs }
+        requires current { IsSequence instance.now.shop.jobs current.old }
+        requires best_all { length best.old ≡ instance.now.shop.jobs }
+        requires best { IsSequence instance.now.shop.jobs best.old }
+        requires front { front options.now.held best.old ≡ front options.now.held current.old }
+        ensures done { IsIterated instance.now.shop options.now accept.now current.old best.old
+            current.new result.current best.new result.best }
+        ensures size { self.new ≡ self.old }
+        ensures search { IsSearchOf instance.now.shop search.new }
+    {
+        let each = instance.jobs() + options.take + 1;
+        start(&mut self.current, &mut self.work, instance, search, current);
+        start(&mut self.best, &mut self.work, instance, search, best);
+        play(
+            &mut self.work,
+            instance,
+            search,
+            options,
+            accept,
+            &mut self.words[..each],
+            &mut self.current,
+            &mut self.best,
+        );
+        copy_order(&self.current.order, current);
+        copy_order(&self.best.order, best);
+        Makespans {
+            current: self.current.span,
+            best: self.best.span,
+        }
+    }
+}
+
+// Keeps an order and its makespan.
+fn start(
+    found: &mut Found,
+    work: &mut Work,
+    instance: &Instance,
+    search: &mut Search,
+    jobs: &[u32],
+)
+    requires all { length jobs.now ≡ instance.now.shop.jobs }
+    requires sequence { IsSequence instance.now.shop.jobs jobs.now }
+    requires found { length found.old.order ≡ instance.now.shop.jobs }
+    requires work { IsWorkFor instance.now.shop.jobs work.old }
+    requires search { IsSearchOf instance.now.shop search.old }
+    ensures order { found.new.order ≡ jobs.now }
+    ensures span { found.new.span ≡ makespan instance.now.shop jobs.now }
+    ensures work { IsWorkFor instance.now.shop.jobs work.new }
+    ensures search { IsSearchOf instance.now.shop search.new }
+{
+    found.order.set(jobs);
+    work.seq.set(jobs);
+    found.span = span_of(instance, search, &mut work.spans, &mut work.seq);
+}
+
+// Writes an order over another one.
+fn copy_order(order: &Order, jobs: &mut [u32])
+    requires { length jobs.old ≡ length order.now }
+    ensures value { jobs.new ≡ order.now }
+    ensures sequence { IsSequence (length order.now) order.now }
+{
+    // Called for its contract, which says that an order has each job once.
+    let _jobs = order.len();
+    jobs.copy_from_slice(order.seq().as_slice());
+}

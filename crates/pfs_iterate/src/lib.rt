@@ -1,0 +1,15 @@
+//! Rounds of iterated greedy that also accept longer orders, by a table of chances.
+#![tactic(auto)]
+
+mod destroy;
+mod found;
+mod improve;
+mod iterated;
+pub mod laws;
+mod options;
+mod places;
+mod rounds;
+mod work;
+
+pub use iterated::{Iterated, Makespans};
+pub use options::Options;

@@ -1,0 +1,187 @@
+//! Rounds.
+ghost use Rattle.std.specs.Prelude.{◌≡◌, ◌+◌, ◌*◌, ◌≤◌, ◌++◌, length, take as front, fold};
+ghost use Rattle.pfs_base.specs.Paths.{makespan};
+ghost use Rattle.pfs_order.specs.Sequence.{IsSequence};
+ghost use Rattle.pfs_search.specs.Search.{IsSearchOf};
+ghost use Rattle.pfs_iterate.specs.Iterated.{after_round, after_rounds, found, is_accepted, put};
+ghost use Rattle.pfs_iterate.specs.Rounds.{CanIterate, IsMeasured, IsWorkFor};
+
+use crate::destroy::{draw, take_jobs};
+use crate::found::Found;
+use crate::improve::improve;
+use crate::options::Options;
+use crate::places::{put, span_of};
+use crate::work::Work;
+use pfs_base::Instance;
+use pfs_order::{Order, Seq};
+use pfs_search::Search;
+
+// Inserts jobs one after another, each at its first best place from `held` on, and returns the makespan.
+fn insert_all(
+    instance: &Instance,
+    search: &mut Search,
+    spans: &mut [u64],
+    seq: &mut Seq,
+    held: usize,
+    jobs: &[usize],
+) -> u64
+    requires search { IsSearchOf instance.now.shop search.old }
+    requires size { seq.old.size ≡ instance.now.shop.jobs }
+    requires held { held ≤ length seq.old.jobs }
+    requires room { instance.now.shop.jobs + 1 ≤ length spans.old }
+    requires some { 1 ≤ length jobs.now }
+    requires together { IsSequence instance.now.shop.jobs (jobs.now ++ seq.old.jobs) }
+    ensures jobs { seq.new.jobs ≡ fold (put instance.now.shop held) seq.old.jobs jobs.now }
+    ensures span { result ≡ makespan instance.now.shop seq.new.jobs }
+    ensures count { length seq.new.jobs ≡ length seq.old.jobs + length jobs.now }
+    ensures front { front held seq.new.jobs ≡ front held seq.old.jobs }
+    ensures size { seq.new.size ≡ seq.old.size }
+    ensures search { IsSearchOf instance.now.shop search.new }
+    ensures long { length spans.new ≡ length spans.old }
+{
+    let mut span = 0;
+    for job in jobs {
+        span = put(instance, search, spans, seq, held, *job).span;
+    }
+    span
+}
+
+// Whether a word accepts a makespan in the place of an old one.
+fn accepts(accept: &[u32], old: u64, new: u64, word: u32) -> bool
+    ensures { result ≡ is_accepted accept.now old new word }
+{
+    if new <= old {
+        return true;
+    }
+    let longer = new - old;
+    longer < accept.len() as u64 && word < accept[longer as usize]
+}
+
+// Makes the sequence of `work` the order that a round finds by its words after the first, and returns its makespan.
+fn find(
+    work: &mut Work,
+    instance: &Instance,
+    search: &mut Search,
+    options: &Options,
+    order: &Order,
+    words: &[u32],
+) -> u64
+    requires work { IsWorkFor instance.now.shop.jobs work.old }
+    requires search { IsSearchOf instance.now.shop search.old }
+    requires options { CanIterate instance.now.shop options.now }
+    requires order { length order.now ≡ instance.now.shop.jobs }
+    requires words { length words.now ≡ options.now.take + instance.now.shop.jobs }
+    ensures order { work.new.seq.jobs ≡ found instance.now.shop options.now order.now words.now }
+    ensures span { result ≡ makespan instance.now.shop work.new.seq.jobs }
+    ensures all { length work.new.seq.jobs ≡ instance.now.shop.jobs }
+    ensures front { front options.now.held work.new.seq.jobs ≡ front options.now.held order.now }
+    ensures work { IsWorkFor instance.now.shop.jobs work.new }
+    ensures search { IsSearchOf instance.now.shop search.new }
+{
+    let held = options.held;
+    let (removing, shuffling) = words.split_at(options.take);
+    take_jobs(&work.all, &mut work.seq, &mut work.list, 0, shuffling);
+    take_jobs(order, &mut work.seq, &mut work.removed, held, removing);
+    let spans = work.spans.as_mut_slice();
+    let seq = &mut work.seq;
+    let partial = span_of(instance, search, spans, seq);
+    improve(
+        instance,
+        search,
+        spans,
+        seq,
+        held,
+        &work.list,
+        options.partial,
+        partial,
+    );
+    let rebuilt = insert_all(instance, search, spans, seq, held, &work.removed);
+    improve(
+        instance,
+        search,
+        spans,
+        seq,
+        held,
+        &work.list,
+        options.passes,
+        rebuilt,
+    )
+}
+
+// One round, with these words.
+fn round(
+    work: &mut Work,
+    instance: &Instance,
+    search: &mut Search,
+    options: &Options,
+    accept: &[u32],
+    words: &[u32],
+    current: &mut Found,
+    best: &mut Found,
+)
+    requires work { IsWorkFor instance.now.shop.jobs work.old }
+    requires search { IsSearchOf instance.now.shop search.old }
+    requires options { CanIterate instance.now.shop options.now }
+    requires words { length words.now ≡ instance.now.shop.jobs + options.now.take + 1 }
+    requires current { IsMeasured instance.now.shop current.old.order current.old.span }
+    requires best { IsMeasured instance.now.shop best.old.order best.old.span }
+    requires front { front options.now.held best.old.order ≡ front options.now.held current.old.order }
+    ensures done { record { current = current.new.order; best = best.new.order }
+        ≡ after_round instance.now.shop options.now accept.now
+        (record { current = current.old.order; best = best.old.order }) words.now }
+    ensures current { IsMeasured instance.now.shop current.new.order current.new.span }
+    ensures best { IsMeasured instance.now.shop best.new.order best.new.span }
+    ensures no_longer { best.new.span ≤ best.old.span }
+    ensures current_front { front options.now.held current.new.order ≡ front options.now.held current.old.order }
+    ensures best_front { front options.now.held best.new.order ≡ front options.now.held current.old.order }
+    ensures work { IsWorkFor instance.now.shop.jobs work.new }
+    ensures search { IsSearchOf instance.now.shop search.new }
+{
+    let span = find(work, instance, search, options, &current.order, &words[1..]);
+    if span < best.span {
+        best.order.copy_from(&work.seq);
+        best.span = span;
+    }
+    if accepts(accept, current.span, span, words[0]) {
+        current.order.copy_from(&work.seq);
+        current.span = span;
+    }
+}
+
+/// Makes rounds of a seed.
+pub(crate) fn play(
+    work: &mut Work,
+    instance: &Instance,
+    search: &mut Search,
+    options: &Options,
+    accept: &[u32],
+    words: &mut [u32],
+    current: &mut Found,
+    best: &mut Found,
+)
+    requires work { IsWorkFor instance.now.shop.jobs work.old }
+    requires search { IsSearchOf instance.now.shop search.old }
+    requires options { CanIterate instance.now.shop options.now }
+    requires words { length words.old ≡ instance.now.shop.jobs + options.now.take + 1 }
+    requires current { IsMeasured instance.now.shop current.old.order current.old.span }
+    requires best { IsMeasured instance.now.shop best.old.order best.old.span }
+    requires front { front options.now.held best.old.order ≡ front options.now.held current.old.order }
+    ensures done { record { current = current.new.order; best = best.new.order }
+        ≡ after_rounds instance.now.shop options.now accept.now options.now.first options.now.count
+        (record { current = current.old.order; best = best.old.order }) }
+    ensures current { IsMeasured instance.now.shop current.new.order current.new.span }
+    ensures best { IsMeasured instance.now.shop best.new.order best.new.span }
+    ensures no_longer { best.new.span ≤ best.old.span }
+    ensures current_front { front options.now.held current.new.order ≡ front options.now.held current.old.order }
+    ensures best_front { front options.now.held best.new.order ≡ front options.now.held current.old.order }
+    ensures work { IsWorkFor instance.now.shop.jobs work.new }
+    ensures search { IsSearchOf instance.now.shop search.new }
+    ensures long { length words.new ≡ length words.old }
+{
+    for done in 0..options.count {
+        draw(words, options.seed, options.first + done);
+        round(
+            work, instance, search, options, accept, words, current, best,
+        );
+    }
+}
