@@ -101,7 +101,6 @@ impl Iterated {
         ensures size { self.new ≡ self.old }
         ensures search { IsSearchOf instance.now.shop search.new }
     {
-        let each = instance.jobs() + options.take + 1;
         start(&mut self.current, &mut self.work, instance, search, current);
         start(&mut self.best, &mut self.work, instance, search, best);
         play(
@@ -110,7 +109,7 @@ impl Iterated {
             search,
             options,
             accept,
-            &mut self.words[..each],
+            &mut self.words,
             &mut self.current,
             &mut self.best,
         );

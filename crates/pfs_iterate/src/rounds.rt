@@ -155,14 +155,14 @@ pub(crate) fn play(
     search: &mut Search,
     options: &Options,
     accept: &[u32],
-    words: &mut [u32],
+    memory: &mut Vec<u32>,
     current: &mut Found,
     best: &mut Found,
 )
     requires work { IsWorkFor instance.now.shop.jobs work.old }
     requires search { IsSearchOf instance.now.shop search.old }
     requires options { CanIterate instance.now.shop options.now }
-    requires words { length words.old ≡ instance.now.shop.jobs + options.now.take + 1 }
+    requires words { instance.now.shop.jobs + options.now.take + 1 ≤ length memory.old.items }
     requires current { IsMeasured instance.now.shop current.old.order current.old.span }
     requires best { IsMeasured instance.now.shop best.old.order best.old.span }
     requires front { front options.now.held best.old.order ≡ front options.now.held current.old.order }
@@ -176,9 +176,12 @@ pub(crate) fn play(
     ensures best_front { front options.now.held best.new.order ≡ front options.now.held current.old.order }
     ensures work { IsWorkFor instance.now.shop.jobs work.new }
     ensures search { IsSearchOf instance.now.shop search.new }
-    ensures long { length words.new ≡ length words.old }
+    ensures long { length memory.new.items ≡ length memory.old.items }
 {
+    let words = memory.as_mut_slice();
+    let each = instance.jobs() + options.take + 1;
     for done in 0..options.count {
+        let words = &mut words[..each];
         draw(words, options.seed, options.first + done);
         round(
             work, instance, search, options, accept, words, current, best,
