@@ -1,12 +1,12 @@
 -- The first place of the least value from a place on.
-use Rattle.std.proofs.Common.{◌≡◌, ℕ, ◌+◌, ◌-◌, ◌<◌, ◌≤◌, get_or, true, false, leb, ◌∙◌, ap, arith}
-use Rattle.std.specs.List.{list_all, range_with_len}
+use Rattle.std.proofs.Common.{◌≡◌, ℕ, ◌+◌, ◌-◌, ◌<◌, get_or, leb, ◌∙◌, ap, arith}
+use Rattle.std.specs.List.{range_with_len}
 use Rattle.std.proofs.lemmas.Bool.{le-leb, lt-leb}
 use Rattle.std.proofs.lemmas.List.FromFn.{length-range_with_len, get_or-range_with_len}
 use Rattle.std.proofs.lemmas.List.Folds.{list_all_at}
 use Rattle.std.proofs.lemmas.List.Sums.{list_all-from_AllPass, position_or_len_is}
 use Rattle.pfs_insert.specs.Insertion.{first_least, IsFirstLeast}
-use Rattle.pfs_iterate.specs.Places.{IsLeastFrom}
+use Rattle.pfs_iterate.specs.Private.Steps.{IsLeastFrom}
 
 place_at : (count k d : ℕ) → k < count → get_or (range_with_len 0 count) k d ≡ k
 place_at count k d small = get_or-range_with_len 0 count k d small ∙ omega arith

@@ -1,12 +1,12 @@
 -- Sequences whose jobs move behind the first `held`.
-use Rattle.std.proofs.Common.{◌≡◌, ℕ, ◌≤◌, ◌<◌, ◌++◌, List, ◌∷◌, length, get_or, insert, remove, take, refl, ◌∙◌, arith}
+use Rattle.std.proofs.Common.{◌≡◌, ℕ, ◌≤◌, ◌<◌, ◌++◌, ◌∷◌, length, get_or, insert, remove, refl, ◌∙◌, arith}
 use Rattle.std.proofs.lemmas.List.{get_or_default}
 use Rattle.std.proofs.lemmas.List.Edits.{length-insert, length-remove}
 use Rattle.std.proofs.lemmas.List.Sorted.{IsPermutation-append_right, IsPermutation-remove, IsPermutation-insert}
 use Rattle.std.proofs.lemmas.List.Sorted.{IsPermutation-trans}
-use Rattle.pfs_order.specs.Sequence.{IsSequence, Sequence}
+use Rattle.pfs_order.specs.Sequence.{Sequence}
 use Rattle.pfs_order.proofs.Published.Sequences.{IsSequence-permutation}
-use Rattle.pfs_iterate.specs.Rounds.{IsRearranged}
+use Rattle.pfs_iterate.specs.Private.Steps.{IsRearranged}
 use Rattle.pfs_iterate.proofs.Fronts.{take-insert, take-remove}
 
 pub rearranged-refl : (held : ℕ) (seq : Sequence) → IsRearranged held seq seq

@@ -1,5 +1,5 @@
 -- Rounds in parts, and rounds as those of `pfs_search`.
-use Rattle.std.proofs.Common.{◌≡◌, ℕ, zero, suc, ◌+◌, List, [], ◌∷◌, ◌++◌, length, take as front, fold, refl, ◌∙◌, arith}
+use Rattle.std.proofs.Common.{◌≡◌, ℕ, zero, suc, ◌+◌, List, [], ◌∷◌, ◌++◌, take as front, fold, refl, ◌∙◌, arith}
 use Rattle.std.proofs.Common.{inl, inr}
 use Rattle.std.specs.Prelude.{nat_le}
 use native.Mathlib.Numerals.{unary_clauses}
@@ -12,7 +12,7 @@ use Rattle.pfs_search.specs.Greedy.{jobs_left, jobs_taken}
 use Rattle.pfs_search.specs.Neh.{with_jobs}
 use Rattle.pfs_iterate.specs.Laws.{PartsLaw, GreedyLaw}
 use Rattle.pfs_iterate.specs.declared.options.Options.{Options}
-use Rattle.pfs_iterate.specs.Iterated.{State, after_round, found, is_accepted, put, words_of_round}
+use Rattle.pfs_iterate.specs.Iterated.{after_round, found, is_accepted, put, words_of_round}
 
 pub parts_law : PartsLaw
 parts_law shop options accept first zero other state = rw (zero-add, add-zero) refl

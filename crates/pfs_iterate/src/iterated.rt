@@ -123,13 +123,7 @@ impl Iterated {
 }
 
 // Keeps an order and its makespan.
-fn start(
-    found: &mut Found,
-    work: &mut Work,
-    instance: &Instance,
-    search: &mut Search,
-    jobs: &[u32],
-)
+fn start(found: &mut Found, work: &mut Work, instance: &Instance, search: &mut Search, jobs: &[u32])
     requires all { length jobs.now ≡ instance.now.shop.jobs }
     requires sequence { IsSequence instance.now.shop.jobs jobs.now }
     requires found { length found.old.order ≡ instance.now.shop.jobs }

@@ -4,7 +4,8 @@ ghost use Rattle.pfs_base.specs.Paths.{makespan};
 ghost use Rattle.pfs_order.specs.Sequence.{IsSequence};
 ghost use Rattle.pfs_search.specs.Search.{IsSearchOf};
 ghost use Rattle.pfs_iterate.specs.Iterated.{after_round, after_rounds, found, is_accepted, put};
-ghost use Rattle.pfs_iterate.specs.Rounds.{CanIterate, IsMeasured, IsWorkFor};
+ghost use Rattle.pfs_iterate.specs.Private.Steps.{IsMeasured};
+ghost use Rattle.pfs_iterate.specs.Rounds.{CanIterate, IsWorkFor};
 
 use crate::destroy::{draw, take_jobs};
 use crate::found::Found;

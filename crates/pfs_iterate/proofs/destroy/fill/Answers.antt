@@ -1,4 +1,4 @@
-use Rattle.std.proofs.Common.{ℕ, ◌<◌, length, ap, sym, arith}
+use Rattle.std.proofs.Common.{ℕ, ap, sym, arith}
 use Rattle.std.proofs.lemmas.List.{take_more_set}
 use Rattle.rand_core.specs.Stream.{Stream}
 use Rattle.pfs_search.proofs.Published.Words.{words_of-add, stream_after-add}

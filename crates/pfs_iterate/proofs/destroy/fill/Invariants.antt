@@ -1,4 +1,4 @@
-use Rattle.std.proofs.Common.{◌≡◌, length, take}
+use Rattle.std.proofs.Common.{◌≡◌, take}
 use Rattle.pfs_search.specs.Greedy.{words_of, stream_after}
 use Rattle.pfs_iterate.proofs.destroy.fill.Given as goal
 

@@ -1,6 +1,6 @@
-use Rattle.std.proofs.Common.{◌<◌, ◌≤◌, sym, ◌∙◌, ap, arith}
+use Rattle.std.proofs.Common.{◌<◌, sym, ◌∙◌, ap, arith}
 use Rattle.pfs_base.specs.Paths.{makespan}
-use Rattle.pfs_iterate.proofs.Passes.{after_pass, improved_goes_on, improved_stops}
+use Rattle.pfs_iterate.proofs.Passes.{after_pass, improved_goes_on}
 use Rattle.pfs_iterate.proofs.Rearranging.{rearranged-trans}
 use Rattle.pfs_iterate.proofs.improve.improve.Goals as goal
 
@@ -12,7 +12,7 @@ loop-made-preserved c =
     let invariant = c.loop-made.invariant in
     let gives = c.pass-after.ensures in
     let shorter : makespan shop (after_pass shop c.args.held list jobs c.args.passes c.loop-made.made c.loop-made-test.true)
-        < makespan shop jobs = omega (arith, ap (makespan shop) gives.jobs, gives.span, invariant.span) in
+    < makespan shop jobs = omega (arith, ap (makespan shop) gives.jobs, gives.span, invariant.span) in
     record {
       search = gives.search;
       jobs = rw gives.jobs (sym (improved_goes_on shop c.args.held list jobs c.args.passes c.loop-made.made

@@ -2,7 +2,7 @@ use Rattle.std.proofs.Common.{◌≡◌, ◌-◌, length}
 use Rattle.pfs_base.specs.Paths.{makespan}
 use Rattle.pfs_search.specs.Search.{IsSearchOf}
 use Rattle.pfs_iterate.specs.Iterated.{improved}
-use Rattle.pfs_iterate.specs.Rounds.{IsRearranged}
+use Rattle.pfs_iterate.specs.Private.Steps.{IsRearranged}
 use Rattle.pfs_iterate.proofs.improve.improve.Given as goal
 
 abbrev pub invariant-loop-made : goal.invariant-loop-made

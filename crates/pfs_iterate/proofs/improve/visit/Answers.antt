@@ -1,11 +1,9 @@
-use Rattle.std.proofs.Common.{◌≡◌, ℕ, ◌+◌, ap, sym, ◌∙◌, arith, true, length, drop, insert, remove, get_or, subst}
-use Rattle.std.specs.Prelude.{◌<◌, ◌≤◌, nat_eq}
-use Rattle.std.specs.List.{list_any}
+use Rattle.std.proofs.Common.{◌≡◌, ap, sym, ◌∙◌, arith, length, insert, remove, subst}
+use Rattle.std.specs.Prelude.{◌<◌}
 use Rattle.std.proofs.lemmas.List.Edits.{length-remove}
 use Rattle.pfs_order.specs.Sequence.{Sequence}
 use Rattle.pfs_order.proofs.Published.Sequences.{absent-remove, others_are}
-use Rattle.pfs_iterate.specs.Iterated.{chosen, put}
-use Rattle.pfs_iterate.specs.Rounds.{IsRearranged}
+use Rattle.pfs_iterate.specs.Private.Steps.{IsRearranged}
 use Rattle.pfs_iterate.proofs.Rearranging.{rearranged-moved}
 use Rattle.pfs_iterate.proofs.improve.visit.Goals as goal
 

@@ -1,4 +1,4 @@
-use Rattle.std.proofs.Common.{◌≤◌, ◌≡◌, ℕ, subst, arith}
+use Rattle.std.proofs.Common.{◌≤◌, ◌≡◌, ℕ, subst}
 use Rattle.std.specs.Prelude.{slice_index, length}
 use Rattle.pfs_base.specs.FlowShop.{FlowShop}
 use Rattle.pfs_insert.specs.Insertion.{makespan_with}

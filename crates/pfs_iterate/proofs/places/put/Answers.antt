@@ -1,4 +1,4 @@
-use Rattle.std.proofs.Common.{◌≡◌, ℕ, ◌+◌, ◌≤◌, ap, ◌∙◌, arith, length, insert, get_or}
+use Rattle.std.proofs.Common.{◌≡◌, ◌+◌, ◌≤◌, arith, length, get_or}
 use Rattle.std.proofs.lemmas.List.{length-take-le}
 use Rattle.pfs_insert.specs.Insertion.{makespan_with}
 use Rattle.pfs_iterate.proofs.Least.{least_from_is, least_same}

@@ -1,4 +1,4 @@
-use Rattle.std.proofs.Common.{◌≡◌, ◌≤◌, ℕ, ◌+◌, ◌++◌, ap, sym, ◌∙◌, arith, length, refl, take as front, drop}
+use Rattle.std.proofs.Common.{◌≡◌, ◌++◌, ap, sym, ◌∙◌, arith, refl, take as front, drop}
 use Rattle.pfs_order.specs.Sequence.{Sequence, all_jobs}
 use Rattle.pfs_search.specs.Greedy.{jobs_left, jobs_taken}
 use Rattle.pfs_order.proofs.Published.Sequences.{length-all_jobs}

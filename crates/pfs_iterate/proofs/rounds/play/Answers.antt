@@ -1,6 +1,6 @@
-use Rattle.std.proofs.Common.{◌≡◌, ◌+◌, ◌≤◌, ℕ, length, take as front, ap, sym, ◌∙◌, arith, rules}
+use Rattle.std.proofs.Common.{◌≡◌, ◌+◌, ◌≤◌, length, take as front, ap, sym, ◌∙◌, arith, rules}
 use Rattle.std.proofs.lemmas.List.{length-take-le}
-use Rattle.pfs_iterate.specs.Iterated.{State, after_round, after_rounds, words_of_round}
+use Rattle.pfs_iterate.specs.Iterated.{State, words_of_round}
 use Rattle.pfs_iterate.proofs.Passes.{rounds_more}
 use Rattle.pfs_iterate.proofs.rounds.play.Goals as goal
 

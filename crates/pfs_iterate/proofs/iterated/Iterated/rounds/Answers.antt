@@ -1,4 +1,4 @@
-use Rattle.std.proofs.Common.{◌≡◌, ◌≤◌, ℕ, ap, sym, subst, ◌∙◌, arith, rules, length}
+use Rattle.std.proofs.Common.{ℕ, sym, subst, ◌∙◌, rules}
 use Rattle.pfs_order.specs.Sequence.{IsSequence}
 use Rattle.pfs_iterate.specs.Rounds.{IsWorkFor}
 use Rattle.pfs_iterate.proofs.iterated.Iterated.rounds.Goals as goal
