@@ -146,8 +146,8 @@ def contracts(clauses: re.Pattern[str]) -> dict[str, set[str]]:
 @pytest.mark.parametrize("mutant", MUTANTS)
 def test_a_mutant_is_named_after_the_function_that_it_edits_and_a_clause_of_it(mutant: str) -> None:
     """FUNCTION.CLAUSE.edit, where FUNCTION may begin with the name of a type. The clause is one that the function
-    ensures, the `invariant` of the type that it returns, or a condition of a function that it calls. A mutant that edits
-    what is outside of functions is named after one that this changes."""
+    ensures, the `invariant` of the type that it returns, or a condition of a function that it calls. A mutant of what is
+    outside of functions is named after one that this changes."""
     path = MUTANTS[mutant]
     name, clause = path.name.split(".")[:2]
     text = path.read_text()

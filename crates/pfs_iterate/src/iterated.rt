@@ -101,7 +101,6 @@ impl Iterated {
         ensures size { self.new ≡ self.old }
         ensures search { IsSearchOf instance.now.shop search.new }
     {
-        let each = instance.jobs() + options.take + 1;
         start(&mut self.current, &mut self.work, instance, search, current);
         start(&mut self.best, &mut self.work, instance, search, best);
         play(
@@ -110,7 +109,7 @@ impl Iterated {
             search,
             options,
             accept,
-            &mut self.words[..each],
+            &mut self.words,
             &mut self.current,
             &mut self.best,
         );
@@ -124,13 +123,7 @@ impl Iterated {
 }
 
 // Keeps an order and its makespan.
-fn start(
-    found: &mut Found,
-    work: &mut Work,
-    instance: &Instance,
-    search: &mut Search,
-    jobs: &[u32],
-)
+fn start(found: &mut Found, work: &mut Work, instance: &Instance, search: &mut Search, jobs: &[u32])
     requires all { length jobs.now ≡ instance.now.shop.jobs }
     requires sequence { IsSequence instance.now.shop.jobs jobs.now }
     requires found { length found.old.order ≡ instance.now.shop.jobs }
