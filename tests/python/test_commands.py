@@ -25,9 +25,10 @@ import pytest
 from pfs import _commands, _library, _search, _state
 from pfs._cli import Misused
 from support import plainly
+from support.commands import ended, without_summary
 from support.plainly import environment
 from support.terminals import Terminal
-from support.tools import TOP, run_main, wait_until
+from support.tools import TOP, wait_until
 
 # A search that would take minutes.
 LONG = ["search", "shop", "--layout", "taillard"]
@@ -50,21 +51,10 @@ def start(words: list[str], folder: pathlib.Path, env: dict[str, str] | None = N
                             stdin=subprocess.DEVNULL, stdout=subprocess.PIPE, stderr=stderr)
 
 
-def ended(words: list[str], folder: pathlib.Path) -> tuple[int, str, str]:
-    """The status, the output and the errors of a command."""
-    done = run_main(lambda: _commands.main(words), ["pfs"], folder)
-    return done.status, done.stdout, without_summary(done.stderr)
-
-
 def run(words: list[str], folder: pathlib.Path, status: int = 0, error: str = "") -> str:
     found, printed, got = ended(words, folder)
     assert (found, got) == (status, error)
     return printed
-
-
-def without_summary(got: str) -> str:
-    """What a plan prints on standard error after the line that says what it read."""
-    return re.sub(r"\A\d+ jobs?, \d+ machines? \(.*\), times .*\n", "", got)
 
 
 def catches(process: int, number: signal.Signals) -> bool:
@@ -557,7 +547,7 @@ def test_jobs_that_are_held(folder: pathlib.Path) -> None:
     (folder / "order").write_text("table\nbox\nchair\nshelf; oak\n")
     assert planned(folder, "--order order --hold 1")[:2][1] == shortest("table")
     names, makespan, _ = planned(folder, "--order order --hold 1 --first chair")
-    assert (names[:2], makespan) == (["chair", "table"], shortest("chair", "table"))
+    assert (names[:2], makespan) == (["table", "chair"], shortest("table", "chair")), "what has begun comes first"
     assert planned(folder, "--order order --hold 9")[0] == ["table", "box", "chair", "shelf; oak"]
 
 

@@ -38,7 +38,7 @@ DECIMAL_SIGNS = {"point": ".", "comma": ","}
 SCHEDULES = ("", ".csv", ".tsv", ".txt", ".xlsx")
 # The options for the arguments that messages about tables name, and the beginnings of messages about other options.
 OPTIONS = {"decimal": "--decimal point or --decimal comma", "allow_totals": "--allow-totals", "unit": "--unit",
-           "machines": "--machines"}
+           "machines": "--machines", "decimals": "--decimals"}
 ARGUMENT = re.compile(f"`({'|'.join(OPTIONS)})`")
 NUMBER_OPTION = re.compile("^(?=(?:rounds|take|passes|seed) must |start has )")
 VERSION_OPTION: dict[str, Any] = {"action": "version", "version": f"pfs {VERSION}"}
@@ -142,20 +142,19 @@ def plan_command(given: argparse.Namespace) -> int:
     calendar = calendar_of(given)
     check_outputs([given.table, given.order, given.compare], given.schedule, given.chart)
     machines = None if given.machines is None else given.machines.split(",")
-    shop, delimiter, has_mark = table_of(given.table, given.unit, DECIMAL_SIGNS.get(given.decimal),
-                                         given.allow_totals, machines)
+    shop, delimiter, has_mark, rounded = table_of(given.table, given.unit, DECIMAL_SIGNS.get(given.decimal),
+                                                  given.allow_totals, machines, given.decimals)
     clock = None if calendar is None else Clock(calendar, shop)
     written(sys.stderr, f"{shown(described(shop))}\n")
+    if rounded:
+        written(sys.stderr, f"{shown(given.table)}: {shown(rounded)}\n")
     search = plan_search(given, shop)
     other = FoundOrder([], []) if given.compare is None else order_in(given.compare, shop)
     with signals() as caught:
         best, fault = searched(search, given.rounds, given.seconds, caught, lambda _: None)
         outputs: list[Callable[[], object]] = [lambda: printed(listed(shop, best, clock))]
-        if given.schedule is not None and given.schedule.lower().endswith(".xlsx"):
-            outputs.append(lambda: shop.schedule(best).to_xlsx(given.schedule, calendar=calendar))
-        elif given.schedule is not None:
-            mark = has_mark or delimiter == ";"
-            outputs.append(lambda: shop.schedule(best).to_csv(given.schedule, delimiter, mark=mark, calendar=calendar))
+        outputs += [partial(write_schedule, shop, best, path, delimiter, has_mark or delimiter == ";", calendar)
+                    for path in given.schedule]
         outputs += [partial(draw, shop, best, chart, calendar, given.title) for chart in given.chart]
         outputs.append(lambda: compare(given.compare, shop, other, best, clock))
         faults = [] if fault is None else [fault]
@@ -178,7 +177,7 @@ def plan_search(given: argparse.Namespace, shop: Instance) -> Search:
     if unknown is not None:
         raise ValueError(f"--first: {unknown!r} isn't the name of a job of the table")
     found = FoundOrder([], []) if given.order is None else order_in(given.order, shop)
-    held = list(dict.fromkeys([*map(numbers.__getitem__, given.first), *found.jobs[:given.hold]]))
+    held = list(dict.fromkeys([*found.jobs[:given.hold], *map(numbers.__getitem__, given.first)]))
     order = list(dict.fromkeys([*held, *found.jobs]))
     new = by_total(shop, [job for job in range(shop.jobs) if job not in order])
     if given.order is not None:
@@ -212,6 +211,15 @@ def tell(path: str, what: str, names: Sequence[str]) -> None:
         written(sys.stderr, f"{shown(path)}: {what}: {shown(', '.join(names))}\n")
 
 
+def write_schedule(shop: Instance, best: Solution, path: str, delimiter: str, mark: bool,
+                   calendar: Calendar | None) -> None:
+    """Write a schedule, as a workbook or as CSV."""
+    if path.lower().endswith(".xlsx"):
+        shop.schedule(best).to_xlsx(path, calendar=calendar)
+    else:
+        shop.schedule(best).to_csv(path, delimiter, mark=mark, calendar=calendar)
+
+
 def draw(shop: Instance, best: Solution, chart: str, calendar: Calendar | None, title: bool | str) -> None:
     """Write a chart of an order."""
     shop.schedule(best).plot(chart, critical=True, bound=True, calendar=calendar, title=title)
@@ -227,21 +235,24 @@ def calendar_of(given: argparse.Namespace) -> Calendar | None:
     return None
 
 
-def check_outputs(inputs: Sequence[str | None], schedule: str | None, charts: Sequence[str]) -> None:
+def check_outputs(inputs: Sequence[str | None], schedules: Sequence[str], charts: Sequence[str]) -> None:
     """Raise an error before the search if an output would fail after it, or replace an input: for an ending that it
     isn't written with, a file that is read, a missing folder, or no matplotlib."""
     endings = {ending_of(chart) for chart in charts}
-    ending = os.path.splitext(schedule or "")[1].lower()
-    if ending not in SCHEDULES:
-        raise ValueError(f"{schedule}: the name of a schedule ends with .csv or .xlsx")
-    if ending == ".xlsx":
-        optional("openpyxl", "writing a workbook")
+    for schedule in schedules:
+        ending = os.path.splitext(schedule)[1].lower()
+        if ending not in SCHEDULES:
+            raise ValueError(f"{schedule}: the name of a schedule ends with .csv or .xlsx")
+        if ending == ".xlsx":
+            optional("openpyxl", "writing a workbook")
     read = {os.path.realpath(path) for path in inputs if path is not None and os.path.isfile(path)}
-    for path in filter(None, [schedule, *charts]):
+    for path in [*schedules, *charts]:
         if os.path.realpath(path) in read:
             raise ValueError(f"{path} is read, and writing would replace it: name another file")
         if not os.path.isdir(os.path.dirname(path) or "."):
             raise FileNotFoundError(errno.ENOENT, os.strerror(errno.ENOENT), path)
+        if os.path.isdir(path):
+            raise IsADirectoryError(errno.EISDIR, os.strerror(errno.EISDIR), path)
     if endings - {"html"}:
         optional("matplotlib", "plot").rcdefaults()  # no matplotlibrc of the current folder
 
@@ -335,10 +346,13 @@ def add_plan_words(plan: argparse.ArgumentParser) -> None:
     add("--allow-totals", action="store_true",
         help="take rows and columns with the names of sums, means or quantities, and a last one with the sums of the "
         "others, as jobs and machines")
+    add("--decimals", type=number(0, 9), metavar="D",
+        help="round times with more decimals than this, 0 to 9; by default none is rounded")
     add_order_words(plan.add_argument_group("the order").add_argument)
     add_date_words(plan.add_argument_group("dates and shifts").add_argument)
     add = plan.add_argument_group("what is written").add_argument
-    add("--schedule", metavar="OUT.csv", help="when each operation starts and ends, as .csv or .xlsx")
+    add("--schedule", metavar="OUT.csv", action="append", default=[],
+        help="when each operation starts and ends, as .csv or .xlsx; may be given more than once")
     add("--chart", metavar="OUT.svg", action="append", default=[],
         help="the chart, as .svg, .png, .pdf or a page .html; may be given more than once")
     add("--title", default=True, metavar="TEXT", help="the title of charts, else what they show")
@@ -351,7 +365,8 @@ def add_order_words(add: Callable[..., object]) -> None:
         "Jobs that the table lacks are left out, and jobs that the order lacks are inserted at their best places. It "
         "is only evaluated if neither --rounds, --seconds nor an option that holds jobs is there")
     add("--first", metavar="NAME", action="append", default=[],
-        help="a job that has the first place; given more than once, these jobs come first in this order")
+        help="a job that has the first place, behind those that --hold holds; given more than once, these jobs come "
+        "in this order")
     add("--hold", type=number(1, c.MOST_JOBS), default=0, metavar="K",
         help="the first K jobs of --order that the table has keep the first places")
     add("--keep", action="store_true", help="the jobs of --order keep their order; only new ones are moved")

@@ -176,7 +176,8 @@ class Schedule:
         return None
 
     def to_xlsx(self, path: str | os.PathLike[str], *, calendar: Calendar | None = None) -> None:
-        """Write the operations as a workbook, with numbers, or with dates and times of day. This needs openpyxl.
+        """Write the operations as a workbook, with numbers, or with dates and times of day. Each machine also has a
+        sheet with its jobs. This needs openpyxl.
 
         Parameters
         ----------
@@ -184,18 +185,25 @@ class Schedule:
             As for :meth:`to_csv`, which raises the same errors.
         """
         shop = self.instance
-        clock = None if calendar is None else Clock(calendar, shop)
+        values = self._values(calendar)
+        rows: list[list[tuple[Any, ...]]] = [[] for _ in range(shop.machines)]
+        for job, machine, start, end in self._operations():
+            if start < end:
+                rows[machine].append((len(rows[machine]) + 1, shop.job_name(job), *values(start, end)))
+        operations = [(shop.job_name(job), shop.machine_name(machine), *values(start, end))
+                      for job, machine, start, end in self._operations()]
+        write_workbook(path, [("schedule", [("job", "machine", "start", "end"), *operations]), *(
+            (shop.machine_name(machine), [("place", "job", "start", "end"), *own])
+            for machine, own in enumerate(rows))])
 
-        def values(start: int, end: int) -> tuple[Any, Any]:
-            if clock is not None:
-                return clock.span(start, end)
-            if shop.unit == CLOCK:
-                return timedelta(minutes=start), timedelta(minutes=end)
-            return (start / 10**shop.decimals, end / 10**shop.decimals) if shop.decimals else (start, end)
-
-        write_workbook(path, [("job", "machine", "start", "end"), *(
-            (shop.job_name(job), shop.machine_name(machine), *values(start, end))
-            for job, machine, start, end in self._operations())])
+    def _values(self, calendar: Calendar | None) -> Callable[[int, int], tuple[Any, Any]]:
+        """What the cells of a workbook have for the times of an operation."""
+        shop = self.instance
+        if calendar is not None:
+            return Clock(calendar, shop).span
+        if shop.unit == CLOCK:
+            return lambda start, end: (timedelta(minutes=start), timedelta(minutes=end))
+        return lambda start, end: (start / 10**shop.decimals, end / 10**shop.decimals) if shop.decimals else (start, end)
 
     def _texts(self, calendar: Calendar | None) -> Callable[[int, int], list[str]]:
         """What writes the times of an operation, as numbers or as dates and times of day."""

@@ -16,7 +16,7 @@ from pfs._faults import TableFault, cell_name
 from pfs._files import content_of
 from pfs._instance import Instance
 from pfs._names import CLOCK, seconds_in
-from pfs._validate import Order
+from pfs._validate import Order, checked_int
 from pfs._workbooks import csv_of
 
 # The most cells of a row, as in spreadsheets, and the most rows, with titles.
@@ -74,6 +74,8 @@ class Table(NamedTuple):
     delimiter: str
     # Whether the file begins with a byte order mark, as Excel's do.
     has_mark: bool
+    # What was rounded, or an empty text.
+    rounded: str
 
 
 class Cell(NamedTuple):
@@ -152,7 +154,8 @@ class Rows:
 
 
 def read_csv(source: str | os.PathLike[str], unit: str = "", *, decimal: str | None = None,
-             allow_totals: bool = False, machines: Iterable[str] | None = None) -> Instance:
+             allow_totals: bool = False, machines: Iterable[str] | None = None,
+             decimals: int | None = None) -> Instance:
     """Read a table of times from a CSV file or a workbook: a row for each job, a column for each machine.
 
     Parameters
@@ -176,6 +179,9 @@ def read_csv(source: str | os.PathLike[str], unit: str = "", *, decimal: str | N
     machines : iterable of str, optional
         The names of the columns that are machines, in the order of the machines. Other columns, and rows above the one
         that has these names, are skipped. By default all columns but the first one.
+    decimals : int, optional
+        Round times with more decimals than this, 0 to 9, to the nearest one, and halves up. By default no time is
+        rounded, and one with more than 9 decimals is rejected. Numbers of workbooks have 9 decimals at most.
 
     Returns
     -------
@@ -209,12 +215,13 @@ def read_csv(source: str | os.PathLike[str], unit: str = "", *, decimal: str | N
     table,saw,2.0,5.0
     table,drill,7.0,9.5
     """
-    return table_of(source, unit, decimal, allow_totals, machines).shop
+    return table_of(source, unit, decimal, allow_totals, machines, decimals).shop
 
 
 def table_of(source: str | os.PathLike[str], unit: str, decimal: str | None = None, allow_totals: bool = False,
-             machines: Iterable[str] | None = None) -> Table:
+             machines: Iterable[str] | None = None, most_decimals: int | None = None) -> Table:
     """Read a table. The parameters are those of `read_csv`."""
+    most_decimals = None if most_decimals is None else checked_int(most_decimals, "decimals", 0, 9)
     if decimal not in (None, ".", ","):
         raise ValueError(f"decimal must be '.' or ',', not {decimal!r}")
     path = os.fspath(source)
@@ -227,19 +234,21 @@ def table_of(source: str | os.PathLike[str], unit: str, decimal: str | None = No
     check_sizes(table)
     job_names, machine_names = names_in(table, table.jobs, "job"), names_in(table, heads, "machine")
     reject_times_as_names(table, machine_names, job_names)
-    times, decimals, found = times_of(table, decimal, found)
+    sign = DecimalSign(table, decimal, most_decimals)
+    times, decimals, found = times_of(table, sign, found)
     table.check()
     if not allow_totals:
         reject_sums(table, times)
     shop = Instance(times, name=os.path.basename(path), job_names=job_names, machine_names=machine_names, unit=found,
                     decimals=decimals)
-    return Table(shop, table.delimiter, content.startswith((b"\xef\xbb\xbf", b"\xff\xfe", b"\xfe\xff")))
+    return Table(shop, table.delimiter, content.startswith((b"\xef\xbb\xbf", b"\xff\xfe", b"\xfe\xff")),
+                 sign.rounded())
 
 
 def text_of(content: bytes, path: str, faults: list[TableFault] | None = None) -> str:
     """Return the text of a file; that of a workbook as CSV. Another encoding is added to the faults, or raised."""
     if content.startswith(ARCHIVE):
-        return csv_of(content, path)
+        return csv_of(content, path, MOST_ROWS)
     if content.startswith(COMPOUND):
         raise TableFault(path, 1, 0, f"is a spreadsheet's own file: {SAVE_AS}, or as .xlsx")
     encoding = "utf-16" if content.startswith((b"\xff\xfe", b"\xfe\xff")) else "utf-8-sig"
@@ -457,10 +466,9 @@ def reject_times_as_names(table: Rows, machines: Sequence[str], jobs: Sequence[s
             table.report(cell, TIMES_AS_NAMES.format(what=what, part=part))
 
 
-def times_of(table: Rows, decimal: str | None, unit: str) -> tuple[Order, int, str]:
+def times_of(table: Rows, sign: DecimalSign, unit: str) -> tuple[Order, int, str]:
     """Return the times, the number of their decimals, and their unit. They are hours and minutes if most cells are."""
     numbers = hours = 0
-    sign = DecimalSign(table, decimal)
     for row in table.times():
         for cell in row:
             number = NUMBER.match(cell.text)
@@ -473,12 +481,15 @@ def times_of(table: Rows, decimal: str | None, unit: str) -> tuple[Order, int, s
         times, decimals, unit, note = table.read_times(partial(minutes_of, table)), 0, CLOCK, " minutes"
     else:
         # In billionths. What is too long for them is too long for a time.
-        times, decimals = table.read_times(sign.billionths_of), sign.decimals
+        times, decimals, note = table.read_times(sign.billionths_of), sign.decimals, ""
         times //= 10**(9 - decimals)
-        note = f", counted in {counted(decimals, 'decimal')}" if decimals else ""
     for job, machine in np.argwhere(times > c.LONGEST_TIME)[:1].tolist():
-        table.report(Cell(table.jobs[job].line, table.machines[machine].column, ""),
-                     f"the time is above {c.LONGEST_TIME:,}{note}")
+        cell, most = Cell(table.jobs[job].line, table.machines[machine].column, ""), f"above {c.LONGEST_TIME:,}"
+        if sign.longest is None or times[job, machine] > c.LONGEST_TIME * 10**decimals:
+            table.report(cell, f"the time is {most}{note}")
+        else:
+            table.report(sign.longest, f"{sign.longest.text!r} has {counted(decimals, 'decimal')}, in which the time in "
+                                       f"{cell.name} is {most}: round it, or say how many decimals to keep (`decimals`)")
     return times, decimals, unit
 
 
@@ -503,13 +514,17 @@ def minutes_of(table: Rows, cell: Cell) -> int:
 class DecimalSign:
     """The decimal sign of a table. By default it is the sign of the first time in which it can't group thousands."""
 
-    def __init__(self, table: Rows, given: str | None) -> None:
-        self.table, self.given = table, given
+    def __init__(self, table: Rows, given: str | None, most: int | None = None) -> None:
+        self.table, self.given, self.most = table, given, most
         self.sign = given or ("." if table.delimiter == "," else None)
         # The time that shows it.
         self.first: Cell | None = None
-        # The most decimals of a time so far.
+        # The most decimals of a time so far, and the first time with so many.
         self.decimals = 0
+        self.longest: Cell | None = None
+        # How many times were rounded, the first one that changed most, and by how many of 10^-20.
+        self.changed = self.change = 0
+        self.worst: Cell | None = None
 
     def billionths_of(self, cell: Cell) -> int:
         """Return a time in billionths, at most 2^62."""
@@ -527,11 +542,33 @@ class DecimalSign:
         if match is None or match[2] not in (None, self.sign):
             hint = next((f": {hint}" for wrong, hint in HINTS if wrong.fullmatch(cell.text)), "")
             raise self.table.fault(cell, f"{cell.text!r} isn't a time{hint}")
-        part = (match[3] or "").rstrip("0")
+        whole, part = match[1], (match[3] or "").rstrip("0")
+        if self.most is not None and len(part) > self.most:
+            whole, part = self.round(cell, int(whole + part.ljust(20, "0")), self.most)
         if len(part) > 9:
-            raise self.table.fault(cell, f"{cell.text!r} has more than 9 decimals")
-        self.decimals = max(self.decimals, len(part))
-        return min(int(match[1] + part.ljust(9, "0")), 2**62)
+            raise self.table.fault(cell, f"{cell.text!r} has more than 9 decimals: round it, or say how many decimals "
+                                         "to keep (`decimals`)")
+        if len(part) > self.decimals:
+            self.decimals, self.longest = len(part), cell
+        return min(int(whole + part.ljust(9, "0")), 2**62)
+
+    def round(self, cell: Cell, time: int, most: int) -> tuple[str, str]:
+        """Round a time, in units of 10^-20, and return its digits before and after the decimal sign."""
+        step: int = 10**(20 - most)
+        rounded = (time + step // 2) // step * step
+        self.changed += 1
+        if abs(rounded - time) > self.change:
+            self.worst, self.change = cell, abs(rounded - time)
+        digits = f"{rounded:021d}"
+        return digits[:-20], digits[-20:].rstrip("0")
+
+    def rounded(self) -> str:
+        """Say what was rounded."""
+        if self.worst is None:
+            return ""
+        most = f"{self.change / 10**20:.2g}"
+        return (f"{counted(self.changed, 'time')} rounded to {counted(self.most or 0, 'decimal')}, by {most} at most "
+                f"({self.worst.name}: {self.worst.text})")
 
     def without_groups(self, text: str) -> str:
         """Return a number without its thousands separators."""
