@@ -854,7 +854,7 @@ def pfs_plan(folder: pathlib.Path, *words: str) -> subprocess.CompletedProcess[s
 def test_the_manual_page_has_the_programs_options(folder: pathlib.Path) -> None:
     usage = pfs_plan(folder, "--help").stdout.partition("\n\n")[0]
     assert usage.startswith("usage: pfs-plan ")
-    due = dict(re.findall(r"\[--([\w-]+)(?: ([A-Za-z.-]+|\{[^}]*\}))?\]", usage))
+    due = dict(re.findall(r"\[--([\w-]+)(?: ([A-Za-z.=-]+|\{[^}]*\}))?\]", usage))
     assert len(due) > 10 and due["version"] == ""
     page = (TOP / "python" / "pfs-plan.1").read_text()
     assert dict(re.findall(r"^\.It Fl -([\w-]+)(?: Ar (\S+))?$", page, re.MULTILINE)) == due | {"decimal": "SIGN"}

@@ -7,7 +7,7 @@ from bisect import bisect_left, bisect_right
 from collections import defaultdict
 from collections.abc import Collection, Iterable, Iterator
 from datetime import date, datetime, timedelta
-from itertools import accumulate, count, islice, pairwise
+from itertools import accumulate, count, islice, pairwise, takewhile
 from typing import TYPE_CHECKING
 
 import numpy as np
@@ -172,6 +172,14 @@ class Clock:
             return self.calendar.start(first), self.calendar.end(last)
         moment = self.calendar.end(first) if first else self.calendar.start(0)
         return moment, moment
+
+    def time_at(self, moment: datetime) -> int:
+        """The first time, in whole seconds of work, at which the moment has come."""
+        worked, until = 0, (moment - MONDAY) // timedelta(microseconds=1)
+        for start, end in takewhile(lambda span: span[0] < until, self.calendar._open()):
+            worked += min(end, until) - start
+        step: int = self.scale * SECOND // math.gcd(self.scale * SECOND, self.tick)
+        return -(-worked * self.scale // (self.tick * step)) * step
 
     def breaks(self, end: int) -> list[tuple[float, str]]:
         """The times up to `end` at which a shift or a day begins, with the day; none if there are too many for a

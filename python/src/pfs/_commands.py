@@ -10,7 +10,7 @@ import re
 import signal
 import sys
 import time
-from collections.abc import Callable, Iterator, Sequence
+from collections.abc import Callable, Iterable, Iterator, Sequence
 from difflib import SequenceMatcher
 from functools import partial
 from types import SimpleNamespace
@@ -24,12 +24,13 @@ from pfs._faults import Fault
 from pfs._files import read, read_order
 from pfs._instance import Instance
 from pfs._names import CLOCK, amount, shown
+from pfs._now import Beginning, beginning
 from pfs._optional import optional
 from pfs._orders import FoundOrder, numbers_by_name, order_in
 from pfs._search import ROUNDS, HeldSearch, Search, by_total, insert_after, limit_of, solve
 from pfs._solution import Solution
 from pfs._state import State
-from pfs._tables import described, table_of
+from pfs._tables import Table, described, table_of, write_table
 from pfs._version import VERSION
 
 SIGNALS = (signal.SIGINT, signal.SIGTERM)
@@ -140,25 +141,22 @@ def plan_command(given: argparse.Namespace) -> int:
     """Find an order for a table with names, and print it. It is printed before all other output, so an error doesn't
     lose it."""
     calendar = calendar_of(given)
-    check_outputs([given.table, given.order, given.compare], given.schedule, given.chart)
+    check_outputs([given.table, given.order, given.compare], given.schedule, given.chart, given.rest)
     machines = None if given.machines is None else given.machines.split(",")
-    shop, delimiter, has_mark, rounded = table_of(given.table, given.unit, DECIMAL_SIGNS.get(given.decimal),
-                                                  given.allow_totals, machines, given.decimals)
-    clock = None if calendar is None else Clock(calendar, shop)
-    written(sys.stderr, f"{shown(described(shop))}\n")
-    if rounded:
-        written(sys.stderr, f"{shown(given.table)}: {shown(rounded)}\n")
-    search = plan_search(given, shop)
-    other = FoundOrder([], []) if given.compare is None else order_in(given.compare, shop)
+    table = table_of(given.table, given.unit, DECIMAL_SIGNS.get(given.decimal), given.allow_totals, machines,
+                     given.decimals)
+    if calendar is not None:
+        Clock(calendar, table.shop)
+    written(sys.stderr, f"{shown(described(table.shop))}\n")
+    tell(given.table, table.rounded)
+    found = FoundOrder([], {}) if given.order is None else order_in(given.order, table.shop)
+    shop, found, held, calendar = begin = beginning(given, table.shop, found, calendar)
+    search = plan_search(given, begin)
+    other = FoundOrder([], {}) if given.compare is None else order_in(given.compare, shop)
     with signals() as caught:
         best, fault = searched(search, given.rounds, given.seconds, caught, lambda _: None)
-        outputs: list[Callable[[], object]] = [lambda: printed(listed(shop, best, clock))]
-        outputs += [partial(write_schedule, shop, best, path, delimiter, has_mark or delimiter == ";", calendar)
-                    for path in given.schedule]
-        outputs += [partial(draw, shop, best, chart, calendar, given.title) for chart in given.chart]
-        outputs.append(lambda: compare(given.compare, shop, other, best, clock))
         faults = [] if fault is None else [fault]
-        for output in outputs:
+        for output in outputs_of(given, begin, table, other, best):
             try:
                 output()
             except (OSError, MemoryError, ImportError, ValueError) as failure:
@@ -167,17 +165,30 @@ def plan_command(given: argparse.Namespace) -> int:
     return statuses[0] if statuses else status_of(caught)
 
 
-def plan_search(given: argparse.Namespace, shop: Instance) -> Search:
-    """The search of a plan. It begins with the order of a file, from which jobs that are gone are left out and into
-    which new ones are inserted. It moves no job that is held."""
+def outputs_of(given: argparse.Namespace, begin: Beginning, table: Table, other: FoundOrder,
+               best: Solution) -> list[Callable[[], object]]:
+    """What a plan writes, one after the other."""
+    shop, calendar = begin.shop, begin.calendar
+    clock = None if calendar is None else Clock(calendar, shop)
+    style = table.delimiter, table.has_mark or table.delimiter == ";"
+    return [
+        lambda: printed(listed(shop, best, clock)),
+        *(partial(write_schedule, shop, best, path, *style, calendar) for path in given.schedule),
+        *(partial(write_table, path, shop, *style) for path in given.rest),
+        *(partial(draw, shop, best, chart, calendar, given.title) for chart in given.chart),
+        lambda: compare(given.compare, shop, other, best, clock)]
+
+
+def plan_search(given: argparse.Namespace, begin: Beginning) -> Search:
+    """The search of a plan. It begins with an order, into which new jobs are inserted. It moves no job that is held."""
     if given.order is None and (given.hold or given.keep):
         raise ValueError(f"{'--hold' if given.hold else '--keep'} needs --order, which says where the jobs are")
+    shop, found = begin.shop, begin.found
     numbers = numbers_by_name(shop)
     unknown = next((name for name in given.first if name not in numbers), None)
     if unknown is not None:
         raise ValueError(f"--first: {unknown!r} isn't the name of a job of the table")
-    found = FoundOrder([], []) if given.order is None else order_in(given.order, shop)
-    held = list(dict.fromkeys([*found.jobs[:given.hold], *map(numbers.__getitem__, given.first)]))
+    held = list(dict.fromkeys([*found.jobs[:begin.held], *map(numbers.__getitem__, given.first)]))
     order = list(dict.fromkeys([*held, *found.jobs]))
     new = by_total(shop, [job for job in range(shop.jobs) if job not in order])
     if given.order is not None:
@@ -205,10 +216,11 @@ def compare(path: str | None, shop: Instance, other: FoundOrder, best: Solution,
                          for job in order if job in other.jobs and job not in stayed])
 
 
-def tell(path: str, what: str, names: Sequence[str]) -> None:
-    """Say on standard error which jobs of an order are treated like this."""
-    if names:
-        written(sys.stderr, f"{shown(path)}: {what}: {shown(', '.join(names))}\n")
+def tell(path: str, what: str, names: Iterable[str] | None = None) -> None:
+    """Say on standard error what is true of a file, or which jobs of an order are treated like this."""
+    listed = ", ".join(names or ())
+    if listed or names is None and what:
+        written(sys.stderr, f"{shown(path)}: {shown(what)}{': ' if listed else ''}{shown(listed)}\n")
 
 
 def write_schedule(shop: Instance, best: Solution, path: str, delimiter: str, mark: bool,
@@ -235,18 +247,19 @@ def calendar_of(given: argparse.Namespace) -> Calendar | None:
     return None
 
 
-def check_outputs(inputs: Sequence[str | None], schedules: Sequence[str], charts: Sequence[str]) -> None:
+def check_outputs(inputs: Sequence[str | None], schedules: Sequence[str], charts: Sequence[str],
+                  tables: Sequence[str]) -> None:
     """Raise an error before the search if an output would fail after it, or replace an input: for an ending that it
     isn't written with, a file that is read, a missing folder, or no matplotlib."""
     endings = {ending_of(chart) for chart in charts}
-    for schedule in schedules:
-        ending = os.path.splitext(schedule)[1].lower()
+    for path, what in (*((path, "schedule") for path in schedules), *((path, "table") for path in tables)):
+        ending = os.path.splitext(path)[1].lower()
         if ending not in SCHEDULES:
-            raise ValueError(f"{schedule}: the name of a schedule ends with .csv or .xlsx")
+            raise ValueError(f"{path}: the name of a {what} ends with .csv or .xlsx")
         if ending == ".xlsx":
             optional("openpyxl", "writing a workbook")
     read = {os.path.realpath(path) for path in inputs if path is not None and os.path.isfile(path)}
-    for path in [*schedules, *charts]:
+    for path in [*schedules, *charts, *tables]:
         if os.path.realpath(path) in read:
             raise ValueError(f"{path} is read, and writing would replace it: name another file")
         if not os.path.isdir(os.path.dirname(path) or "."):
@@ -316,6 +329,14 @@ def checked(reader: Callable[[str], object]) -> Callable[[str], str]:
     return read_text
 
 
+def until_of(text: str) -> tuple[str, str]:
+    """Parse a machine and a date and time."""
+    machine, sign, moment = text.rpartition("=")
+    if not sign:
+        raise argparse.ArgumentTypeError(f"{text!r} is not a machine and a time such as drill=2026-12-01T13:00")
+    return machine, checked(begin_of)(moment)
+
+
 def search_words() -> CommandLine:
     """Return the options of all searches."""
     options = CommandLine(add_help=False)
@@ -353,6 +374,8 @@ def add_plan_words(plan: argparse.ArgumentParser) -> None:
     add = plan.add_argument_group("what is written").add_argument
     add("--schedule", metavar="OUT.csv", action="append", default=[],
         help="when each operation starts and ends, as .csv or .xlsx; may be given more than once")
+    add("--rest", metavar="OUT.csv", action="append", default=[],
+        help="the table of the plan, with the times that are left at --now, as .csv or .xlsx, to correct it by hand")
     add("--chart", metavar="OUT.svg", action="append", default=[],
         help="the chart, as .svg, .png, .pdf or a page .html; may be given more than once")
     add("--title", default=True, metavar="TEXT", help="the title of charts, else what they show")
@@ -370,6 +393,11 @@ def add_order_words(add: Callable[..., object]) -> None:
     add("--hold", type=number(1, c.MOST_JOBS), default=0, metavar="K",
         help="the first K jobs of --order that the table has keep the first places")
     add("--keep", action="store_true", help="the jobs of --order keep their order; only new ones are moved")
+    add("--now", type=checked(begin_of), metavar="DATETIME",
+        help="plan what is left at this date and time of --order, which began at --begin: jobs that are finished are "
+        "left out, and those that have begun are held, with the times that are left")
+    add("--down", type=until_of, metavar="MACHINE=DATETIME", action="append", default=[],
+        help="until when a machine is down, from --now or --begin on; may be given more than once")
     add("--compare", metavar="FILE",
         help="another order, as for --order: standard error says how the plan ends and which jobs moved")
 
@@ -449,7 +477,8 @@ def rounds_of(given: argparse.Namespace) -> int:
     """Return the default number of rounds of a command."""
     if given.run is not plan_command or given.seconds is not None:
         return c.MOST_ROUNDS
-    return ROUNDS if given.order is None or given.first or given.hold or given.keep else 0
+    is_changed = given.first or given.hold or given.keep or given.now or given.down
+    return ROUNDS if given.order is None or is_changed else 0
 
 
 def as_options(text: str) -> str:

@@ -1,6 +1,7 @@
 """Files with an order by the names of jobs, which `plan` prints and people change."""
 from __future__ import annotations
 
+import csv
 import os
 import re
 from collections.abc import Iterator
@@ -12,7 +13,7 @@ from pfs._faults import TableFault
 from pfs._files import content_of
 from pfs._instance import Instance
 from pfs._names import shown
-from pfs._tables import lines_of, records, text_of
+from pfs._tables import delimiter_of, is_above_names, lines_of, records, text_of
 
 SCHEDULE = re.compile(r"job([;,\t])machine\1start\1end")
 # The lines of a plan before its jobs, and a job after its place.
@@ -22,10 +23,11 @@ PLACED = re.compile(r"[0-9]+(?:[.):;,]\s*|\s+)(.+)")
 
 
 class FoundOrder(NamedTuple):
-    """An order that was read: the jobs that the table has, and the names that it lacks."""
+    """An order that was read: the jobs that the table has, and the names that it lacks, with how many of these jobs are
+    before each."""
 
     jobs: list[int]
-    gone: list[str]
+    gone: dict[str, int]
 
 
 def order_in(path: str | os.PathLike[str], shop: Instance) -> FoundOrder:
@@ -43,7 +45,12 @@ def order_in(path: str | os.PathLike[str], shop: Instance) -> FoundOrder:
         if job in seen:
             raise TableFault(path, line, 0, f"the job {name!r} is in line {seen[job]} too")
         seen[job] = line
-    found = FoundOrder([job for job in seen if isinstance(job, int)], [job for job in seen if isinstance(job, str)])
+    found = FoundOrder([], {})
+    for job in seen:
+        if isinstance(job, int):
+            found.jobs.append(job)
+        else:
+            found.gone[job] = len(found.jobs)
     if not found.jobs:
         raise TableFault(path, 1, 0, "no job of the table is named: write the names of the jobs, one in a line")
     return found
@@ -74,8 +81,13 @@ def named_jobs(text: str, path: str, numbers: dict[str, int]) -> Iterator[tuple[
         lines = lines[2:]
         for after in AFTER:
             lines = lines[1:] if lines and after.fullmatch(lines[0][1]) else lines
-    for line, text in chain(lines, filled):
-        placed = PLACED.fullmatch(text)
-        name = placed[1] if placed and (is_plan or text not in numbers) else text
+    delimiter = delimiter_of(text)
+    for at, (line, entry) in enumerate(chain(lines, filled)):
+        placed = PLACED.fullmatch(entry)
+        name = placed[1] if placed and (is_plan or entry not in numbers) else entry
         # A row of a table has other cells after the name.
-        yield line, name if name in numbers else re.split("[;\t]", name)[0].strip().strip('"')
+        first = next(csv.reader([name], delimiter=delimiter), [""])[0].strip()
+        if name in numbers or first in numbers:
+            yield line, name if name in numbers else first
+        elif is_plan or at or not is_above_names(first):
+            yield line, re.split("[;\t]", name)[0].strip().strip('"')

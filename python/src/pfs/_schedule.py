@@ -3,19 +3,21 @@ from __future__ import annotations
 
 import csv
 import os
-from collections.abc import Callable, Iterator
+from collections.abc import Callable, Iterator, Mapping
 from datetime import timedelta
 from types import SimpleNamespace
 from typing import TYPE_CHECKING, Any
 
 import numpy as np
 
+from pfs import _library as c
 from pfs._atomic import atomic_write, text_cell
 from pfs._calendar import Calendar, Clock, text_of
 from pfs._drawing import critical_path
 from pfs._names import CLOCK, amount
 from pfs._optional import optional
-from pfs._validate import Order
+from pfs._rest import Rest, down_of, rest_of
+from pfs._validate import Order, checked_int
 from pfs._workbooks import write_workbook
 
 if TYPE_CHECKING:
@@ -108,6 +110,36 @@ class Schedule:
         waits = self.starts.copy()
         waits[1:] -= self.ends[:-1]
         return waits
+
+    def rest(self, at: int, down: Mapping[int | str, int] | None = None) -> Rest:
+        """Return what is left of the schedule at a time, from which a plan can be made for what follows.
+
+        The same order of what is left has the ends of this schedule, less ``at``. A machine that is down delays the
+        operation that it interrupts, or else the jobs that come to it.
+
+        Parameters
+        ----------
+        at : int
+            The time, as in ``starts`` and ``ends``.
+        down : dict, optional
+            The times until which machines, given by number or name, are down from ``at`` on.
+
+        Raises
+        ------
+        TypeError, ValueError
+            If ``at`` isn't a time, a machine is unknown, or all jobs are finished.
+
+        Examples
+        --------
+        >>> names = {"job_names": ["a", "b", "c"], "machine_names": ["saw", "drill"]}
+        >>> shop = pfs.Instance([[3, 2], [2, 5], [4, 1]], **names)
+        >>> left, held, done = shop.schedule([1, 0, 2]).rest(6, {"drill": 9})
+        >>> left.job_names, left.times.tolist(), held, done
+        (('b', 'a', 'c'), [[0, 4], [0, 2], [3, 1]], 3, ())
+        """
+        at = checked_int(at, "at", 0, c.MOST_SEED // 2)
+        until = {machine: checked_int(time, "down", 0, c.MOST_SEED // 2) for machine, time in (down or {}).items()}
+        return rest_of(self.instance, self.order.tolist(), at, down_of(self.instance, until, at))
 
     def to_frame(self) -> Any:
         """Return the operations as a pandas DataFrame.

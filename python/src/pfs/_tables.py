@@ -2,9 +2,11 @@
 from __future__ import annotations
 
 import csv
+import io
 import os
 import re
 from collections.abc import Callable, Iterable, Iterator, Sequence
+from datetime import timedelta
 from functools import cached_property, partial
 from itertools import islice
 from typing import NamedTuple
@@ -12,12 +14,13 @@ from typing import NamedTuple
 import numpy as np
 
 from pfs import _library as c
+from pfs._atomic import atomic_write, text_cell
 from pfs._faults import TableFault, cell_name
 from pfs._files import content_of
 from pfs._instance import Instance
-from pfs._names import CLOCK, seconds_in
+from pfs._names import CLOCK, amount, seconds_in
 from pfs._validate import Order, checked_int
-from pfs._workbooks import csv_of
+from pfs._workbooks import csv_of, write_workbook
 
 # The most cells of a row, as in spreadsheets, and the most rows, with titles.
 MOST_CELLS, MOST_ROWS = 16_384, 10_000
@@ -585,6 +588,26 @@ def reject_sums(table: Rows, times: Order) -> None:
         total = own[:-1].sum(axis=0)
         if min(own.shape[0] - 1, len(total)) > 1 and total.any() and (total == own[-1]).all():
             raise table.fault(last, f"the {others.format(last.text)}: leave it out, or allow totals (`allow_totals`)")
+
+
+def write_table(path: str, shop: Instance, delimiter: str, mark: bool) -> None:
+    """Write a table of times that `table_of` reads as this instance, as a workbook or as CSV."""
+    scale, is_clock = 10**shop.decimals, shop.unit == CLOCK
+    head = [f"job [{shop.unit}]" if shop.unit else "job", *map(shop.machine_name, range(shop.machines))]
+    times: list[list[int]] = shop.times.tolist()
+    if path.lower().endswith(".xlsx"):
+        rows = [[shop.job_name(job), *(timedelta(minutes=time) if is_clock else time / scale if scale > 1 else time
+                                       for time in row)] for job, row in enumerate(times)]
+        write_workbook(path, [("times", [head, *rows])])
+        return
+    text = io.StringIO()
+    writer = csv.writer(text, delimiter=delimiter, lineterminator="\n")
+    writer.writerow(map(text_cell, head))
+    point = "," if delimiter == ";" else "."
+    for job, row in enumerate(times):
+        writer.writerow([text_cell(shop.job_name(job)),
+                         *(amount(time, shop.decimals, shop.unit).replace(".", point) for time in row)])
+    atomic_write(path, text.getvalue().encode("utf-8-sig" if mark else "utf-8"))
 
 
 def counted(number: int, what: str) -> str:
