@@ -340,7 +340,7 @@ def asked(folder: pathlib.Path, monkeypatch: pytest.MonkeyPatch, words: list[str
     """What a command line asks for, which is not searched."""
     found: dict[str, Any] = {}
 
-    def searched(search: Any, rounds: int, seconds: float | None, *_: Any) -> tuple[pfs.Solution, None]:
+    def searched(search: Any, rounds: int | None, seconds: float | None, *_: Any) -> tuple[pfs.Solution, None]:
         found.update(take=search.take, passes=search.passes, seed=search.seed, rounds=rounds, seconds=seconds,
                      block=search.shop.to_text())
         return search.solution(), None
@@ -351,8 +351,29 @@ def asked(folder: pathlib.Path, monkeypatch: pytest.MonkeyPatch, words: list[str
     return found
 
 
+def test_a_plan_is_searched_for_its_seconds(folder: pathlib.Path, monkeypatch: pytest.MonkeyPatch) -> None:
+    """No longer than until it is optimal, and with another seed after the last round of one."""
+    (folder / "times.csv").write_text(TABLE)
+    begun = time.monotonic()
+    assert "\noptimal\n" in run(["plan", "times.csv", "--seconds", "50"], folder)
+    assert time.monotonic() - begun < 20
+    # Its best order is longer than the bound.
+    (folder / "times.csv").write_text("job,saw,drill,paint\na,1,4,0\nb,2,0,3\nc,3,3,5\nd,3,1,0\n")
+    seeds, run_part = set[int](), _search.Search.run_part
+
+    def noted(search: _search.Search, part: _search.Part, count: int) -> None:
+        seeds.add(part.seed)
+        run_part(search, part, count)
+
+    monkeypatch.setattr(_search.Search, "run_part", noted)
+    monkeypatch.setattr(_library, "MOST_ROUNDS", 7)
+    begun = time.monotonic()
+    assert "optimal" not in run(["plan", "times.csv", "--seconds", "0.5"], folder)
+    assert time.monotonic() - begun >= 0.5 and len(seeds) > 1
+
+
 # Another value of each option that has a default.
-OTHERS = {"rounds": "7", "take": "5", "passes": "1", "seed": "3", "block": "2"}
+OTHERS = {"rounds": "7", "seconds": "9", "take": "5", "passes": "1", "seed": "3", "block": "2"}
 
 
 @pytest.mark.parametrize("command", ["search", "plan"])
@@ -367,16 +388,17 @@ def test_the_defaults_that_the_help_states(folder: pathlib.Path, monkeypatch: py
         assert "--block K counted from 1" in text
         got["block"] = "1"
     if command == "plan":
-        got["rounds"] = re.findall(r"a plan without a time limit ([\d,]+)", text)[0]
-    assert got.keys() == OTHERS.keys() - ({"block"} if command == "plan" else set()), f"defaults in the help: {got}"
+        assert "a plan without a limit of rounds has a second" in text and got.pop("rounds") == "1,000,000"
+        got |= {"seconds": "1", "passes": re.findall(r"and (\d) in a plan without a limit of rounds", text)[0]}
+    assert got.keys() == OTHERS.keys() - ({"block", "rounds"} if command == "plan" else {"seconds"}), f"defaults in the help: {got}"
     usual = asked(folder, monkeypatch, line)
     for name, value in got.items():
         given = asked(folder, monkeypatch, [*line, f"--{name}", value.replace(",", "")])
         assert given == usual, f"the help of {command} tells {value} as the default of --{name}"
         assert asked(folder, monkeypatch, [*line, f"--{name}", OTHERS[name]])[name] != usual[name]
-    limited = asked(folder, monkeypatch, [*line, "--seconds", "5"])
-    assert limited["seconds"] == 5
-    assert limited["rounds"] == 1_000_000 == int(re.findall(r"else ([\d,]+), and", text)[0].replace(",", ""))
+    limited, in_rounds = (asked(folder, monkeypatch, [*line, option, "5"]) for option in ("--seconds", "--rounds"))
+    assert limited["seconds"] == 5 and (in_rounds["seconds"], in_rounds["passes"]) == (None, 0)
+    assert limited["rounds"] == (1_000_000 if command == "search" else None)
 
 
 def test_the_help_states_the_ranges(folder: pathlib.Path) -> None:

@@ -77,7 +77,8 @@ def test_names_and_faults_of_a_rest() -> None:
     assert (left.unit, left.decimals, left.name, left.machine_names) == ("h", 1, "week", ("saw", "drill"))
     assert left.makespan(range(4)) == 4 + 3 + 2 + 5
     assert shop.schedule([0, 1]).rest(3, {"saw": 3, "drill": 0}).instance.jobs == 2, "both are up again"
-    for wrong in ({"lathe": 9}, {2: 9}, {"saw": -1}):
+    wrongs: list[dict[str | int, int]] = [{"lathe": 9}, {2: 9}, {"saw": -1}]
+    for wrong in wrongs:
         with pytest.raises(ValueError, match="down: .* isn't a machine|down must be from 0"):
             shop.schedule([0, 1]).rest(1, wrong)
     with pytest.raises(TypeError):

@@ -27,7 +27,7 @@ from pfs._names import CLOCK, amount, shown
 from pfs._now import Beginning, beginning
 from pfs._optional import optional
 from pfs._orders import FoundOrder, numbers_by_name, order_in
-from pfs._search import ROUNDS, HeldSearch, Search, by_total, insert_after, limit_of, solve
+from pfs._search import HeldSearch, Search, by_total, insert_after, limit_of, solve
 from pfs._solution import Solution
 from pfs._state import State
 from pfs._tables import Table, described, table_of, write_table
@@ -65,7 +65,7 @@ def status_of(caught: list[int]) -> int:
 class ProgressLine:
     """The progress line of a search, on a terminal."""
 
-    def __init__(self, search: Search, rounds: int, seconds: float | None) -> None:
+    def __init__(self, search: Search, rounds: int | None, seconds: float | None) -> None:
         self.shown = sys.stderr is not None and sys.stderr.isatty()
         self.shop, self.first, self.rounds = search.shop, search.first, rounds
         self.limit = float("inf") if seconds is None else seconds
@@ -77,9 +77,12 @@ class ProgressLine:
         if not self.shown:
             return
         made, seconds = rounds - self.first, time.monotonic() - self.begun
-        left = min(self.limit - seconds, (self.rounds - rounds) * seconds / made if made else float("inf"))
+        left = self.limit - seconds
+        if self.rounds is not None and made:
+            left = min(left, (self.rounds - rounds) * seconds / made)
+        of = "" if self.rounds is None else f" of {self.rounds:,}"
         spans = [amount(span, self.shop.decimals, self.shop.unit) for span in (makespan, self.bound)]
-        line = f"round {rounds:,} of {self.rounds:,}, makespan {spans[0]}, bound {spans[1]}"
+        line = f"round {rounds:,}{of}, makespan {spans[0]}, bound {spans[1]}"
         self.show(line + (f", {clock(left)} left" if left < 10**7 else ""))
 
     def show(self, line: str) -> None:
@@ -97,20 +100,21 @@ def clock(seconds: float) -> str:
     return f"{whole // 3600}:{whole // 60 % 60:02}:{whole % 60:02}"
 
 
-def searched(search: Search, rounds: int, seconds: float | None, caught: list[int],
+def searched(search: Search, rounds: int | None, seconds: float | None, caught: list[int],
              keep: Callable[[Solution], None]) -> tuple[Solution, Exception | None]:
-    """Search up to a round, and call `keep` with the best order at first and after each part. Return the best order,
-    and the error that ended the search early."""
+    """Search up to a round, or without one for some seconds or up to the bound, and call `keep` with the best order at
+    first and after each part. Return the best order, and the error that ended the search early."""
     progress = ProgressLine(search, rounds, seconds)
 
     def is_set() -> bool:
         best = search.solution()
         keep(best)
-        progress.update(best.rounds, best.makespan)
+        progress.update(search.finished().total, best.makespan)
         return bool(caught)
 
     try:
-        return solve(search, rounds - search.first, None, seconds, stop=SimpleNamespace(is_set=is_set)), None
+        left = None if rounds is None else rounds - search.first
+        return solve(search, left, None, seconds, stop=SimpleNamespace(is_set=is_set)), None
     except (OSError, MemoryError) as fault:
         if search.last is None:
             raise
@@ -342,10 +346,12 @@ def search_words() -> CommandLine:
     options = CommandLine(add_help=False)
     add = options.add_argument
     add("--rounds", type=number(0, c.MOST_ROUNDS), metavar="R",
-        help="up to which round; else 1,000,000, and of a plan without a time limit 1,000")
-    add("--seconds", type=seconds_of, metavar="S", help="a time limit")
+        help="up to which round, else 1,000,000 in a search and none in a plan")
+    add("--seconds", type=seconds_of, metavar="S",
+        help="a time limit; a plan without a limit of rounds has a second, and ends before if it is optimal")
     add("--take", type=number(1, c.MOST_JOBS), metavar="D", help="the destruction size, else 4")
-    add("--passes", type=number(0, c.MOST_PASSES), default=0, metavar="P", help="0 to 100, else 0")
+    add("--passes", type=number(0, c.MOST_PASSES), metavar="P",
+        help="0 to 100, else 0, and 1 in a plan without a limit of rounds")
     add("--seed", type=number(0, c.MOST_SEED), default=0, metavar="S", help="of 64 bits, else 0")
     return options
 
@@ -460,8 +466,7 @@ def main(line: list[str], parser: argparse.ArgumentParser | None = None) -> int:
 def command(line: list[str], parser: argparse.ArgumentParser) -> int:
     """Run the command of a command line, and return its exit status."""
     given = parser.parse_args(line)
-    if given.rounds is None:
-        given.rounds = rounds_of(given)
+    set_limits(given)
     if sys.stdout is None:
         raise OSError("standard output is closed")
     try:
@@ -473,12 +478,17 @@ def command(line: list[str], parser: argparse.ArgumentParser) -> int:
         raise Misused(str(fault)) from None
 
 
-def rounds_of(given: argparse.Namespace) -> int:
-    """Return the default number of rounds of a command."""
-    if given.run is not plan_command or given.seconds is not None:
-        return c.MOST_ROUNDS
-    is_changed = given.first or given.hold or given.keep or given.now or given.down
-    return ROUNDS if given.order is None or is_changed else 0
+def set_limits(given: argparse.Namespace) -> None:
+    """Set the limits of a search that its command line leaves out. A plan is searched for a second, with a pass in each
+    round, unless it has just the order of a file."""
+    is_by_time = given.run is plan_command and given.rounds is None
+    if is_by_time and given.seconds is None:
+        is_changed = given.first or given.hold or given.keep or given.now or given.down
+        given.seconds = 1.0 if given.order is None or is_changed else 0.0
+    if given.passes is None:
+        given.passes = int(is_by_time)
+    if given.rounds is None and not is_by_time:
+        given.rounds = c.MOST_ROUNDS
 
 
 def as_options(text: str) -> str:

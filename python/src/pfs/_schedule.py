@@ -111,7 +111,7 @@ class Schedule:
         waits[1:] -= self.ends[:-1]
         return waits
 
-    def rest(self, at: int, down: Mapping[int | str, int] | None = None) -> Rest:
+    def rest(self, at: int, down: Mapping[Any, int] | None = None) -> Rest:
         """Return what is left of the schedule at a time, from which a plan can be made for what follows.
 
         The same order of what is left has the ends of this schedule, less ``at``. A machine that is down delays the
