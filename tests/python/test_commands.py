@@ -357,8 +357,7 @@ def test_a_plan_is_searched_for_its_seconds(folder: pathlib.Path, monkeypatch: p
     begun = time.monotonic()
     assert "\noptimal\n" in run(["plan", "times.csv", "--seconds", "50"], folder)
     assert time.monotonic() - begun < 20
-    # Its best order is longer than the bound.
-    (folder / "times.csv").write_text("job,saw,drill,paint\na,1,4,0\nb,2,0,3\nc,3,3,5\nd,3,1,0\n")
+    (folder / "times.csv").write_text(ABOVE_BOUND)
     seeds, run_part = set[int](), _search.Search.run_part
 
     def noted(search: _search.Search, part: _search.Part, count: int) -> None:
@@ -373,7 +372,7 @@ def test_a_plan_is_searched_for_its_seconds(folder: pathlib.Path, monkeypatch: p
 
 
 # Another value of each option that has a default.
-OTHERS = {"rounds": "7", "seconds": "9", "take": "5", "passes": "1", "seed": "3", "block": "2"}
+OTHERS = {"rounds": "7", "seconds": "9", "take": "5", "passes": "2", "seed": "3", "block": "2"}
 
 
 @pytest.mark.parametrize("command", ["search", "plan"])
@@ -432,7 +431,7 @@ def test_memory_that_runs_out_is_reported_on_one_line(folder: pathlib.Path, monk
     monkeypatch.setattr(_library.library, "pfs_rounds", lambda *_: _library.MEMORY)
     assert _commands.main([*LONG, "--rounds", "3"]) == 4
     assert capsys.readouterr() == (shop_in(folder).neh().to_text(), "pfs: no memory\n"), "the order is lost"
-    (folder / "times.csv").write_text(TABLE)
+    (folder / "times.csv").write_text(ABOVE_BOUND)
     assert _commands.main(["plan", "times.csv"]) == 4
     out, got = capsys.readouterr()
     assert out.startswith("makespan ") and without_summary(got) == "pfs: no memory\n", "the plan is lost"
@@ -483,7 +482,9 @@ def test_a_terminal_that_goes_away(folder: pathlib.Path) -> None:
 
 
 TABLE = "job [h];saw;drill;paint\ntable;3;2,5;4\nchair;2;5;1,5\n\"shelf; oak\";4;1;2\nbox;1;1;6\n"
-# Its times in tenths, and the names of its jobs.
+# A table whose best order is longer than the bound.
+ABOVE_BOUND = "job,saw,drill,paint\na,1,4,0\nb,2,0,3\nc,3,3,5\nd,3,1,0\n"
+# The times of TABLE in tenths, and the names of its jobs.
 TIMES = [[30, 25, 40], [20, 50, 15], [40, 10, 20], [10, 10, 60]]
 NAMES = ["table", "chair", "shelf; oak", "box"]
 

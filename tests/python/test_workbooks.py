@@ -144,14 +144,14 @@ def test_a_schedule_is_shown_whole(tmp_path: pathlib.Path, office: Office) -> No
     path = tmp_path / "plan.xlsx"
     shop.schedule([1, 0]).to_xlsx(path, calendar=pfs.Calendar("2026-11-30T06:00", shifts="06:00-14:00"))
     book = openpyxl.load_workbook(path)
-    assert book.sheetnames == ["schedule", "S\u00e4ge", "schedule (2)", "Fr\u00e4sen-Bohren- 2", "a" * 31,
+    assert book.sheetnames == ["schedule", "machines", "jobs", "S\u00e4ge", "schedule (2)", "Fr\u00e4sen-Bohren- 2", "a" * 31,
                                "A" * 27 + " (2)"]
     assert [list(row)[:2] for row in book["S\u00e4ge"].values] == [["place", "job"], [1, "A-1001 Welle"]]
     assert [row[1] for row in book["schedule (2)"].values] == ["job", "A-1002", "A-1001 Welle"]
     assert all((sheet.freeze_panes, sheet.auto_filter.ref) == ("A2", sheet.dimensions) for sheet in book)
     pdf = office(path, "pdf")
     text = subprocess.run([tool("pdftotext"), "-layout", pdf, "-"], capture_output=True, text=True, check=True).stdout
-    assert "###" not in text and text.count("\f") == 6
+    assert "###" not in text and text.count("\f") == 8
     assert re.findall(r"^ *1 +A-1001 Welle +(2026-11-30 06:00) +(2026-11-30 07:30)$", text, re.MULTILINE)
 
 

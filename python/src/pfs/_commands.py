@@ -26,7 +26,9 @@ from pfs._instance import Instance
 from pfs._names import CLOCK, amount, shown
 from pfs._now import Beginning, beginning
 from pfs._optional import optional
-from pfs._orders import FoundOrder, numbers_by_name, order_in
+from pfs._orders import AFTER_ORDER, FoundOrder, numbers_by_name, order_in
+from pfs._report import JOBS, rows_of, text_table
+from pfs._schedule import Schedule
 from pfs._search import HeldSearch, Search, by_total, insert_after, limit_of, solve
 from pfs._solution import Solution
 from pfs._state import State
@@ -176,7 +178,7 @@ def outputs_of(given: argparse.Namespace, begin: Beginning, table: Table, other:
     clock = None if calendar is None else Clock(calendar, shop)
     style = table.delimiter, table.has_mark or table.delimiter == ";"
     return [
-        lambda: printed(listed(shop, best, clock)),
+        lambda: printed(listed(shop, best, clock) + (reported(shop.schedule(best), calendar) if given.report else "")),
         *(partial(write_schedule, shop, best, path, *style, calendar) for path in given.schedule),
         *(partial(write_table, path, shop, *style) for path in given.rest),
         *(partial(draw, shop, best, chart, calendar, given.title) for chart in given.chart),
@@ -283,6 +285,16 @@ def listed(shop: Instance, best: Solution, clock: Clock | None = None) -> str:
     return "\n".join(lines) + "\n"
 
 
+def reported(schedule: Schedule, calendar: Calendar | None) -> str:
+    """The text of a report, after a line that ends the order."""
+    shop, report, span = schedule.instance, schedule.report(), schedule._texts(calendar)
+    machines = [[shown(str(cell)) for cell in row]
+                for row in rows_of(report, lambda time: amount(time, shop.decimals, shop.unit))]
+    jobs = [[shown(cell) for cell in (each.name, *span(each.start, each.end))] for each in report.jobs]
+    return (f"{AFTER_ORDER}\n{text_table(machines)}\nbottleneck {shown(report.bottleneck)}\n\n"
+            f"{text_table([[*JOBS], *jobs])}")
+
+
 def span_text(shop: Instance, span: int) -> str:
     """A time with its unit."""
     unit = "h" if shop.unit == CLOCK else shown(shop.unit)
@@ -384,6 +396,8 @@ def add_plan_words(plan: argparse.ArgumentParser) -> None:
         help="the table of the plan, with the times that are left at --now, as .csv or .xlsx, to correct it by hand")
     add("--chart", metavar="OUT.svg", action="append", default=[],
         help="the chart, as .svg, .png, .pdf or a page .html; may be given more than once")
+    add("--report", action="store_true",
+        help="print after the order how busy each machine is, when each job is made, and the bottleneck")
     add("--title", default=True, metavar="TEXT", help="the title of charts, else what they show")
 
 

@@ -5,7 +5,7 @@ import csv
 import os
 import re
 from collections.abc import Iterator
-from itertools import chain, islice
+from itertools import chain, islice, takewhile
 from typing import NamedTuple
 
 from pfs._atomic import text_cell
@@ -19,6 +19,8 @@ SCHEDULE = re.compile(r"job([;,\t])machine\1start\1end")
 # The lines of a plan before its jobs, and a job after its place.
 HEAD = re.compile(r"(makespan|bound) \S.*")
 AFTER = (re.compile("optimal"), re.compile(r"end [0-9]{4}-[0-9]{2}-[0-9]{2} [0-9:.]+"))
+# The line after the jobs of a plan, where a report follows.
+AFTER_ORDER = "---"
 PLACED = re.compile(r"[0-9]+(?:[.):;,]\s*|\s+)(.+)")
 
 
@@ -82,7 +84,8 @@ def named_jobs(text: str, path: str, numbers: dict[str, int]) -> Iterator[tuple[
         for after in AFTER:
             lines = lines[1:] if lines and after.fullmatch(lines[0][1]) else lines
     delimiter = delimiter_of(text)
-    for at, (line, entry) in enumerate(chain(lines, filled)):
+    listed = takewhile(lambda each: not is_plan or each[1] != AFTER_ORDER, chain(lines, filled))
+    for at, (line, entry) in enumerate(listed):
         placed = PLACED.fullmatch(entry)
         name = placed[1] if placed and (is_plan or entry not in numbers) else entry
         # A row of a table has other cells after the name.

@@ -4,7 +4,6 @@ from __future__ import annotations
 import csv
 import os
 from collections.abc import Callable, Iterator, Mapping
-from datetime import timedelta
 from types import SimpleNamespace
 from typing import TYPE_CHECKING, Any
 
@@ -16,9 +15,10 @@ from pfs._calendar import Calendar, Clock, text_of
 from pfs._drawing import critical_path
 from pfs._names import CLOCK, amount
 from pfs._optional import optional
+from pfs._report import Report, report_of, sheets_of
 from pfs._rest import Rest, down_of, rest_of
 from pfs._validate import Order, checked_int
-from pfs._workbooks import write_workbook
+from pfs._workbooks import cell_of, write_workbook
 
 if TYPE_CHECKING:
     from pfs._instance import Instance
@@ -110,6 +110,21 @@ class Schedule:
         waits = self.starts.copy()
         waits[1:] -= self.ends[:-1]
         return waits
+
+    def report(self) -> Report:
+        """Return how busy each machine is, when each job is made, and which machine has the most work.
+
+        Examples
+        --------
+        >>> report = pfs.Instance([[3, 2], [2, 5], [4, 1]], machine_names=["saw", "drill"]).schedule([1, 0, 2]).report()
+        >>> report.bottleneck, report.machines[0].work, report.machines[0].utilisation
+        ('saw', 9, 90.0)
+        >>> report.machines[1]
+        MachineReport(name='drill', work=8, utilisation=80.0, before=2, between=0, after=0, critical=80.0)
+        >>> report.jobs[0]
+        JobReport(name='1', start=0, end=7)
+        """
+        return report_of(self)
 
     def rest(self, at: int, down: Mapping[Any, int] | None = None) -> Rest:
         """Return what is left of the schedule at a time, from which a plan can be made for what follows.
@@ -208,8 +223,8 @@ class Schedule:
         return None
 
     def to_xlsx(self, path: str | os.PathLike[str], *, calendar: Calendar | None = None) -> None:
-        """Write the operations as a workbook, with numbers, or with dates and times of day. Each machine also has a
-        sheet with its jobs. This needs openpyxl.
+        """Write the operations as a workbook, with numbers, or with dates and times of day. Other sheets have
+        the :meth:`report`, and the jobs of each machine. This needs openpyxl.
 
         Parameters
         ----------
@@ -217,25 +232,15 @@ class Schedule:
             As for :meth:`to_csv`, which raises the same errors.
         """
         shop = self.instance
-        values = self._values(calendar)
-        rows: list[list[tuple[Any, ...]]] = [[] for _ in range(shop.machines)]
-        for job, machine, start, end in self._operations():
-            if start < end:
-                rows[machine].append((len(rows[machine]) + 1, shop.job_name(job), *values(start, end)))
-        operations = [(shop.job_name(job), shop.machine_name(machine), *values(start, end))
-                      for job, machine, start, end in self._operations()]
-        write_workbook(path, [("schedule", [("job", "machine", "start", "end"), *operations]), *(
-            (shop.machine_name(machine), [("place", "job", "start", "end"), *own])
-            for machine, own in enumerate(rows))])
+        clock = None if calendar is None else Clock(calendar, shop)
 
-    def _values(self, calendar: Calendar | None) -> Callable[[int, int], tuple[Any, Any]]:
-        """What the cells of a workbook have for the times of an operation."""
-        shop = self.instance
-        if calendar is not None:
-            return Clock(calendar, shop).span
-        if shop.unit == CLOCK:
-            return lambda start, end: (timedelta(minutes=start), timedelta(minutes=end))
-        return lambda start, end: (start / 10**shop.decimals, end / 10**shop.decimals) if shop.decimals else (start, end)
+        def cell(time: int) -> Any:
+            return cell_of(time, shop.decimals, shop.unit)
+
+        def span(start: int, end: int) -> tuple[Any, Any]:
+            return (cell(start), cell(end)) if clock is None else clock.span(start, end)
+
+        write_workbook(path, sheets_of(self, cell, span))
 
     def _texts(self, calendar: Calendar | None) -> Callable[[int, int], list[str]]:
         """What writes the times of an operation, as numbers or as dates and times of day."""

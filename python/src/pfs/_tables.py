@@ -6,7 +6,6 @@ import io
 import os
 import re
 from collections.abc import Callable, Iterable, Iterator, Sequence
-from datetime import timedelta
 from functools import cached_property, partial
 from itertools import islice
 from typing import NamedTuple
@@ -20,7 +19,7 @@ from pfs._files import content_of
 from pfs._instance import Instance
 from pfs._names import CLOCK, amount, seconds_in
 from pfs._validate import Order, checked_int
-from pfs._workbooks import csv_of, write_workbook
+from pfs._workbooks import cell_of, csv_of, write_workbook
 
 # The most cells of a row, as in spreadsheets, and the most rows, with titles.
 MOST_CELLS, MOST_ROWS = 16_384, 10_000
@@ -592,12 +591,11 @@ def reject_sums(table: Rows, times: Order) -> None:
 
 def write_table(path: str, shop: Instance, delimiter: str, mark: bool) -> None:
     """Write a table of times that `table_of` reads as this instance, as a workbook or as CSV."""
-    scale, is_clock = 10**shop.decimals, shop.unit == CLOCK
     head = [f"job [{shop.unit}]" if shop.unit else "job", *map(shop.machine_name, range(shop.machines))]
     times: list[list[int]] = shop.times.tolist()
     if path.lower().endswith(".xlsx"):
-        rows = [[shop.job_name(job), *(timedelta(minutes=time) if is_clock else time / scale if scale > 1 else time
-                                       for time in row)] for job, row in enumerate(times)]
+        rows = [[shop.job_name(job), *(cell_of(time, shop.decimals, shop.unit) for time in row)]
+                for job, row in enumerate(times)]
         write_workbook(path, [("times", [head, *rows])])
         return
     text = io.StringIO()

@@ -16,7 +16,7 @@ from xml.etree import ElementTree
 from pfs import _library as c
 from pfs._atomic import atomic_write
 from pfs._faults import TableFault
-from pfs._names import printable, shown
+from pfs._names import CLOCK, printable, shown
 from pfs._optional import optional
 
 # Days count from the first date in workbooks, and from the other one up to February 1900, which had 29 days there.
@@ -117,6 +117,13 @@ def text_in(value: Any) -> str:
         seconds = round(value.total_seconds())
         return f"{seconds // 3600}:{seconds // 60 % 60:02}" + (f":{seconds % 60:02}" if seconds % 60 else "")
     return str(value)
+
+
+def cell_of(time: int, decimals: int, unit: str) -> Any:
+    """What a cell has for a time: a number, or a length of time."""
+    if unit == CLOCK:
+        return datetime.timedelta(minutes=time)
+    return time / 10**decimals if decimals else time
 
 
 def write_workbook(path: str | os.PathLike[str], sheets: Iterable[tuple[str, Sequence[Sequence[Any]]]]) -> None:
