@@ -5,7 +5,7 @@ import resource
 import subprocess
 import warnings
 import zipfile
-from collections.abc import Callable, Sequence
+from collections.abc import Sequence
 from typing import Any
 
 import pfs
@@ -13,23 +13,10 @@ import pytest
 from pfs import _workbooks
 from support.commands import ended
 from support.needs import tool
+from support.office import Office
 
 openpyxl = pytest.importorskip("openpyxl")
 pytestmark = pytest.mark.xdist_group("office")
-Office = Callable[[pathlib.Path, str], pathlib.Path]
-
-
-@pytest.fixture(scope="session")
-def office(tmp_path_factory: pytest.TempPathFactory) -> Office:
-    """What opens a file in LibreOffice, and saves it in another format."""
-    soffice, home = tool("soffice"), tmp_path_factory.mktemp("office")
-
-    def saved(path: pathlib.Path, ending: str) -> pathlib.Path:
-        words = [soffice, f"-env:UserInstallation=file://{home}", "--headless", "--convert-to", ending, "--outdir"]
-        subprocess.run([*words, path.parent / "saved", path], check=True, capture_output=True, timeout=120)
-        return path.parent / "saved" / f"{path.stem}.{ending}"
-
-    return saved
 
 
 def book_of(path: pathlib.Path, *rows: Sequence[object]) -> pathlib.Path:

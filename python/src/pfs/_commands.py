@@ -4,9 +4,11 @@ from __future__ import annotations
 
 import argparse
 import contextlib
+import csv
 import errno
 import os
 import re
+import shlex
 import signal
 import sys
 import time
@@ -26,7 +28,7 @@ from pfs._instance import Instance
 from pfs._names import CLOCK, amount, shown
 from pfs._now import Beginning, beginning
 from pfs._optional import optional
-from pfs._orders import AFTER_ORDER, FoundOrder, numbers_by_name, order_in
+from pfs._orders import AFTER_ORDER, FoundOrder, numbers_by_name, order_in, stated_end
 from pfs._report import JOBS, rows_of, text_table
 from pfs._schedule import Schedule
 from pfs._search import HeldSearch, Search, by_total, insert_after, limit_of, solve
@@ -148,7 +150,8 @@ def plan_command(given: argparse.Namespace) -> int:
     lose it."""
     calendar = calendar_of(given)
     check_outputs([given.table, given.order, given.compare], given.schedule, given.chart, given.rest)
-    machines = None if given.machines is None else given.machines.split(",")
+    # As a row of a table, so that a name with a comma may be in quotes.
+    machines = None if given.machines is None else next(csv.reader([given.machines], skipinitialspace=True), [])
     table = table_of(given.table, given.unit, DECIMAL_SIGNS.get(given.decimal), given.allow_totals, machines,
                      given.decimals)
     if calendar is not None:
@@ -210,6 +213,8 @@ def compare(path: str | None, shop: Instance, other: FoundOrder, best: Solution,
     if path is None:
         return
     order: list[int] = best.order.tolist()
+    stated = stated_end(path)
+    tell(path, f"says {stated}" if stated else "")
     blocks = SequenceMatcher(None, other.jobs, order, autojunk=False).get_matching_blocks()
     stayed = {job for block in blocks for job in order[block.b:block.b + block.size]}
     if len(other.jobs) == shop.jobs and not other.gone:
@@ -368,9 +373,23 @@ def search_words() -> CommandLine:
     return options
 
 
+def words_of_line(plan: argparse.ArgumentParser, line: str) -> list[str]:
+    """The words of a line of a file with options, in which # begins a comment."""
+    try:
+        words = shlex.split(line.removeprefix("\ufeff"), comments=True)
+    except ValueError as error:
+        plan.error(f"{line!r}: {error}")
+    if any(word.startswith("@") for word in words):
+        plan.error(f"{line!r}: a file with options can't name another one")
+    return words
+
+
 def add_plan_words(plan: argparse.ArgumentParser) -> None:
     """Add the arguments of `plan`."""
     plan.set_defaults(run=plan_command)
+    # Options may be in a file, as in a shell: @week.txt.
+    plan.fromfile_prefix_chars = "@"
+    setattr(plan, "convert_arg_line_to_args", partial(words_of_line, plan))
     plan.add_argument("--version", **VERSION_OPTION)
     plan.add_argument("table", metavar="TIMES.csv", help="a row for each job, a column for each machine, with names; "
                       "also a workbook .xlsx")
@@ -381,7 +400,7 @@ def add_plan_words(plan: argparse.ArgumentParser) -> None:
         "uses, if that is clear")
     add("--machines", metavar="NAMES",
         help="the columns that are machines, by their names, with commas, in the order of the machines; other columns "
-        "are skipped")
+        "are skipped. A name with a comma is in double quotes")
     add("--allow-totals", action="store_true",
         help="take rows and columns with the names of sums, means or quantities, and a last one with the sums of the "
         "others, as jobs and machines")
@@ -419,7 +438,8 @@ def add_order_words(add: Callable[..., object]) -> None:
     add("--down", type=until_of, metavar="MACHINE=DATETIME", action="append", default=[],
         help="until when a machine is down, from --now or --begin on; may be given more than once")
     add("--compare", metavar="FILE",
-        help="another order, as for --order: standard error says how the plan ends and which jobs moved")
+        help="another order, as for --order: standard error says how both end, with this table and these shifts, what "
+        "the other one says of its own end, and which jobs moved")
 
 
 def add_date_words(add: Callable[..., object]) -> None:

@@ -58,6 +58,16 @@ def order_in(path: str | os.PathLike[str], shop: Instance) -> FoundOrder:
     return found
 
 
+def stated_end(path: str | os.PathLike[str]) -> str:
+    """What a plan or a schedule with dates says of its own end, or an empty text."""
+    text = text_of(content_of(os.fspath(path)), os.fspath(path))
+    lines = [line.strip() for line in islice(lines_of(text), 4)]
+    if len(lines) > 1 and all(HEAD.fullmatch(line) for line in lines[:2]):
+        return ", ".join([lines[0], *(line for line in lines[2:] if AFTER[1].fullmatch(line))])
+    dates = re.findall(r"[;,\t]([0-9]{4}-[0-9]{2}-[0-9]{2} [0-9:.]+)$", text, re.MULTILINE)
+    return f"end {max(dates).removesuffix(':00') if len(max(dates)) > 16 else max(dates)}" if dates else ""
+
+
 def numbers_by_name(shop: Instance) -> dict[str, int]:
     """Return the number of each job by its name, also as plans and schedules have it."""
     names = [shop.job_name(job) for job in range(shop.jobs)]

@@ -34,9 +34,16 @@ MISSING = "the time is missing: write 0 where a job skips a machine (it still wa
 ONE_UNIT = "use one unit"
 EMPTY_ROW = "the row has no times: leave it out if it is no job, or write 0 where the job skips a machine"
 NO_MACHINE = "leave the column out if it is no machine, or say which columns are machines (`machines`)"
+SECONDS = re.compile(r"[0-9]+:[0-9]{2}:[0-9]{2}")
+SKIPS = "write 0 where a job skips a machine"
 # What isn't a time, and what to write instead.
 HINTS = (
-    (re.compile(r"[0-9]+:[0-9]{2}:[0-9]{2}"), "write hours and minutes, as 1:30, or a number"),
+    (re.compile(r"#[A-Z0-9/]+[!?]?"), "the formula has an error"),
+    (re.compile(r"[-\u2012-\u2015]|n\.?[/.]?a\.?", re.IGNORECASE), SKIPS),
+    (re.compile(r"(?:24|48|72|96|[1-9][0-9]{2,}):00"), "a cell with the format of a time has a number of days: format it "
+     "as a number, and write the time again"),
+    (HOURS, "other times of the table are numbers: write all of them like this, or none"),
+    (SECONDS, "write hours and minutes, as 1:30, or a number"),
     (re.compile(r"[0-9]+\s*h\s*[0-9]{2}"), "write hours and minutes as 1:30"),
     (re.compile(r"[0-9]{1,3}(?:['\u2019\u02bc\s][0-9]{3})+(?:[.,][0-9]+)?"), "leave out thousands separators"),
     (re.compile(r"[0-9]{1,3}(?:\.[0-9]{3})+,[0-9]+|[0-9]{1,3}(?:,[0-9]{3})+\.[0-9]+"),
@@ -104,6 +111,8 @@ class Rows:
         self.corner = Cell(1, 1, "")
         self.machines: list[Cell] = []
         self.jobs: list[Cell] = []
+        # Whether the machines were named.
+        self.is_chosen = False
         # The first cell of each column that isn't a time, and how many there are, for each cause.
         self.wrong: dict[tuple[int, str], tuple[TableFault, int]] = {}
 
@@ -311,6 +320,7 @@ def rows_of(text: str, path: str, machines: list[str], faults: list[TableFault])
     """Return the table: the rows from the first one on that has more than a first cell, or that names these machines.
     Those above it are titles."""
     table = Rows(path, text, delimiter_of(text), faults)
+    table.is_chosen = bool(machines)
     head: list[str] = []
     titles: list[Cell] = []
     used: set[int] = set()
@@ -507,7 +517,7 @@ def minutes_of(table: Rows, cell: Cell) -> int:
     """Return a time in minutes that is written as hours and minutes."""
     match = HOURS.match(cell.text)
     if match is None and not ZERO.match(cell.text):
-        hint = ": leave out the seconds" if HINTS[0][0].fullmatch(cell.text) else ""
+        hint = ": leave out the seconds" if SECONDS.fullmatch(cell.text) else ""
         raise table.fault(cell, f"{cell.text!r} isn't hours and minutes, as other times of the table are{hint}"
                           if cell.text else MISSING)
     return 60 * int(match[1]) + int(match[2]) if match else 0
@@ -542,8 +552,7 @@ class DecimalSign:
             raise self.table.fault(cell, f"{cell.text!r} has another decimal sign than {self.first.text!r} in "
                                          f"{self.first.name}")
         if match is None or match[2] not in (None, self.sign):
-            hint = next((f": {hint}" for wrong, hint in HINTS if wrong.fullmatch(cell.text)), "")
-            raise self.table.fault(cell, f"{cell.text!r} isn't a time{hint}")
+            raise self.table.fault(cell, f"{cell.text!r} isn't a time{self.hint_for(cell.text)}")
         whole, part = match[1], (match[3] or "").rstrip("0")
         if self.most is not None and len(part) > self.most:
             whole, part = self.round(cell, int(whole + part.ljust(20, "0")), self.most)
@@ -571,6 +580,15 @@ class DecimalSign:
         most = f"{self.change / 10**20:.2g}"
         return (f"{counted(self.changed, 'time')} rounded to {counted(self.most or 0, 'decimal')}, by {most} at most "
                 f"({self.worst.name}: {self.worst.text})")
+
+    def hint_for(self, text: str) -> str:
+        """What to write instead of what isn't a time."""
+        if match := NUMBER.match(text):
+            is_text = match[2] and self.table.text.startswith("sep=,\n")
+            return ": it is text that looks like a number: format the cell as a number, and write it again" if is_text \
+                else ""
+        hint = next((hint for wrong, hint in HINTS if wrong.fullmatch(text)), "")
+        return f": {SKIPS if hint == NO_MACHINE and self.table.is_chosen else hint}" if hint else ""
 
     def without_groups(self, text: str) -> str:
         """Return a number without its thousands separators."""

@@ -38,6 +38,8 @@ def csv_of(content: bytes, path: str, most_rows: int) -> str:
     openpyxl = optional("openpyxl", f"{path}: reading a workbook")
     try:
         with zipfile.ZipFile(io.BytesIO(content)) as archive, warnings.catch_warnings():
+            if "mimetype" in archive.namelist():
+                raise ValueError("it is of LibreOffice's own format: save it as .xlsx")
             # openpyxl warns of what it wouldn't write again.
             warnings.simplefilter("ignore")
             check_parts(archive)
@@ -47,8 +49,8 @@ def csv_of(content: bytes, path: str, most_rows: int) -> str:
     except MemoryError:
         raise
     except Exception as error:
-        raise TableFault(path, 1, 0, f"isn't a workbook that openpyxl reads ({shown(str(error))}): save it as CSV "
-                                     "UTF-8") from None
+        instead = "" if "save" in str(error) else ": save it as CSV UTF-8"
+        raise TableFault(path, 1, 0, f"isn't a workbook that openpyxl reads ({shown(str(error))}){instead}") from None
     if empty:
         line, column = openpyxl.utils.cell.coordinate_to_tuple(empty[0])
         more = f" (and {len(empty) - 1:,} more)" if len(empty) > 1 else ""
@@ -154,7 +156,7 @@ def title_of(name: str, used: Collection[str]) -> str:
 def write_sheet(sheet: Any, rows: Iterable[Sequence[Any]]) -> None:
     """Write the rows of a sheet, whose columns are as wide as their cells. The heads stay in view, are on each printed
     page, and have filters."""
-    font = optional("openpyxl", "").styles.Font(bold=True)
+    font = optional("openpyxl", "").styles.Font("Calibri", 11, bold=True)
     for line, row in enumerate(rows, 1):
         for column, value in enumerate(row, 1):
             cell = sheet.cell(line, column, shown(value) if isinstance(value, str) else value)
