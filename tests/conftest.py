@@ -17,7 +17,7 @@ from support.program import Program
 from support.tools import TOP
 
 pytest_plugins = ["support.needs", "support.tools", "support.servers",
-                  "support.experiments", "support.growths", "support.installed"]
+                  "support.experiments", "support.growths", "support.office", "support.installed"]
 
 PACKAGE = TOP / "tests" / "python"
 # Examples are the same in each run, and none is too slow for a machine that runs other programs too.

@@ -25,9 +25,10 @@ import pytest
 from pfs import _commands, _library, _search, _state
 from pfs._cli import Misused
 from support import plainly
+from support.commands import ended, without_summary
 from support.plainly import environment
 from support.terminals import Terminal
-from support.tools import TOP, run_main, wait_until
+from support.tools import TOP, wait_until
 
 # A search that would take minutes.
 LONG = ["search", "shop", "--layout", "taillard"]
@@ -50,21 +51,10 @@ def start(words: list[str], folder: pathlib.Path, env: dict[str, str] | None = N
                             stdin=subprocess.DEVNULL, stdout=subprocess.PIPE, stderr=stderr)
 
 
-def ended(words: list[str], folder: pathlib.Path) -> tuple[int, str, str]:
-    """The status, the output and the errors of a command."""
-    done = run_main(lambda: _commands.main(words), ["pfs"], folder)
-    return done.status, done.stdout, without_summary(done.stderr)
-
-
 def run(words: list[str], folder: pathlib.Path, status: int = 0, error: str = "") -> str:
     found, printed, got = ended(words, folder)
     assert (found, got) == (status, error)
     return printed
-
-
-def without_summary(got: str) -> str:
-    """What a plan prints on standard error after the line that says what it read."""
-    return re.sub(r"\A\d+ jobs?, \d+ machines? \(.*\), times .*\n", "", got)
 
 
 def catches(process: int, number: signal.Signals) -> bool:
@@ -350,7 +340,7 @@ def asked(folder: pathlib.Path, monkeypatch: pytest.MonkeyPatch, words: list[str
     """What a command line asks for, which is not searched."""
     found: dict[str, Any] = {}
 
-    def searched(search: Any, rounds: int, seconds: float | None, *_: Any) -> tuple[pfs.Solution, None]:
+    def searched(search: Any, rounds: int | None, seconds: float | None, *_: Any) -> tuple[pfs.Solution, None]:
         found.update(take=search.take, passes=search.passes, seed=search.seed, rounds=rounds, seconds=seconds,
                      block=search.shop.to_text())
         return search.solution(), None
@@ -361,8 +351,28 @@ def asked(folder: pathlib.Path, monkeypatch: pytest.MonkeyPatch, words: list[str
     return found
 
 
+def test_a_plan_is_searched_for_its_seconds(folder: pathlib.Path, monkeypatch: pytest.MonkeyPatch) -> None:
+    """No longer than until it is optimal, and with another seed after the last round of one."""
+    (folder / "times.csv").write_text(TABLE)
+    begun = time.monotonic()
+    assert "\noptimal\n" in run(["plan", "times.csv", "--seconds", "50"], folder)
+    assert time.monotonic() - begun < 20
+    (folder / "times.csv").write_text(ABOVE_BOUND)
+    seeds, run_part = set[int](), _search.Search.run_part
+
+    def noted(search: _search.Search, part: _search.Part, count: int) -> None:
+        seeds.add(part.seed)
+        run_part(search, part, count)
+
+    monkeypatch.setattr(_search.Search, "run_part", noted)
+    monkeypatch.setattr(_library, "MOST_ROUNDS", 7)
+    begun = time.monotonic()
+    assert "optimal" not in run(["plan", "times.csv", "--seconds", "0.5"], folder)
+    assert time.monotonic() - begun >= 0.5 and len(seeds) > 1
+
+
 # Another value of each option that has a default.
-OTHERS = {"rounds": "7", "take": "5", "passes": "1", "seed": "3", "block": "2"}
+OTHERS = {"rounds": "7", "seconds": "9", "take": "5", "passes": "2", "seed": "3", "block": "2"}
 
 
 @pytest.mark.parametrize("command", ["search", "plan"])
@@ -377,16 +387,17 @@ def test_the_defaults_that_the_help_states(folder: pathlib.Path, monkeypatch: py
         assert "--block K counted from 1" in text
         got["block"] = "1"
     if command == "plan":
-        got["rounds"] = re.findall(r"a plan without a time limit ([\d,]+)", text)[0]
-    assert got.keys() == OTHERS.keys() - ({"block"} if command == "plan" else set()), f"defaults in the help: {got}"
+        assert "a plan without a limit of rounds has a second" in text and got.pop("rounds") == "1,000,000"
+        got |= {"seconds": "1", "passes": re.findall(r"and (\d) in a plan without a limit of rounds", text)[0]}
+    assert got.keys() == OTHERS.keys() - ({"block", "rounds"} if command == "plan" else {"seconds"}), f"defaults in the help: {got}"
     usual = asked(folder, monkeypatch, line)
     for name, value in got.items():
         given = asked(folder, monkeypatch, [*line, f"--{name}", value.replace(",", "")])
         assert given == usual, f"the help of {command} tells {value} as the default of --{name}"
         assert asked(folder, monkeypatch, [*line, f"--{name}", OTHERS[name]])[name] != usual[name]
-    limited = asked(folder, monkeypatch, [*line, "--seconds", "5"])
-    assert limited["seconds"] == 5
-    assert limited["rounds"] == 1_000_000 == int(re.findall(r"else ([\d,]+), and", text)[0].replace(",", ""))
+    limited, in_rounds = (asked(folder, monkeypatch, [*line, option, "5"]) for option in ("--seconds", "--rounds"))
+    assert limited["seconds"] == 5 and (in_rounds["seconds"], in_rounds["passes"]) == (None, 0)
+    assert limited["rounds"] == (1_000_000 if command == "search" else None)
 
 
 def test_the_help_states_the_ranges(folder: pathlib.Path) -> None:
@@ -420,7 +431,7 @@ def test_memory_that_runs_out_is_reported_on_one_line(folder: pathlib.Path, monk
     monkeypatch.setattr(_library.library, "pfs_rounds", lambda *_: _library.MEMORY)
     assert _commands.main([*LONG, "--rounds", "3"]) == 4
     assert capsys.readouterr() == (shop_in(folder).neh().to_text(), "pfs: no memory\n"), "the order is lost"
-    (folder / "times.csv").write_text(TABLE)
+    (folder / "times.csv").write_text(ABOVE_BOUND)
     assert _commands.main(["plan", "times.csv"]) == 4
     out, got = capsys.readouterr()
     assert out.startswith("makespan ") and without_summary(got) == "pfs: no memory\n", "the plan is lost"
@@ -471,7 +482,9 @@ def test_a_terminal_that_goes_away(folder: pathlib.Path) -> None:
 
 
 TABLE = "job [h];saw;drill;paint\ntable;3;2,5;4\nchair;2;5;1,5\n\"shelf; oak\";4;1;2\nbox;1;1;6\n"
-# Its times in tenths, and the names of its jobs.
+# A table whose best order is longer than the bound.
+ABOVE_BOUND = "job,saw,drill,paint\na,1,4,0\nb,2,0,3\nc,3,3,5\nd,3,1,0\n"
+# The times of TABLE in tenths, and the names of its jobs.
 TIMES = [[30, 25, 40], [20, 50, 15], [40, 10, 20], [10, 10, 60]]
 NAMES = ["table", "chair", "shelf; oak", "box"]
 
@@ -557,7 +570,7 @@ def test_jobs_that_are_held(folder: pathlib.Path) -> None:
     (folder / "order").write_text("table\nbox\nchair\nshelf; oak\n")
     assert planned(folder, "--order order --hold 1")[:2][1] == shortest("table")
     names, makespan, _ = planned(folder, "--order order --hold 1 --first chair")
-    assert (names[:2], makespan) == (["chair", "table"], shortest("chair", "table"))
+    assert (names[:2], makespan) == (["table", "chair"], shortest("table", "chair")), "what has begun comes first"
     assert planned(folder, "--order order --hold 9")[0] == ["table", "box", "chair", "shelf; oak"]
 
 
@@ -864,7 +877,7 @@ def pfs_plan(folder: pathlib.Path, *words: str) -> subprocess.CompletedProcess[s
 def test_the_manual_page_has_the_programs_options(folder: pathlib.Path) -> None:
     usage = pfs_plan(folder, "--help").stdout.partition("\n\n")[0]
     assert usage.startswith("usage: pfs-plan ")
-    due = dict(re.findall(r"\[--([\w-]+)(?: ([A-Za-z.-]+|\{[^}]*\}))?\]", usage))
+    due = dict(re.findall(r"\[--([\w-]+)(?: ([A-Za-z.=-]+|\{[^}]*\}))?\]", usage))
     assert len(due) > 10 and due["version"] == ""
     page = (TOP / "python" / "pfs-plan.1").read_text()
     assert dict(re.findall(r"^\.It Fl -([\w-]+)(?: Ar (\S+))?$", page, re.MULTILINE)) == due | {"decimal": "SIGN"}

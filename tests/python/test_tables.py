@@ -26,6 +26,7 @@ NO_ROW = f"the names of the machines are numbers, as if the row of names {ADD}"
 NO_COLUMN = f"the names of the jobs are numbers, as if the column of names {ADD}"
 UNGROUPED = "isn't a time: leave out thousands separators"
 MINUTES = "times such as 1:30 may be hours and minutes, or minutes and seconds: write [h:mm] instead of {}, or numbers"
+ROUND = "round it, or say how many decimals to keep (`decimals`)"
 # Ways to write one table.
 TABLES = [
     "job,saw,drill\ntable,3,2\nchair,2,5\n", "job;saw;drill\ntable;3;2\nchair;2;5\n",
@@ -62,16 +63,16 @@ BAD_TABLES: dict[str, tuple[str | bytes, int, int, str]] = {
                      "the row has no times: leave it out if it is no job, or write 0 where the job skips a machine"),
     "a long row": ("job,saw\na,3,4\n", 1, 3, TITLE),
     "a decimal comma": ('job,saw\na,"3,5"\n', 2, 2, "'3,5' isn't a time"),
-    "ten decimals": ("job,saw\na,0.0123456789\n", 2, 2, "'0.0123456789' has more than 9 decimals"),
-    "a time too long with decimals": ("job,saw\na,1000000\nb,0.0001\n", 2, 2,
-                                      "the time is above 1,000,000,000, counted in 4 decimals"),
+    "ten decimals": ("job,saw\na,0.0123456789\n", 2, 2, f"'0.0123456789' has more than 9 decimals: {ROUND}"),
+    "a time too long with decimals": ("job,saw\na,1000000\nb,0.0001\nc,0.0003\n", 3, 2, "'0.0001' has 4 decimals, in "
+                                      f"which the time in B2 is above 1,000,000,000: {ROUND}"),
     "a fault after cells of many lines": ('"job\n\n",saw\n\n"a\r\nb",3\r\n"c\n",3\nd,-1\n', 5, 2, "'-1' isn't a time"),
     "a fault after a spreadsheet's first line": ("sep=;\njob;saw\na;-1\n", 2, 2, "'-1' isn't a time"),
     "a name twice after a cell of two lines": ('job,saw\n"a\nb",3\nc,1\nc,1\n', 4, 1, "the job 'c' is in A3 too"),
     "an open quote": ('job,saw\na,"3\nb,4\nc,5\n', 4, 0, "isn't a row of a table: unexpected end of data"),
 }
-BAD_TABLES |= {f"the time {cell}": (f"job,saw\na,{cell}\n", 2, 2, "the time is above 1,000,000,000" + note)
-               for cell, note in (("1000000001", ""), ("1000000000.1", ", counted in 1 decimal"), ("1" + "0" * 10, ""))}
+BAD_TABLES |= {f"the time {cell}": (f"job,saw\na,{cell}\n", 2, 2, "the time is above 1,000,000,000")
+               for cell in ("1000000001", "1000000000.1", "1" + "0" * 10)}
 BAD_TABLES |= {
     "an older workbook": (b"\xd0\xcf\x11\xe0\xa1\xb1\x1a\xe1", 1, 0,
                           f"is a spreadsheet's own file: {SAVE_AS}, or as .xlsx"),
@@ -269,6 +270,20 @@ def test_the_least_and_the_longest_times_of_tables(tmp_path: pathlib.Path, cell:
     assert (shop.times.tolist(), shop.decimals) == ([[time]], decimals)
     with pytest.raises(ValueError, match="decimal must be '.' or ',', not 'comma'"):
         pfs.read_csv(tmp_path / "file", decimal="comma")
+
+
+@pytest.mark.parametrize(("cells", "decimals", "times", "kept"), [
+    (["0.833333333", "1"], 9, [833333333, 10**9], 9), (["0.833333333", "1"], 2, [83, 100], 2),
+    (["0.4996", "1.25"], 2, [50, 125], 2), (["0.4996", "1.5"], 2, [5, 15], 1), (["0.5", "1.4999999999"], 0, [1, 1], 0),
+    (["0.12345678901234567890", "0.99999999995"], 9, [123456789, 10**9], 9), (["7.05", "1000000000.4"], 0, [7, 10**9], 0)])
+def test_decimals_that_are_rounded(tmp_path: pathlib.Path, cells: list[str], decimals: int, times: list[int],
+                                   kept: int) -> None:
+    """To the nearest one, and halves up."""
+    shop = pfs.read_csv(written(tmp_path, f"job,saw,drill\na,{','.join(cells)}\n"), decimals=decimals)
+    assert (shop.times.tolist(), shop.decimals) == ([times], kept)
+    for wrong in (-1, 10):
+        with pytest.raises(ValueError, match="decimals must be from 0 to 9"):
+            pfs.read_csv(tmp_path / "file", decimals=wrong)
 
 
 @pytest.mark.seconds(4)

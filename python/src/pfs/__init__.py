@@ -24,6 +24,8 @@ if TYPE_CHECKING:
     from pfs._faults import Fault, FileFault, Interrupted, InterruptedAll, OrderFault, TableFault
     from pfs._files import from_frame, generate, parse_order, read, read_all, read_order, taillard
     from pfs._instance import Check, Instance, Place, Sequence
+    from pfs._report import Report
+    from pfs._rest import Rest
     from pfs._schedule import Schedule
     from pfs._solution import Improvement, Solution
     from pfs._tables import read_csv
@@ -32,8 +34,8 @@ else:
         """Import a name of the package at its first use: `pfs-gantt` and `pfs.experiments` need no library."""
         import importlib
         if name in __all__:
-            for module in ("_all", "_audit", "_calendar", "_faults", "_files", "_instance", "_schedule", "_solution",
-                           "_tables"):
+            for module in ("_all", "_audit", "_calendar", "_faults", "_files", "_instance", "_report", "_rest",
+                           "_schedule", "_solution", "_tables"):
                 found = vars(importlib.import_module(f"pfs.{module}"))
                 if name in found:
                     return globals().setdefault(name, found[name])
@@ -41,8 +43,8 @@ else:
 
 __all__ = [
     "Audited", "Calendar", "Check", "Fault", "FileFault", "Improvement", "Instance", "Interrupted", "InterruptedAll",
-    "OrderFault", "Place", "Schedule", "Sequence", "Solution", "TableFault", "__version__", "audit", "from_frame",
-    "generate", "parse_order", "read", "read_all", "read_csv", "read_order", "solve_all", "taillard",
+    "OrderFault", "Place", "Report", "Rest", "Schedule", "Sequence", "Solution", "TableFault", "__version__", "audit",
+    "from_frame", "generate", "parse_order", "read", "read_all", "read_csv", "read_order", "solve_all", "taillard",
 ]
 
 

@@ -397,8 +397,9 @@ def sheets_of(content: bytes, path: str) -> tuple[list[Given], list[str]]:
     found: list[Given] = []
     left_out: list[str] = []
     for name in book.names:
+        text = book.csv_of(name)
         try:
-            found.append(given_in(book.csv_of(name), path, name, ","))
+            found.append(given_in(text, path, name, ","))
         except TableFault as fault:
             left_out.append(f"the sheet {name!r} is left out: {fault.text}")
     if not found:

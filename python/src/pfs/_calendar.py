@@ -7,7 +7,7 @@ from bisect import bisect_left, bisect_right
 from collections import defaultdict
 from collections.abc import Collection, Iterable, Iterator
 from datetime import date, datetime, timedelta
-from itertools import accumulate, count, islice, pairwise
+from itertools import accumulate, count, islice, pairwise, takewhile
 from typing import TYPE_CHECKING
 
 import numpy as np
@@ -25,7 +25,7 @@ MONDAY = datetime(1970, 1, 5)
 DAYS = ("mon", "tue", "wed", "thu", "fri", "sat", "sun")
 # Seconds between the marks of a scale: from a second to half a minute, half an hour, and years.
 STEPS = [step * unit for unit in (1, 60) for step in (1, 2, 5, 10, 15, 30)] + [3_600 * 2**at for at in range(20)]
-BEGIN = re.compile(r"([0-9]{4}-[0-9]{2}-[0-9]{2})[T ]([0-9]{2}:[0-9]{2}(?::[0-9]{2})?)", re.ASCII)
+BEGIN = re.compile(r"([0-9]{4}-[0-9]{2}-[0-9]{2})(?:[T ]([0-9]{2}:[0-9]{2}(?::[0-9]{2})?))?", re.ASCII)
 SHIFT = re.compile(r"([0-9]{1,2}):([0-9]{2})-([0-9]{1,2}):([0-9]{2})", re.ASCII)
 # Shifts after the days or dates on which they start.
 NAMED = re.compile(r"\s*(?:([a-z][^:]*)|([0-9]{4}-[^:]*)):(.*)", re.ASCII | re.IGNORECASE)
@@ -52,7 +52,8 @@ class Calendar:
     Parameters
     ----------
     begin : str or datetime.datetime
-        When the work begins, such as ``2026-11-30T06:00``. Outside a shift, it begins with the next one.
+        When the work begins, such as ``2026-11-30T06:00``. Outside a shift, it begins with the next one; a date
+        without a time of day begins at midnight.
     shifts : str or iterable of str
         The shifts of a working day, such as ``"06:00-14:00"``; several in a list or with commas. A shift may cross
         midnight; it then belongs to the day on which it starts. By default there is work around the clock. Days of the
@@ -173,6 +174,14 @@ class Clock:
         moment = self.calendar.end(first) if first else self.calendar.start(0)
         return moment, moment
 
+    def time_at(self, moment: datetime) -> int:
+        """The first time, in whole seconds of work, at which the moment has come."""
+        worked, until = 0, (moment - MONDAY) // timedelta(microseconds=1)
+        for start, end in takewhile(lambda span: span[0] < until, self.calendar._open()):
+            worked += min(end, until) - start
+        step: int = self.scale * SECOND // math.gcd(self.scale * SECOND, self.tick)
+        return -(-worked * self.scale // (self.tick * step)) * step
+
     def breaks(self, end: int) -> list[tuple[float, str]]:
         """The times up to `end` at which a shift or a day begins, with the day; none if there are too many for a
         chart."""
@@ -244,7 +253,7 @@ def begin_of(begin: str | datetime) -> datetime:
     found = BEGIN.fullmatch(begin.strip())
     try:
         if found:
-            return datetime.fromisoformat(f"{found[1]}T{found[2]}")
+            return datetime.fromisoformat(f"{found[1]}T{found[2] or '00:00'}")
     except ValueError:
         """A month or an hour that doesn't exist."""
     raise ValueError(f"{begin!r} is not a local date and time such as 2026-11-30T06:00")

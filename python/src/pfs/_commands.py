@@ -4,13 +4,15 @@ from __future__ import annotations
 
 import argparse
 import contextlib
+import csv
 import errno
 import os
 import re
+import shlex
 import signal
 import sys
 import time
-from collections.abc import Callable, Iterator, Sequence
+from collections.abc import Callable, Iterable, Iterator, Sequence
 from difflib import SequenceMatcher
 from functools import partial
 from types import SimpleNamespace
@@ -23,12 +25,15 @@ from pfs._faults import Fault
 from pfs._files import read, read_order
 from pfs._instance import Instance
 from pfs._names import CLOCK, amount, shown
+from pfs._now import Beginning, beginning
 from pfs._optional import optional
-from pfs._orders import FoundOrder, numbers_by_name, order_in
-from pfs._search import ROUNDS, HeldSearch, Search, by_total, insert_after, limit_of, solve
+from pfs._orders import AFTER_ORDER, FoundOrder, numbers_by_name, order_in, stated_end
+from pfs._report import JOBS, rows_of, text_table
+from pfs._schedule import Schedule
+from pfs._search import HeldSearch, Search, by_total, insert_after, limit_of, solve
 from pfs._solution import Solution
 from pfs._state import State
-from pfs._tables import described, table_of
+from pfs._tables import Table, described, table_of, write_table
 
 SIGNALS = (signal.SIGINT, signal.SIGTERM)
 DECIMAL_SIGNS = {"point": ".", "comma": ","}
@@ -36,7 +41,7 @@ DECIMAL_SIGNS = {"point": ".", "comma": ","}
 SCHEDULES = ("", ".csv", ".tsv", ".txt", ".xlsx")
 # The options for the arguments that messages about tables name, and the beginnings of messages about other options.
 OPTIONS = {"decimal": "--decimal point or --decimal comma", "allow_totals": "--allow-totals", "unit": "--unit",
-           "machines": "--machines", "sheet": "--sheet"}
+           "machines": "--machines", "sheet": "--sheet", "decimals": "--decimals"}
 ARGUMENT = re.compile(f"`({'|'.join(OPTIONS)})`")
 NUMBER_OPTION = re.compile("^(?=(?:rounds|take|passes|seed) must |start has )")
 
@@ -61,7 +66,7 @@ def status_of(caught: list[int]) -> int:
 class ProgressLine:
     """The progress line of a search, on a terminal."""
 
-    def __init__(self, search: Search, rounds: int, seconds: float | None) -> None:
+    def __init__(self, search: Search, rounds: int | None, seconds: float | None) -> None:
         self.shown = sys.stderr is not None and sys.stderr.isatty()
         self.shop, self.first, self.rounds = search.shop, search.first, rounds
         self.limit = float("inf") if seconds is None else seconds
@@ -73,9 +78,12 @@ class ProgressLine:
         if not self.shown:
             return
         made, seconds = rounds - self.first, time.monotonic() - self.begun
-        left = min(self.limit - seconds, (self.rounds - rounds) * seconds / made if made else float("inf"))
+        left = self.limit - seconds
+        if self.rounds is not None and made:
+            left = min(left, (self.rounds - rounds) * seconds / made)
+        of = "" if self.rounds is None else f" of {self.rounds:,}"
         spans = [amount(span, self.shop.decimals, self.shop.unit) for span in (makespan, self.bound)]
-        line = f"round {rounds:,} of {self.rounds:,}, makespan {spans[0]}, bound {spans[1]}"
+        line = f"round {rounds:,}{of}, makespan {spans[0]}, bound {spans[1]}"
         self.show(line + (f", {clock(left)} left" if left < 10**7 else ""))
 
     def show(self, line: str) -> None:
@@ -93,20 +101,21 @@ def clock(seconds: float) -> str:
     return f"{whole // 3600}:{whole // 60 % 60:02}:{whole % 60:02}"
 
 
-def searched(search: Search, rounds: int, seconds: float | None, caught: list[int],
+def searched(search: Search, rounds: int | None, seconds: float | None, caught: list[int],
              keep: Callable[[Solution], None]) -> tuple[Solution, Exception | None]:
-    """Search up to a round, and call `keep` with the best order at first and after each part. Return the best order,
-    and the error that ended the search early."""
+    """Search up to a round, or without one for some seconds or up to the bound, and call `keep` with the best order at
+    first and after each part. Return the best order, and the error that ended the search early."""
     progress = ProgressLine(search, rounds, seconds)
 
     def is_set() -> bool:
         best = search.solution()
         keep(best)
-        progress.update(best.rounds, best.makespan)
+        progress.update(search.finished().total, best.makespan)
         return bool(caught)
 
     try:
-        return solve(search, rounds - search.first, None, seconds, stop=SimpleNamespace(is_set=is_set)), None
+        left = None if rounds is None else rounds - search.first
+        return solve(search, left, None, seconds, stop=SimpleNamespace(is_set=is_set)), None
     except (OSError, MemoryError) as fault:
         if search.last is None:
             raise
@@ -137,28 +146,25 @@ def plan_command(given: argparse.Namespace) -> int:
     """Find an order for a table with names, and print it. It is printed before all other output, so an error doesn't
     lose it."""
     calendar = calendar_of(given)
-    check_outputs([given.table, given.order, given.compare], given.schedule, given.chart)
-    machines = None if given.machines is None else given.machines.split(",")
-    shop, delimiter, has_mark, note = table_of(given.table, given.unit, DECIMAL_SIGNS.get(given.decimal),
-                                               given.allow_totals, machines, given.sheet)
-    if note:
-        written(sys.stderr, f"pfs: {as_options(shown(note))}\n")
-    clock = None if calendar is None else Clock(calendar, shop)
-    written(sys.stderr, f"{shown(described(shop))}\n")
-    search = plan_search(given, shop)
-    other = FoundOrder([], []) if given.compare is None else order_in(given.compare, shop)
+    check_outputs([given.table, given.order, given.compare], given.schedule, given.chart, given.rest)
+    # As a row of a table, so that a name with a comma may be in quotes.
+    machines = None if given.machines is None else next(csv.reader([given.machines], skipinitialspace=True), [])
+    table = table_of(given.table, given.unit, DECIMAL_SIGNS.get(given.decimal), given.allow_totals, machines,
+                     given.sheet, given.decimals)
+    if table.note:
+        written(sys.stderr, f"pfs: {as_options(shown(table.note))}\n")
+    if calendar is not None:
+        Clock(calendar, table.shop)
+    written(sys.stderr, f"{shown(described(table.shop))}\n")
+    tell(given.table, table.rounded)
+    found = FoundOrder([], {}) if given.order is None else order_in(given.order, table.shop)
+    shop, found, held, calendar = begin = beginning(given, table.shop, found, calendar)
+    search = plan_search(given, begin)
+    other = FoundOrder([], {}) if given.compare is None else order_in(given.compare, shop)
     with signals() as caught:
         best, fault = searched(search, given.rounds, given.seconds, caught, lambda _: None)
-        outputs: list[Callable[[], object]] = [lambda: printed(listed(shop, best, clock))]
-        if given.schedule is not None and given.schedule.lower().endswith(".xlsx"):
-            outputs.append(lambda: shop.schedule(best).to_xlsx(given.schedule, calendar=calendar))
-        elif given.schedule is not None:
-            mark = has_mark or delimiter == ";"
-            outputs.append(lambda: shop.schedule(best).to_csv(given.schedule, delimiter, mark=mark, calendar=calendar))
-        outputs += [partial(draw, shop, best, chart, calendar, given.title) for chart in given.chart]
-        outputs.append(lambda: compare(given.compare, shop, other, best, clock))
         faults = [] if fault is None else [fault]
-        for output in outputs:
+        for output in outputs_of(given, begin, table, other, best):
             try:
                 output()
             except (OSError, MemoryError, ImportError, ValueError) as failure:
@@ -167,17 +173,30 @@ def plan_command(given: argparse.Namespace) -> int:
     return statuses[0] if statuses else status_of(caught)
 
 
-def plan_search(given: argparse.Namespace, shop: Instance) -> Search:
-    """The search of a plan. It begins with the order of a file, from which jobs that are gone are left out and into
-    which new ones are inserted. It moves no job that is held."""
+def outputs_of(given: argparse.Namespace, begin: Beginning, table: Table, other: FoundOrder,
+               best: Solution) -> list[Callable[[], object]]:
+    """What a plan writes, one after the other."""
+    shop, calendar = begin.shop, begin.calendar
+    clock = None if calendar is None else Clock(calendar, shop)
+    style = table.delimiter, table.has_mark or table.delimiter == ";"
+    return [
+        lambda: printed(listed(shop, best, clock) + (reported(shop.schedule(best), calendar) if given.report else "")),
+        *(partial(write_schedule, shop, best, path, *style, calendar) for path in given.schedule),
+        *(partial(write_table, path, shop, *style) for path in given.rest),
+        *(partial(draw, shop, best, chart, calendar, given.title) for chart in given.chart),
+        lambda: compare(given.compare, shop, other, best, clock)]
+
+
+def plan_search(given: argparse.Namespace, begin: Beginning) -> Search:
+    """The search of a plan. It begins with an order, into which new jobs are inserted. It moves no job that is held."""
     if given.order is None and (given.hold or given.keep):
         raise ValueError(f"{'--hold' if given.hold else '--keep'} needs --order, which says where the jobs are")
+    shop, found = begin.shop, begin.found
     numbers = numbers_by_name(shop)
     unknown = next((name for name in given.first if name not in numbers), None)
     if unknown is not None:
         raise ValueError(f"--first: {unknown!r} isn't the name of a job of the table")
-    found = FoundOrder([], []) if given.order is None else order_in(given.order, shop)
-    held = list(dict.fromkeys([*map(numbers.__getitem__, given.first), *found.jobs[:given.hold]]))
+    held = list(dict.fromkeys([*found.jobs[:begin.held], *map(numbers.__getitem__, given.first)]))
     order = list(dict.fromkeys([*held, *found.jobs]))
     new = by_total(shop, [job for job in range(shop.jobs) if job not in order])
     if given.order is not None:
@@ -193,6 +212,8 @@ def compare(path: str | None, shop: Instance, other: FoundOrder, best: Solution,
     if path is None:
         return
     order: list[int] = best.order.tolist()
+    stated = stated_end(path)
+    tell(path, f"says {stated}" if stated else "")
     blocks = SequenceMatcher(None, other.jobs, order, autojunk=False).get_matching_blocks()
     stayed = {job for block in blocks for job in order[block.b:block.b + block.size]}
     if len(other.jobs) == shop.jobs and not other.gone:
@@ -205,10 +226,20 @@ def compare(path: str | None, shop: Instance, other: FoundOrder, best: Solution,
                          for job in order if job in other.jobs and job not in stayed])
 
 
-def tell(path: str, what: str, names: Sequence[str]) -> None:
-    """Say on standard error which jobs of an order are treated like this."""
-    if names:
-        written(sys.stderr, f"{shown(path)}: {what}: {shown(', '.join(names))}\n")
+def tell(path: str, what: str, names: Iterable[str] | None = None) -> None:
+    """Say on standard error what is true of a file, or which jobs of an order are treated like this."""
+    listed = ", ".join(names or ())
+    if listed or names is None and what:
+        written(sys.stderr, f"{shown(path)}: {shown(what)}{': ' if listed else ''}{shown(listed)}\n")
+
+
+def write_schedule(shop: Instance, best: Solution, path: str, delimiter: str, mark: bool,
+                   calendar: Calendar | None) -> None:
+    """Write a schedule, as a workbook or as CSV."""
+    if path.lower().endswith(".xlsx"):
+        shop.schedule(best).to_xlsx(path, calendar=calendar)
+    else:
+        shop.schedule(best).to_csv(path, delimiter, mark=mark, calendar=calendar)
 
 
 def draw(shop: Instance, best: Solution, chart: str, calendar: Calendar | None, title: bool | str) -> None:
@@ -226,21 +257,25 @@ def calendar_of(given: argparse.Namespace) -> Calendar | None:
     return None
 
 
-def check_outputs(inputs: Sequence[str | None], schedule: str | None, charts: Sequence[str]) -> None:
+def check_outputs(inputs: Sequence[str | None], schedules: Sequence[str], charts: Sequence[str],
+                  tables: Sequence[str]) -> None:
     """Raise an error before the search if an output would fail after it, or replace an input: for an ending that it
     isn't written with, a file that is read, a missing folder, or no matplotlib."""
     endings = {ending_of(chart) for chart in charts}
-    ending = os.path.splitext(schedule or "")[1].lower()
-    if ending not in SCHEDULES:
-        raise ValueError(f"{schedule}: the name of a schedule ends with .csv or .xlsx")
-    if ending == ".xlsx":
-        optional("openpyxl", "writing a workbook")
+    for path, what in (*((path, "schedule") for path in schedules), *((path, "table") for path in tables)):
+        ending = os.path.splitext(path)[1].lower()
+        if ending not in SCHEDULES:
+            raise ValueError(f"{path}: the name of a {what} ends with .csv or .xlsx")
+        if ending == ".xlsx":
+            optional("openpyxl", "writing a workbook")
     read = {os.path.realpath(path) for path in inputs if path is not None and os.path.isfile(path)}
-    for path in filter(None, [schedule, *charts]):
+    for path in [*schedules, *charts, *tables]:
         if os.path.realpath(path) in read:
             raise ValueError(f"{path} is read, and writing would replace it: name another file")
         if not os.path.isdir(os.path.dirname(path) or "."):
             raise FileNotFoundError(errno.ENOENT, os.strerror(errno.ENOENT), path)
+        if os.path.isdir(path):
+            raise IsADirectoryError(errno.EISDIR, os.strerror(errno.EISDIR), path)
     if endings - {"html"}:
         optional("matplotlib", "plot").rcdefaults()  # no matplotlibrc of the current folder
 
@@ -252,6 +287,16 @@ def listed(shop: Instance, best: Solution, clock: Clock | None = None) -> str:
     lines = [makespan, f"bound {span_text(shop, bound)}", *(["optimal"] if best.makespan == bound else []), *end]
     lines += [f"{place} {shown(shop.job_name(job))}" for place, job in enumerate(best.order.tolist(), 1)]
     return "\n".join(lines) + "\n"
+
+
+def reported(schedule: Schedule, calendar: Calendar | None) -> str:
+    """The text of a report, after a line that ends the order."""
+    shop, report, span = schedule.instance, schedule.report(), schedule._texts(calendar)
+    machines = [[shown(str(cell)) for cell in row]
+                for row in rows_of(report, lambda time: amount(time, shop.decimals, shop.unit))]
+    jobs = [[shown(cell) for cell in (each.name, *span(each.start, each.end))] for each in report.jobs]
+    return (f"{AFTER_ORDER}\n{text_table(machines)}\nbottleneck {shown(report.bottleneck)}\n\n"
+            f"{text_table([[*JOBS], *jobs])}")
 
 
 def span_text(shop: Instance, span: int) -> str:
@@ -304,22 +349,46 @@ def checked(reader: Callable[[str], object]) -> Callable[[str], str]:
     return read_text
 
 
+def until_of(text: str) -> tuple[str, str]:
+    """Parse a machine and a date and time."""
+    machine, sign, moment = text.rpartition("=")
+    if not sign:
+        raise argparse.ArgumentTypeError(f"{text!r} is not a machine and a time such as drill=2026-12-01T13:00")
+    return machine, checked(begin_of)(moment)
+
+
 def search_words() -> CommandLine:
     """Return the options of all searches."""
     options = CommandLine(add_help=False)
     add = options.add_argument
     add("--rounds", type=number(0, c.MOST_ROUNDS), metavar="R",
-        help="up to which round; else 1,000,000, and of a plan without a time limit 1,000")
-    add("--seconds", type=seconds_of, metavar="S", help="a time limit")
+        help="up to which round, else 1,000,000 in a search and none in a plan")
+    add("--seconds", type=seconds_of, metavar="S",
+        help="a time limit; a plan without a limit of rounds has a second, and ends before if it is optimal")
     add("--take", type=number(1, c.MOST_JOBS), metavar="D", help="the destruction size, else 4")
-    add("--passes", type=number(0, c.MOST_PASSES), default=0, metavar="P", help="0 to 100, else 0")
+    add("--passes", type=number(0, c.MOST_PASSES), metavar="P",
+        help="0 to 100, else 0, and 1 in a plan without a limit of rounds")
     add("--seed", type=number(0, c.MOST_SEED), default=0, metavar="S", help="of 64 bits, else 0")
     return options
+
+
+def words_of_line(plan: argparse.ArgumentParser, line: str) -> list[str]:
+    """The words of a line of a file with options, in which # begins a comment."""
+    try:
+        words = shlex.split(line.removeprefix("\ufeff"), comments=True)
+    except ValueError as error:
+        plan.error(f"{line!r}: {error}")
+    if any(word.startswith("@") for word in words):
+        plan.error(f"{line!r}: a file with options can't name another one")
+    return words
 
 
 def add_plan_words(plan: argparse.ArgumentParser) -> None:
     """Add the arguments of `plan`."""
     plan.set_defaults(run=plan_command)
+    # Options may be in a file, as in a shell: @week.txt.
+    plan.fromfile_prefix_chars = "@"
+    setattr(plan, "convert_arg_line_to_args", partial(words_of_line, plan))
     plan.add_argument("--version", action=ShowVersion)
     plan.add_argument("table", metavar="TIMES.csv", help="a row for each job, a column for each machine, with names; "
                       "also a workbook .xlsx")
@@ -330,17 +399,24 @@ def add_plan_words(plan: argparse.ArgumentParser) -> None:
         "uses, if that is clear")
     add("--machines", metavar="NAMES",
         help="the columns that are machines, by their names, with commas, in the order of the machines; other columns "
-        "are skipped")
+        "are skipped. A name with a comma is in double quotes")
     add("--allow-totals", action="store_true",
         help="take rows and columns with the names of sums, means or quantities, and a last one with the sums of the "
         "others, as jobs and machines")
     add("--sheet", metavar="NAME", help="the sheet of a workbook, else the one that it opens with")
+    add("--decimals", type=number(0, 9), metavar="D",
+        help="round times with more decimals than this, 0 to 9; by default none is rounded")
     add_order_words(plan.add_argument_group("the order").add_argument)
     add_date_words(plan.add_argument_group("dates and shifts").add_argument)
     add = plan.add_argument_group("what is written").add_argument
-    add("--schedule", metavar="OUT.csv", help="when each operation starts and ends, as .csv or .xlsx")
+    add("--schedule", metavar="OUT.csv", action="append", default=[],
+        help="when each operation starts and ends, as .csv or .xlsx; may be given more than once")
+    add("--rest", metavar="OUT.csv", action="append", default=[],
+        help="the table of the plan, with the times that are left at --now, as .csv or .xlsx, to correct it by hand")
     add("--chart", metavar="OUT.svg", action="append", default=[],
         help="the chart, as .svg, .png, .pdf or a page .html; may be given more than once")
+    add("--report", action="store_true",
+        help="print after the order how busy each machine is, when each job is made, and the bottleneck")
     add("--title", default=True, metavar="TEXT", help="the title of charts, else what they show")
 
 
@@ -351,12 +427,19 @@ def add_order_words(add: Callable[..., object]) -> None:
         "Jobs that the table lacks are left out, and jobs that the order lacks are inserted at their best places. It "
         "is only evaluated if neither --rounds, --seconds nor an option that holds jobs is there")
     add("--first", metavar="NAME", action="append", default=[],
-        help="a job that has the first place; given more than once, these jobs come first in this order")
+        help="a job that has the first place, behind those that --hold holds; given more than once, these jobs come "
+        "in this order")
     add("--hold", type=number(1, c.MOST_JOBS), default=0, metavar="K",
         help="the first K jobs of --order that the table has keep the first places")
     add("--keep", action="store_true", help="the jobs of --order keep their order; only new ones are moved")
+    add("--now", type=checked(begin_of), metavar="DATETIME",
+        help="plan what is left at this date and time of --order, which began at --begin: jobs that are finished are "
+        "left out, and those that have begun are held, with the times that are left")
+    add("--down", type=until_of, metavar="MACHINE=DATETIME", action="append", default=[],
+        help="until when a machine is down, from --now or --begin on; may be given more than once")
     add("--compare", metavar="FILE",
-        help="another order, as for --order: standard error says how the plan ends and which jobs moved")
+        help="another order, as for --order: standard error says how both end, with this table and these shifts, what "
+        "the other one says of its own end, and which jobs moved")
 
 
 def add_date_words(add: Callable[..., object]) -> None:
@@ -417,8 +500,7 @@ def main(line: list[str], parser: argparse.ArgumentParser | None = None) -> int:
 def command(line: list[str], parser: argparse.ArgumentParser) -> int:
     """Run the command of a command line, and return its exit status."""
     given = parser.parse_args(line)
-    if given.rounds is None:
-        given.rounds = rounds_of(given)
+    set_limits(given)
     if sys.stdout is None:
         raise OSError("standard output is closed")
     try:
@@ -430,11 +512,17 @@ def command(line: list[str], parser: argparse.ArgumentParser) -> int:
         raise Misused(str(fault)) from None
 
 
-def rounds_of(given: argparse.Namespace) -> int:
-    """Return the default number of rounds of a command."""
-    if given.run is not plan_command or given.seconds is not None:
-        return c.MOST_ROUNDS
-    return ROUNDS if given.order is None or given.first or given.hold or given.keep else 0
+def set_limits(given: argparse.Namespace) -> None:
+    """Set the limits of a search that its command line leaves out. A plan is searched for a second, with a pass in each
+    round, unless it has just the order of a file."""
+    is_by_time = given.run is plan_command and given.rounds is None
+    if is_by_time and given.seconds is None:
+        is_changed = given.first or given.hold or given.keep or given.now or given.down
+        given.seconds = 1.0 if given.order is None or is_changed else 0.0
+    if given.passes is None:
+        given.passes = int(is_by_time)
+    if given.rounds is None and not is_by_time:
+        given.rounds = c.MOST_ROUNDS
 
 
 def as_options(text: str) -> str:

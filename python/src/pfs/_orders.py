@@ -1,10 +1,11 @@
 """Files with an order by the names of jobs, which `plan` prints and people change."""
 from __future__ import annotations
 
+import csv
 import os
 import re
 from collections.abc import Iterator
-from itertools import chain, islice
+from itertools import chain, islice, takewhile
 from typing import NamedTuple
 
 from pfs._atomic import text_cell
@@ -13,20 +14,23 @@ from pfs._files import content_of
 from pfs._instance import Instance
 from pfs._names import shown
 from pfs._order_text import numbers_in, words_in
-from pfs._tables import lines_of, records, text_of
+from pfs._tables import delimiter_of, is_above_names, lines_of, records, text_of
 
 SCHEDULE = re.compile(r"job([;,\t])machine\1start\1end")
 # The lines of a plan before its jobs, and a job after its place.
 HEAD = re.compile(r"(makespan|bound) \S.*")
 AFTER = (re.compile("optimal"), re.compile(r"end [0-9]{4}-[0-9]{2}-[0-9]{2} [0-9:.]+"))
+# The line after the jobs of a plan, where a report follows.
+AFTER_ORDER = "---"
 PLACED = re.compile(r"[0-9]+(?:[.):;,]\s*|\s+)(.+)")
 
 
 class FoundOrder(NamedTuple):
-    """An order that was read: the jobs that the table has, and the names that it lacks."""
+    """An order that was read: the jobs that the table has, and the names that it lacks, with how many of these jobs are
+    before each."""
 
     jobs: list[int]
-    gone: list[str]
+    gone: dict[str, int]
 
 
 def order_in(path: str | os.PathLike[str], shop: Instance) -> FoundOrder:
@@ -45,10 +49,25 @@ def order_in(path: str | os.PathLike[str], shop: Instance) -> FoundOrder:
         if job in seen:
             raise TableFault(path, line, 0, f"the job {name!r} is in line {seen[job]} too")
         seen[job] = line
-    found = FoundOrder([job for job in seen if isinstance(job, int)], [job for job in seen if isinstance(job, str)])
+    found = FoundOrder([], {})
+    for job in seen:
+        if isinstance(job, int):
+            found.jobs.append(job)
+        else:
+            found.gone[job] = len(found.jobs)
     if not found.jobs:
         raise TableFault(path, 1, 0, "no job of the table is named: write the names of the jobs, one in a line")
     return found
+
+
+def stated_end(path: str | os.PathLike[str]) -> str:
+    """What a plan or a schedule with dates says of its own end, or an empty text."""
+    text = text_of(content_of(os.fspath(path)), os.fspath(path))
+    lines = [line.strip() for line in islice(lines_of(text), 4)]
+    if len(lines) > 1 and all(HEAD.fullmatch(line) for line in lines[:2]):
+        return ", ".join([lines[0], *(line for line in lines[2:] if AFTER[1].fullmatch(line))])
+    dates = re.findall(r"[;,\t]([0-9]{4}-[0-9]{2}-[0-9]{2} [0-9:.]+)$", text, re.MULTILINE)
+    return f"end {max(dates).removesuffix(':00') if len(max(dates)) > 16 else max(dates)}" if dates else ""
 
 
 def numbers_by_name(shop: Instance) -> dict[str, int]:
@@ -77,13 +96,19 @@ def named_jobs(text: str, path: str, numbers: dict[str, int]) -> Iterator[tuple[
         for after in AFTER:
             lines = lines[1:] if lines and after.fullmatch(lines[0][1]) else lines
     elif len(lines) == 1 and lines[0][1] not in numbers:
-        line, text = lines[0]
-        words = words_in(text)
-        if len(words) > 1 and (numbers.keys() >= {*words} or isinstance(numbers_in(text), list)):
+        line, entry = lines[0]
+        words = words_in(entry)
+        if len(words) > 1 and (numbers.keys() >= {*words} or isinstance(numbers_in(entry), list)):
             yield from ((line, word) for word in words)
             return
-    for line, text in chain(lines, filled):
-        placed = PLACED.fullmatch(text)
-        name = placed[1] if placed and (is_plan or text not in numbers) else text
+    delimiter = delimiter_of(text)
+    listed = takewhile(lambda each: not is_plan or each[1] != AFTER_ORDER, chain(lines, filled))
+    for at, (line, entry) in enumerate(listed):
+        placed = PLACED.fullmatch(entry)
+        name = placed[1] if placed and (is_plan or entry not in numbers) else entry
         # A row of a table has other cells after the name.
-        yield line, name if name in numbers else re.split("[;\t]", name)[0].strip().strip('"')
+        first = next(csv.reader([name], delimiter=delimiter), [""])[0].strip()
+        if name in numbers or first in numbers:
+            yield line, name if name in numbers else first
+        elif is_plan or at or not is_above_names(first):
+            yield line, re.split("[;\t]", name)[0].strip().strip('"')

@@ -3,20 +3,22 @@ from __future__ import annotations
 
 import csv
 import os
-from collections.abc import Callable, Iterator
-from datetime import timedelta
+from collections.abc import Callable, Iterator, Mapping
 from types import SimpleNamespace
 from typing import TYPE_CHECKING, Any
 
 import numpy as np
 
+from pfs import _library as c
 from pfs._atomic import atomic_write, text_cell
 from pfs._calendar import Calendar, Clock, text_of
 from pfs._drawing import critical_path
 from pfs._names import CLOCK, amount
 from pfs._optional import optional
-from pfs._validate import Order
-from pfs._workbooks import write_workbook
+from pfs._report import Report, report_of, sheets_of
+from pfs._rest import Rest, down_of, rest_of
+from pfs._validate import Order, checked_int
+from pfs._workbooks import cell_of, write_workbook
 
 if TYPE_CHECKING:
     from pfs._instance import Instance
@@ -109,6 +111,51 @@ class Schedule:
         waits[1:] -= self.ends[:-1]
         return waits
 
+    def report(self) -> Report:
+        """Return how busy each machine is, when each job is made, and which machine has the most work.
+
+        Examples
+        --------
+        >>> report = pfs.Instance([[3, 2], [2, 5], [4, 1]], machine_names=["saw", "drill"]).schedule([1, 0, 2]).report()
+        >>> report.bottleneck, report.machines[0].work, report.machines[0].utilisation
+        ('saw', 9, 90.0)
+        >>> report.machines[1]
+        MachineReport(name='drill', work=8, utilisation=80.0, before=2, between=0, after=0, critical=80.0)
+        >>> report.jobs[0]
+        JobReport(name='1', start=0, end=7)
+        """
+        return report_of(self)
+
+    def rest(self, at: int, down: Mapping[Any, int] | None = None) -> Rest:
+        """Return what is left of the schedule at a time, from which a plan can be made for what follows.
+
+        The same order of what is left has the ends of this schedule, less ``at``. A machine that is down delays the
+        operation that it interrupts, or else the jobs that come to it.
+
+        Parameters
+        ----------
+        at : int
+            The time, as in ``starts`` and ``ends``.
+        down : dict, optional
+            The times until which machines, given by number or name, are down from ``at`` on.
+
+        Raises
+        ------
+        TypeError, ValueError
+            If ``at`` isn't a time, a machine is unknown, or all jobs are finished.
+
+        Examples
+        --------
+        >>> names = {"job_names": ["a", "b", "c"], "machine_names": ["saw", "drill"]}
+        >>> shop = pfs.Instance([[3, 2], [2, 5], [4, 1]], **names)
+        >>> left, held, done = shop.schedule([1, 0, 2]).rest(6, {"drill": 9})
+        >>> left.job_names, left.times.tolist(), held, done
+        (('b', 'a', 'c'), [[0, 4], [0, 2], [3, 1]], 3, ())
+        """
+        at = checked_int(at, "at", 0, c.MOST_SEED // 2)
+        until = {machine: checked_int(time, "down", 0, c.MOST_SEED // 2) for machine, time in (down or {}).items()}
+        return rest_of(self.instance, self.order.tolist(), at, down_of(self.instance, until, at))
+
     def to_frame(self) -> Any:
         """Return the operations as a pandas DataFrame.
 
@@ -176,7 +223,8 @@ class Schedule:
         return None
 
     def to_xlsx(self, path: str | os.PathLike[str], *, calendar: Calendar | None = None) -> None:
-        """Write the operations as a workbook, with numbers, or with dates and times of day. This needs openpyxl.
+        """Write the operations as a workbook, with numbers, or with dates and times of day. Other sheets have
+        the :meth:`report`, and the jobs of each machine. This needs openpyxl.
 
         Parameters
         ----------
@@ -186,16 +234,13 @@ class Schedule:
         shop = self.instance
         clock = None if calendar is None else Clock(calendar, shop)
 
-        def values(start: int, end: int) -> tuple[Any, Any]:
-            if clock is not None:
-                return clock.span(start, end)
-            if shop.unit == CLOCK:
-                return timedelta(minutes=start), timedelta(minutes=end)
-            return (start / 10**shop.decimals, end / 10**shop.decimals) if shop.decimals else (start, end)
+        def cell(time: int) -> Any:
+            return cell_of(time, shop.decimals, shop.unit)
 
-        write_workbook(path, [("job", "machine", "start", "end"), *(
-            (shop.job_name(job), shop.machine_name(machine), *values(start, end))
-            for job, machine, start, end in self._operations())])
+        def span(start: int, end: int) -> tuple[Any, Any]:
+            return (cell(start), cell(end)) if clock is None else clock.span(start, end)
+
+        write_workbook(path, sheets_of(self, cell, span))
 
     def _texts(self, calendar: Calendar | None) -> Callable[[int, int], list[str]]:
         """What writes the times of an operation, as numbers or as dates and times of day."""

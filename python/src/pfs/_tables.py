@@ -2,6 +2,7 @@
 from __future__ import annotations
 
 import csv
+import io
 import os
 import re
 import warnings
@@ -13,12 +14,13 @@ from typing import NamedTuple
 import numpy as np
 
 from pfs import _library as c
+from pfs._atomic import atomic_write, text_cell
 from pfs._faults import TableFault, cell_name
 from pfs._files import content_of
 from pfs._instance import Instance
-from pfs._names import CLOCK, seconds_in
-from pfs._validate import Order
-from pfs._workbooks import Workbook
+from pfs._names import CLOCK, amount, seconds_in
+from pfs._validate import Order, checked_int
+from pfs._workbooks import Workbook, cell_of, write_workbook
 
 # The most cells of a row, as in spreadsheets, and the most rows, with titles.
 MOST_CELLS, MOST_ROWS = 16_384, 10_000
@@ -33,9 +35,16 @@ MISSING = "the time is missing: write 0 where a job skips a machine (it still wa
 ONE_UNIT = "use one unit"
 EMPTY_ROW = "the row has no times: leave it out if it is no job, or write 0 where the job skips a machine"
 NO_MACHINE = "leave the column out if it is no machine, or say which columns are machines (`machines`)"
+SECONDS = re.compile(r"[0-9]+:[0-9]{2}:[0-9]{2}")
+SKIPS = "write 0 where a job skips a machine"
 # What isn't a time, and what to write instead.
 HINTS = (
-    (re.compile(r"[0-9]+:[0-9]{2}:[0-9]{2}"), "write hours and minutes, as 1:30, or a number"),
+    (re.compile(r"#[A-Z0-9/]+[!?]?"), "the formula has an error"),
+    (re.compile(r"[-\u2012-\u2015]|n\.?[/.]?a\.?", re.IGNORECASE), SKIPS),
+    (re.compile(r"(?:24|48|72|96|[1-9][0-9]{2,}):00"), "a cell with the format of a time has a number of days: format it "
+     "as a number, and write the time again"),
+    (HOURS, "other times of the table are numbers: write all of them like this, or none"),
+    (SECONDS, "write hours and minutes, as 1:30, or a number"),
     (re.compile(r"[0-9]+\s*h\s*[0-9]{2}"), "write hours and minutes as 1:30"),
     (re.compile(r"[0-9]{1,3}(?:['\u2019\u02bc\s][0-9]{3})+(?:[.,][0-9]+)?"), "leave out thousands separators"),
     (re.compile(r"[0-9]{1,3}(?:\.[0-9]{3})+,[0-9]+|[0-9]{1,3}(?:,[0-9]{3})+\.[0-9]+"),
@@ -77,6 +86,8 @@ class Table(NamedTuple):
     has_mark: bool
     # Which sheet was read, if a workbook has several and none was named.
     note: str
+    # What was rounded, or an empty text.
+    rounded: str
 
 
 class Cell(NamedTuple):
@@ -103,6 +114,8 @@ class Rows:
         self.corner = Cell(1, 1, "")
         self.machines: list[Cell] = []
         self.jobs: list[Cell] = []
+        # Whether the machines were named.
+        self.is_chosen = False
         # The first cell of each column that isn't a time, and how many there are, for each cause.
         self.wrong: dict[tuple[int, str], tuple[TableFault, int]] = {}
 
@@ -154,8 +167,9 @@ class Rows:
             raise TableFault(self.path, first.line, first.column, first.text, first.head, tuple(rest))
 
 
-def read_csv(source: str | os.PathLike[str], unit: str = "", *, decimal: str | None = None, allow_totals: bool = False,
-             machines: Iterable[str] | None = None, sheet: str | None = None) -> Instance:
+def read_csv(source: str | os.PathLike[str], unit: str = "", *, decimal: str | None = None,
+             allow_totals: bool = False, machines: Iterable[str] | None = None, sheet: str | None = None,
+             decimals: int | None = None) -> Instance:
     """Read a table of times from a CSV file or a workbook: a row for each job, a column for each machine.
 
     Parameters
@@ -181,6 +195,9 @@ def read_csv(source: str | os.PathLike[str], unit: str = "", *, decimal: str | N
     sheet : str, optional
         The sheet of a workbook. By default it is the one that the workbook opens with, and a warning names it if there
         are others.
+    decimals : int, optional
+        Round times with more decimals than this, 0 to 9, to the nearest one, and halves up. By default no time is
+        rounded, and one with more than 9 decimals is rejected. Numbers of workbooks have 9 decimals at most.
 
     Returns
     -------
@@ -214,15 +231,17 @@ def read_csv(source: str | os.PathLike[str], unit: str = "", *, decimal: str | N
     table,saw,2.0,5.0
     table,drill,7.0,9.5
     """
-    found = table_of(source, unit, decimal, allow_totals, machines, sheet)
+    found = table_of(source, unit, decimal, allow_totals, machines, sheet, decimals)
     if found.note:
         warnings.warn(found.note, stacklevel=2)
     return found.shop
 
 
 def table_of(source: str | os.PathLike[str], unit: str, decimal: str | None = None, allow_totals: bool = False,
-             machines: Iterable[str] | None = None, sheet: str | None = None) -> Table:
+             machines: Iterable[str] | None = None, sheet: str | None = None,
+             most_decimals: int | None = None) -> Table:
     """Read a table. The parameters are those of `read_csv`."""
+    most_decimals = None if most_decimals is None else checked_int(most_decimals, "decimals", 0, 9)
     if decimal not in (None, ".", ","):
         raise ValueError(f"decimal must be '.' or ',', not {decimal!r}")
     path = os.fspath(source)
@@ -238,31 +257,34 @@ def table_of(source: str | os.PathLike[str], unit: str, decimal: str | None = No
     check_sizes(table)
     job_names, machine_names = names_in(table, table.jobs, "job"), names_in(table, heads, "machine")
     reject_times_as_names(table, machine_names, job_names)
-    times, decimals, found = times_of(table, decimal, found)
+    sign = DecimalSign(table, decimal, most_decimals)
+    times, decimals, found = times_of(table, sign, found)
     table.check()
     if not allow_totals:
         reject_sums(table, times)
     shop = Instance(times, name=os.path.basename(path), job_names=job_names, machine_names=machine_names, unit=found,
                     decimals=decimals)
-    return Table(shop, table.delimiter, content.startswith((b"\xef\xbb\xbf", b"\xff\xfe", b"\xfe\xff")), note)
+    return Table(shop, table.delimiter, content.startswith((b"\xef\xbb\xbf", b"\xff\xfe", b"\xfe\xff")), note,
+                 sign.rounded())
 
 
-def sheet_of(content: bytes, path: str, sheet: str | None = None) -> tuple[str, str]:
-    """Return a sheet of a workbook as CSV. By default it is the one with which the workbook opens, and the second text
-    says so if there are others."""
+def sheet_of(content: bytes, path: str, sheet: str | None) -> tuple[str, str]:
+    """Return a sheet of a workbook as CSV, of whose rows one more than a table may have is read. By default it is the
+    one with which the workbook opens, and the second text says so if there are others."""
     book = Workbook(content, path)
     own = book.first if sheet is None else sheet
     if own not in book.names:
         raise ValueError(f"{path} has no sheet {own!r}, but {', '.join(map(repr, book.names))}")
     others = [repr(name) for name in book.names if name != own]
     note = f"{path}: the sheet {own!r} is read, and not {', '.join(others)} (`sheet`)" if others else ""
-    return book.csv_of(own), note if sheet is None else ""
+    return book.csv_of(own, MOST_ROWS + 2), note if sheet is None else ""
 
 
 def text_of(content: bytes, path: str, faults: list[TableFault] | None = None) -> str:
     """Return the text of a file; that of a workbook as CSV. Another encoding is added to the faults, or raised."""
     if content.startswith(ARCHIVE):
-        return sheet_of(content, path)[0]
+        book = Workbook(content, path)
+        return book.csv_of(book.first)
     if content.startswith(COMPOUND):
         raise TableFault(path, 1, 0, f"is a spreadsheet's own file: {SAVE_AS}, or as .xlsx")
     encoding = "utf-16" if content.startswith((b"\xff\xfe", b"\xfe\xff")) else "utf-8-sig"
@@ -323,6 +345,7 @@ def rows_of(text: str, path: str, machines: list[str], faults: list[TableFault])
     """Return the table: the rows from the first one on that has more than a first cell, or that names these machines.
     Those above it are titles."""
     table = Rows(path, text, delimiter_of(text), faults)
+    table.is_chosen = bool(machines)
     head: list[str] = []
     titles: list[Cell] = []
     used: set[int] = set()
@@ -480,10 +503,9 @@ def reject_times_as_names(table: Rows, machines: Sequence[str], jobs: Sequence[s
             table.report(cell, TIMES_AS_NAMES.format(what=what, part=part))
 
 
-def times_of(table: Rows, decimal: str | None, unit: str) -> tuple[Order, int, str]:
+def times_of(table: Rows, sign: DecimalSign, unit: str) -> tuple[Order, int, str]:
     """Return the times, the number of their decimals, and their unit. They are hours and minutes if most cells are."""
     numbers = hours = 0
-    sign = DecimalSign(table, decimal)
     for row in table.times():
         for cell in row:
             number = NUMBER.match(cell.text)
@@ -496,12 +518,15 @@ def times_of(table: Rows, decimal: str | None, unit: str) -> tuple[Order, int, s
         times, decimals, unit, note = table.read_times(partial(minutes_of, table)), 0, CLOCK, " minutes"
     else:
         # In billionths. What is too long for them is too long for a time.
-        times, decimals = table.read_times(sign.billionths_of), sign.decimals
+        times, decimals, note = table.read_times(sign.billionths_of), sign.decimals, ""
         times //= 10**(9 - decimals)
-        note = f", counted in {counted(decimals, 'decimal')}" if decimals else ""
     for job, machine in np.argwhere(times > c.LONGEST_TIME)[:1].tolist():
-        table.report(Cell(table.jobs[job].line, table.machines[machine].column, ""),
-                     f"the time is above {c.LONGEST_TIME:,}{note}")
+        cell, most = Cell(table.jobs[job].line, table.machines[machine].column, ""), f"above {c.LONGEST_TIME:,}"
+        if sign.longest is None or times[job, machine] > c.LONGEST_TIME * 10**decimals:
+            table.report(cell, f"the time is {most}{note}")
+        else:
+            table.report(sign.longest, f"{sign.longest.text!r} has {counted(decimals, 'decimal')}, in which the time in "
+                                       f"{cell.name} is {most}: round it, or say how many decimals to keep (`decimals`)")
     return times, decimals, unit
 
 
@@ -517,7 +542,7 @@ def minutes_of(table: Rows, cell: Cell) -> int:
     """Return a time in minutes that is written as hours and minutes."""
     match = HOURS.match(cell.text)
     if match is None and not ZERO.match(cell.text):
-        hint = ": leave out the seconds" if HINTS[0][0].fullmatch(cell.text) else ""
+        hint = ": leave out the seconds" if SECONDS.fullmatch(cell.text) else ""
         raise table.fault(cell, f"{cell.text!r} isn't hours and minutes, as other times of the table are{hint}"
                           if cell.text else MISSING)
     return 60 * int(match[1]) + int(match[2]) if match else 0
@@ -526,13 +551,17 @@ def minutes_of(table: Rows, cell: Cell) -> int:
 class DecimalSign:
     """The decimal sign of a table. By default it is the sign of the first time in which it can't group thousands."""
 
-    def __init__(self, table: Rows, given: str | None) -> None:
-        self.table, self.given = table, given
+    def __init__(self, table: Rows, given: str | None, most: int | None = None) -> None:
+        self.table, self.given, self.most = table, given, most
         self.sign = given or ("." if table.delimiter == "," else None)
         # The time that shows it.
         self.first: Cell | None = None
-        # The most decimals of a time so far.
+        # The most decimals of a time so far, and the first time with so many.
         self.decimals = 0
+        self.longest: Cell | None = None
+        # How many times were rounded, the first one that changed most, and by how many of 10^-20.
+        self.changed = self.change = 0
+        self.worst: Cell | None = None
 
     def billionths_of(self, cell: Cell) -> int:
         """Return a time in billionths, at most 2^62."""
@@ -548,13 +577,43 @@ class DecimalSign:
             raise self.table.fault(cell, f"{cell.text!r} has another decimal sign than {self.first.text!r} in "
                                          f"{self.first.name}")
         if match is None or match[2] not in (None, self.sign):
-            hint = next((f": {hint}" for wrong, hint in HINTS if wrong.fullmatch(cell.text)), "")
-            raise self.table.fault(cell, f"{cell.text!r} isn't a time{hint}")
-        part = (match[3] or "").rstrip("0")
+            raise self.table.fault(cell, f"{cell.text!r} isn't a time{self.hint_for(cell.text)}")
+        whole, part = match[1], (match[3] or "").rstrip("0")
+        if self.most is not None and len(part) > self.most:
+            whole, part = self.round(cell, int(whole + part.ljust(20, "0")), self.most)
         if len(part) > 9:
-            raise self.table.fault(cell, f"{cell.text!r} has more than 9 decimals")
-        self.decimals = max(self.decimals, len(part))
-        return min(int(match[1] + part.ljust(9, "0")), 2**62)
+            raise self.table.fault(cell, f"{cell.text!r} has more than 9 decimals: round it, or say how many decimals "
+                                         "to keep (`decimals`)")
+        if len(part) > self.decimals:
+            self.decimals, self.longest = len(part), cell
+        return min(int(whole + part.ljust(9, "0")), 2**62)
+
+    def round(self, cell: Cell, time: int, most: int) -> tuple[str, str]:
+        """Round a time, in units of 10^-20, and return its digits before and after the decimal sign."""
+        step: int = 10**(20 - most)
+        rounded = (time + step // 2) // step * step
+        self.changed += 1
+        if abs(rounded - time) > self.change:
+            self.worst, self.change = cell, abs(rounded - time)
+        digits = f"{rounded:021d}"
+        return digits[:-20], digits[-20:].rstrip("0")
+
+    def rounded(self) -> str:
+        """Say what was rounded."""
+        if self.worst is None:
+            return ""
+        most = f"{self.change / 10**20:.2g}"
+        return (f"{counted(self.changed, 'time')} rounded to {counted(self.most or 0, 'decimal')}, by {most} at most "
+                f"({self.worst.name}: {self.worst.text})")
+
+    def hint_for(self, text: str) -> str:
+        """What to write instead of what isn't a time."""
+        if match := NUMBER.match(text):
+            is_text = match[2] and self.table.text.startswith("sep=,\n")
+            return ": it is text that looks like a number: format the cell as a number, and write it again" if is_text \
+                else ""
+        hint = next((hint for wrong, hint in HINTS if wrong.fullmatch(text)), "")
+        return f": {SKIPS if hint == NO_MACHINE and self.table.is_chosen else hint}" if hint else ""
 
     def without_groups(self, text: str) -> str:
         """Return a number without its thousands separators."""
@@ -571,6 +630,25 @@ def reject_sums(table: Rows, times: Order) -> None:
         total = own[:-1].sum(axis=0)
         if min(own.shape[0] - 1, len(total)) > 1 and total.any() and (total == own[-1]).all():
             raise table.fault(last, f"the {others.format(last.text)}: leave it out, or allow totals (`allow_totals`)")
+
+
+def write_table(path: str, shop: Instance, delimiter: str, mark: bool) -> None:
+    """Write a table of times that `table_of` reads as this instance, as a workbook or as CSV."""
+    head = [f"job [{shop.unit}]" if shop.unit else "job", *map(shop.machine_name, range(shop.machines))]
+    times: list[list[int]] = shop.times.tolist()
+    if path.lower().endswith(".xlsx"):
+        rows = [[shop.job_name(job), *(cell_of(time, shop.decimals, shop.unit) for time in row)]
+                for job, row in enumerate(times)]
+        write_workbook(path, [("times", [head, *rows])])
+        return
+    text = io.StringIO()
+    writer = csv.writer(text, delimiter=delimiter, lineterminator="\n")
+    writer.writerow(map(text_cell, head))
+    point = "," if delimiter == ";" else "."
+    for job, row in enumerate(times):
+        writer.writerow([text_cell(shop.job_name(job)),
+                         *(amount(time, shop.decimals, shop.unit).replace(".", point) for time in row)])
+    atomic_write(path, text.getvalue().encode("utf-8-sig" if mark else "utf-8"))
 
 
 def counted(number: int, what: str) -> str:

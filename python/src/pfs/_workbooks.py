@@ -6,20 +6,31 @@ import csv
 import datetime
 import io
 import os
+import re
+import warnings
 import zipfile
-from collections.abc import Iterable, Iterator, Sequence
+from collections.abc import Collection, Iterable, Iterator, Sequence
+from itertools import chain, count
 from typing import Any
+from xml.etree import ElementTree
 
 from pfs import _library as c
 from pfs._atomic import atomic_write
 from pfs._faults import TableFault
-from pfs._names import shown
+from pfs._names import CLOCK, printable, shown
 from pfs._optional import optional
 
 # Days count from the first date in workbooks, and from the other one up to February 1900, which had 29 days there.
 FIRST_DAY, FIRST_OF_1900 = datetime.datetime(1899, 12, 30), datetime.datetime(1899, 12, 31)
 # The most rows of a sheet in Excel.
 MOST_ROWS = 1_048_576
+# The most cells of all sheets, of all rows with the empty ones before their last ones, and of one row. The most tags of
+# another part, and of the styles, of which openpyxl takes 40 microseconds for each.
+MOST_CELLS, MOST_IN_ROW, MOST_TAGS, MOST_STYLES = 3_000_000, 16_384, 500_000, 100_000
+TAG = re.compile(rb"<(?:\w+:)?(c|row)[\s/>]")
+FORMULA = re.compile(rb"<(?:\w+:)?f[\s/>]")
+# How many rows decide how wide their columns are, and the widest one.
+MOST_MEASURED, WIDEST = 2_000, 40
 
 
 class Workbook:
@@ -28,11 +39,11 @@ class Workbook:
     def __init__(self, content: bytes, path: str) -> None:
         openpyxl = optional("openpyxl", f"{path}: reading a workbook")
         self.path = path
+        # How many cells may still be read.
+        self.cells = MOST_CELLS
         with self.faults():
             with zipfile.ZipFile(io.BytesIO(content)) as archive:
-                size = sum(part.file_size for part in archive.infolist())
-            if size > 4 * c.LONGEST_INPUT:
-                raise ValueError("its parts are too large")
+                check_parts(archive)
             self.book = openpyxl.load_workbook(io.BytesIO(content), read_only=True, data_only=True)
             self.names: list[str] = [sheet.title for sheet in self.book.worksheets]
             # It may open with a chart.
@@ -41,29 +52,80 @@ class Workbook:
 
     @contextlib.contextmanager
     def faults(self) -> Iterator[None]:
-        """What openpyxl raises becomes a fault of the file."""
+        """What openpyxl raises becomes a fault of the file. It warns of what it wouldn't write again."""
         try:
-            yield
+            with warnings.catch_warnings():
+                warnings.simplefilter("ignore")
+                yield
         except MemoryError:
             raise
         except Exception as error:
-            raise TableFault(self.path, 1, 0, f"isn't a workbook that openpyxl reads ({shown(str(error))}): save it as "
-                                              "CSV UTF-8") from None
+            instead = "" if "save" in str(error) else ": save it as CSV UTF-8"
+            raise TableFault(self.path, 1, 0,
+                             f"isn't a workbook that openpyxl reads ({shown(str(error))}){instead}") from None
 
-    def csv_of(self, name: str) -> str:
-        """Return a sheet as CSV with commas and decimal points."""
+    def csv_of(self, name: str, most_rows: int = MOST_ROWS) -> str:
+        """Return a sheet as CSV with commas and decimal points. Of the rows that aren't empty, the first ones are
+        read. A formula without a stored value is a fault."""
         with self.faults():
-            text = io.StringIO("sep=,\n")
-            text.seek(0, os.SEEK_END)
-            rows = csv.writer(text, lineterminator="\n")
             sheet = self.book[name]
-            # The sizes that a workbook states may be wrong.
-            sheet.reset_dimensions()
-            for number, row in enumerate(sheet.iter_rows(values_only=True)):
-                if number == MOST_ROWS:
-                    raise ValueError("it has too many rows")
-                rows.writerow([text_in(value) for value in row] if any(value is not None for value in row) else [])
+            empty = [*formulas_without_values(self.book._archive.read(sheet._worksheet_path))]
+            text = self.text_of_rows(sheet, most_rows)
+        if empty:
+            path = f"{self.path}, sheet {name}" if len(self.names) > 1 else self.path
+            line, column = optional("openpyxl", "").utils.cell.coordinate_to_tuple(empty[0])
+            more = f" (and {len(empty) - 1:,} more)" if len(empty) > 1 else ""
+            raise TableFault(path, line, column, f"has a formula without a value{more}: open the workbook in a "
+                                                 "spreadsheet and save it")
+        return text
+
+    def text_of_rows(self, sheet: Any, most_rows: int) -> str:
+        """Return the rows of a sheet as CSV."""
+        text = io.StringIO("sep=,\n")
+        text.seek(0, os.SEEK_END)
+        rows = csv.writer(text, lineterminator="\n")
+        # The sizes that a workbook states may be wrong.
+        sheet.reset_dimensions()
+        for number, row in enumerate(sheet.iter_rows(values_only=True)):
+            self.cells -= len(row)
+            if number == MOST_ROWS or self.cells < 0:
+                raise ValueError("it has too many cells")
+            last = next((at for at in range(len(row), 0, -1) if row[at - 1] is not None), 0)
+            rows.writerow(["" if value is None else text_in(value) for value in row[:last]])
+            most_rows -= last > 0
+            if not most_rows:
+                break
         return text.getvalue()
+
+
+def check_parts(archive: zipfile.ZipFile) -> None:
+    """Raise an error if the parts of a workbook would take much longer or much more memory than a large table."""
+    if "mimetype" in archive.namelist():
+        raise ValueError("it is of LibreOffice's own format: save it as .xlsx")
+    if sum(part.file_size for part in archive.infolist()) > 4 * c.LONGEST_INPUT:
+        raise ValueError("its parts are too large")
+    cells = 0
+    for name in archive.namelist():
+        if not name.lower().endswith((".xml", ".rels")):
+            continue
+        content, in_row = archive.read(name), 0
+        most = MOST_STYLES if name.endswith("styles.xml") else MOST_TAGS
+        if "worksheets/" not in name and content.count(b"<") > most:
+            raise ValueError(f"its part {name} is too large")
+        for tag in TAG.finditer(content):
+            in_row = in_row + 1 if tag[1] == b"c" else 0
+            cells += tag[1] == b"c"
+            if in_row > MOST_IN_ROW or cells > MOST_CELLS:
+                raise ValueError("it has too many cells")
+
+
+def formulas_without_values(sheet: bytes) -> Iterator[str]:
+    """Return the names of the cells whose formula has no stored value. openpyxl reads them as empty ones."""
+    for _, row in ElementTree.iterparse(io.BytesIO(sheet)) if FORMULA.search(sheet) else ():
+        if row.tag.endswith("}row"):
+            yield from (cell.get("r", "A1") for cell in row
+                        if cell.find("{*}f") is not None and not cell.findtext("{*}v"))
+            row.clear()
 
 
 def text_in(value: Any) -> str:
@@ -77,21 +139,61 @@ def text_in(value: Any) -> str:
     if isinstance(value, datetime.timedelta):
         seconds = round(value.total_seconds())
         return f"{seconds // 3600}:{seconds // 60 % 60:02}" + (f":{seconds % 60:02}" if seconds % 60 else "")
-    return "" if value is None else str(value)
+    return str(value)
 
 
-def write_workbook(path: str | os.PathLike[str], rows: Iterable[Sequence[Any]]) -> None:
-    """Write rows of texts, numbers and dates as a workbook. A text is never a formula."""
+def cell_of(time: int, decimals: int, unit: str) -> Any:
+    """What a cell has for a time: a number, or a length of time."""
+    if unit == CLOCK:
+        return datetime.timedelta(minutes=time)
+    return time / 10**decimals if decimals else time
+
+
+def write_workbook(path: str | os.PathLike[str], sheets: Iterable[tuple[str, Sequence[Sequence[Any]]]]) -> None:
+    """Write sheets with rows of texts, numbers and dates as a workbook. The first row of a sheet has its heads. A text
+    is never a formula."""
     openpyxl = optional("openpyxl", "writing a workbook")
     book = openpyxl.Workbook()
-    sheet = book.active
+    book.remove(book.active)
+    for title, rows in sheets:
+        write_sheet(book.create_sheet(title_of(title, {sheet.title.casefold() for sheet in book})), rows)
+    content = io.BytesIO()
+    book.save(content)
+    atomic_write(path, content.getvalue())
+
+
+def title_of(name: str, used: Collection[str]) -> str:
+    """Return the name of a sheet as spreadsheets allow it: at most 31 letters, some of which no name has, and unlike
+    the others.
+
+    >>> title_of("saw/drill: 1", set()), title_of("x" * 40, {"x" * 31}), title_of("'", set())
+    ('saw-drill- 1', 'xxxxxxxxxxxxxxxxxxxxxxxxxxx (2)', 'sheet')
+    """
+    title = re.sub(r"[\[\]:*?/\\]", "-", printable(name)).strip(" '")[:31] or "sheet"
+    ends = chain([""], (f" ({number})" for number in count(2)))
+    return next(each for end in ends if (each := title[:31 - len(end)] + end).casefold() not in used)
+
+
+def write_sheet(sheet: Any, rows: Iterable[Sequence[Any]]) -> None:
+    """Write the rows of a sheet, whose columns are as wide as their cells. The heads stay in view, are on each printed
+    page, and have filters."""
+    font = optional("openpyxl", "").styles.Font("Calibri", 11, bold=True)
     for line, row in enumerate(rows, 1):
         for column, value in enumerate(row, 1):
             cell = sheet.cell(line, column, shown(value) if isinstance(value, str) else value)
+            if line == 1:
+                cell.font = font
             if isinstance(value, str):
                 cell.data_type = "s"
             elif isinstance(value, (datetime.datetime, datetime.timedelta)):
                 cell.number_format = "yyyy-mm-dd hh:mm" if isinstance(value, datetime.datetime) else "[h]:mm"
-    content = io.BytesIO()
-    book.save(content)
-    atomic_write(path, content.getvalue())
+    for cells in sheet.iter_cols(max_row=min(sheet.max_row, MOST_MEASURED)):
+        sheet.column_dimensions[cells[0].column_letter].width = min(WIDEST, 3 + max(map(letters_of, cells)))
+    sheet.freeze_panes, sheet.auto_filter.ref, sheet.print_title_rows = "A2", sheet.dimensions, "1:1"
+    sheet.sheet_properties.pageSetUpPr.fitToPage, sheet.page_setup.fitToHeight = True, 0
+    sheet.oddHeader.center.text = "&A"
+
+
+def letters_of(cell: Any) -> int:
+    """How many letters a cell shows."""
+    return 16 if isinstance(cell.value, datetime.datetime) else len(str(cell.value))

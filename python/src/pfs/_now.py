@@ -1,0 +1,71 @@
+"""Plans that begin when another one is under way."""
+from __future__ import annotations
+
+import argparse
+import sys
+from typing import NamedTuple
+
+import numpy as np
+
+from pfs._calendar import Calendar, Clock, begin_of, text_of
+from pfs._cli import written
+from pfs._instance import Instance
+from pfs._orders import FoundOrder
+from pfs._rest import begun, rest_of, spans_of
+
+
+class Beginning(NamedTuple):
+    """How a plan begins: its instance, the order of its jobs as far as there is one, how many of them are held, and
+    when."""
+
+    shop: Instance
+    found: FoundOrder
+    held: int
+    calendar: Calendar | None
+
+
+def beginning(given: argparse.Namespace, shop: Instance, found: FoundOrder, calendar: Calendar | None) -> Beginning:
+    """Return how a plan for a table and an order begins: with the table, or with what is left of it at `given.now`."""
+    if given.now is None and not given.down:
+        return Beginning(shop, found, given.hold, calendar)
+    if calendar is None or given.order is None and given.now:
+        raise ValueError("--now needs --begin and --order, and --down needs --begin")
+    clock, now = Clock(calendar, shop), begin_of(given.now or given.begin)
+    if now < calendar.begin:
+        raise ValueError(f"--now: {now} is before --begin")
+    at = clock.time_at(now)
+    check_gone(given.order, shop, found, at)
+    new = [job for job in range(shop.jobs) if job not in set(found.jobs)]
+    left, held, done = rest_of(shop, found.jobs, at, down_until(given.down, clock, shop, at), new)
+    later = Calendar(calendar.start(clock.worked(at)), given.shift, given.days, given.closed)
+    count = left.jobs - len(new)
+    digits = 0 if later.begin.second else -1
+    written(sys.stderr, f"from {text_of(later.begin, digits)} on: {len(done)} finished, {held} held, "
+                        f"{left.jobs - held} to plan\n")
+    return Beginning(left, FoundOrder([*range(count)], found.gone), max(held, given.hold), later)
+
+
+def check_gone(path: str, shop: Instance, found: FoundOrder, at: int) -> None:
+    """A job that the table lacks has delayed those behind it, if one of them has begun."""
+    places = np.flatnonzero(begun(*spans_of(shop, found.jobs), at))
+    last = int(places.max(initial=-1))
+    gone = next((name for name, before in found.gone.items() if before <= last), None)
+    if gone is not None:
+        raise ValueError(f"{path}: the table has no job {gone!r}, but {shop.job_name(found.jobs[last])!r} behind it has "
+                         "begun: leave jobs that have begun in the table")
+
+
+def down_until(given: list[tuple[str, str]], clock: Clock, shop: Instance, at: int) -> dict[int, int]:
+    """Return until when machines are down, by their numbers."""
+    numbers = {shop.machine_name(machine).casefold(): machine for machine in range(shop.machines)}
+    found: dict[int, int] = {}
+    for name, moment in given:
+        machine, until = numbers.get(name.strip().casefold()), clock.time_at(begin_of(moment))
+        if machine is None:
+            raise ValueError(f"--down: {name!r} isn't the name of a machine of the table")
+        if machine in found:
+            raise ValueError(f"--down: {name!r} is there twice")
+        if until <= at:
+            raise ValueError(f"--down: {name!r} is up again by then ({moment})")
+        found[machine] = until
+    return found

@@ -1,0 +1,72 @@
+"""Files of planners: options in a file, hints for cells, and what another plan says of its end."""
+import pathlib
+
+import pytest
+from support.commands import ended
+from support.office import Office
+from test_workbooks import book_of, fault_of
+
+openpyxl = pytest.importorskip("openpyxl")
+pytestmark = pytest.mark.xdist_group("office")
+TABLE = "job [min];saw;drill\ntable;300;200\nchair;250;400\n"
+
+
+def test_options_in_a_file(tmp_path: pathlib.Path) -> None:
+    (tmp_path / "times.csv").write_text(TABLE)
+    words = ["plan", "times.csv", "--begin", "2026-11-30T06:00", "--shift", "fri:06:00-12:00", "--title", "Week 49"]
+    (tmp_path / "week.txt").write_text("\ufeff# of each week\n--begin 2026-11-30T06:00\n\n--shift fri:06:00-12:00\n"
+                                       "--title 'Week 49'\n", "utf-8")
+    assert ended(["plan", "times.csv", "@week.txt"], tmp_path) == ended(words, tmp_path)
+    for text in ("@week.txt\n", "--title 'Week\n", "--nothing\n"):
+        (tmp_path / "week.txt").write_text(text)
+        assert ended(["plan", "times.csv", "@week.txt"], tmp_path)[:2] == (3, "")
+    assert ended(["plan", "times.csv", "@none"], tmp_path)[:2] == (3, "")
+
+
+def test_a_date_without_a_time_of_day(tmp_path: pathlib.Path) -> None:
+    (tmp_path / "times.csv").write_text(TABLE)
+    words = ["plan", "times.csv", "--shift", "06:00-14:00", "--begin"]
+    assert ended([*words, "2026-11-30"], tmp_path) == ended([*words, "2026-11-30T00:00"], tmp_path)
+    assert ended([*words, "2026-11"], tmp_path)[0] == 3
+
+
+def test_machines_with_a_comma_in_their_names(tmp_path: pathlib.Path) -> None:
+    book_of(tmp_path / "times.xlsx", ("job", "saw, left", "note", "drill"), ("table", 3, "x", 1))
+    status, _, got = ended(["plan", "times.xlsx", "--machines", 'drill, "saw, left"'], tmp_path)
+    assert (status, got) == (0, "")
+
+
+@pytest.mark.parametrize(("cell", "hint"), [
+    ("-", "write 0 where a job skips a machine"), ("n/a", "write 0 where a job skips a machine"),
+    ("x", "write 0 where a job skips a machine"), ("#REF!", "the formula has an error"),
+    ("#DIV/0!", "the formula has an error"), ("1:30", "other times of the table are numbers: write all of them like "
+                                                      "this, or none"),
+    ("12,5", "it is text that looks like a number: format the cell as a number, and write it again"),
+    ("2160:00", "a cell with the format of a time has a number of days: format it as a number, and write the time again")])
+def test_hints_for_cells(tmp_path: pathlib.Path, cell: str, hint: str) -> None:
+    path = book_of(tmp_path / "times.xlsx", ("job", "saw", "drill"), ("table", 3, 2), ("chair", 1, cell))
+    assert fault_of(path, machines=["saw", "drill"]) == (3, 3, f"{cell!r} isn't a time: {hint}")
+
+
+def test_a_number_in_a_cell_with_the_format_of_a_time(tmp_path: pathlib.Path, office: Office) -> None:
+    """And a workbook of LibreOffice's own format."""
+    path = book_of(tmp_path / "times.xlsx", ("job", "saw", "drill"), ("table", 3, 2), ("chair", 1, 90), ("lamp", 5, 4))
+    book = openpyxl.load_workbook(path)
+    book.active["C3"].number_format = "h:mm"
+    book.save(path)
+    assert fault_of(office(path, "xlsx"))[2].startswith("'2160:00' isn't a time: a cell with the format of a time")
+    assert fault_of(office(path, "ods")) == (
+        1, 0, "isn't a workbook that openpyxl reads (it is of LibreOffice's own format: save it as .xlsx)")
+
+
+def test_what_another_plan_says_of_its_end(tmp_path: pathlib.Path) -> None:
+    """It had another calendar: the slip by a holiday is seen."""
+    (tmp_path / "times.csv").write_text(TABLE)
+    words = ["plan", "times.csv", "--begin", "2026-11-30T06:00", "--shift", "06:00-14:00"]
+    (tmp_path / "monday.txt").write_text(ended([*words, "--schedule", "monday.csv"], tmp_path)[1])
+    for name, said in (("monday.txt", "makespan 850 min, end 2026-12-01 12:10"), ("monday.csv", "end 2026-12-01 12:10")):
+        got = ended([*words, "--closed", "2026-12-01", "--order", "monday.txt", "--compare", name], tmp_path)[2]
+        both = "makespan 850 min, end 2026-12-02 12:10"
+        assert got == f"{name}: says {said}\n{name}: {both}; the plan: {both}\n"
+    (tmp_path / "names").write_text("table\nchair\n")
+    assert "says" not in ended([*words, "--compare", "names"], tmp_path)[2]

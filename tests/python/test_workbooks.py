@@ -1,0 +1,154 @@
+"""Workbooks of people: those that LibreOffice makes and opens, and those that would be read as another table."""
+import pathlib
+import re
+import resource
+import subprocess
+import warnings
+import zipfile
+from collections.abc import Sequence
+from typing import Any
+
+import pfs
+import pytest
+from pfs import _workbooks
+from support.commands import ended
+from support.needs import tool
+from support.office import Office
+
+openpyxl = pytest.importorskip("openpyxl")
+pytestmark = pytest.mark.xdist_group("office")
+
+
+def book_of(path: pathlib.Path, *rows: Sequence[object]) -> pathlib.Path:
+    book = openpyxl.Workbook()
+    for row in rows:
+        book.active.append(row)
+    book.save(path)
+    return path
+
+
+def fault_of(path: pathlib.Path, **words: Any) -> tuple[int, int, str]:
+    with pytest.raises(pfs.TableFault) as fault:
+        pfs.read_csv(path, **words)
+    return fault.value.line, fault.value.column, fault.value.text
+
+
+# Times in hours, most of which are made of minutes.
+HOURS = (("job [h]", "saw", "drill"), ("table", 3.5, 0.75), ("chair", 1.5, "=50/60"), ("shelf", "=B2/3", 1.25))
+
+
+def test_formulas_that_a_spreadsheet_computes(tmp_path: pathlib.Path, office: Office) -> None:
+    """Without values they are rejected, and told what to do. With values of many decimals they are rounded."""
+    path = book_of(tmp_path / "times.xlsx", *HOURS)
+    assert fault_of(path) == (3, 3, "has a formula without a value (and 1 more): open the workbook in a spreadsheet "
+                                    "and save it")
+    path = office(path, "xlsx")
+    assert fault_of(path) == (3, 3, "'0.833333333' has 9 decimals, in which the time in B2 is above 1,000,000,000: round "
+                                    "it, or say how many decimals to keep (`decimals`)")
+    shop = pfs.read_csv(path, decimals=2)
+    assert (shop.times.tolist(), shop.decimals) == ([[350, 75], [150, 83], [117, 125]], 2)
+    status, printed, got = ended(["plan", "times.xlsx"], path.parent)
+    assert (status, printed) == (2, "") and got.endswith("round it, or say how many decimals to keep (--decimals)\n")
+    status, printed, got = ended(["plan", "times.xlsx", "--decimals", "2"], path.parent)
+    assert (status, got) == (0, "times.xlsx: 2 times rounded to 2 decimals, by 0.0033 at most (C3: 0.833333333)\n")
+
+
+@pytest.mark.parametrize("rows", [
+    [("job [min]", "saw"), ("table", 3), ("=Orders!A3", "=Orders!B3"), ("chair", 2)],
+    [("job [min]", "saw", "=Machines!A2"), ("table", 3, "=B2"), ("chair", 2, "=B3")],
+    [("job [min]", "saw"), ("table", 3), ("chair", "=B2")]], ids=["a job", "a machine", "a time"])
+def test_no_formula_without_a_value_is_left_out(tmp_path: pathlib.Path, rows: list[Sequence[object]]) -> None:
+    text = fault_of(book_of(tmp_path / "times.xlsx", *rows))[2]
+    assert text.startswith("has a formula without a value") and text.endswith("in a spreadsheet and save it")
+
+
+def changed(path: pathlib.Path, part: str, old: str, new: str) -> pathlib.Path:
+    """Replaces a text in a part of a workbook."""
+    with zipfile.ZipFile(path) as archive:
+        parts = {name: archive.read(name).decode() for name in archive.namelist()}
+    name = next(name for name in parts if name.endswith(part))
+    parts[name], count = re.subn(old, lambda _: new, parts[name])
+    assert count == 1
+    with zipfile.ZipFile(path, "w", zipfile.ZIP_DEFLATED) as archive:
+        for name, text in parts.items():
+            archive.writestr(name, text)
+    return path
+
+
+@pytest.mark.parametrize("uri", ["CCE6A557-97BC-4b89-ADB6-D9C93CAAB3DF", "78C0D931-6437-407d-A8EE-F0AAD7539E65"],
+                         ids=["lists of choices", "conditional formats"])
+def test_warnings_of_openpyxl_are_not_shown(tmp_path: pathlib.Path, uri: str) -> None:
+    path = book_of(tmp_path / "times.xlsx", ("job", "saw"), ("table", 3))
+    changed(path, "sheet1.xml", "</worksheet>", f'<extLst><ext uri="{{{uri}}}"/></extLst></worksheet>')
+    with warnings.catch_warnings():
+        warnings.simplefilter("error")
+        assert pfs.read_csv(path).times.tolist() == [[3]]
+
+
+NO_ROWS, WIDE = "<sheetData.*</sheetData>|<sheetData ?/>", '<row r="{0}"><c r="XFD{0}"><v>1</v></c></row>'
+# What a small workbook may have very many of.
+LARGE = {
+    "cells in the last column": ("sheet1.xml", NO_ROWS, WIDE, 4_000, "it has too many cells"),
+    "empty cells": ("sheet1.xml", NO_ROWS, "<row>" + "<c/>" * 16_384 + "</row>", 200, "it has too many cells"),
+    "cells of a row": ("sheet1.xml", NO_ROWS, "<row>" + "<c/>" * 16_385 + "</row>", 1,
+                       "it has too many cells"),
+    "rows": ("sheet1.xml", NO_ROWS, '<row r="1048577"><c><v>1</v></c></row>', 1, "it has too many cells"),
+    "styles": ("styles.xml", "</cellXfs>", "<xf/>", 400_000, "its part xl/styles.xml is too large")}
+
+
+@pytest.mark.parametrize("case", LARGE)
+def test_small_workbooks_with_large_parts(tmp_path: pathlib.Path, case: str) -> None:
+    """They take neither much time nor much memory."""
+    part, old, text, count, why = LARGE[case]
+    new = "".join(text.format(number) for number in range(1, count + 1))
+    new = f"<sheetData>{new}</sheetData>" if "sheetData" in old else f"{new}{old}"
+    path = changed(book_of(tmp_path / "times.xlsx"), part, old, new)
+    before, begun = (resource.getrusage(resource.RUSAGE_SELF) for _ in range(2))
+    assert fault_of(path)[2] == f"isn't a workbook that openpyxl reads ({why}): save it as CSV UTF-8"
+    after = resource.getrusage(resource.RUSAGE_SELF)
+    assert after.ru_utime - begun.ru_utime < 4 and after.ru_maxrss - before.ru_maxrss < 120_000
+
+
+def test_rows_after_the_last_one_of_a_table_are_not_read(tmp_path: pathlib.Path,
+                                                         monkeypatch: pytest.MonkeyPatch) -> None:
+    path = book_of(tmp_path / "times.xlsx", *([f"j{at}", 1] for at in range(10_050)))
+    texts = list[object]()
+
+    def text_in(value: object) -> str:
+        texts.append(value)
+        return str(value)
+
+    monkeypatch.setattr(_workbooks, "text_in", text_in)
+    assert fault_of(path) == (10_002, 0, "the table has more than 10,000 rows")
+    assert len(texts) == 2 * 10_002
+
+
+def test_a_schedule_is_shown_whole(tmp_path: pathlib.Path, office: Office) -> None:
+    """Dates have room, also where the names of machines are no names of sheets. Printed, each machine has a page."""
+    names = ["S\u00e4ge", "schedule", "Fr\u00e4sen/Bohren: 2", "a" * 40, "A" * 40]
+    shop = pfs.Instance([[90, 60, 30, 5, 5], [0, 45, 120, 5, 5]], job_names=["A-1001 Welle", "A-1002"], unit="min",
+                        machine_names=names)
+    path = tmp_path / "plan.xlsx"
+    shop.schedule([1, 0]).to_xlsx(path, calendar=pfs.Calendar("2026-11-30T06:00", shifts="06:00-14:00"))
+    book = openpyxl.load_workbook(path)
+    assert book.sheetnames == ["schedule", "machines", "jobs", "S\u00e4ge", "schedule (2)", "Fr\u00e4sen-Bohren- 2", "a" * 31,
+                               "A" * 27 + " (2)"]
+    assert [list(row)[:2] for row in book["S\u00e4ge"].values] == [["place", "job"], [1, "A-1001 Welle"]]
+    assert [row[1] for row in book["schedule (2)"].values] == ["job", "A-1002", "A-1001 Welle"]
+    assert all((sheet.freeze_panes, sheet.auto_filter.ref) == ("A2", sheet.dimensions) for sheet in book)
+    pdf = office(path, "pdf")
+    text = subprocess.run([tool("pdftotext"), "-layout", pdf, "-"], capture_output=True, text=True, check=True).stdout
+    assert "###" not in text and text.count("\f") == 8
+    assert re.findall(r"^ *1 +A-1001 Welle +(2026-11-30 06:00) +(2026-11-30 07:30)$", text, re.MULTILINE)
+
+
+def test_all_schedules_are_written(tmp_path: pathlib.Path) -> None:
+    book_of(tmp_path / "times.xlsx", ("job", "saw", "drill"), ("table", 3, 1), ("chair", 1, 2))
+    words = ["plan", "times.xlsx", *(f"--schedule={name}" for name in ("a.xlsx", "b.csv", "c.csv"))]
+    status, printed, got = ended(words, tmp_path)
+    assert (status, got) == (0, "")
+    assert (tmp_path / "b.csv").read_bytes() == (tmp_path / "c.csv").read_bytes()
+    for name in ("a.xlsx", "b.csv"):
+        assert ended(["plan", "times.xlsx", "--order", name], tmp_path) == (0, printed, "")
+    (tmp_path / "d.csv").mkdir()
+    assert ended(["plan", "times.xlsx", "--schedule", "d.csv"], tmp_path) == (4, "", "pfs: d.csv: Is a directory\n")
