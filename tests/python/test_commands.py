@@ -389,7 +389,8 @@ def test_the_defaults_that_the_help_states(folder: pathlib.Path, monkeypatch: py
     if command == "plan":
         assert "a plan without a limit of rounds has a second" in text and got.pop("rounds") == "1,000,000"
         got |= {"seconds": "1", "passes": re.findall(r"and (\d) in a plan without a limit of rounds", text)[0]}
-    assert got.keys() == OTHERS.keys() - ({"block", "rounds"} if command == "plan" else {"seconds"}), f"defaults in the help: {got}"
+    others = {"block", "rounds"} if command == "plan" else {"seconds"}
+    assert got.keys() == OTHERS.keys() - others, f"defaults in the help: {got}"
     usual = asked(folder, monkeypatch, line)
     for name, value in got.items():
         given = asked(folder, monkeypatch, [*line, f"--{name}", value.replace(",", "")])
@@ -644,8 +645,8 @@ REJECTED = [
     (f"{PLAN} --schedule ./link.csv", 3, f"./link.csv {READ}"),
     (f"{PLAN} --order order.html --chart order.html", 3, f"order.html {READ}"),
     (f"{PLAN} --compare order.html --chart order.html", 3, f"order.html {READ}"),
-    (f"{PLAN} --schedule out.ods", 3, "out.ods: the name of a schedule ends with .csv or .xlsx"),
-    (f"{PLAN} --schedule out.html", 3, "out.html: the name of a schedule ends with .csv or .xlsx"),
+    (f"{PLAN} --schedule out.ods", 3, "out.ods: the name of a schedule ends with .csv, .ics or .xlsx"),
+    (f"{PLAN} --schedule out.html", 3, "out.html: the name of a schedule ends with .csv, .ics or .xlsx"),
     (f"{PLAN} --schedule none/out.csv", 4, "none/out.csv" + NOT_THERE),
     (f"{PLAN} --chart none/out.svg", 4, "none/out.svg" + NOT_THERE),
     (f"{PLAN} --chart ok.html --chart none/out.html", 4, "none/out.html" + NOT_THERE),
