@@ -23,7 +23,7 @@ from typing import Any
 import pfs
 import pytest
 from pfs import _commands, _library, _search, _state
-from pfs._cli import Misused
+from pfs._cli import Misused, version
 from support import plainly
 from support.commands import ended, without_summary
 from support.plainly import environment
@@ -389,7 +389,8 @@ def test_the_defaults_that_the_help_states(folder: pathlib.Path, monkeypatch: py
     if command == "plan":
         assert "a plan without a limit of rounds has a second" in text and got.pop("rounds") == "1,000,000"
         got |= {"seconds": "1", "passes": re.findall(r"and (\d) in a plan without a limit of rounds", text)[0]}
-    assert got.keys() == OTHERS.keys() - ({"block", "rounds"} if command == "plan" else {"seconds"}), f"defaults in the help: {got}"
+    others = {"block", "rounds"} if command == "plan" else {"seconds"}
+    assert got.keys() == OTHERS.keys() - others, f"defaults in the help: {got}"
     usual = asked(folder, monkeypatch, line)
     for name, value in got.items():
         given = asked(folder, monkeypatch, [*line, f"--{name}", value.replace(",", "")])
@@ -644,8 +645,8 @@ REJECTED = [
     (f"{PLAN} --schedule ./link.csv", 3, f"./link.csv {READ}"),
     (f"{PLAN} --order order.html --chart order.html", 3, f"order.html {READ}"),
     (f"{PLAN} --compare order.html --chart order.html", 3, f"order.html {READ}"),
-    (f"{PLAN} --schedule out.ods", 3, "out.ods: the name of a schedule ends with .csv or .xlsx"),
-    (f"{PLAN} --schedule out.html", 3, "out.html: the name of a schedule ends with .csv or .xlsx"),
+    (f"{PLAN} --schedule out.ods", 3, "out.ods: the name of a schedule ends with .csv, .ics or .xlsx"),
+    (f"{PLAN} --schedule out.html", 3, "out.html: the name of a schedule ends with .csv, .ics or .xlsx"),
     (f"{PLAN} --schedule none/out.csv", 4, "none/out.csv" + NOT_THERE),
     (f"{PLAN} --chart none/out.svg", 4, "none/out.svg" + NOT_THERE),
     (f"{PLAN} --chart ok.html --chart none/out.html", 4, "none/out.html" + NOT_THERE),
@@ -866,7 +867,6 @@ def test_a_plan_that_is_interrupted(folder: pathlib.Path) -> None:
 # As the wheel's and the package's scripts call it.
 CALL = "import sys; sys.argv[0] = 'pfs-plan'; from pfs._commands import plan_program; sys.exit(plan_program())"
 CHAIRS = "job [min],saw,drill\nchair,3,2\ntable,2,5\n"
-VERSION = (TOP / "VERSION").read_text().strip()
 
 
 def pfs_plan(folder: pathlib.Path, *words: str) -> subprocess.CompletedProcess[str]:
@@ -899,7 +899,7 @@ def test_no_module_is_imported_from_the_current_folder(words: list[str], tmp_pat
      "2 jobs, 2 machines (saw, drill), times in min\n"),
     (["--nothing", "times.csv"], 3, "",
      "pfs: unrecognized arguments: --nothing (pfs-plan --help lists what there is)\n"),
-    (["--version"], 0, f"pfs {VERSION}\n", ""), (["times.csv", "--version"], 0, f"pfs {VERSION}\n", "")])
+    (["--version"], 0, f"pfs {version()}\n", ""), (["times.csv", "--version"], 0, f"pfs {version()}\n", "")])
 def test_what_the_program_prints(folder: pathlib.Path, words: list[str], status: int, out: str, got: str) -> None:
     done = pfs_plan(folder, *words)
     assert (done.returncode, done.stdout, done.stderr) == (status, out, got)

@@ -42,7 +42,8 @@ def test_machines_with_a_comma_in_their_names(tmp_path: pathlib.Path) -> None:
     ("#DIV/0!", "the formula has an error"), ("1:30", "other times of the table are numbers: write all of them like "
                                                       "this, or none"),
     ("12,5", "it is text that looks like a number: format the cell as a number, and write it again"),
-    ("2160:00", "a cell with the format of a time has a number of days: format it as a number, and write the time again")])
+    ("2160:00", "a cell with the format of a time has a number of days: format it as a number, and write the time "
+                "again")])
 def test_hints_for_cells(tmp_path: pathlib.Path, cell: str, hint: str) -> None:
     path = book_of(tmp_path / "times.xlsx", ("job", "saw", "drill"), ("table", 3, 2), ("chair", 1, cell))
     assert fault_of(path, machines=["saw", "drill"]) == (3, 3, f"{cell!r} isn't a time: {hint}")
@@ -64,7 +65,8 @@ def test_what_another_plan_says_of_its_end(tmp_path: pathlib.Path) -> None:
     (tmp_path / "times.csv").write_text(TABLE)
     words = ["plan", "times.csv", "--begin", "2026-11-30T06:00", "--shift", "06:00-14:00"]
     (tmp_path / "monday.txt").write_text(ended([*words, "--schedule", "monday.csv"], tmp_path)[1])
-    for name, said in (("monday.txt", "makespan 850 min, end 2026-12-01 12:10"), ("monday.csv", "end 2026-12-01 12:10")):
+    end = "end 2026-12-01 12:10"
+    for name, said in (("monday.txt", f"makespan 850 min, {end}"), ("monday.csv", end)):
         got = ended([*words, "--closed", "2026-12-01", "--order", "monday.txt", "--compare", name], tmp_path)[2]
         both = "makespan 850 min, end 2026-12-02 12:10"
         assert got == f"{name}: says {said}\n{name}: {both}; the plan: {both}\n"

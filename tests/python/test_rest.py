@@ -99,7 +99,8 @@ def plan(folder: pathlib.Path, *words: str, status: int = 0) -> tuple[list[str],
 
 @pytest.fixture
 def folder(tmp_path: pathlib.Path) -> pathlib.Path:
-    """A folder with Monday's table and its order: chair up to minute 250 and 650, table up to 550 and 850, and so on."""
+    """A folder with Monday's table and its order: chair up to minute 250 and 650, table up to 550 and 850, lamp up to 610
+    and 880, box up to 640 and 970."""
     (tmp_path / "times.csv").write_text(TABLE)
     (tmp_path / "order").write_text("chair\ntable\nlamp\nbox\n")
     return tmp_path

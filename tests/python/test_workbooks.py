@@ -43,8 +43,8 @@ def test_formulas_that_a_spreadsheet_computes(tmp_path: pathlib.Path, office: Of
     assert fault_of(path) == (3, 3, "has a formula without a value (and 1 more): open the workbook in a spreadsheet "
                                     "and save it")
     path = office(path, "xlsx")
-    assert fault_of(path) == (3, 3, "'0.833333333' has 9 decimals, in which the time in B2 is above 1,000,000,000: round "
-                                    "it, or say how many decimals to keep (`decimals`)")
+    assert fault_of(path) == (3, 3, "'0.833333333' has 9 decimals, in which the time in B2 is above 1,000,000,000: "
+                                    "round it, or say how many decimals to keep (`decimals`)")
     shop = pfs.read_csv(path, decimals=2)
     assert (shop.times.tolist(), shop.decimals) == ([[350, 75], [150, 83], [117, 125]], 2)
     status, printed, got = ended(["plan", "times.xlsx"], path.parent)
@@ -131,8 +131,8 @@ def test_a_schedule_is_shown_whole(tmp_path: pathlib.Path, office: Office) -> No
     path = tmp_path / "plan.xlsx"
     shop.schedule([1, 0]).to_xlsx(path, calendar=pfs.Calendar("2026-11-30T06:00", shifts="06:00-14:00"))
     book = openpyxl.load_workbook(path)
-    assert book.sheetnames == ["schedule", "machines", "jobs", "S\u00e4ge", "schedule (2)", "Fr\u00e4sen-Bohren- 2", "a" * 31,
-                               "A" * 27 + " (2)"]
+    assert book.sheetnames == ["schedule", "machines", "jobs", "S\u00e4ge", "schedule (2)", "Fr\u00e4sen-Bohren- 2",
+                               "a" * 31, "A" * 27 + " (2)"]
     assert [list(row)[:2] for row in book["S\u00e4ge"].values] == [["place", "job"], [1, "A-1001 Welle"]]
     assert [row[1] for row in book["schedule (2)"].values] == ["job", "A-1002", "A-1001 Welle"]
     assert all((sheet.freeze_panes, sheet.auto_filter.ref) == ("A2", sheet.dimensions) for sheet in book)

@@ -37,8 +37,8 @@ from pfs._tables import Table, described, table_of, write_table
 
 SIGNALS = (signal.SIGINT, signal.SIGTERM)
 DECIMAL_SIGNS = {"point": ".", "comma": ","}
-# The endings of schedules.
-SCHEDULES = ("", ".csv", ".tsv", ".txt", ".xlsx")
+# The endings of tables, and of schedules besides.
+TABLES = ("", ".csv", ".tsv", ".txt", ".xlsx")
 # The options for the arguments that messages about tables name, and the beginnings of messages about other options.
 OPTIONS = {"decimal": "--decimal point or --decimal comma", "allow_totals": "--allow-totals", "unit": "--unit",
            "machines": "--machines", "sheet": "--sheet", "decimals": "--decimals"}
@@ -146,9 +146,12 @@ def plan_command(given: argparse.Namespace) -> int:
     """Find an order for a table with names, and print it. It is printed before all other output, so an error doesn't
     lose it."""
     calendar = calendar_of(given)
+    if calendar is None and any(path.lower().endswith(".ics") for path in given.schedule):
+        raise ValueError("a schedule with the ending .ics needs --begin, which says when the work begins")
     check_outputs([given.table, given.order, given.compare], given.schedule, given.chart, given.rest)
     # As a row of a table, so that a name with a comma may be in quotes.
-    machines = None if given.machines is None else next(csv.reader([given.machines], skipinitialspace=True), [])
+    rows = csv.reader([] if given.machines is None else [given.machines], skipinitialspace=True)
+    machines: list[str] | None = next(rows, None)
     table = table_of(given.table, given.unit, DECIMAL_SIGNS.get(given.decimal), given.allow_totals, machines,
                      given.sheet, given.decimals)
     if table.note:
@@ -238,6 +241,9 @@ def write_schedule(shop: Instance, best: Solution, path: str, delimiter: str, ma
     """Write a schedule, as a workbook or as CSV."""
     if path.lower().endswith(".xlsx"):
         shop.schedule(best).to_xlsx(path, calendar=calendar)
+    elif path.lower().endswith(".ics"):
+        assert calendar is not None
+        shop.schedule(best).to_ics(path, calendar)
     else:
         shop.schedule(best).to_csv(path, delimiter, mark=mark, calendar=calendar)
 
@@ -264,8 +270,8 @@ def check_outputs(inputs: Sequence[str | None], schedules: Sequence[str], charts
     endings = {ending_of(chart) for chart in charts}
     for path, what in (*((path, "schedule") for path in schedules), *((path, "table") for path in tables)):
         ending = os.path.splitext(path)[1].lower()
-        if ending not in SCHEDULES:
-            raise ValueError(f"{path}: the name of a {what} ends with .csv or .xlsx")
+        if ending not in TABLES and (ending, what) != (".ics", "schedule"):
+            raise ValueError(f"{path}: the name of a {what} ends with .csv{', .ics' * (what == 'schedule')} or .xlsx")
         if ending == ".xlsx":
             optional("openpyxl", "writing a workbook")
     read = {os.path.realpath(path) for path in inputs if path is not None and os.path.isfile(path)}
@@ -410,7 +416,8 @@ def add_plan_words(plan: argparse.ArgumentParser) -> None:
     add_date_words(plan.add_argument_group("dates and shifts").add_argument)
     add = plan.add_argument_group("what is written").add_argument
     add("--schedule", metavar="OUT.csv", action="append", default=[],
-        help="when each operation starts and ends, as .csv or .xlsx; may be given more than once")
+        help="when each operation starts and ends, as .csv or .xlsx, or as .ics, of which each machine has a file; may "
+        "be given more than once")
     add("--rest", metavar="OUT.csv", action="append", default=[],
         help="the table of the plan, with the times that are left at --now, as .csv or .xlsx, to correct it by hand")
     add("--chart", metavar="OUT.svg", action="append", default=[],

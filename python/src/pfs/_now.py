@@ -51,8 +51,9 @@ def check_gone(path: str, shop: Instance, found: FoundOrder, at: int) -> None:
     last = int(places.max(initial=-1))
     gone = next((name for name, before in found.gone.items() if before <= last), None)
     if gone is not None:
-        raise ValueError(f"{path}: the table has no job {gone!r}, but {shop.job_name(found.jobs[last])!r} behind it has "
-                         "begun: leave jobs that have begun in the table")
+        behind = shop.job_name(found.jobs[last])
+        raise ValueError(f"{path}: the table has no job {gone!r}, but {behind!r} behind it has begun: leave jobs that "
+                         "have begun in the table")
 
 
 def down_until(given: list[tuple[str, str]], clock: Clock, shop: Instance, at: int) -> dict[int, int]:

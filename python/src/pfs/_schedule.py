@@ -13,7 +13,7 @@ from pfs import _library as c
 from pfs._atomic import atomic_write, text_cell
 from pfs._calendar import Calendar, Clock, text_of
 from pfs._drawing import critical_path
-from pfs._names import CLOCK, amount
+from pfs._names import amount
 from pfs._optional import optional
 from pfs._report import Report, report_of, sheets_of
 from pfs._rest import Rest, down_of, rest_of
@@ -241,6 +241,21 @@ class Schedule:
             return (cell(start), cell(end)) if clock is None else clock.span(start, end)
 
         write_workbook(path, sheets_of(self, cell, span))
+
+    def to_ics(self, path: str | os.PathLike[str], calendar: Calendar) -> list[str]:
+        """Write a calendar file for each machine, which Outlook and other calendars import, and return the paths.
+
+        Each operation is an event, and one that a shift's end interrupts is an event for each stretch of work. The
+        names of the files have the machine before the ending: ``plan-saw.ics``. If a file of the same name is imported
+        again, its events replace the earlier ones.
+
+        Parameters
+        ----------
+        path, calendar : str or os.PathLike, Calendar
+            The name without the machines, and when there is work. Errors are those of :meth:`to_csv`.
+        """
+        from pfs._events import write_events
+        return write_events(self, path, calendar)
 
     def _texts(self, calendar: Calendar | None) -> Callable[[int, int], list[str]]:
         """What writes the times of an operation, as numbers or as dates and times of day."""

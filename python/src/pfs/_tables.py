@@ -34,6 +34,7 @@ CLOCKS = (CLOCK, "hh:mm")
 MISSING = "the time is missing: write 0 where a job skips a machine (it still waits there for its turn)"
 ONE_UNIT = "use one unit"
 EMPTY_ROW = "the row has no times: leave it out if it is no job, or write 0 where the job skips a machine"
+ROUND_IT = "round it, or say how many decimals to keep (`decimals`)"
 NO_MACHINE = "leave the column out if it is no machine, or say which columns are machines (`machines`)"
 SECONDS = re.compile(r"[0-9]+:[0-9]{2}:[0-9]{2}")
 SKIPS = "write 0 where a job skips a machine"
@@ -41,8 +42,8 @@ SKIPS = "write 0 where a job skips a machine"
 HINTS = (
     (re.compile(r"#[A-Z0-9/]+[!?]?"), "the formula has an error"),
     (re.compile(r"[-\u2012-\u2015]|n\.?[/.]?a\.?", re.IGNORECASE), SKIPS),
-    (re.compile(r"(?:24|48|72|96|[1-9][0-9]{2,}):00"), "a cell with the format of a time has a number of days: format it "
-     "as a number, and write the time again"),
+    (re.compile(r"(?:24|48|72|96|[1-9][0-9]{2,}):00"), "a cell with the format of a time has a number of days: format "
+     "it as a number, and write the time again"),
     (HOURS, "other times of the table are numbers: write all of them like this, or none"),
     (SECONDS, "write hours and minutes, as 1:30, or a number"),
     (re.compile(r"[0-9]+\s*h\s*[0-9]{2}"), "write hours and minutes as 1:30"),
@@ -525,8 +526,8 @@ def times_of(table: Rows, sign: DecimalSign, unit: str) -> tuple[Order, int, str
         if sign.longest is None or times[job, machine] > c.LONGEST_TIME * 10**decimals:
             table.report(cell, f"the time is {most}{note}")
         else:
-            table.report(sign.longest, f"{sign.longest.text!r} has {counted(decimals, 'decimal')}, in which the time in "
-                                       f"{cell.name} is {most}: round it, or say how many decimals to keep (`decimals`)")
+            table.report(sign.longest, f"{sign.longest.text!r} has {counted(decimals, 'decimal')}, in which the time "
+                                       f"in {cell.name} is {most}: {ROUND_IT}")
     return times, decimals, unit
 
 
@@ -582,8 +583,7 @@ class DecimalSign:
         if self.most is not None and len(part) > self.most:
             whole, part = self.round(cell, int(whole + part.ljust(20, "0")), self.most)
         if len(part) > 9:
-            raise self.table.fault(cell, f"{cell.text!r} has more than 9 decimals: round it, or say how many decimals "
-                                         "to keep (`decimals`)")
+            raise self.table.fault(cell, f"{cell.text!r} has more than 9 decimals: {ROUND_IT}")
         if len(part) > self.decimals:
             self.decimals, self.longest = len(part), cell
         return min(int(whole + part.ljust(9, "0")), 2**62)
