@@ -73,7 +73,8 @@ def run(built: pathlib.Path, name: str, *words: str | pathlib.Path, cwd: pathlib
 
 
 def test_the_page_has_each_example() -> None:
-    names = {path.name for path in SOURCES} | {"neh.R", "neh.rs", "neh_cffi.py", "pfs_r.c", "README.md"}
+    names = {path.name for path in SOURCES} | {"neh.R", "neh.rs", "neh_cffi.py", "pfs.hpp", "pfs.rs", "pfs_r.c",
+                                              "README.md"}
     assert {path.name for path in EXAMPLES.iterdir()} == names
     assert set(re.findall(r"^`(\w+) ", PAGE, re.MULTILINE)) == {path.stem for path in SOURCES}
     assert all(len(path.read_text().splitlines()) <= 110 for path in SOURCES)

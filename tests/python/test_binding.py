@@ -70,7 +70,7 @@ def test_a_library_without_a_function_and_a_file_that_is_none_are_rejected(tmp_p
     got = loaded(library, tmp_path).stderr.splitlines()[-1]
     assert got.startswith(f"ImportError: pfs can't load its library {library} (")
     assert not isinstance(what, str) or f"undefined symbol: {what}" in got
-    assert got.endswith("): set PFS_LIBRARY to the path of libpfs.so.1")
+    assert got.endswith("): PFS_LIBRARY names it")
 
 
 def test_the_library_that_the_variable_names_goes_before_the_packages(monkeypatch: pytest.MonkeyPatch,

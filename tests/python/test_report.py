@@ -46,7 +46,7 @@ out,20,5,100,4,0,4,1,0,1.961,3.960,4.000,7.000,0.5000
 out,100,10,0,4,0,0,1,0,,,,,
 out,100,10,100,4,0,1,0,0,0.000,0.000,0.000,0.000,2.0000
 """
-FILES = ["gap.png", "instances.csv", "means.png", "rpd.png", "seconds.png", "sizes.csv", "sizes.md", "sizes.tex",
+FILES = ["gap.png", "instances.csv", "rpd.png", "seconds.png", "sizes.csv", "sizes.md", "sizes.tex",
          "table.csv", "table.md", "time.png"]
 Reported = Callable[..., Done]
 # Its figures are those of matplotlib, which has no types.
@@ -92,7 +92,7 @@ def test_a_report_has_its_table_and_its_plots(ending: str, begin: bytes, report:
     rows = [[cell.strip() for cell in line[1:-1].split("|")] for line in got.stdout.splitlines()[2:-2]]
     assert rows == [line.split(",") for line in TABLE.splitlines()[1:]]
     assert got.stdout.endswith("\n\nRPD: relative to the best makespan of any of these runs.\n")
-    for name in ("gap", "rpd", "seconds", "time", "means"):
+    for name in ("gap", "rpd", "seconds", "time"):
         picture = (folder / "report" / f"{name}.{ending}").read_bytes()
         assert picture.startswith(begin) and len(picture) > 5000, name
         assert ending != "pdf" or (b"/FontFile2" in picture and b"/Type3" not in picture), "fonts"
@@ -510,7 +510,7 @@ def test_lines_bands_scale_and_colours_of_the_plots_by_rounds(done: Callable[[st
         f"a,20,5,{rounds},{take},{passes},1,1,1,1,{gap:.4f},1000,0.001000,ok\n"
         for (take, passes), gaps in GAPS.items() for rounds, gap in zip((5, 10), gaps)))[:-1]
     assert {axis.get_title(): lines_of(axis)["20×5"] for axis in several} == {
-        f"take {take}, passes {passes}": [(0, 30.0), (5, first), (10, second)]
+        f"out, take {take}, passes {passes}": [(0, 30.0), (5, first), (10, second)]
         for (take, passes), (first, second) in GAPS.items()}
 
 
@@ -518,8 +518,8 @@ def test_the_plots_of_times(done: Callable[[str], Any]) -> None:
     """A panel for each size; the seconds have a logarithmic scale with two marks or more."""
     first, second, _ = reports.by_seconds(done(REPORTED), None).axes
     assert [axis.get_title() for axis in (first, second)] == ["20×5", "100×10"]
-    assert lines_of(first) == {"out, take 4": [(0.002, pytest.approx(12.708, abs=0.001)),
-                                               (0.5, pytest.approx(1.961, abs=0.001))]}
+    assert lines_of(first) == {"out": [(0.002, pytest.approx(12.708, abs=0.001)),
+                                       (0.5, pytest.approx(1.961, abs=0.001))]}
     assert first.get_xscale() == "log" and len([tick for tick in first.get_xticks() if 1e-3 <= tick <= 10]) >= 2
     figure = reports.cell_times(done(HEAD + "a,20,5,0,4,0,1,1,101,100,1.0000,1000,0.001000,ok\n" + "".join(
         f"a,20,5,100,4,0,{at},1,101,100,1.0000,1000000,{time / 1000:.6f},ok\n"
@@ -531,20 +531,42 @@ def test_the_plots_of_times(done: Callable[[str], Any]) -> None:
     assert "cell of searches by time" in figure._suptitle.get_text()
 
 
-def test_the_plot_of_means_has_intervals_of_students_distribution(done: Callable[[str], Any]) -> None:
-    """For 5 instances the quantile is 2.776, as tables of it say. The variance of the differences of the two methods is
-    0.5; without the means of the instances, each has half of it."""
-    cases: list[tuple[dict[str, list[int]], float]] = [
-        ({"a": [1, 2, 3, 4, 5]}, 2.5), ({"a": [1, 2, 3, 4, 5], "b": [3, 3, 5, 7, 7]}, 0.25), ({"a": [3]}, 0)]
-    for methods, variance in cases:
-        text = "instance,makespan,method,reference\n" + "".join(
-            f"i{at},{100 + rpd},{method},100\n" for method, rpds in methods.items() for at, rpd in enumerate(rpds))
-        axis = reports.means(done(text), None).axes[0]
-        half = 2.776 * math.sqrt(variance / 5)
-        bars = [[float(y) for _, y in segment] for segment in axis.collections[0].get_segments()]
-        assert bars == [pytest.approx([statistics.fmean(rpds) - half, statistics.fmean(rpds) + half], abs=0.002)
-                        for rpds in methods.values()]
-        assert axis.get_ylim()[0] == 0
+def bars_of(axis: Any) -> list[list[float]]:
+    """The ends of the intervals in a panel, from above."""
+    return [[float(x) for x, _ in segment] for segment in axis.collections[0].get_segments()]
+
+
+def test_the_plot_of_differences_has_intervals_of_students_distribution(done: Callable[[str], Any]) -> None:
+    """For 5 pairs the quantile is 2.776, as tables of it say. The differences are 2, 1, 2, 3 and 2, and their variance
+    is 0.5."""
+    methods = {"a": [1, 2, 3, 4, 5], "b": [3, 3, 5, 7, 7], "c": [0, 1, 2, 3, 4]}
+    text = "instance,makespan,method,reference,jobs,machines\n" + "".join(
+        f"i{at},{100 + rpd},{method},100,20,5\n" for method, rpds in methods.items() for at, rpd in enumerate(rpds))
+    axis, = reports.differences(done(text), None).axes
+    half = 2.776 * math.sqrt(0.5 / 5)
+    assert bars_of(axis) == [pytest.approx([2 - half, 2 + half], abs=0.002), [-1, -1]]
+    assert [label.get_text() for label in axis.get_yticklabels()] == ["c", "b"] and axis.get_title() == "20×5"
+    assert axis.figure._supxlabel.get_text() == "RPD minus that of a, %"
+
+
+def test_differences_are_paired_by_instance_and_seed_in_a_panel_for_each_size(done: Callable[[str], Any]) -> None:
+    """A method without seeds is compared on all of them. Only settings of equal rounds are. The names are those of the
+    tables."""
+    rows = [("i", 20, 5, 100, 1, 110, "m"), ("i", 20, 5, 100, 2, 104, "m"), ("j", 50, 10, 100, 1, 102, "m"),
+            ("i", 20, 5, 100, "", 101, "n"), ("j", 50, 10, 100, "", 105, "n"),
+            ("i", 20, 5, 200, 1, 103, "m"), ("i", 20, 5, 200, 2, 103, "m"), ("j", 50, 10, 200, 1, 101, "m"),
+            ("i", 20, 5, 200, "", 100, "n"), ("j", 50, 10, 200, "", 100, "n")]
+    text = "instance,jobs,machines,rounds,seed,makespan,method,reference\n" + "".join(
+        f"{','.join(map(str, row))},100\n" for row in rows)
+    figure = reports.differences(done(text), None)
+    half = 12.706 * statistics.stdev([-9, -3]) / math.sqrt(2)
+    assert {axis.get_title().replace("\n", " "): bars_of(axis) for axis in figure.axes if axis.collections} == {
+        "20×5, 100 rounds": [pytest.approx([-6 - half, -6 + half], abs=0.01)], "20×5, 200 rounds": [[-3, -3]],
+        "50×10, 100 rounds": [[3, 3]], "50×10, 200 rounds": [[-1, -1]]}
+    assert figure._supxlabel.get_text() == "RPD minus that of the first setting, %"
+    labels = {label.get_text() for axis in figure.axes for label in axis.get_yticklabels()}
+    assert labels == {"n, 100 rounds", "n, 200 rounds"}
+    assert reports.differences(done("instance,makespan,method,reference\na,103,m,100\n"), None) is None
 
 
 @pytest.mark.parametrize(("width", "options"), [("3.5", ["--no-title"]), ("7", [])])
@@ -553,10 +575,10 @@ def test_all_is_inside_of_the_picture_and_can_be_read(width: str, options: list[
     """With long names, at the width of a column too: letters have 7 points or more. With `--no-title` nothing has a
     title."""
     text = HEAD.replace("\n", ",method\n") + "".join(
-        f'i,{20 + at},5,{rounds},1,0,1,1,{100 + at},90,1.0,1000,{rounds / 10},ok,"the method of somebody, number {at}"'
-        "\n" for at in range(3) for rounds in (1, 10, 1000))
+        f"{name},{jobs},5,{rounds},1,0,1,1,{100 + at},90,1.0,1000,{rounds / 10},ok,"
+        f'"the method of somebody, number {at}"\n' for at in range(3) for name, jobs in (("i", 20 + at), ("j", 20)) for rounds in (1, 10, 1000))
     assert report(text, "--format", "svg", "--width", width, *options).status == 0
-    for name in ("gap", "rpd", "seconds", "time", "means"):
+    for name in ("gap", "rpd", "seconds", "time", "differences"):
         picture = (folder / "report" / f"{name}.svg").read_text()
         assert f'width="{72 * float(width):g}pt"' in picture
         letters = re.findall(r'<text style="font: ([0-9.]+)px [^"]*?(?:text-anchor: (\w+))?" x="([0-9.]+)" '

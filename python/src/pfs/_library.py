@@ -96,8 +96,8 @@ def load(path: str) -> ctypes.CDLL:
         loaded.pfs_version.argtypes, loaded.pfs_version.restype = [], c_char_p
         loaded.pfs_message.argtypes, loaded.pfs_message.restype = [c_int], c_char_p
     except (OSError, AttributeError) as error:
-        raise ImportError(f"pfs can't load its library {path} ({error}): set PFS_LIBRARY to the path of "
-                          f"{FILE}") from None
+        hint = "PFS_LIBRARY names it" if "PFS_LIBRARY" in os.environ else f"set PFS_LIBRARY to the path of {FILE}"
+        raise ImportError(f"pfs can't load its library {path} ({error}): {hint}") from None
     version: str = loaded.pfs_version().decode()
     if version.split(".")[0] != VERSION.split(".")[0]:
         raise ImportError(f"the library {path} has version {version}, but this package needs {VERSION}")
@@ -138,15 +138,15 @@ class Prepared:
     A process may fork while another thread makes a call. So a forked process prepares its instances again, and does not
     touch the memory of the old ones."""
 
-    # Counts the forks that led to this process.
-    forks = 0
+    # Counts the forks that led to this process, and the one in which this was made, once it can be released.
+    forks, made = 0, -1
 
     def __init__(self, times: bytes, jobs: int, machines: int) -> None:
-        self.made = Prepared.forks
         self.handle, self.place, self.makespan = Handle(), c_size_t(), c_uint64()
         self.address, self.to_place, self.to_makespan = byref(self.handle), byref(self.place), byref(self.makespan)
         self.spans = np.empty(jobs + 1, dtype=np.int64)
         self.to_spans = c_void_p(self.spans.ctypes.data)
+        self.made = Prepared.forks
         done(library.pfs_prepare(times, jobs * machines, jobs, machines, self.address))
 
     def is_own(self) -> bool:

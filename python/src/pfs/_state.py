@@ -56,7 +56,7 @@ class State:
     def __exit__(self, *_: object) -> None:
         if self.lock is not None:
             with contextlib.suppress(OSError):
-                os.unlink(f"{self.path}.lock")
+                os.unlink(lock_name(str(self.path)))
             os.close(self.lock)
 
     def read(self, rounds: int) -> Solution | None:
@@ -78,10 +78,15 @@ class State:
             atomic_write(self.path, text.encode("ascii"), f"{os.path.realpath(self.path)}.new")
 
 
+def lock_name(path: str) -> str:
+    """Return the name of a state's lock. Several links may lead to a state."""
+    return f"{os.path.realpath(path)}.lock"
+
+
 def lock_of(path: str) -> int:
-    """Lock the file `PATH.lock`, and return its descriptor. If another process removes the file in the meantime, start
+    """Lock a state, and return the descriptor of its lock. If another process removes the lock in the meantime, start
     again."""
-    name = f"{path}.lock"
+    name = lock_name(path)
     while True:
         try:
             lock = os.open(name, os.O_RDWR | os.O_CREAT | os.O_NOFOLLOW | os.O_CLOEXEC, 0o666)

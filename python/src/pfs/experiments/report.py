@@ -14,7 +14,6 @@ from typing import Any
 
 import matplotlib
 import pandas as pd
-import scipy.stats
 from matplotlib.figure import Figure
 from matplotlib.ticker import NullLocator
 
@@ -305,7 +304,8 @@ def plot(done: pd.DataFrame, shared: pd.DataFrame, folder: pathlib.Path, ending:
     done, shared = (runs.assign(method=runs["method"].map(shown)) for runs in (done, shared))
     figures = {"gap": by_rounds(done, "gap_percent", "gap to the lower bound, %", "Gap to the bound", width),
                "rpd": by_rounds(shared, "rpd", "RPD, %", "Relative percentage deviation", width),
-               "seconds": by_seconds(shared, width), "time": cell_times(done, width), "means": means(shared, width)}
+               "seconds": by_seconds(shared, width), "time": cell_times(done, width),
+               "differences": differences(shared, width)}
     for name, figure in figures.items():
         if figure is not None:
             if not titles:
@@ -385,12 +385,11 @@ def by_rounds(done: pd.DataFrame, value: str, name: str, title: str, width: floa
     zeros, later = runs[runs["rounds"] == 0].drop(columns=["take", "passes"]), runs[runs["rounds"] > 0]
     runs = pd.concat([later, zeros.merge(runs[levels[:5]].drop_duplicates(), on=["method", *SIZE])])
     jobs, machines, rounds = (sorted(set(runs[column])) for column in levels[3:])
-    several, takes = runs["method"].nunique() > 1, runs["take"].nunique()
+    takes, names = runs["take"].nunique(), kind_names(runs)
     seeds = runs.groupby([*levels, "seed"])[value].mean()
     points = seeds.groupby(levels).agg(y="mean", low="min", high="max").reset_index()
     points = points.assign(x=points["rounds"], label=points[SIZE].apply(size_name, axis=1), panel=[
-        f"{method}: " * several + f"take {take:.0f}, passes {passes:.0f}"
-        for method, passes, take in points[levels[:3]].itertuples(index=False)])
+        names[method, take, passes] for method, passes, take in points[levels[:3]].itertuples(index=False)])
     styles = {size_name(size): {"color": colour(jobs.index(size[0]) / max(1, len(jobs) - 1)), "marker": "o",
                                 "markersize": 3, "linestyle": ("-", "--", ":", "-.")[machines.index(size[1]) % 4]}
               for size in points.groupby(SIZE).groups}
@@ -404,6 +403,12 @@ def by_rounds(done: pd.DataFrame, value: str, name: str, title: str, width: floa
     return figure
 
 
+def kind_names(runs: pd.DataFrame) -> dict[tuple[Any, ...], str]:
+    """Returns the name of each method with its take and passes, as tables name settings."""
+    kinds = list(runs.groupby(["method", "take", "passes"]).groups)
+    return dict(zip(kinds, setting_names([(method, -1, take, passes, -1) for method, take, passes in kinds])))
+
+
 def by_seconds(done: pd.DataFrame, width: float | None) -> Figure | None:
     """Draws the mean RPD by the mean seconds: a panel for each size, a line for each method, take and passes, a point
     for each number of rounds or time factor."""
@@ -411,8 +416,7 @@ def by_seconds(done: pd.DataFrame, width: float | None) -> Figure | None:
     if runs.empty:
         return None
     kind = ["method", "take", "passes"]
-    names = {key: key[0] + (f", take {key[1]:.0f}" if key[1] >= 0 else "") +
-             (f", passes {key[2]:.0f}" if key[2] > 0 else "") for key in runs.groupby(kind).groups}
+    names = kind_names(runs)
     points = runs.groupby([*SIZE, *kind, "rounds", "time_factor"])[["seconds", "rpd"]].mean().reset_index()
     points = points.sort_values([*SIZE, *kind, "seconds"])
     points = points.assign(x=points["seconds"], y=points["rpd"], panel=points[SIZE].apply(size_name, axis=1),
@@ -462,21 +466,38 @@ def cell_times(done: pd.DataFrame, width: float | None) -> Figure | None:
     return figure
 
 
-def means(shared: pd.DataFrame, width: float | None) -> Figure | None:
-    """Draws the mean RPD of each setting, with the confidence interval of 95 % by Student's t-distribution. Each
-    instance counts once, by its mean. The settings are compared on the same instances, so the means of the instances
-    are removed before the interval is computed (Cousineau 2005, Morey 2008)."""
-    if shared.empty:
+def differences(shared: pd.DataFrame, width: float | None) -> Figure | None:
+    """Draws the mean difference in RPD of each setting to the first one that it is compared with, and its confidence
+    interval of 95 % by Student's t-distribution. A panel has a size, and the settings of the same rounds or time
+    factor."""
+    found = statistics.differences(shared)
+    if found.empty:
         return None
-    table = shared.pivot_table(index="instance", columns=SETTING, values="rpd")
-    instances, settings = table.shape
-    within = table if settings == 1 else table.sub(table.mean(axis=1), axis=0) * (settings / (settings - 1)) ** 0.5
-    halves = (scipy.stats.t.ppf(0.975, instances - 1) * within.std() / instances ** 0.5).fillna(0)
-    labels = [label.replace(", ", "\n") for label in setting_names(list(table.columns))]
-    figure, axis = of_labels(labels, width, "Mean relative percentage deviation, with confidence intervals of 95 %",
-                             "RPD, %")
-    axis.errorbar(range(1, settings + 1), table.mean(), halves, fmt="o", markersize=5, capsize=4,
-                  color=colour(0.3), ecolor="black", elinewidth=1)
-    axis.set_xlim(0.5, settings + 0.5)
-    axis.set_ylim(bottom=min(0, 1.05 * (table.mean() - halves).min()))
+    labels = list(dict.fromkeys(found["setting"].map(shown)))
+    titles = list(dict.fromkeys(found["panel"]))
+    width = width or max(6.5, 2 + 1.6 * min(3, len(titles)))
+    labels_at = {label: at for at, label in enumerate(reversed(labels))}
+    lines = [wrapped(label, 0.4 * width) for label in labels_at]
+    columns = min(len(titles), 3, max(1, int(0.6 * width / 1.2)))
+    rows = -(-len(titles) // columns)
+    high = 0.7 + HIGH * sum(text.count("\n") + 1.5 for text in lines)
+    figure = Figure(figsize=(width, 0.8 + rows * high), layout="constrained")
+    axes = figure.subplots(rows, columns, sharex=True, sharey=True, squeeze=False).flatten()
+    for at, (axis, title) in enumerate(zip(axes, titles)):
+        own = found[found["panel"] == title]
+        axis.axvline(0, color="black", linewidth=1)
+        axis.errorbar(own["mean"], own["setting"].map(shown).map(labels_at), xerr=own["half"], fmt="o", markersize=5,
+                      capsize=4, color=colour(0.3), ecolor="black", elinewidth=1)
+        axis.set_title(wrapped(title, 0.6 * width / columns), fontsize=9)
+        axis.set_yticks(range(len(lines)), lines, fontsize=8)
+        axis.set_ylim(-0.5, len(lines) - 0.5)
+        axis.locator_params(axis="x", nbins=4)
+        axis.tick_params(labelbottom=at + columns >= len(titles))
+    for axis in axes[len(titles):]:
+        axis.set_axis_off()
+    first = shown(found["first"].iloc[0])
+    figure.supxlabel(wrapped(f"RPD minus that of {first}, %" if found["first"].nunique() == 1 else
+                             "RPD minus that of the first setting, %", width - 0.4), fontsize=9)
+    figure.suptitle(wrapped("Mean differences, paired by instance and seed, with confidence intervals of 95 %",
+                            width - 0.4), fontsize=10)
     return figure

@@ -77,8 +77,7 @@ def ranked(shared: pd.DataFrame) -> pd.DataFrame:
     """Returns the average rank of each of three or more settings that can be compared, by their mean makespans, and the
     p-value of Friedman's test. A setting without rounds and time factor is in every group."""
     table = shared.pivot_table(index="instance", columns=SETTING, values="makespan").round(9)
-    budgets = sorted({*map(budget_of, table)} - {UNKNOWN}) or [UNKNOWN]
-    groups = [table[[setting for setting in table if budget_of(setting) in (budget, UNKNOWN)]] for budget in budgets]
+    groups = [table[group] for group in comparable(table).values()]
     rows = []
     for number, group in enumerate((each for each in groups if len(each) > 1 and each.shape[1] > 2), 1):
         all_tied = (group.nunique(axis=1) == 1).all()
@@ -86,6 +85,46 @@ def ranked(shared: pd.DataFrame) -> pd.DataFrame:
         rows += [{"group": number, **dict(zip(SETTING, setting)), "instances": len(group), "mean_rank": rank, "p": p}
                  for setting, rank in group.rank(axis=1).mean().sort_values(kind="stable").items()]
     return pd.DataFrame(rows)
+
+
+def paired(shared: pd.DataFrame) -> pd.DataFrame:
+    """Returns the mean RPD of each setting for each size, instance and seed. That of a setting without a seed, such as
+    NEH's, is for all seeds."""
+    pair = shared["seed"].where(shared["rounds"] != 0, "")
+    table = shared.assign(pair=pair).pivot_table(index=[*SIZE, "instance", "pair"], columns=SETTING, values="rpd")
+    table = table.fillna(table.groupby(level="instance").transform("mean")[[
+        setting for setting in table if table[setting].dropna().index.get_level_values("pair").isin([""]).all()]])
+    return table.dropna()
+
+
+def differences(shared: pd.DataFrame) -> pd.DataFrame:
+    """Returns, for each size and each group of settings that can be compared, the mean difference in RPD of each
+    setting to the first one, and half the confidence interval of 95 %."""
+    if shared["rpd"].isna().all():
+        return pd.DataFrame()
+    table, rows = paired(shared), []
+    names = dict(zip(table, setting_names(list(table))))
+    groups = comparable(table)
+    for size, own in table.groupby(level=SIZE):
+        for budget, group in groups.items():
+            text = "unknown" if -1 in size else "{:.0f}×{:.0f}".format(*size)
+            panel = ", ".join([text, *([budget_name(budget)] if len(groups) > 1 else [])])
+            for setting in group[1:]:
+                each = own[setting] - own[group[0]]
+                half = scipy.stats.t.ppf(0.975, len(each) - 1) * each.std() / len(each) ** 0.5 if len(each) > 1 else 0
+                rows.append({"panel": panel, "first": names[group[0]], "setting": names[setting], "mean": each.mean(),
+                             "half": half, "pairs": len(each)})
+    return pd.DataFrame(rows)
+
+
+def comparable(table: pd.DataFrame) -> dict[Any, list[Any]]:
+    """Returns the settings of each rounds or time factor, with those that have neither in each group."""
+    budgets = sorted({*map(budget_of, table)} - {UNKNOWN}) or [UNKNOWN]
+    return {budget: [setting for setting in table if budget_of(setting) in (budget, UNKNOWN)] for budget in budgets}
+
+
+def budget_name(budget: tuple[float, float]) -> str:
+    return FORMS[0].format(budget[0]) if budget[0] >= 0 else FORMS[3].format(budget[1])
 
 
 def budget_of(setting: tuple[Any, ...]) -> tuple[float, float]:
