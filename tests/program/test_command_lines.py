@@ -5,11 +5,10 @@ import subprocess
 
 import fuzz
 import pytest
-from support.files import THREE_JOBS, USAGE
-from support.lines import ANSWERS, EACH, PRINTING, SHORT, TEXTS, first_line, unwritten
+from support.files import THREE_JOBS, USAGE, commands
+from support.lines import ANSWERS, EACH, ELEVEN, PRINTING, SHORT, TEXTS, first_line, unwritten
 from support.needs import tool
 from support.program import Program, Ran
-from support.usage import commands
 
 # A text up to this length is cut at each byte. A longer text is cut at the ends of the buffer and at a few other bytes.
 SHORT_TEXT = 200
@@ -68,7 +67,7 @@ def test_an_argument_that_is_not_utf_8_is_rejected(pfs: Program, worked_once: pa
 
 
 def test_without_arguments_standard_input_is_evaluated(pfs: Program, folder: pathlib.Path) -> None:
-    assert pfs.run([], folder, THREE_JOBS) == Ran(b"makespan 11\n", b"", 0)
+    assert pfs.run([], folder, THREE_JOBS) == Ran(ELEVEN, b"", 0)
 
 
 @pytest.mark.parametrize("line", PRINTING)

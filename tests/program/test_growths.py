@@ -4,9 +4,9 @@ import pathlib
 from itertools import groupby
 
 import pytest
-from support.files import THREE_JOBS
+from support.files import THREE_JOBS, THREE_JOBS_BY_JOB
 from support.growths import Shim
-from support.lines import ANSWERS, EACH, refused
+from support.lines import ANSWERS, EACH, ELEVEN, SEARCHED, TIME_TABLE, VALID, WRONG_MACHINES, refused
 from support.program import Program, Ran, Words
 
 # More allocations than any call makes.
@@ -56,14 +56,13 @@ CALLS: dict[str, bytes] = {
     "check_machines": b"wrong machines 3\n",
     "afresh": b"place 2\nmakespan 10\ncells 18\n",
     "rounds": ROUNDS + kept((3, 2, 1), 9) + b"cells 119\n",
-    "run_value": b"makespan 11\n",
-    "run_check": b"valid\nmakespan 10\nbound 10\noptimal\n",
-    "run_solve": b"order2 3 2\n2 1 3\nmakespan 10\ncells 196\n",
-    "run_convert": b"flow shop instance\n3 2\n0 3 1 2\n0 2 1 5\n0 4 1 1\n",
-    "run_generate": b"number of jobs, number of machines, initial seed, upper bound and lower bound :\n"
-                    b"5 1 873654221 0 0\nprocessing times :\n54 83 15 71 77\n",
-    "run_table": b"table 3 2\n2 0 2 2 7\n1 2 5 7 9\n3 5 9 9 10\nmakespan 10\n",
-    "run_table_machines": b"wrong machines\norder 3\nmachines 2\n",
+    "run_value": ELEVEN,
+    "run_check": VALID,
+    "run_solve": SEARCHED + b"cells 196\n",
+    "run_convert": THREE_JOBS_BY_JOB,
+    "run_generate": ANSWERS["generate 5 1 873654221"].stdout,
+    "run_table": TIME_TABLE,
+    "run_table_machines": WRONG_MACHINES,
     **{call: b"ready\n" + text for call, text in STILL.items()},
 }
 
@@ -112,7 +111,7 @@ def refuse_each(shim: Shim, program: Program, words: Words, folder: pathlib.Path
 
 
 def test_without_arguments_a_failed_allocation_is_reported(pfs: Program, shim: Shim, folder: pathlib.Path) -> None:
-    refuse_each(shim, pfs, [], folder, Ran(b"makespan 11\n", b"", 0), [refused("no memory")], THREE_JOBS)
+    refuse_each(shim, pfs, [], folder, Ran(ELEVEN, b"", 0), [refused("no memory")], THREE_JOBS)
 
 
 @pytest.mark.parametrize("line", GROWING)

@@ -10,7 +10,7 @@ from typing import NamedTuple
 import pytest
 from support.files import FILES
 from support.large import LargeRun, run_limited, write_equal_times, write_many_lines, write_one_line, write_repeated
-from support.lines import ANSWERS, EACH, EQUAL, WITH_INSTANCE, equal_convert, equal_solve, equal_value
+from support.lines import ANSWERS, EACH, ELEVEN, EQUAL, WITH_INSTANCE, equal_convert, equal_solve, equal_value
 from support.program import Program
 
 MIB = 1 << 20
@@ -68,7 +68,7 @@ def fill(part: bytes, got: bytes) -> Great:
 GREAT = {
     **{f"nothing but {part!r}": fill(part, NONE) for part in (b" ", b"\n", b"x", b"\0", b"\xff")},
     **{f"nothing but {part!r}": fill(part, COUNT) for part in (b"7", b"7 ")},
-    "one line": Great(write_one_line, lambda size: [b"makespan 11\n"]),
+    "one line": Great(write_one_line, lambda size: [ELEVEN]),
     "a million lines": Great(
         lambda path, size: write_many_lines(path, MANY_JOBS * size // SIZE, MANY_MACHINES, 1_000_000 * size // SIZE),
         lambda size: equal_value(MANY_JOBS * size // SIZE, MANY_MACHINES, 1), times=MANY_JOBS * MANY_MACHINES),
@@ -118,7 +118,7 @@ def test_a_line(pfs: Program, folder: pathlib.Path, one_line: pathlib.Path, comm
 @ONE_LINE
 @pytest.mark.seconds(3)
 def test_a_line_as_input(pfs: Program, folder: pathlib.Path, one_line: pathlib.Path) -> None:
-    run_large(pfs, [], folder, [b"makespan 11\n"], b"", 0, stdin=one_line)
+    run_large(pfs, [], folder, [ELEVEN], b"", 0, stdin=one_line)
 
 
 # The greatest instance

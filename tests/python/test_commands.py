@@ -27,7 +27,7 @@ from pfs._cli import Misused
 from support import plainly
 from support.plainly import environment
 from support.terminals import Terminal
-from support.tools import run_main, wait_until
+from support.tools import TOP, run_main, wait_until
 
 # A search that would take minutes.
 LONG = ["search", "shop", "--layout", "taillard"]
@@ -853,7 +853,6 @@ def test_a_plan_that_is_interrupted(folder: pathlib.Path) -> None:
 # As the wheel's and the package's scripts call it.
 CALL = "import sys; sys.argv[0] = 'pfs-plan'; from pfs._commands import plan_program; sys.exit(plan_program())"
 CHAIRS = "job [min],saw,drill\nchair,3,2\ntable,2,5\n"
-TOP = pathlib.Path(__file__).resolve().parents[2]
 VERSION = (TOP / "VERSION").read_text().strip()
 
 
@@ -865,7 +864,7 @@ def pfs_plan(folder: pathlib.Path, *words: str) -> subprocess.CompletedProcess[s
 def test_the_manual_page_has_the_programs_options(folder: pathlib.Path) -> None:
     usage = pfs_plan(folder, "--help").stdout.partition("\n\n")[0]
     assert usage.startswith("usage: pfs-plan ")
-    due = dict(re.findall(r"\[--([\w-]+)(?: ([A-Za-z.-]+|\{point,comma\}))?\]", usage))
+    due = dict(re.findall(r"\[--([\w-]+)(?: ([A-Za-z.-]+|\{[^}]*\}))?\]", usage))
     assert len(due) > 10 and due["version"] == ""
     page = (TOP / "python" / "pfs-plan.1").read_text()
     assert dict(re.findall(r"^\.It Fl -([\w-]+)(?: Ar (\S+))?$", page, re.MULTILINE)) == due | {"decimal": "SIGN"}

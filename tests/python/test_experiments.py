@@ -736,7 +736,8 @@ def test_the_file_has_the_version_the_sums_and_each_start(mine: Experiment, top:
     wanted = {name: hashlib.sha256(path.read_bytes()).hexdigest() for name, path in inputs.items()}
     assert mine.run() == mine.run() == ended(1)
     stored = json.loads((mine.runs / "provenance.json").read_text())
-    assert stored["version"] == (top / "VERSION").read_text().strip() and stored["sha256"] == wanted
+    assert re.fullmatch(re.escape((top / "VERSION").read_text().strip()) + "(, commit [0-9a-f]+( with changes)?)?",
+                        stored["version"]) and stored["sha256"] == wanted
     method, = stored["plan"]["methods"]
     assert (method["seeds"], method["method"]) == ([1], "mine")
     assert [start["host"] for start in stored["starts"]] == [os.uname().nodename] * 2

@@ -18,12 +18,12 @@ import pytest
 from hypothesis import given
 from hypothesis import strategies as st
 from pfs import _search, _state
-from support import plainly
+from support import files, plainly
 from support.plainly import written
 
-TITLE = "number of jobs, number of machines, initial seed, upper bound and lower bound :\n"
+TITLE = files.TITLE.decode()
 THREE = TITLE + "3 2 7 9 8\nprocessing times :\n3 2 4\n2 5 1\n"
-THREE_BY_JOB = "flow shop instance\n3 2\n0 3 1 2\n0 2 1 5\n0 4 1 1\n"
+THREE_BY_JOB = files.THREE_JOBS_BY_JOB.decode()
 TWO_BLOCKS = "+++\ninstance 1\n+++\nfirst\n1 1\n0 7\n+++\nsecond\n3 2\n0 3 1 2\n0 2 1 5\n0 4 1 1\n+++\n"
 
 # A file, its layout, and of its fault the name, the place, the line, the column and the hint.
@@ -137,13 +137,13 @@ def test_orders_of_papers(text: str, first: int, due: list[int]) -> None:
 
 
 @pytest.mark.parametrize(("text", "first", "kind", "why"), [
-    ("", 0, ValueError, "'' isn't a list of whole numbers"), ("1,,2", 1, ValueError, "isn't a list of whole numbers"),
-    ("1, -2", 1, ValueError, "isn't a list"), ("1.5", 1, ValueError, "isn't a list"),
-    ("j1 j2", 1, ValueError, "isn't a list"), ("\u0661", 1, ValueError, "isn't a list"),
+    ("", 0, ValueError, "there is no order"), ("1,,2", 1, ValueError, "'' at place 2 isn't the number of a job"),
+    ("1, -2", 1, ValueError, "'-2' at place 2"), ("1.5", 1, ValueError, "'1.5' isn't a list of jobs"),
+    ("j1 k2", 1, ValueError, "'k2' at place 2"), ("\u0661", 1, ValueError, "isn't a list"),
     ("2 1 3", 0, ValueError, "3 at place 2 isn't a job: the 3 jobs are 0 to 2"),
     ("0 1", 1, ValueError, "0 at place 0 isn't a job: the 2 jobs are 1 to 2"),
     ("2 1 2", 1, ValueError, "job 2 occurs twice, at places 0 and 2"),
-    ("1 " + "9" * 5000, 1, ValueError, "9{20} at place 1 isn't a job"), ("0 " * 5001, 0, ValueError, "5,001 jobs"),
+    ("1 " + "9" * 5000, 1, ValueError, "'9{20}' at place 2 isn't"), ("0 " * 5001, 0, ValueError, "5,001 jobs"),
     (b"1 2", 1, TypeError, "text must be a str"), ([1, 2], 1, TypeError, "text must be a str"),
     ("1 2", 2, ValueError, "first must be from 0 to 1, not 2"), ("1 2", True, TypeError, "first must be")])
 def test_orders_of_papers_that_are_rejected(text: Any, first: Any, kind: type[Exception], why: str) -> None:

@@ -270,7 +270,8 @@ def test_a_signal_loses_nothing(seconds: float) -> None:
     assert on.to_text() == whole.to_text() and done.cells + on.cells == whole.cells
 
 
-TRACED = {str(pathlib.Path(pfs.__file__).with_name(f"_{name}.py")) for name in ("rounds", "search", "solution", "faults")}
+TRACED = {str(pathlib.Path(pfs.__file__).with_name(f"_{name}.py"))
+          for name in ("rounds", "search", "solution", "faults")}
 
 
 class Interrupting:

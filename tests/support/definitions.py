@@ -101,7 +101,7 @@ def clauses(part: str) -> str:
     """The contracts of the functions of a part, but for private functions."""
     shown = []
     for each in re.split(r"^(?= *(?:pub\S* )?(?:extern \S+ )?fn )", part, flags=re.MULTILINE):
-        in_trait = part.startswith(("impl", "pub trait")) and not re.match(r" *pub\(", each)
+        in_trait = re.match(r"pub trait|impl\b[^{]* for ", part) and not re.match(r" *pub\(", each)
         if in_trait or re.match(r" *pub (?:extern \S+ )?(?:fn|trait|struct|enum)\b", each):
             shown += re.findall(r"\b(?:requires|ensures)\b[^{]*(\{(?:[^{}]|\{[^{}]*\})*\})", each)
     return "\n".join(shown)

@@ -9,11 +9,11 @@ from typing import NamedTuple
 import pytest
 from support.files import THREE_JOBS
 from support.library import Library
+from support.lines import ANSWERS, VALUE
 from support.needs import missing, tool
-from support.program import Program, Ran
-from support.tools import Done, output_of, run_tool, with_path, write_script
+from support.program import Program
+from support.tools import TOP, Done, output_of, run_tool, with_path, write_script
 
-TOP = pathlib.Path(__file__).resolve().parent.parent.parent
 VERSION = (TOP / "VERSION").read_text().strip()
 PROGRAM, SHARED = "crates/pfs/out/pfs", "libpfs.so.1"
 # What of a page's table of contents is installed: patterns of files that keep their paths.
@@ -107,7 +107,7 @@ def copy(top: pathlib.Path, pfs: Program, libpfs: Library, tmp_path_factory: pyt
     return made
 
 
-def files_below(folder: pathlib.Path) -> dict[str, bytes]:
+def contents_of(folder: pathlib.Path) -> dict[str, bytes]:
     """Each file below a folder, by its path from there, with its bytes."""
     return {str(path.relative_to(folder)): path.read_bytes() for path in folder.rglob("*") if path.is_file()}
 
@@ -130,7 +130,7 @@ def assert_usual_modes(folder: pathlib.Path) -> None:
 
 def assert_runs(program: pathlib.Path, folder: pathlib.Path) -> None:
     (folder / "three").write_bytes(THREE_JOBS)
-    assert Program(program).run("value --layout taillard three", folder) == Ran(b"makespan 11\n", b"", 0)
+    assert Program(program).run(VALUE, folder) == ANSWERS[VALUE]
 
 
 def assert_completions_are_found(root: pathlib.Path, prefix: pathlib.Path, folder: pathlib.Path) -> None:

@@ -6,6 +6,7 @@ from collections.abc import Callable, Iterator
 from support.files import BEST, BEST2, THREE_JOBS, THREE_JOBS_BY_JOB, TWO_BLOCKS, USAGE, WITH_NOTES, generated, taillard
 from support.program import Ran
 
+ELEVEN = b"makespan 11\n"
 VALID = b"valid\nmakespan 10\nbound 10\noptimal\n"
 NUMBERED = b"valid\nmakespan 11\nbound 10\n"
 TIME_TABLE = b"table 3 2\n2 0 2 2 7\n1 2 5 7 9\n3 5 9 9 10\nmakespan 10\n"
@@ -16,10 +17,10 @@ WRONG_MACHINES = b"wrong machines\norder 3\nmachines 2\n"
 
 # Lines, and what each prints.
 PRINTED: dict[str, bytes] = {
-    "value --layout taillard three": b"makespan 11\n",
-    "value three --block=1 --layout=taillard": b"makespan 11\n",
-    "value --layout orlib --block +2 two_blocks.or": b"makespan 11\n",
-    "value --layout orlib --block 002 two_blocks.or": b"makespan 11\n",
+    "value --layout taillard three": ELEVEN,
+    "value three --block=1 --layout=taillard": ELEVEN,
+    "value --layout orlib --block +2 two_blocks.or": ELEVEN,
+    "value --layout orlib --block 002 two_blocks.or": ELEVEN,
     "value --layout orlib -- two_blocks.or": b"makespan 7\n",
     "solve --layout taillard three": SEARCHED,
     "solve --layout orlib three.or": SEARCHED,

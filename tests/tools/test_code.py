@@ -7,9 +7,8 @@ import subprocess
 
 import pytest
 from support.needs import tool
-from support.tree import files_below
+from support.tools import TOP, files_below
 
-TOP = pathlib.Path(__file__).resolve().parents[2]
 # By what their first lines name, or by the endings of their names.
 KINDS = {"python3": "python", "sh": "shell", "bash": "shell"}
 ENDINGS = {".py": "python", ".bash": "shell"}
@@ -112,6 +111,7 @@ COUNTING = {
     "pfs_base/src/permit.rt": ["spend"],  # in `pay`
     "pfs_c/src/kept.rt": ["metered"] * 7,  # each call's own
     "pfs_desk/src/engines/value.rt": ["metered"],
+    "pfs_iterate/src/places.rt": ["metered"],  # a search that counts nothing
     "pfs_search/src/search.rt": ["metered", "pay"],  # in `new`, which computes nothing, and in `start`
     "pfs_search/src/solution.rt": ["metered"] * 3,  # of `solve`, of `improve`, and of the makespan that it begins with
     "pfs_wave/src/sums.rt": ["pay"],
@@ -147,8 +147,8 @@ def contracts(clauses: re.Pattern[str]) -> dict[str, set[str]]:
 @pytest.mark.parametrize("mutant", MUTANTS)
 def test_a_mutant_is_named_after_the_function_that_it_edits_and_a_clause_of_it(mutant: str) -> None:
     """FUNCTION.CLAUSE.edit, where FUNCTION may begin with the name of a type. The clause is one that the function
-    ensures, the `invariant` of the type that it returns, or a condition of a function that it calls. A mutant that edits
-    what is outside of functions is named after one that this changes."""
+    ensures, the `invariant` of the type that it returns, or a condition of a function that it calls. A mutant of a line
+    outside of functions is named after one that it changes."""
     path = MUTANTS[mutant]
     name, clause = path.name.split(".")[:2]
     text = path.read_text()

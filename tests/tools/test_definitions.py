@@ -2,6 +2,7 @@
 of a public function cites, and each on which one of these rests."""
 import pathlib
 import re
+import subprocess
 
 import pytest
 from support.definitions import WORD, Definition, all_definitions, page, reached
@@ -36,8 +37,8 @@ def test_what_only_proofs_and_private_functions_use_is_private(top: pathlib.Path
 
 # The list of what is proved
 
-LIBRARIES = ["pfs_base", "pfs_layout", "pfs_order", "pfs_audit", "pfs_insert", "pfs_wave", "pfs_search", "pfs_words",
-             "pfs_desk", "pfs_c"]
+LIBRARIES = ["pfs_base", "pfs_layout", "pfs_order", "pfs_audit", "pfs_insert", "pfs_wave", "pfs_search",
+             "pfs_iterate", "pfs_words", "pfs_desk", "pfs_c"]
 
 
 def promised(crate: pathlib.Path) -> set[str]:
@@ -55,16 +56,6 @@ def test_each_promise_of_a_crate_is_in_the_list_of_proofs(crate: str, top: pathl
     section = (top / "docs" / "PROOFS.md").read_text().partition(f"\n### {crate}\n")[2].partition("\n##")[0]
     listed = {word for code in re.findall("`([^`]+)`", section) for word in re.findall(r"\w+", code)}
     assert promised(top / "crates" / crate) and promised(top / "crates" / crate) - listed == set()
-
-
-def test_each_wrong_body_in_the_list_of_proofs_has_its_mutant_or_test(top: pathlib.Path) -> None:
-    section = (top / "docs" / "PROOFS.md").read_text().partition("\n## Wrong bodies that must stay rejected\n")[2]
-    rows = re.findall(r"^\| [^|]+ \| (`[^|]+`) \|$", section.partition("\n## ")[0], re.MULTILINE)
-    named = [name for row in rows for name in re.findall("`([^`]+)`", row)]
-    files = [top / name if name.startswith("tests/") else top / "crates" / name.replace("/", "/must-fail/", 1)
-             for name in named]
-    missing = [path for path in files if not path.with_name(path.name + ".edit" * (path.suffix != ".py")).is_file()]
-    assert len(rows) > 20 and missing == []
 
 
 # A crate over another one: what is reached of these
@@ -132,3 +123,28 @@ def test_the_page_has_the_comments_of_the_definitions_and_marks_what_a_contract_
     assert re.findall(r"^\| (?!File|-).*$|^##.*$", page(crates), re.MULTILINE) \
         == ["## high", r"| Times | **`Fourfold`** | four of it, by doubled \| and not by thrice |",
             "## low", "| Sums | `doubled` | twice the number |"]
+
+
+# What a crate may cite of another's proofs: the lemmas that it has published for crates above.
+CITED = re.compile(r"Rattle\.(\w+)\.proofs\b(\.Published\.)?(?:\.?\w+)*")
+
+
+def test_crates_cite_what_is_published(top: pathlib.Path) -> None:
+    crates = {crate.name: crate for crate in (top / "crates").iterdir()}
+    hidden, published = list[str](), 0
+    for name, crate in crates.items():
+        for path in (path for folder in ("src", "specs", "proofs") for path in (crate / folder).rglob("*.*t*")):
+            for number, line in enumerate(path.read_text().splitlines(), 1):
+                for cited in CITED.finditer(line):
+                    if cited[1] in crates.keys() - {name}:
+                        published += cited[2] is not None
+                        hidden += [f"{path}:{number}: {cited[0]}"] if cited[2] is None else []
+    assert hidden == [] and published > 100
+
+
+def test_proofs_names_the_installed_kit(top: pathlib.Path) -> None:
+    """It is one of those that PROOFS.md names."""
+    installed = subprocess.run(["rt", "version"], capture_output=True, text=True, check=True).stdout.strip()
+    named = re.findall(r"`(rattle-kit-[^`]*)`", (top / "docs" / "PROOFS.md").read_text())
+    assert installed in named, "PROOFS.md doesn't name the kit of `rt version`: see what that proves, then name it"
+    assert len({name.partition(" logic ")[2] for name in named}) == 1, "these kits prove by different logics"

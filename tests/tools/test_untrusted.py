@@ -6,13 +6,12 @@ import shutil
 import subprocess
 
 import pytest
-from support.files import THREE_JOBS
+from support.files import BEST2, THREE_JOBS
+from support.lines import VALID, WRONG_MAKESPAN
 from support.needs import missing, tool
 from support.program import Program
-from support.tools import Done, run_tool, with_path
+from support.tools import TOP, Done, run_tool, with_path
 
-TOP = pathlib.Path(__file__).resolve().parents[2]
-ORDER = "order2 3 2\n2 1 3\nmakespan 10\n"
 
 
 def line() -> str:
@@ -32,7 +31,7 @@ def place(folder: pathlib.Path, pfs: Program) -> pathlib.Path:
     (folder / "bin").mkdir()
     shutil.copy(pfs.path, folder / "bin" / "pfs")
     (folder / "FILE").write_bytes(THREE_JOBS)
-    (folder / "ORDER").write_text(ORDER)
+    (folder / "ORDER").write_bytes(BEST2)
     return folder
 
 
@@ -41,9 +40,9 @@ def run(text: str, place: pathlib.Path) -> Done:
 
 
 def test_the_line_changes_no_result(place: pathlib.Path) -> None:
-    assert run(line(), place) == Done(0, "valid\nmakespan 10\nbound 10\noptimal\n", "")
-    (place / "ORDER").write_text(ORDER.replace("10", "9"))
-    assert run(line(), place).stdout == "wrong makespan\nstated 9\ncomputed 10\n"
+    assert run(line(), place) == Done(0, VALID.decode(), "")
+    (place / "ORDER").write_bytes(BEST2.replace(b"10", b"9"))
+    assert run(line(), place).stdout == WRONG_MAKESPAN.decode()
 
 
 @pytest.mark.parametrize("name", ["/dev/zero", "/dev/urandom"])

@@ -1,0 +1,6 @@
+mod Fronts
+mod Least
+mod Passes
+mod Rearranging
+mod RoundLaws
+mod Taking

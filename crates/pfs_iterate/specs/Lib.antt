@@ -1,4 +1,4 @@
 pub mod Iterated
-pub mod Places
-pub mod Rounds
 pub mod Laws
+pub mod Private
+pub mod Rounds

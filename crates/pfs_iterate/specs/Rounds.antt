@@ -1,24 +1,12 @@
 -- What rounds need and keep.
-use Rattle.std.specs.Prelude.{◌≡◌, ℕ, ◌+◌, ◌≤◌, ◌++◌, List, length, take, vec_capacity}
+use Rattle.std.specs.Prelude.{◌≡◌, ℕ, ◌+◌, ◌≤◌, List, length, take, vec_capacity}
 use Rattle.pfs_base.specs.declared.limits.TheConstants.{MOST_ROUNDS}
 use Rattle.pfs_base.specs.FlowShop.{FlowShop}
 use Rattle.pfs_base.specs.Paths.{makespan}
-use Rattle.pfs_order.specs.Sequence.{IsSequence, Sequence, all_jobs}
+use Rattle.pfs_order.specs.Sequence.{IsSequence, all_jobs}
 use Rattle.pfs_iterate.specs.Iterated.{after_rounds}
 use Rattle.pfs_iterate.specs.declared.options.Options.{Options}
 use Rattle.pfs_iterate.specs.declared.work.Work.{Work}
-
--- an order of all jobs, and its makespan
-pub record IsMeasured (shop : FlowShop) (order : List ℕ) (span : ℕ) : Type 0 where
-  pub all : length order ≡ shop.jobs
-  pub spanned : span ≡ makespan shop order
-
--- a sequence has the same jobs as before, whatever other jobs are distinct from them, and the first `held` ones first
-pub record IsRearranged (held : ℕ) (old new : Sequence) : Type 0 where
-  pub size : new.size ≡ old.size
-  pub count : length new.jobs ≡ length old.jobs
-  pub front : take held new.jobs ≡ take held old.jobs
-  pub same : (rest : List ℕ) → IsSequence old.size (rest ++ old.jobs) → IsSequence old.size (rest ++ new.jobs)
 
 -- memory for the rounds of shops of `size` jobs
 pub record IsWorkFor (size : ℕ) (work : Work) : Type 0 where

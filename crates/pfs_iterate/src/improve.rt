@@ -4,7 +4,7 @@ ghost use Rattle.std.specs.List.{list_any, slice_index_or};
 ghost use Rattle.pfs_base.specs.Paths.{makespan};
 ghost use Rattle.pfs_search.specs.Search.{IsSearchOf};
 ghost use Rattle.pfs_iterate.specs.Iterated.{improved, moved};
-ghost use Rattle.pfs_iterate.specs.Rounds.{IsRearranged};
+ghost use Rattle.pfs_iterate.specs.Private.Steps.{IsRearranged};
 
 use crate::places::put;
 use pfs_base::Instance;

@@ -1,18 +1,19 @@
 //! Which rounds are made.
 
-/// Which rounds are made, and of which kind.
+/// Which rounds are made, and of which kind: the struct `pfs_iterate_options` of C.
+#[repr(C)]
 #[derive(Clone, Copy, Debug, PartialEq, Eq)]
 pub struct Options {
     /// The seed of the random words.
     pub seed: u64,
-    /// The first round, counted from 0.
-    pub first: u32,
-    /// The number of rounds.
-    pub count: u32,
     /// The number of jobs that a round removes.
     pub take: usize,
     /// The number of jobs at the front of the order that stay.
     pub held: usize,
+    /// The first round, counted from 0.
+    pub first: u32,
+    /// The number of rounds.
+    pub count: u32,
     /// The most passes over the jobs that are left after the removal.
     pub partial: u32,
     /// The most passes over the whole order.

@@ -5,7 +5,7 @@ ghost use Rattle.pfs_base.specs.Paths.{makespan};
 ghost use Rattle.pfs_insert.specs.Insertion.{makespan_with};
 ghost use Rattle.pfs_search.specs.Search.{IsSearchOf};
 ghost use Rattle.pfs_iterate.specs.Iterated.{chosen};
-ghost use Rattle.pfs_iterate.specs.Places.{IsLeastFrom};
+ghost use Rattle.pfs_iterate.specs.Private.Steps.{IsLeastFrom};
 
 use pfs_base::Instance;
 use pfs_insert::Placed;

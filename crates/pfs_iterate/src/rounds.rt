@@ -4,7 +4,8 @@ ghost use Rattle.pfs_base.specs.Paths.{makespan};
 ghost use Rattle.pfs_order.specs.Sequence.{IsSequence};
 ghost use Rattle.pfs_search.specs.Search.{IsSearchOf};
 ghost use Rattle.pfs_iterate.specs.Iterated.{after_round, after_rounds, found, is_accepted, put};
-ghost use Rattle.pfs_iterate.specs.Rounds.{CanIterate, IsMeasured, IsWorkFor};
+ghost use Rattle.pfs_iterate.specs.Private.Steps.{IsMeasured};
+ghost use Rattle.pfs_iterate.specs.Rounds.{CanIterate, IsWorkFor};
 
 use crate::destroy::{draw, take_jobs};
 use crate::found::Found;
@@ -155,14 +156,14 @@ pub(crate) fn play(
     search: &mut Search,
     options: &Options,
     accept: &[u32],
-    words: &mut [u32],
+    memory: &mut Vec<u32>,
     current: &mut Found,
     best: &mut Found,
 )
     requires work { IsWorkFor instance.now.shop.jobs work.old }
     requires search { IsSearchOf instance.now.shop search.old }
     requires options { CanIterate instance.now.shop options.now }
-    requires words { length words.old ≡ instance.now.shop.jobs + options.now.take + 1 }
+    requires words { instance.now.shop.jobs + options.now.take + 1 ≤ length memory.old.items }
     requires current { IsMeasured instance.now.shop current.old.order current.old.span }
     requires best { IsMeasured instance.now.shop best.old.order best.old.span }
     requires front { front options.now.held best.old.order ≡ front options.now.held current.old.order }
@@ -176,9 +177,12 @@ pub(crate) fn play(
     ensures best_front { front options.now.held best.new.order ≡ front options.now.held current.old.order }
     ensures work { IsWorkFor instance.now.shop.jobs work.new }
     ensures search { IsSearchOf instance.now.shop search.new }
-    ensures long { length words.new ≡ length words.old }
+    ensures long { length memory.new.items ≡ length memory.old.items }
 {
+    let words = memory.as_mut_slice();
+    let each = instance.jobs() + options.take + 1;
     for done in 0..options.count {
+        let words = &mut words[..each];
         draw(words, options.seed, options.first + done);
         round(
             work, instance, search, options, accept, words, current, best,

@@ -1,5 +1,5 @@
 //! The memory of rounds.
-ghost use Rattle.std.specs.Prelude.{IfOk};
+ghost use Rattle.std.specs.Prelude.{◌≤◌, IfOk};
 ghost use Rattle.pfs_iterate.specs.Rounds.{IsWorkFor};
 
 use pfs_base::MOST_JOBS;

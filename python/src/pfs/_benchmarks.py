@@ -10,20 +10,23 @@ import re
 NAME = re.compile(r"(.*?)(?:\.[a-z][a-z0-9]*)?(?:[: ]([0-9]+))?", re.DOTALL)
 # The instances of Vallada, Ruiz and Framinan (2015), whose files are named in several ways.
 VFR = re.compile(r"(?:vfr|vrf)([0-9]+_[0-9]+_[0-9]+)(?:_gap)?")
-TAILLARD, TAILLARD_BLOCK = re.compile("ta([0-9]{3})"), re.compile("tai([0-9]+)_([0-9]+):([0-9]+)")
+TAILLARD, TAILLARD_BLOCK = re.compile("ta([0-9]{1,3})"), re.compile("tai([0-9]{1,3})_([0-9]{1,2}):([0-9]{1,2})")
 
 
 def key_of(name: str, block: str = "") -> str:
     """Return the name of an instance without folder, ending and case, and with the number of its block.
 
-    >>> key_of("a/VFR10_5_1_Gap.txt"), key_of("tai20_5.txt 3"), key_of("tai20_5", "3"), key_of("Ta001")
+    >>> key_of("a/VFR10_5_1_Gap.txt"), key_of("tai20_5.txt 3"), key_of("tai20_5", "3"), key_of("Ta1")
     ('vfr10_5_1', 'tai20_5:3', 'tai20_5:3', 'ta001')
     """
     match = NAME.fullmatch(name.strip().replace("\\", "/").rpartition("/")[2].casefold())
     assert match is not None
     number = block.strip() or match[2]
-    key = VFR.sub(r"vfr\1", match[1]) if VFR.fullmatch(match[1]) else match[1]
-    return f"{key}:{int(number)}" if number and number.isdecimal() else key
+    key, taillard = VFR.sub(r"vfr\1", match[1]) if VFR.fullmatch(match[1]) else match[1], TAILLARD.fullmatch(match[1])
+    if taillard:
+        key = f"ta{int(taillard[1]):03}"
+    # A number may be too long for `int`.
+    return f"{key}:{number.lstrip('0') or 0}" if number and number.isdecimal() else key
 
 
 def taillard_number(key: str) -> int:

@@ -3,14 +3,17 @@ from __future__ import annotations
 
 import argparse
 import os
+import pathlib
 import re
 import signal
+import subprocess
 import sys
 from collections.abc import Callable
-from typing import NoReturn, TextIO
+from typing import Any, NoReturn, TextIO
 
 from pfs._faults import Fault, TableFault
 from pfs._names import shown
+from pfs._version import VERSION
 
 # Exit statuses, the same as those of the program pfs.
 REFUSED, USAGE, SYSTEM = 2, 3, 4
@@ -29,6 +32,30 @@ class CommandLine(argparse.ArgumentParser):
 
     def error(self, message: str) -> NoReturn:
         raise Misused(f"{message} ({self.prog} --help lists what there is)")
+
+
+class ShowVersion(argparse.Action):
+    """An option that prints the version, and ends."""
+
+    def __init__(self, option_strings: list[str], dest: str) -> None:
+        super().__init__(option_strings, argparse.SUPPRESS, nargs=0, help="show the version and exit")
+
+    def __call__(self, parser: argparse.ArgumentParser, *_: Any) -> None:
+        print(f"pfs {version()}")
+        parser.exit()
+
+
+def version() -> str:
+    """Return the version; of a checkout with its commit, and whether that has changes."""
+    top = pathlib.Path(__file__).resolve().parents[3]
+    if not (top / ".git").exists():
+        return VERSION
+    words = ["git", "-C", str(top), "describe", "--always", "--exclude=*", "--dirty= with changes"]
+    try:
+        done = subprocess.run(words, stdin=subprocess.DEVNULL, capture_output=True, text=True)
+    except OSError:
+        return VERSION
+    return f"{VERSION}, commit {done.stdout.strip()}" if done.returncode == 0 else VERSION
 
 
 def number(least: int, most: int) -> Callable[[str], int]:
@@ -60,7 +87,7 @@ def run(name: str, command: Callable[[], int], wording: Callable[[str], str] = s
 def report(name: str, error: Exception, wording: Callable[[str], str] = str) -> int:
     """Report an error on standard error, in words that `wording` returns, and return the exit status for it, also if
     the report can't be written. Each fault of a table has a line; other errors have one."""
-    texts = error.messages() if isinstance(error, TableFault) else [" ".join(text_of(error).splitlines())]
+    texts = error.messages() if isinstance(error, TableFault) else [" ".join(message_of(error).splitlines())]
     written(sys.stderr, "".join(f"{name}: {wording(shown(text))}\n" for text in texts))
     if isinstance(error, (Fault, Refused)):
         return REFUSED
@@ -70,7 +97,7 @@ def report(name: str, error: Exception, wording: Callable[[str], str] = str) -> 
     return SYSTEM
 
 
-def text_of(error: Exception) -> str:
+def message_of(error: Exception) -> str:
     """Return what an error says; of an invalid file what the program pfs says."""
     if isinstance(error, MemoryError):
         return "no memory"

@@ -14,12 +14,11 @@ from collections.abc import Callable, Iterator, Sequence
 from difflib import SequenceMatcher
 from functools import partial
 from types import SimpleNamespace
-from typing import Any
 
 from pfs import _library as c
 from pfs._calendar import Calendar, Clock, begin_of, dates_of, days_of, shifts_of, text_of as date_text
 from pfs._chart import ending_of
-from pfs._cli import CommandLine, Misused, number, report, run, written
+from pfs._cli import CommandLine, Misused, ShowVersion, number, report, run, written
 from pfs._faults import Fault
 from pfs._files import read, read_order
 from pfs._instance import Instance
@@ -30,7 +29,6 @@ from pfs._search import ROUNDS, HeldSearch, Search, by_total, insert_after, limi
 from pfs._solution import Solution
 from pfs._state import State
 from pfs._tables import described, table_of
-from pfs._version import VERSION
 
 SIGNALS = (signal.SIGINT, signal.SIGTERM)
 DECIMAL_SIGNS = {"point": ".", "comma": ","}
@@ -38,10 +36,9 @@ DECIMAL_SIGNS = {"point": ".", "comma": ","}
 SCHEDULES = ("", ".csv", ".tsv", ".txt", ".xlsx")
 # The options for the arguments that messages about tables name, and the beginnings of messages about other options.
 OPTIONS = {"decimal": "--decimal point or --decimal comma", "allow_totals": "--allow-totals", "unit": "--unit",
-           "machines": "--machines"}
+           "machines": "--machines", "sheet": "--sheet"}
 ARGUMENT = re.compile(f"`({'|'.join(OPTIONS)})`")
 NUMBER_OPTION = re.compile("^(?=(?:rounds|take|passes|seed) must |start has )")
-VERSION_OPTION: dict[str, Any] = {"action": "version", "version": f"pfs {VERSION}"}
 
 
 @contextlib.contextmanager
@@ -142,8 +139,10 @@ def plan_command(given: argparse.Namespace) -> int:
     calendar = calendar_of(given)
     check_outputs([given.table, given.order, given.compare], given.schedule, given.chart)
     machines = None if given.machines is None else given.machines.split(",")
-    shop, delimiter, has_mark = table_of(given.table, given.unit, DECIMAL_SIGNS.get(given.decimal),
-                                         given.allow_totals, machines)
+    shop, delimiter, has_mark, note = table_of(given.table, given.unit, DECIMAL_SIGNS.get(given.decimal),
+                                               given.allow_totals, machines, given.sheet)
+    if note:
+        written(sys.stderr, f"pfs: {as_options(shown(note))}\n")
     clock = None if calendar is None else Clock(calendar, shop)
     written(sys.stderr, f"{shown(described(shop))}\n")
     search = plan_search(given, shop)
@@ -321,7 +320,7 @@ def search_words() -> CommandLine:
 def add_plan_words(plan: argparse.ArgumentParser) -> None:
     """Add the arguments of `plan`."""
     plan.set_defaults(run=plan_command)
-    plan.add_argument("--version", **VERSION_OPTION)
+    plan.add_argument("--version", action=ShowVersion)
     plan.add_argument("table", metavar="TIMES.csv", help="a row for each job, a column for each machine, with names; "
                       "also a workbook .xlsx")
     add = plan.add_argument_group("the table").add_argument
@@ -335,6 +334,7 @@ def add_plan_words(plan: argparse.ArgumentParser) -> None:
     add("--allow-totals", action="store_true",
         help="take rows and columns with the names of sums, means or quantities, and a last one with the sums of the "
         "others, as jobs and machines")
+    add("--sheet", metavar="NAME", help="the sheet of a workbook, else the one that it opens with")
     add_order_words(plan.add_argument_group("the order").add_argument)
     add_date_words(plan.add_argument_group("dates and shifts").add_argument)
     add = plan.add_argument_group("what is written").add_argument
@@ -389,7 +389,7 @@ def words() -> argparse.ArgumentParser:
     """Return the command line of `python3 -m pfs`."""
     parser = CommandLine(prog="python3 -m pfs",
                          description="Searches of permutation flow shops that can be interrupted.")
-    parser.add_argument("--version", **VERSION_OPTION)
+    parser.add_argument("--version", action=ShowVersion)
     commands = parser.add_subparsers(required=True, metavar="COMMAND")
     options = search_words()
     search = commands.add_parser("search", parents=[options], help="searches an instance file, prints an order file")

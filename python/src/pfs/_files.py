@@ -16,6 +16,7 @@ from pfs._benchmarks import taillard_rows
 from pfs._faults import INSTANCE_FAULTS, ORDER_FAULTS, FileFault, OrderFault, TableFault
 from pfs._instance import Instance
 from pfs._names import is_frame
+from pfs._order_text import numbers_in
 from pfs._solution import Solution
 from pfs._validate import Order, Times, checked_int, layout_number
 
@@ -340,26 +341,14 @@ def read_order(source: Source) -> Solution:
     return Solution(order[:jobs.value], makespan.value, 0, machines.value)
 
 
-# A list, perhaps in brackets.
-LIST = re.compile(r"[\[({]?([^\[\](){}]*)[\])}]?")
-MOST_DIGITS = 20
-
-
-def words_of(text: str) -> list[str]:
-    """Return the words between commas, semicolons and blanks. Where one is missing, it is empty."""
-    match = LIST.fullmatch(text.strip())
-    inside = match[1].strip() if match else ""
-    parts = re.split("[,;]", inside[:-1] if inside.endswith((",", ";")) else inside)
-    return [word for part in parts for word in part.split() or [""]]
-
-
 def parse_order(text: str, first: int = 0) -> Order:
     """Read an order from a text, such as a line of a table in a paper, as an array of int64, counted from 0.
 
     Parameters
     ----------
     text : str
-        The jobs, separated by commas, semicolons or blanks, and optionally in brackets: ``"2, 1, 3"``.
+        The jobs, separated by commas, semicolons, blanks or dashes, perhaps in brackets and with the same letters
+        before each: ``"2, 1, 3"``, ``"2-1-3"``, ``"π = (J2; J1; J3)"``.
     first : int
         The number of the first job in the text, 0 or 1. In most papers it is 1.
 
@@ -379,22 +368,19 @@ def parse_order(text: str, first: int = 0) -> Order:
     if not isinstance(text, str):
         raise TypeError(f"text must be a str, not {text!r}")
     first = checked_int(first, "first", 0, 1)
-    words = words_of(text)
-    if not all(word.isascii() and word.isdigit() for word in words):
-        raise ValueError(f"{text[:60]!r} isn't a list of whole numbers")
-    if len(words) > c.MOST_JOBS:
-        raise ValueError(f"the list has {len(words):,} jobs, but at most {c.MOST_JOBS:,} are allowed")
-    order: list[int] = []
+    numbers = numbers_in(text)
+    if isinstance(numbers, str):
+        raise ValueError(numbers)
+    if len(numbers) > c.MOST_JOBS:
+        raise ValueError(f"the list has {len(numbers):,} jobs, but at most {c.MOST_JOBS:,} are allowed")
     places: dict[int, int] = {}
-    for place, word in enumerate(words):
-        job = int(word[:MOST_DIGITS]) - first
-        if len(word) > MOST_DIGITS or not 0 <= job < len(words):
-            raise ValueError(f"{word[:MOST_DIGITS]} at place {place} isn't a job: the {len(words)} jobs are {first} to "
-                             f"{len(words) - 1 + first}")
-        if places.setdefault(job, place) != place:
-            raise ValueError(f"job {word} occurs twice, at places {places[job]} and {place}")
-        order.append(job)
-    return np.array(order, dtype=np.int64)
+    for place, number in enumerate(numbers):
+        if not first <= number < len(numbers) + first:
+            raise ValueError(f"{number} at place {place} isn't a job: the {len(numbers)} jobs are {first} to "
+                             f"{len(numbers) - 1 + first}")
+        if places.setdefault(number, place) != place:
+            raise ValueError(f"job {number} occurs twice, at places {places[number]} and {place}")
+    return np.array(numbers, dtype=np.int64) - first
 
 
 def from_frame(frame: Any, *, unit: str = "", decimals: int = 0) -> Instance:

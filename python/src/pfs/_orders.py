@@ -12,6 +12,7 @@ from pfs._faults import TableFault
 from pfs._files import content_of
 from pfs._instance import Instance
 from pfs._names import shown
+from pfs._order_text import numbers_in, words_in
 from pfs._tables import lines_of, records, text_of
 
 SCHEDULE = re.compile(r"job([;,\t])machine\1start\1end")
@@ -32,7 +33,8 @@ def order_in(path: str | os.PathLike[str], shop: Instance) -> FoundOrder:
     """Return the order in a file.
 
     The file is the output of `plan`, its schedule as a table, or a list of the names of the jobs, one per line, with or
-    without a place before it. A `TableFault` says which name occurs twice, or that no name is one of the table's."""
+    without a place before it, or all on one line. A `TableFault` says which name occurs twice, or that no name is one
+    of the table's."""
     path = os.fspath(path)
     content = content_of(path)
     numbers = numbers_by_name(shop)
@@ -74,6 +76,12 @@ def named_jobs(text: str, path: str, numbers: dict[str, int]) -> Iterator[tuple[
         lines = lines[2:]
         for after in AFTER:
             lines = lines[1:] if lines and after.fullmatch(lines[0][1]) else lines
+    elif len(lines) == 1 and lines[0][1] not in numbers:
+        line, text = lines[0]
+        words = words_in(text)
+        if len(words) > 1 and (numbers.keys() >= {*words} or isinstance(numbers_in(text), list)):
+            yield from ((line, word) for word in words)
+            return
     for line, text in chain(lines, filled):
         placed = PLACED.fullmatch(text)
         name = placed[1] if placed and (is_plan or text not in numbers) else text

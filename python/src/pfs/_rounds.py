@@ -49,7 +49,8 @@ class Part:
 class Rounds:
     """Iterated greedy from NEH's order. `call` calls a function of the library on the instance, or raises an error."""
 
-    def __init__(self, call: Callable[..., object], jobs: int, take: int, passes: int, seed: int, first: int = 0) -> None:
+    def __init__(self, call: Callable[..., object], jobs: int, take: int, passes: int, seed: int,
+                 first: int = 0) -> None:
         self.call, self.jobs = call, jobs
         self.take, self.passes, self.seed, self.first = take, passes, seed, first
         self.last: Part | None = None

@@ -4,6 +4,7 @@ from __future__ import annotations
 import csv
 import os
 import re
+import warnings
 from collections.abc import Callable, Iterable, Iterator, Sequence
 from functools import cached_property, partial
 from itertools import islice
@@ -17,7 +18,7 @@ from pfs._files import content_of
 from pfs._instance import Instance
 from pfs._names import CLOCK, seconds_in
 from pfs._validate import Order
-from pfs._workbooks import csv_of
+from pfs._workbooks import Workbook
 
 # The most cells of a row, as in spreadsheets, and the most rows, with titles.
 MOST_CELLS, MOST_ROWS = 16_384, 10_000
@@ -74,6 +75,8 @@ class Table(NamedTuple):
     delimiter: str
     # Whether the file begins with a byte order mark, as Excel's do.
     has_mark: bool
+    # Which sheet was read, if a workbook has several and none was named.
+    note: str
 
 
 class Cell(NamedTuple):
@@ -151,8 +154,8 @@ class Rows:
             raise TableFault(self.path, first.line, first.column, first.text, first.head, tuple(rest))
 
 
-def read_csv(source: str | os.PathLike[str], unit: str = "", *, decimal: str | None = None,
-             allow_totals: bool = False, machines: Iterable[str] | None = None) -> Instance:
+def read_csv(source: str | os.PathLike[str], unit: str = "", *, decimal: str | None = None, allow_totals: bool = False,
+             machines: Iterable[str] | None = None, sheet: str | None = None) -> Instance:
     """Read a table of times from a CSV file or a workbook: a row for each job, a column for each machine.
 
     Parameters
@@ -160,8 +163,7 @@ def read_csv(source: str | os.PathLike[str], unit: str = "", *, decimal: str | N
     source : str or os.PathLike
         The file, in UTF-8 or in UTF-16 with a byte order mark, of at most 64 MiB. The first row names the machines and
         the first column the jobs. Semicolons, tabs or commas separate the columns. Titles above the first row, empty
-        rows and empty columns are skipped. Of a workbook (``.xlsx``), which needs openpyxl, the sheet is read that it
-        opens with.
+        rows and empty columns are skipped. A workbook (``.xlsx``) needs openpyxl.
     unit : str
         The unit of all times. The table can name it in its first cell, in brackets: ``job [min]``, or at each machine.
         Two different units of time are rejected.
@@ -176,6 +178,9 @@ def read_csv(source: str | os.PathLike[str], unit: str = "", *, decimal: str | N
     machines : iterable of str, optional
         The names of the columns that are machines, in the order of the machines. Other columns, and rows above the one
         that has these names, are skipped. By default all columns but the first one.
+    sheet : str, optional
+        The sheet of a workbook. By default it is the one that the workbook opens with, and a warning names it if there
+        are others.
 
     Returns
     -------
@@ -209,18 +214,24 @@ def read_csv(source: str | os.PathLike[str], unit: str = "", *, decimal: str | N
     table,saw,2.0,5.0
     table,drill,7.0,9.5
     """
-    return table_of(source, unit, decimal, allow_totals, machines).shop
+    found = table_of(source, unit, decimal, allow_totals, machines, sheet)
+    if found.note:
+        warnings.warn(found.note, stacklevel=2)
+    return found.shop
 
 
 def table_of(source: str | os.PathLike[str], unit: str, decimal: str | None = None, allow_totals: bool = False,
-             machines: Iterable[str] | None = None) -> Table:
+             machines: Iterable[str] | None = None, sheet: str | None = None) -> Table:
     """Read a table. The parameters are those of `read_csv`."""
     if decimal not in (None, ".", ","):
         raise ValueError(f"decimal must be '.' or ',', not {decimal!r}")
     path = os.fspath(source)
     content = content_of(path, "table")
     faults: list[TableFault] = []
-    table = rows_of(text_of(content, path, faults), path, list(machines or ()), faults)
+    text, note = sheet_of(content, path, sheet) if content.startswith(ARCHIVE) else (text_of(content, path, faults), "")
+    if sheet is not None and not content.startswith(ARCHIVE):
+        raise ValueError(f"{path} isn't a workbook (.xlsx), and has no sheet {sheet!r}")
+    table = rows_of(text, path, list(machines or ()), faults)
     if not allow_totals:
         leave_out_totals(table, machines is not None)
     heads, found = without_units(table, unit)
@@ -233,13 +244,25 @@ def table_of(source: str | os.PathLike[str], unit: str, decimal: str | None = No
         reject_sums(table, times)
     shop = Instance(times, name=os.path.basename(path), job_names=job_names, machine_names=machine_names, unit=found,
                     decimals=decimals)
-    return Table(shop, table.delimiter, content.startswith((b"\xef\xbb\xbf", b"\xff\xfe", b"\xfe\xff")))
+    return Table(shop, table.delimiter, content.startswith((b"\xef\xbb\xbf", b"\xff\xfe", b"\xfe\xff")), note)
+
+
+def sheet_of(content: bytes, path: str, sheet: str | None = None) -> tuple[str, str]:
+    """Return a sheet of a workbook as CSV. By default it is the one with which the workbook opens, and the second text
+    says so if there are others."""
+    book = Workbook(content, path)
+    own = book.first if sheet is None else sheet
+    if own not in book.names:
+        raise ValueError(f"{path} has no sheet {own!r}, but {', '.join(map(repr, book.names))}")
+    others = [repr(name) for name in book.names if name != own]
+    note = f"{path}: the sheet {own!r} is read, and not {', '.join(others)} (`sheet`)" if others else ""
+    return book.csv_of(own), note if sheet is None else ""
 
 
 def text_of(content: bytes, path: str, faults: list[TableFault] | None = None) -> str:
     """Return the text of a file; that of a workbook as CSV. Another encoding is added to the faults, or raised."""
     if content.startswith(ARCHIVE):
-        return csv_of(content, path)
+        return sheet_of(content, path)[0]
     if content.startswith(COMPOUND):
         raise TableFault(path, 1, 0, f"is a spreadsheet's own file: {SAVE_AS}, or as .xlsx")
     encoding = "utf-16" if content.startswith((b"\xff\xfe", b"\xfe\xff")) else "utf-8-sig"

@@ -1,12 +1,13 @@
 """Workbooks (.xlsx), which are read and written with openpyxl."""
 from __future__ import annotations
 
+import contextlib
 import csv
 import datetime
 import io
 import os
 import zipfile
-from collections.abc import Iterable, Sequence
+from collections.abc import Iterable, Iterator, Sequence
 from typing import Any
 
 from pfs import _library as c
@@ -21,30 +22,48 @@ FIRST_DAY, FIRST_OF_1900 = datetime.datetime(1899, 12, 30), datetime.datetime(18
 MOST_ROWS = 1_048_576
 
 
-def csv_of(content: bytes, path: str) -> str:
-    """Return the sheet with which a workbook opens as CSV with commas and decimal points."""
-    openpyxl = optional("openpyxl", f"{path}: reading a workbook")
-    try:
-        with zipfile.ZipFile(io.BytesIO(content)) as archive:
-            size = sum(part.file_size for part in archive.infolist())
-        if size > 4 * c.LONGEST_INPUT:
-            raise ValueError("its parts are too large")
-        book = openpyxl.load_workbook(io.BytesIO(content), read_only=True, data_only=True)
-        text = io.StringIO("sep=,\n")
-        text.seek(0, os.SEEK_END)
-        rows = csv.writer(text, lineterminator="\n")
-        # The sizes that a workbook states may be wrong.
-        book.active.reset_dimensions()
-        for number, row in enumerate(book.active.iter_rows(values_only=True)):
-            if number == MOST_ROWS:
-                raise ValueError("it has too many rows")
-            rows.writerow([text_in(value) for value in row] if any(value is not None for value in row) else [])
-    except MemoryError:
-        raise
-    except Exception as error:
-        raise TableFault(path, 1, 0, f"isn't a workbook that openpyxl reads ({shown(str(error))}): save it as CSV "
-                                     "UTF-8") from None
-    return text.getvalue()
+class Workbook:
+    """A workbook: the names of its sheets, and of the one with which it opens."""
+
+    def __init__(self, content: bytes, path: str) -> None:
+        openpyxl = optional("openpyxl", f"{path}: reading a workbook")
+        self.path = path
+        with self.faults():
+            with zipfile.ZipFile(io.BytesIO(content)) as archive:
+                size = sum(part.file_size for part in archive.infolist())
+            if size > 4 * c.LONGEST_INPUT:
+                raise ValueError("its parts are too large")
+            self.book = openpyxl.load_workbook(io.BytesIO(content), read_only=True, data_only=True)
+            self.names: list[str] = [sheet.title for sheet in self.book.worksheets]
+            # It may open with a chart.
+            opened = self.book.active.title if self.book.active else ""
+            self.first = opened if opened in self.names else self.names[0]
+
+    @contextlib.contextmanager
+    def faults(self) -> Iterator[None]:
+        """What openpyxl raises becomes a fault of the file."""
+        try:
+            yield
+        except MemoryError:
+            raise
+        except Exception as error:
+            raise TableFault(self.path, 1, 0, f"isn't a workbook that openpyxl reads ({shown(str(error))}): save it as "
+                                              "CSV UTF-8") from None
+
+    def csv_of(self, name: str) -> str:
+        """Return a sheet as CSV with commas and decimal points."""
+        with self.faults():
+            text = io.StringIO("sep=,\n")
+            text.seek(0, os.SEEK_END)
+            rows = csv.writer(text, lineterminator="\n")
+            sheet = self.book[name]
+            # The sizes that a workbook states may be wrong.
+            sheet.reset_dimensions()
+            for number, row in enumerate(sheet.iter_rows(values_only=True)):
+                if number == MOST_ROWS:
+                    raise ValueError("it has too many rows")
+                rows.writerow([text_in(value) for value in row] if any(value is not None for value in row) else [])
+        return text.getvalue()
 
 
 def text_in(value: Any) -> str:

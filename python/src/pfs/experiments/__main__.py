@@ -10,7 +10,7 @@ import signal
 import sys
 from typing import Any
 
-from pfs._cli import CommandLine, inches, number, run
+from pfs._cli import CommandLine, ShowVersion, inches, number, run
 from pfs._optional import optional
 
 # Where the program is searched for: on the path, and in the folder of pfs-experiments.
@@ -35,7 +35,8 @@ ARGUMENTS: list[tuple[str, str, dict[str, Any]]] = [
     ("run", "--sshloginfile", {"metavar": "FILE", "help": "a file with the machines for GNU parallel"}),
     ("slurm", "--tasks", {"metavar": "N", "type": number(1, 10 ** 9), "help": "the most tasks of the array"}),
     ("slurm", "--dry-run", {"action": "store_true", "help": "print the call of sbatch"}),
-    ("audit", "table", {"metavar": "TABLE", "help": "a CSV with the columns instance, makespan and order"}),
+    ("audit", "table", {"metavar": "TABLE", "help": "a CSV or workbook with the columns instance (or problem), "
+                                 "makespan (or Cmax) and order (or sequence, permutation, Reihenfolge)"}),
     ("audit", "--instances", {"metavar": "FOLDER", "type": pathlib.Path, "help": "the folder of the instance files"}),
     ("audit", "--layout", {"choices": ("taillard", "orlib", "matrix"), "help": "the layout of all files"}),
     ("audit", "--first", {"type": int, "choices": (0, 1), "help": "the number of the first job in all orders"}),
@@ -52,6 +53,7 @@ ARGUMENTS: list[tuple[str, str, dict[str, Any]]] = [
 def command_line() -> CommandLine:
     """Returns the parser of the command line."""
     parser = CommandLine("pfs-experiments", description="Many searches, audited, in one CSV, and reports of it.")
+    parser.add_argument("--version", action=ShowVersion)
     commands = parser.add_subparsers(dest="command", required=True, metavar="COMMAND")
     for name, (module, text) in COMMANDS.items():
         made = commands.add_parser(name, help=text, description=text, allow_abbrev=name not in ("run", "slurm"))

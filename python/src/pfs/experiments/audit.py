@@ -5,11 +5,11 @@ import argparse
 import contextlib
 import os
 import pathlib
+from collections.abc import Iterable
 from typing import Any
 
 from pfs._atomic import text_cell
-from pfs._audit import Audited, Shelf
-from pfs._audit import audit as audited
+from pfs._audit import Audited, Shelf, audited_of
 from pfs._faults import Fault
 from pfs._files import read, read_order
 from pfs._instance import Instance
@@ -18,31 +18,41 @@ from pfs.experiments.plan import Row
 from pfs.experiments.run import path_cell
 
 
-def verdicts(table: Any, shops: Any, **options: Any) -> list[Audited]:
-    """Returns the verdict on each order of a table, in which all must be clear."""
+def verdicts(table: Any, shops: Any, layout: str | None = None,
+             first: int | None = None) -> tuple[list[Audited], list[str]]:
+    """Returns the verdict on each order of a table, and which of its sheets are left out."""
     try:
-        return audited(table, shops, **options)
+        return audited_of(table, shops, layout, first)
     except ValueError as error:
         raise ExperimentError(str(error)) from None
 
 
 def audit(args: argparse.Namespace) -> int:
-    """Audits a table of published orders. Prints each one that is wrong or below the reference, and their numbers; a
-    CSV has the verdict on each."""
-    found = verdicts(args.table, args.instances or (), layout=args.layout, first=args.first)
-    if args.csv and os.path.exists(args.csv) and os.path.samefile(args.csv, args.table):
-        raise ExperimentError(f"{args.csv} is the table: name another file for the verdicts")
+    """Audits a table of published orders. Prints each one that is wrong, unclear or below the reference, the sheets
+    that are left out, and the numbers of orders; a CSV has the verdict on each."""
+    check_output(args.csv, [args.table, *(args.instances.rglob("*") if args.instances else ())])
+    found, left_out = verdicts(args.table, args.instances or (), args.layout, args.first)
     if args.csv:
         rows = [[text_cell(cell) if isinstance(cell, str) else cell for cell in row] for row in found]
         stage.write_text(args.csv, csv_text([["line", *Audited._fields[1:]], *rows]))
     for row in found:
         if row.why:
-            name = f"{row.instance} {row.method}".rstrip()
-            print(plain(f"line {row.row}, {name}: {row.verdict}: {row.why}"))
-    valid = [row for row in found if row.valid]
-    optimal, wrong = sum(row.makespan == row.bound for row in valid), len(found) - len(valid)
-    print(f"{args.table}: {len(found)} orders audited, {len(valid)} valid ({optimal} optimal), {wrong} wrong")
-    return 1 if wrong else 0
+            sheet, name = f"sheet {row.sheet}, " if row.sheet else "", f"{row.instance} {row.method}".strip()
+            print(plain(f"{sheet}line {row.row}{', ' if name else ''}{name}: {row.verdict}: {row.why}"))
+    for text in left_out:
+        print(plain(text))
+    valid, unclear = [row for row in found if row.valid], sum(row.verdict == "unclear" for row in found)
+    optimal, wrong = sum(row.makespan == row.bound for row in valid), len(found) - len(valid) - unclear
+    print(f"{args.table}: {len(found) - unclear} orders audited, {len(valid)} valid ({optimal} optimal), {wrong} wrong"
+          + (f"; {unclear} row{'s are' if unclear > 1 else ' is'} unclear, and not audited" if unclear else ""))
+    return 1 if wrong else 2 if unclear else 0
+
+
+def check_output(path: str | None, inputs: Iterable[str | pathlib.Path]) -> None:
+    """Rejects an output that would replace a file that is read."""
+    for each in inputs if path and os.path.exists(path) else ():
+        if os.path.exists(each) and os.path.samefile(each, str(path)):
+            raise ExperimentError(f"{path} is read, and writing would replace it: name another file for the verdicts")
 
 
 # The CSVs of a report
@@ -76,7 +86,7 @@ def orders_of(rows: list[Row]) -> list[str]:
             shops[str(at)] = found
             table.append({"instance": str(at), "method": f"{row['path']} {row['method']}", "order": orders[at],
                           "makespan": row["makespan"]})
-    for each in verdicts(table, shops) if table else []:
+    for each in verdicts(table, shops)[0]:
         if not each.valid:
             row = rows[int(each.instance)]
             raise ExperimentError(f"{row['path']}: line {row['line']}, {row['instance']}: {each.verdict}: {each.why}")

@@ -17,6 +17,7 @@ import math
 import os
 import re
 import resource
+import select
 import shutil
 import signal
 import subprocess
@@ -29,9 +30,11 @@ from types import FrameType
 from typing import TYPE_CHECKING, NamedTuple
 
 if TYPE_CHECKING or __package__:
+    from pfs._order_text import numbers_in
     from pfs._rounds import Pace, Rounds
 else:  # among the copies, where nothing else is left
     sys.dont_write_bytecode = True
+    from order_text import numbers_in
     from rounds import Pace, Rounds
 
 HERE = os.path.dirname(os.path.abspath(__file__))
@@ -39,8 +42,8 @@ LIBRARY = "libpfs.so.1"
 # A command, and each of its processes, may use this multiple of its processor time, and these seconds for its start,
 # in whole seconds. In real time it may take ten times as long, and this number of seconds more.
 TIMES, START, PATIENCE = 1.5, 0.5, 10.0
-# The most bytes that a command may print.
-MOST_BYTES = 1_048_576
+# The most bytes that a command may print, and how many of the last of its errors are kept.
+MOST_BYTES, MOST_SAID = 1_048_576, 1_000
 PR_SET_PDEATHSIG, PR_SET_CHILD_SUBREAPER = 1, 36
 ENDINGS = (signal.SIGTERM, signal.SIGINT, signal.SIGHUP)
 
@@ -184,11 +187,8 @@ def order_of(text: str) -> tuple[str, list[str]]:
         raise Failed("nothing printed")
     if re.match("order2? ", lines[0]):
         return text if text.endswith("\n") else f"{text}\n", []
-    listed = re.sub(r"^\s*\w+\s*[=:]", "", lines[0]).strip(" \t,[]()")
-    jobs = [re.fullmatch("[A-Za-z]*_?([0-9]{1,9})", job, re.ASCII)
-            for job in re.split(r"[\s,;]+|(?<=[0-9])-(?=\w)", listed)]
-    numbers = [int(job[1]) for job in jobs if job]
-    if len(lines) > 1 or len(numbers) < len(jobs):
+    numbers = numbers_in(lines[0])
+    if len(lines) > 1 or isinstance(numbers, str):
         raise Failed(f"no order printed: {lines[0][:40]!r}")
     if 0 in numbers:
         raise Failed("job 0: jobs count from 1")
@@ -203,22 +203,22 @@ def run_command(words: list[str], folder: str, seconds: float | None) -> tuple[s
     set_process(PR_SET_CHILD_SUBREAPER, 1)
     for number in ENDINGS:
         signal.signal(number, stop)
-    with tempfile.TemporaryFile() as out, tempfile.TemporaryFile() as errors:
-        try:
-            child = subprocess.Popen(words, cwd=folder, stdin=subprocess.DEVNULL, stdout=out, stderr=errors,
-                                     start_new_session=True, preexec_fn=functools.partial(limit, seconds))
-            while child.poll() is None and os.fstat(out.fileno()).st_size <= MOST_BYTES and time.monotonic() < end:
-                with contextlib.suppress(subprocess.TimeoutExpired):
-                    child.wait(0.05)
-            ended = child.poll() is not None
-        except (OSError, ValueError) as error:
-            raise Failed(getattr(error, "strerror", None) or str(error)) from None
-        finally:
-            left = kill_descendants()
-        out.seek(0)
-        text = out.read(MOST_BYTES + 1)
-        errors.seek(max(0, errors.seek(0, os.SEEK_END) - 1000))
-        said = errors.read().decode(errors="replace").splitlines() or [""]
+    try:
+        with subprocess.Popen(words, cwd=folder, stdin=subprocess.DEVNULL, stdout=subprocess.PIPE,
+                              stderr=subprocess.PIPE, bufsize=0, start_new_session=True,
+                              preexec_fn=functools.partial(limit, seconds)) as child:
+            printed = Printed(child)
+            try:
+                while child.poll() is None and len(printed.text) <= MOST_BYTES and time.monotonic() < end:
+                    printed.wait(child)
+                ended = child.poll() is not None
+            finally:
+                left = kill_descendants()
+            while len(printed.text) <= MOST_BYTES and printed.read(0):
+                """What was printed before the end."""
+    except (OSError, ValueError) as error:
+        raise Failed(getattr(error, "strerror", None) or str(error)) from None
+    text, said = printed.text, printed.said.decode(errors="replace").splitlines() or [""]
     spent = child_seconds() - before
     if len(text) > MOST_BYTES:
         raise Failed(f"more than {MOST_BYTES:,} bytes printed")
@@ -231,6 +231,35 @@ def run_command(words: list[str], folder: str, seconds: float | None) -> tuple[s
     if child.returncode > 0:
         raise Failed(f"exit {child.returncode}, {' '.join(said[-1].split())[:200]}")
     return text.decode(errors="replace"), spent, left
+
+
+class Printed:
+    """What a program prints: its output, a little more than is taken at most, and the last part of its errors."""
+
+    def __init__(self, child: subprocess.Popen[bytes]) -> None:
+        assert child.stdout and child.stderr
+        self.out, self.open = child.stdout, [child.stdout, child.stderr]
+        self.text, self.said = b"", b""
+
+    def wait(self, child: subprocess.Popen[bytes]) -> None:
+        """Reads more, or waits for the end of the program, for a twentieth of a second."""
+        with contextlib.suppress(subprocess.TimeoutExpired):
+            if not self.open:
+                child.wait(0.05)
+            self.read(0.05 if self.open else 0)
+
+    def read(self, seconds: float) -> bool:
+        """Reads what is there, or waits for it for this time. Returns whether there was anything."""
+        ready = select.select(self.open, [], [], seconds)[0]
+        for pipe in ready:
+            part = os.read(pipe.fileno(), 65_536)
+            if not part:
+                self.open.remove(pipe)
+            elif pipe is self.out:
+                self.text += part
+            else:
+                self.said = (self.said + part)[-MOST_SAID:]
+        return bool(ready)
 
 
 def stop(number: int, _frame: FrameType | None) -> None:

@@ -21,10 +21,10 @@ import sys
 from collections.abc import Iterator
 from typing import Any, NamedTuple
 
-from pfs import _rounds
+from pfs import _order_text, _rounds
 from pfs._atomic import atomic_write
 from pfs._benchmarks import taillard_rows
-from pfs._version import VERSION
+from pfs._cli import version
 from pfs.experiments import ExperimentError, listed, one, plain
 from pfs.experiments.plan import Reference, Row, read_plan, reference_for, reference_of
 
@@ -165,7 +165,8 @@ def begin(folder: pathlib.Path, pfs: str) -> None:
         shutil.rmtree(half_done)
     stage = folder / f"pfs-experiment-{secrets.token_hex(6)}"
     (folder / "results").mkdir(exist_ok=True)
-    for source, name in ((pfs, "pfs"), (one.__file__, "one"), (_rounds.__file__, "rounds.py")):
+    for source, name in ((pfs, "pfs"), (one.__file__, "one"), (_rounds.__file__, "rounds.py"),
+                         (_order_text.__file__, "order_text.py")):
         copy(source, stage / name)
         (stage / name).chmod(0o755)
 
@@ -219,7 +220,7 @@ def note_start(stage: pathlib.Path, plan: dict[str, Any], inputs: dict[str, str]
                    "processors": os.cpu_count(), "system": platform.platform(), "python": platform.python_version()})
     sums = {name: hashlib.sha256((stage / to).read_bytes()).hexdigest()
             for to, name in {"pfs": "pfs", one.LIBRARY: one.LIBRARY, **inputs}.items() if (stage / to).exists()}
-    text = json.dumps({"version": VERSION, "plan": plan, "sha256": sums, "starts": starts}, indent=1)
+    text = json.dumps({"version": version(), "plan": plan, "sha256": sums, "starts": starts}, indent=1)
     write_text(path, f"{text}\n")
 
 

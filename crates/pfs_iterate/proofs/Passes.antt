@@ -1,0 +1,32 @@
+-- One more pass, and one more round.
+use Rattle.std.proofs.Common.{◌≡◌, ℕ, suc, ◌+◌, ◌-◌, ◌<◌, ◌≤◌, List, fold, ap, ◌∙◌, refl, arith}
+use Rattle.std.proofs.lemmas.Bool.{lt-ltb, le-ltb}
+use Rattle.pfs_base.specs.FlowShop.{FlowShop}
+use Rattle.pfs_base.specs.Paths.{makespan}
+use Rattle.pfs_iterate.specs.declared.options.Options.{Options}
+use Rattle.pfs_iterate.specs.Iterated.{State, after_round, after_rounds, improved, moved, words_of_round}
+
+module _ (shop : FlowShop) (held : ℕ) (list jobs : List ℕ) (passes made : ℕ) (left : made < passes) where
+  abbrev pub after_pass : List ℕ
+  after_pass = fold (moved shop held) jobs list
+
+  more : passes - made ≡ suc (passes - (made + 1))
+  more = omega arith
+
+  pub improved_goes_on : makespan shop after_pass < makespan shop jobs
+      → improved shop held list (passes - made) jobs ≡ improved shop held list (passes - (made + 1)) after_pass
+  improved_goes_on shorter =
+      ap (λ n. improved shop held list n jobs) more ∙ rw (lt-ltb (makespan shop after_pass) (makespan shop jobs) shorter) refl
+
+  pub improved_stops : makespan shop jobs ≤ makespan shop after_pass → improved shop held list (passes - made) jobs ≡ after_pass
+  improved_stops longer =
+      ap (λ n. improved shop held list n jobs) more ∙ rw (le-ltb (makespan shop after_pass) (makespan shop jobs) longer) refl
+
+pub rounds_more : (shop : FlowShop) (options : Options) (accept : List ℕ) (first count done : ℕ) (state : State)
+    → done < count → after_rounds shop options accept (first + done) (count - done) state
+    ≡ after_rounds shop options accept (first + (done + 1)) (count - (done + 1))
+    (after_round shop options accept state (words_of_round shop options (first + done)))
+rounds_more shop options accept first count done state left =
+    let more : count - done ≡ suc (count - (done + 1)) = omega arith in
+    let next : first + (done + 1) ≡ first + done + 1 = omega arith in
+    rw (more, next) refl

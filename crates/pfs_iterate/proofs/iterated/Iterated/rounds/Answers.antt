@@ -1,0 +1,38 @@
+use Rattle.std.proofs.Common.{ℕ, sym, subst, ◌∙◌, rules}
+use Rattle.pfs_order.specs.Sequence.{IsSequence}
+use Rattle.pfs_iterate.specs.Rounds.{IsWorkFor}
+use Rattle.pfs_iterate.proofs.iterated.Iterated.rounds.Goals as goal
+
+pub invariant_of-self : goal.invariant_of-self
+invariant_of-self c =
+    let gives = c.play.ensures in
+    let size = sym gives.work.seq in
+    record {
+      work = subst (λ (n : ℕ). IsWorkFor n c.play.new.work) size gives.work;
+      words = search rules;
+      current = gives.current.all ∙ size;
+      best = gives.best.all ∙ size;
+    }
+
+pub returns-clause-done : goal.returns-clause-done
+returns-clause-done c =
+    let gives = c.play.ensures in
+    let current = c.start.ensures.order in
+    let best = c.start-2.ensures.order in
+    record {
+      done = rw (c.copy_order.ensures.value, c.copy_order-2.ensures.value, ← current, ← best) gives.done;
+      current_order = rw c.copy_order.ensures.value (record {
+        all = gives.current.all;
+        distinct = subst (λ (n : ℕ). IsSequence n c.play.new.current.order) gives.current.all
+            c.copy_order.ensures.sequence;
+        front = rw (← current) gives.current_front;
+      });
+      best_order = rw c.copy_order-2.ensures.value (record {
+        all = gives.best.all;
+        distinct = subst (λ (n : ℕ). IsSequence n c.play.new.best.order) gives.best.all c.copy_order-2.ensures.sequence;
+        front = (rw current at gives.best_front) ∙ sym c.requires.front;
+      });
+      current_spanned = rw c.copy_order.ensures.value gives.current.spanned;
+      best_spanned = rw c.copy_order-2.ensures.value gives.best.spanned;
+      no_longer = rw (← c.start-2.ensures.span) gives.no_longer;
+    }

@@ -1,0 +1,41 @@
+use Rattle.std.proofs.Common.{◌≡◌, ◌+◌, ◌≤◌, length, take as front, ap, sym, ◌∙◌, arith, rules}
+use Rattle.std.proofs.lemmas.List.{length-take-le}
+use Rattle.pfs_iterate.specs.Iterated.{State, words_of_round}
+use Rattle.pfs_iterate.proofs.Passes.{rounds_more}
+use Rattle.pfs_iterate.proofs.rounds.play.Goals as goal
+
+pub draw-requires : goal.draw-requires
+draw-requires c =
+    let each = c.jobs.result + c.args.options.now.take + 1 in
+    let words = c.loop-done.words in
+    let fits : each ≤ length words =
+    omega (arith, c.loop-done.invariant.long, ap length c.as_mut_slice-words.ensures.value, c.requires.words, c.jobs.ensures.value) in
+    omega (arith, length-take-le each words fits, c.jobs.ensures.within.sizes.few_jobs, c.requires.options.few)
+
+pub loop-done-preserved : goal.loop-done-preserved
+loop-done-preserved c =
+    let shop = c.args.instance.now.shop in
+    let options = c.args.options.now in
+    let accept = c.args.accept.now in
+    let done = c.loop-done.done in
+    let invariant = c.loop-done.invariant in
+    let gives = c.round.ensures in
+    let before : State = record { current = c.loop-done.current.order; best = c.loop-done.best.order } in
+    let each = c.jobs.result + options.take + 1 in
+    let fits : each ≤ length c.loop-done.words =
+    omega (arith, invariant.long, ap length c.as_mut_slice-words.ensures.value, c.requires.words, c.jobs.ensures.value) in
+    let long : length (front each c.loop-done.words) ≡ shop.jobs + options.take + 1 =
+    omega (arith, length-take-le each c.loop-done.words fits, c.jobs.ensures.value) in
+    let drawn : c.draw.new.words ≡ words_of_round shop options (options.first + done) = rw long at c.draw.ensures in
+    record {
+      work = gives.work;
+      search = gives.search;
+      done = rw (gives.done, drawn) (sym (rounds_more shop options accept options.first options.count done before
+          c.loop-done-test.true) ∙ invariant.done);
+      current = gives.current;
+      best = gives.best;
+      no_longer = omega (arith, gives.no_longer, invariant.no_longer);
+      current_front = gives.current_front ∙ invariant.current_front;
+      best_front = gives.best_front ∙ invariant.current_front;
+      long = search rules;
+    }

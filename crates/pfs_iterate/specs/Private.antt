@@ -1,0 +1,2 @@
+-- Definitions that no contract of a public function cites.
+pub mod Steps

@@ -1,0 +1,345 @@
+"""Audits of tables as people have them: workbooks, forms of orders, rows that can't be audited, and causes of wrong
+makespans. Expected makespans are those of the second program of the tests."""
+import io
+import pathlib
+import random
+import re
+import time
+from collections.abc import Sequence
+from typing import Any
+
+import numpy as np
+import pandas
+import pfs
+import pytest
+from pfs._orders import order_in
+from pfs.experiments import ExperimentError
+from pfs.experiments.__main__ import command_line
+from pfs.experiments.audit import audit
+from pfs.experiments.one import order_of
+from support import plainly
+
+HEAD = ["instance", "method", "makespan", "order"]
+SMALL = pfs.Instance([[3, 2], [2, 5], [4, 1]], name="small.txt")
+
+
+def run(words: str) -> int:
+    """Run the command, and return its status."""
+    return audit(command_line().parse_args(["audit", *words.split()]))
+
+
+def makespan(shop: pfs.Instance, order: Sequence[int]) -> int:
+    return plainly.makespan(shop.times.tolist(), order)
+
+
+def rows_of(*orders: Any, makespan: Any = 10) -> list[dict[str, Any]]:
+    return [{"instance": "small", "makespan": makespan, "order": order} for order in orders]
+
+
+def book_of(path: pathlib.Path, **sheets: list[list[Any]]) -> None:
+    """Write a workbook with these sheets, which opens with the last one."""
+    book = pytest.importorskip("openpyxl").Workbook()
+    book.remove(book.active)
+    for name, rows in sheets.items():
+        sheet = book.create_sheet(name)
+        for row in rows:
+            sheet.append(row)
+    book.active = len(sheets) - 1
+    book.save(path)
+
+
+# Workbooks
+
+def test_all_sheets_that_are_tables(tmp_path: pathlib.Path, monkeypatch: pytest.MonkeyPatch,
+                                    capsys: pytest.CaptureFixture[str]) -> None:
+    monkeypatch.chdir(tmp_path)
+    order = " ".join(map(str, range(1, 21)))
+    book_of(tmp_path / "a.xlsx", first=[HEAD, ["ta001", "IG", 1448, order], ["ta001", "HGA", "1.448", order]],
+            notes=[["some words"]], second=[HEAD[:3], ["ta001", "IG", 1448]],
+            Third=[HEAD, [], ["Ta1", "IG", 1200, order]], empty=[], heads=[HEAD])
+    assert run("a.xlsx --csv out.csv") == 1
+    *printed, last = capsys.readouterr().out.splitlines()
+    assert printed[0] == "sheet first, line 3, ta001 HGA: unclear: cell C3: '1.448' isn't a makespan: a whole number"
+    assert printed[1].startswith("sheet Third, line 3, Ta1 IG: wrong makespan: states 1200, takes 1448; no order takes")
+    assert [line.partition(": ")[0] for line in printed[2:]] == [
+        f"the sheet '{name}' is left out" for name in ("notes", "second", "empty", "heads")]
+    assert "but 'some words'" in printed[2] and "no column order" in printed[3] and "is empty" in printed[4]
+    assert "only its first line" in printed[5]
+    assert last == "a.xlsx: 2 orders audited, 1 valid (0 optimal), 1 wrong; 1 row is unclear, and not audited"
+    assert [line.rsplit(",", 1)[1] for line in (tmp_path / "out.csv").read_text().splitlines()] == [
+        "sheet", "first", "first", "Third"]
+    with pytest.warns(UserWarning) as warned:
+        found = pfs.audit("a.xlsx")
+    assert [str(each.message) for each in warned] == printed[2:]
+    assert [(each.sheet, each.row, each.valid) for each in found] == [
+        ("first", 2, True), ("first", 3, False), ("Third", 3, False)]
+    with pytest.raises(pfs.TableFault, match="a.xlsx, sheet first: cell C3: '1.448' isn't"):
+        pfs.audit("a.xlsx", strict=True)
+    book_of(tmp_path / "none.xlsx", notes=[["some words"]], empty=[])
+    with pytest.raises(pfs.TableFault, match="no sheet is a table of orders: the sheet 'notes' .*; the sheet 'empty'"):
+        pfs.audit("none.xlsx")
+
+
+def test_the_first_job_of_a_method_may_differ_from_sheet_to_sheet(tmp_path: pathlib.Path) -> None:
+    book_of(tmp_path / "a.xlsx", one=[HEAD, ["small", "a", 10, "2 1 3"]], zero=[HEAD, ["small", "a", 10, "1 0 2"]])
+    assert [each.valid for each in pfs.audit(tmp_path / "a.xlsx", [SMALL])] == [True, True]
+
+
+def test_which_sheet_is_read(tmp_path: pathlib.Path) -> None:
+    times: list[list[Any]] = [["job [min]", "saw", "drill"], ["table", 3, 2], ["chair", 2, 5]]
+    book_of(tmp_path / "a.xlsx", old=[*times, ["box", 4, 1]], plan=times)
+    with pytest.warns(UserWarning, match=r"a.xlsx: the sheet 'plan' is read, and not 'old' \(`sheet`\)"):
+        assert pfs.read_csv(tmp_path / "a.xlsx").jobs == 2
+    assert pfs.read_csv(tmp_path / "a.xlsx", sheet="old").jobs == 3
+    with pytest.raises(ValueError, match="has no sheet 'new', but 'old', 'plan'"):
+        pfs.read_csv(tmp_path / "a.xlsx", sheet="new")
+    (tmp_path / "a.csv").write_text("job;saw;drill\ntable;3;2\n")
+    with pytest.raises(ValueError, match="isn't a workbook"):
+        pfs.read_csv(tmp_path / "a.csv", sheet="old")
+    book_of(tmp_path / "one.xlsx", plan=times)
+    assert pfs.read_csv(tmp_path / "one.xlsx").jobs == 2
+
+
+# Forms of orders
+
+FORMS = ["2 1 3", "2,1,3", "2-1-3", "[2, 1, 3]", "(2; 1; 3)", "π = (2, 1, 3)", "σ*: 2 1 3", "J2 J1 J3",
+         "job_2-job_1-job_3", "2 – 1 – 3", "2 → 1 → 3", "[2. 1. 3.]", "2,1,3,", "job-2 job-1 job-3", "Ä2, Ä1, Ä3"]
+UNREADABLE = ["2 -1 3", "J2 M1 J3", "2,,3", "2 1 3 (optimal)", "2 x 3", "2.5 1 3", "2.000 1 3", "2 1 99999999999",
+              "02.01.03", "[2, 1", "[[2, 1, 3]]", "n/a", "2=1 3"]
+
+
+@pytest.mark.parametrize("order", FORMS)
+def test_one_reader_of_orders(order: str, tmp_path: pathlib.Path) -> None:
+    assert pfs.parse_order(order, first=1).tolist() == [1, 0, 2]
+    [found] = pfs.audit(rows_of(order), [SMALL])
+    assert found.verdict == "valid and optimal"
+    assert order_of(order) == ("", ["2", "1", "3"])
+    letters = re.match(r"[^\W\d]+[_-]?(?=2)", order)
+    prefix = letters[0] if letters else ""
+    (tmp_path / "times.csv").write_text("job;a;b\n" + "".join(
+        f"{prefix}{job};{one};{other}\n" for job, (one, other) in enumerate(SMALL.times.tolist(), 1)))
+    if prefix or "." not in order:
+        (tmp_path / "order").write_text(order)
+        shop = pfs.read_csv(tmp_path / "times.csv") if prefix else pfs.Instance(SMALL.times, job_names=["1", "2", "3"])
+        assert order_in(tmp_path / "order", shop) == ([1, 0, 2], [])
+
+
+@pytest.mark.parametrize("order", [[2, 1, 3], (2.0, 1.0, 3.0), np.array([2.0, 1.0, 3.0]), np.array([2, 1, 3], np.uint8),
+                                   ["J2", "J1", "J3"], pandas.Series([2, 1, 3]), iter([2, 1, 3])])
+def test_lists_of_jobs(order: Any) -> None:
+    assert pfs.audit(rows_of(order), [SMALL])[0].valid
+
+
+@pytest.mark.parametrize("order", [*UNREADABLE, {2, 1, 3}, {2: 1}, b"213", [2.5, 1, 3], [True, 0, 3], [[2, 1, 3]],
+                                   np.array([[2, 1, 3]]), [2, None, 3], [2, float("nan"), 3], 213])
+def test_what_is_not_read_as_an_order(order: Any) -> None:
+    found, other = pfs.audit(rows_of(order, "2 1 3"), [SMALL])
+    assert (found.verdict, found.valid, other.valid) == ("unclear", False, True)
+    assert found.why.startswith("column 'order': ")
+    if isinstance(order, str):
+        assert any(repr(part) in found.why for part in (order, *order.replace(",", ", ").split(), "")), found.why
+        with pytest.raises(ValueError, match=re.escape(found.why.partition(": ")[2])):
+            pfs.parse_order(order, first=1)
+
+
+@pytest.mark.parametrize("order", ["", "  ", None, float("nan"), [], pandas.NA, pandas.NaT])
+def test_rows_without_an_order_are_unclear(order: Any) -> None:
+    [found] = pfs.audit(rows_of(order), [SMALL])
+    assert found == (0, "small", "", 10, None, 10, False, "unclear", "column 'order': there is no order", "")
+    with pytest.raises(ValueError, match="row 0, column 'order': there is no order"):
+        pfs.audit(rows_of(order), [SMALL], strict=True)
+
+
+# Rows that can't be audited
+
+def test_unclear_rows_are_listed_and_the_others_audited(tmp_path: pathlib.Path, monkeypatch: pytest.MonkeyPatch,
+                                                        capsys: pytest.CaptureFixture[str]) -> None:
+    monkeypatch.chdir(tmp_path)
+    (tmp_path / "shops").mkdir()
+    SMALL.write(tmp_path / "shops" / "small.txt")
+    lines = ["small;IG;10;2 1 3", "small;IG;1.490;2 1 3", "small;IG;NA;2 1 3", "small;IG;;2 1 3", "small;IG;10;",
+             "other;IG;x;", "small;IG;10;2;1;3", "small;HGA;11;2 1 3", "small;IG;10,0;2 1 3"]
+    (tmp_path / "t.csv").write_text("\n".join([";".join(HEAD), *lines]) + "\n")
+    assert run("t.csv --instances shops") == 1
+    assert capsys.readouterr().out.splitlines() == [
+        "line 3, small IG: unclear: cell C3: '1.490' isn't a makespan: a whole number",
+        "line 4, small IG: unclear: cell C4: 'NA' isn't a makespan: a whole number",
+        "line 5, small IG: unclear: cell C5: '' isn't a makespan: a whole number",
+        "line 6, small IG: unclear: cell D6: there is no order",
+        "line 7, other IG: unclear: cell C7: 'x' isn't a makespan: a whole number; cell A7: no instance 'other'; "
+        "cell D7: there is no order",
+        "line 8, small IG: unclear: 6 cells for 4 columns: quote an order that contains the separator",
+        "line 9, small HGA: wrong makespan: states 11, takes 10",
+        "line 10, small IG: unclear: cell C10: '10,0' isn't a makespan: a whole number",
+        "t.csv: 2 orders audited, 1 valid (1 optimal), 1 wrong; 7 rows are unclear, and not audited"]
+    (tmp_path / "t.csv").write_text("\n".join([";".join(HEAD), *lines[:2]]) + "\n")
+    assert run("t.csv --instances shops") == 2
+    assert capsys.readouterr().out.endswith("1 orders audited, 1 valid (1 optimal), 0 wrong; 1 row is unclear, and not "
+                                            "audited\n")
+
+
+@pytest.mark.parametrize(("stated", "is_clear"), [
+    ("10", True), ("10.0", True), ("10.", True), ("10.00", True), ("10.0000", True), (10.0, True), ("10.000", False),
+    ("1.010", False), ("1e1", False), ("10 min", False), ("10.5", False), ("9" * 5000, False)])
+def test_three_zeros_after_a_point_may_be_thousands(stated: Any, is_clear: bool) -> None:
+    [found] = pfs.audit(rows_of("2 1 3", makespan=stated), [SMALL])
+    assert (found.verdict == "unclear") != is_clear and found.valid == is_clear and len(found.why) < 200
+
+
+def test_missing_values_of_pandas_own_types() -> None:
+    text = "instance,makespan,order,method,block\nsmall,10,2 1 3,IG,\nsmall,10,2 1 3,,\nsmall,,2 1 3,IG,\n,10,,,\n"
+    frame = pandas.read_csv(io.StringIO(text))
+    for each in (frame, frame.convert_dtypes()):
+        assert [(row.method, row.verdict) for row in pfs.audit(each, [SMALL])] == [
+            ("IG", "valid and optimal"), ("", "valid and optimal"), ("IG", "unclear"), ("", "unclear")]
+
+
+@pytest.mark.parametrize("head", [
+    "Instance Name;Best Makespan;Best Sequence", "INSTANZ;C_max;Reihenfolge", "Problem;Best Cmax;Best Permutation"])
+def test_names_of_columns(head: str, tmp_path: pathlib.Path) -> None:
+    (tmp_path / "t").write_text(f"{head}\nsmall;10;2 1 3\n")
+    assert pfs.audit(tmp_path / "t", [SMALL])[0].valid
+
+
+def test_columns_that_are_missing_are_named_with_what_was_found(tmp_path: pathlib.Path) -> None:
+    (tmp_path / "t").write_text("Instance;Value;Seq\nsmall;10;2 1 3\n")
+    with pytest.raises(pfs.TableFault, match=re.escape("no column makespan (or Cmax), order (or sequence, permutation, "
+                                                       "Reihenfolge), but 'Instance', 'Value', 'Seq'")):
+        pfs.audit(tmp_path / "t")
+    with pytest.raises(ValueError, match="the table has no column order .*, but 'instance', 'makespan'"):
+        pfs.audit(pandas.DataFrame({"instance": ["a"], "makespan": [1]}))
+    assert pfs.audit([]) == [] and pfs.audit(pandas.DataFrame(columns=HEAD)) == []
+
+
+@pytest.mark.parametrize("name", ["Ta1", "TA01", "ta001", "Ta001.txt", "tai20_5:1", "x/ta1"])
+def test_spellings_of_taillards_names(name: str) -> None:
+    row = {"instance": name, "makespan": 1448, "order": list(range(1, 21))}
+    assert pfs.audit([row])[0].valid
+    assert pfs.audit([row], {"TA001": pfs.taillard(1)})[0].valid
+
+
+@pytest.mark.parametrize("name", ["ta0", "ta121", "ta0001", "x:" + "1" * 5000, "tai20_5:" + "0" * 5000 + "11"])
+def test_names_of_no_instance(name: str) -> None:
+    [found] = pfs.audit([{"instance": name, "makespan": 1448, "order": list(range(1, 21))}])
+    assert found.verdict == "unclear" and "no instance " in found.why and len(found.why) < 200
+
+
+def test_shops_that_are_no_instances() -> None:
+    wrong: list[Any] = [[1], {"a": 1}, {1: SMALL}]
+    for shops in wrong:
+        with pytest.raises(TypeError, match="shops must be instances by their names"):
+            pfs.audit(rows_of("2 1 3"), shops)
+
+
+def test_no_file_that_is_read_is_replaced(tmp_path: pathlib.Path, monkeypatch: pytest.MonkeyPatch) -> None:
+    monkeypatch.chdir(tmp_path)
+    (tmp_path / "f" / "g").mkdir(parents=True)
+    SMALL.write("f/g/small.txt")
+    before = pathlib.Path("f/g/small.txt").read_text()
+    pathlib.Path("t.csv").write_text("instance,makespan,order\nsmall,10,2 1 3\n")
+    pathlib.Path("link").symlink_to("f/g/small.txt")
+    pathlib.Path("hard").hardlink_to("t.csv")
+    for path in ("t.csv", "hard", "f/g/small.txt", "link"):
+        with pytest.raises(ExperimentError, match=f"{path} is read, and writing would replace it"):
+            run(f"t.csv --instances f --csv {path}")
+    assert pathlib.Path("f/g/small.txt").read_text() == before
+    assert run("t.csv --instances f --csv out.csv") == 0 and run("t.csv --instances f --csv out.csv") == 0
+
+
+# Causes
+
+ORDER = random.Random(7).sample(range(20), 20)
+
+
+def told(rows: list[dict[str, Any]], shops: Any = (), at: int = 0) -> list[str]:
+    """What is told of the cause of a wrong makespan."""
+    found = pfs.audit(rows, shops)[at]
+    assert found.verdict == "wrong makespan", found
+    return found.why.split("; ")[1:]
+
+
+def row(name: str, order: list[int], stated: int, method: str = "IG") -> dict[str, Any]:
+    return {"instance": name, "order": [job + 1 for job in order], "makespan": stated, "method": method}
+
+
+def test_causes_of_wrong_makespans() -> None:
+    one, other, square = pfs.taillard(1), pfs.taillard(2), pfs.generate(20, 20, 5)
+    takes, table = makespan(one, ORDER), [row("ta002", ORDER, makespan(other, ORDER))]
+    turned = square.times.T.tolist()
+    flat = [time for machine in one.times.T.tolist() for time in machine]
+    misread = [flat[job * 5:job * 5 + 5] for job in range(20)]
+    inverse = [ORDER.index(job) for job in range(20)]
+    ends = [makespan(one, ORDER[:count]) for count in range(1, 21)]
+    assert told([row("ta001", ORDER, 1200)]) == [f"no order takes less than {one.bound()}"]
+    cases = [
+        (row("ta001", ORDER, makespan(one, ORDER[::-1])), "the reversed order takes {}"),
+        (row("ta001", ORDER, makespan(one, inverse)), "as the places of the jobs it takes {}"),
+        (row("ta001", ORDER, makespan(other, ORDER)), "the order takes {} on ta002"),
+        (row("ta001", ORDER, sum(ends)), "that is the sum of the completion times"),
+        (row("ta001", ORDER, 1278), "that is the best known makespan"),
+        (row("sq", ORDER, plainly.makespan(turned, ORDER)), "with jobs and machines exchanged it takes {}"),
+        (row("ta001", ORDER, plainly.makespan(misread, ORDER)), "with jobs and machines exchanged it takes {}")]
+    for each, text in cases:
+        assert text.format(each["makespan"]) in told([each, *table], {"sq": square}), each
+    assert told([row("ta001", ORDER, takes + 1), *table]) == []
+
+
+def test_rows_that_were_mistaken_for_others() -> None:
+    stated = makespan(pfs.taillard(1), ORDER) + 77
+    others = [{**row("Ta1", ORDER, stated, "GA"), "order": "1 2"}, row("ta003", ORDER, stated)]
+    assert told([row("ta001", ORDER, stated), *others[:1]]) == ["row 1 states it for this instance"]
+    assert told([row("ta001", ORDER, stated), others[0], others[0]]) == [
+        "row 1 states it for this instance (as with 1 other row)"]
+    assert told([row("ta001", ORDER, stated), others[1]]) == ["row 1 states it for ta003"]
+    assert told([row("ta001", ORDER, stated, "HGA"), others[1]])[:1] != ["row 1 states it for ta003"]
+
+
+def test_jobs_that_were_exchanged() -> None:
+    shop = pfs.taillard(1)
+    spans: dict[int, list[tuple[int, int]]] = {}
+    for one in range(20):
+        for other in range(one + 1, 20):
+            order = ORDER.copy()
+            order[one], order[other] = order[other], order[one]
+            spans.setdefault(makespan(shop, order), []).append((one, other))
+    takes = makespan(shop, ORDER)
+    texts = "with the jobs at places {} and {} exchanged it takes {}", " (as with {} other pair{})"
+    checked = 0
+    for span, pairs in spans.items():
+        if abs(span - takes) < 2:
+            continue
+        one, other = min(pairs, key=lambda pair: pair[1] - pair[0])
+        more = texts[1].format(len(pairs) - 1, "s" if len(pairs) > 2 else "") if len(pairs) > 1 else ""
+        found = told([row("ta001", ORDER, span)])
+        if not any(word in found[-1] for word in ("reversed", "places of", "best known", "machines exchanged")):
+            assert found[-1] == texts[0].format(one + 1, other + 1, span) + more
+            checked += 1
+    assert checked > 20
+
+
+def test_an_instance_is_named_once_whatever_its_spellings() -> None:
+    stated = makespan(pfs.taillard(2), ORDER)
+    others = [row(name, ORDER, stated) for name in ("Ta2", "ta002", "tai20_5:2", "TA02")]
+    assert told([row("ta001", ORDER, stated), *others]) == [f"the order takes {stated} on Ta2"]
+    own = [row(name, ORDER, makespan(pfs.taillard(1), ORDER)) for name in ("Ta1", "ta001")]
+    assert told([row("tai20_5:1", ORDER, stated), *own, *others]) == [f"the order takes {stated} on Ta2"]
+
+
+def test_orders_of_another_size_are_tried_on_instances_of_that_size() -> None:
+    stated = makespan(pfs.taillard(1), ORDER)
+    table = [row("ta031", ORDER, stated), row("ta001", ORDER, stated), row("ta032", ORDER, stated)]
+    found = pfs.audit(table)[0]
+    assert found.verdict == "wrong size"
+    assert found.why == f"20 jobs, but the instance has 50; the order takes {stated} on ta001"
+    assert "; the order" not in pfs.audit([row("ta031", [0] * 20, stated), table[1]], first=1)[0].why
+
+
+@pytest.mark.seconds(8)
+def test_thousands_of_wrong_rows_take_a_time_in_proportion() -> None:
+    """Each row has another instance, so that none may be tried on all of them."""
+    times = np.random.default_rng(1).integers(1, 100, (3_000, 100, 20), dtype=np.uint8)
+    shops = [pfs.Instance(each, name=f"i{at}") for at, each in enumerate(times)]
+    rows = [{"instance": f"i{at}", "makespan": 1, "order": list(range(1, 101))} for at in range(len(shops))]
+    begun = time.process_time()
+    assert {each.verdict for each in pfs.audit(rows, shops)} == {"wrong makespan"}
+    assert time.process_time() - begun < 9
