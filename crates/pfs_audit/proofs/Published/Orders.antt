@@ -7,7 +7,7 @@ use Rattle.std.proofs.lemmas.List.Edits.{length-remove}
 use Rattle.std.proofs.lemmas.List.Sums.{sum_by_more, sum_by-remove}
 use Rattle.pfs_order.specs.Sequence.{IsSequence, all_jobs}
 use Rattle.pfs_order.proofs.Published.Sequences.{Contains-all, IsSequence-remove, absent-remove}
-use Rattle.pfs_audit.proofs.Ranges.{sum_by-below-suc}
+use Rattle.pfs_audit.proofs.Published.Ranges.{sum_by-below-suc}
 
 -- an order without the job of the greatest number is an order of the other jobs
 rest_is : (size at : ℕ) (order : List ℕ) → at < length order → size ≡ get_or order at size → IsSequence (suc size) order
@@ -39,7 +39,7 @@ sum_by-order f (suc size) order sequence full =
     omega arith
 
 -- the sum over the first rows
-sum_by-rows : (f : ℕ → ℕ) (order : List ℕ) (rows : ℕ) → rows ≤ length order
+pub sum_by-rows : (f : ℕ → ℕ) (order : List ℕ) (rows : ℕ) → rows ≤ length order
     → sum_by (λ row. f (get_or order row 0)) (range_with_len 0 rows) ≡ sum_by f (take rows order)
 sum_by-rows f order zero le = refl
 sum_by-rows f order (suc rows) le =

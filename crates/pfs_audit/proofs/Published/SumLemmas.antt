@@ -15,7 +15,7 @@ use Rattle.pfs_base.proofs.Published.Heads.{time_of-le}
 use Rattle.pfs_audit.specs.Bound.{least, time_on}
 use Rattle.pfs_audit.specs.Private.Sums.{least_among, load_among, AreOf}
 use Rattle.pfs_audit.specs.declared.bounds.TheConstants.{LONGEST_TOTAL}
-use Rattle.pfs_audit.proofs.Ranges.{sum_by-range-suc, sum_by-below-suc, sum_by-below-more}
+use Rattle.pfs_audit.proofs.Published.Ranges.{sum_by-range-suc, sum_by-below-suc, sum_by-below-more}
 
 pub least_among-more : (shop : FlowShop) (jobs from many : ℕ)
     → least_among shop (jobs + 1) from many ≡ min (least_among shop jobs from many) (time_on shop from many jobs)
