@@ -1,5 +1,5 @@
 -- The numbers of the children, one by one.
-use Rattle.std.proofs.Common.{◌≡◌, ◌≢◌, ℕ, Bool, ◌+◌, ◌<◌, ◌≤◌, length, List, get_or, set, replicate, inl, inr, ap, sym, ◌∙◌}
+use Rattle.std.proofs.Common.{◌≢◌, ℕ, Bool, ◌+◌, ◌<◌, ◌≤◌, length, List, get_or, set, replicate, inl, inr, sym}
 use Rattle.std.proofs.Common.{subst, arith}
 use Rattle.std.proofs.Math.ListN.{length-set}
 use Rattle.std.proofs.lemmas.Bool.{cases_eq}

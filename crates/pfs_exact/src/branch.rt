@@ -85,8 +85,7 @@ fn finish(instance: &Instance, work: &mut Work)
     ensures ends { work.new.ends ≡ work.old.ends }
     ensures left { work.new.left ≡ work.old.left }
     ensures no_longer { work.new.makespan ≤ work.old.makespan }
-    ensures low {
-        NoneShorter instance.now.shop work.old.ends.front.jobs work.old.ends.back.jobs work.new.makespan }
+    ensures low { NoneShorter instance.now.shop work.old.ends.front.jobs work.old.ends.back.jobs work.new.makespan }
 {
     join(&mut work.spare, &work.ends);
     let span = span_of(instance, &work.spare);
@@ -124,12 +123,7 @@ pub(crate) fn span_of(instance: &Instance, seq: &Seq) -> u64
 }
 
 // The heads of one more row.
-fn add_head(
-    instance: &Instance,
-    seq: &Seq,
-    place: usize,
-    heads: &mut [u64; MOST_PROVED_MACHINES],
-)
+fn add_head(instance: &Instance, seq: &Seq, place: usize, heads: &mut [u64; MOST_PROVED_MACHINES])
     requires machines { instance.now.shop.machines ≤ MOST_PROVED_MACHINES }
     requires size { seq.now.size ≡ instance.now.shop.jobs }
     requires place { place < length seq.now.jobs }

@@ -179,8 +179,10 @@ pub(crate) fn raise(
 {
     let machines = instance.machines();
     for machine in 1..machines {
-        node.starts[machine] =
-            node.starts[machine].max(plus(node.starts[machine - 1], least[machine - 1]));
+        node.starts[machine] = node.starts[machine].max(plus(
+            node.starts[machine - 1],
+            least[machine - 1],
+        ));
         let other = machines - machine;
         node.rests[machine] = node.rests[machine].max(plus(node.rests[machine - 1], least[other]));
     }

@@ -7,7 +7,6 @@ use Rattle.pfs_base.specs.Paths.{heaviest, operation, makespan}
 use Rattle.pfs_order.specs.Sequence.{IsSequence}
 use Rattle.pfs_audit.specs.Bound.{IsLowerBound}
 use Rattle.pfs_exact.specs.declared.branch.Work.{Work}
-use Rattle.pfs_exact.specs.declared.children.Children.{Children}
 use Rattle.pfs_exact.specs.declared.children.TheConstants.{CLOSED}
 use Rattle.pfs_exact.specs.declared.ends.Ends.{Ends}
 use Rattle.pfs_exact.specs.declared.node.Node.{Node}

@@ -1,4 +1,4 @@
-use Rattle.std.proofs.Common.{◌≡◌, ℕ, ◌+◌, ◌<◌, ◌≤◌, length, get_or, ap, sym, ◌∙◌, subst, arith}
+use Rattle.std.proofs.Common.{◌≡◌, ℕ, ◌+◌, ◌<◌, length, get_or, ap, sym, ◌∙◌, subst, arith}
 use Rattle.pfs_exact.specs.declared.ends.Ends.{Ends}
 use Rattle.pfs_exact.specs.Private.Nodes.{AreEnds, IsNode, IsOpen, NoneShorter, put_of, taken_of}
 use Rattle.pfs_exact.proofs.Bounds.{bounds_set}

@@ -1,7 +1,7 @@
-use Rattle.std.proofs.Common.{◌≡◌, ◌≤◌, length, ap, sym, ◌∙◌, subst, arith}
+use Rattle.std.proofs.Common.{length, ap, sym, ◌∙◌}
 use Rattle.pfs_base.specs.Paths.{makespan}
 use Rattle.pfs_order.specs.Sequence.{Sequence}
-use Rattle.pfs_exact.proofs.Sides.{by_itself, ends_all}
+use Rattle.pfs_exact.proofs.Sides.{ends_all}
 use Rattle.pfs_exact.proofs.branch.finish.Goals as goal
 
 pub returns-then-span-work-clause-work : goal.returns-then-span-work-clause-work

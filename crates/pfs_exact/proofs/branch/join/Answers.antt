@@ -1,4 +1,4 @@
-use Rattle.std.proofs.Common.{◌++◌, take, get_or, Contains, sym, subst, arith}
+use Rattle.std.proofs.Common.{◌++◌, take, Contains, subst, arith}
 use Rattle.pfs_exact.proofs.Sides.{later_absent}
 use Rattle.pfs_exact.proofs.branch.join.Goals as goal
 

@@ -1,7 +1,6 @@
-use Rattle.std.proofs.Common.{◌≡◌, ℕ, ◌-◌, get_or, ap, sym, ◌∙◌, arith}
+use Rattle.std.proofs.Common.{arith}
 use Rattle.std.proofs.lemmas.List.{get_or-replicate}
 use Rattle.pfs_exact.specs.declared.prove.TheConstants.{MOST_PROVED_MACHINES}
-use Rattle.pfs_exact.proofs.Heads.{span_is}
 use Rattle.pfs_exact.proofs.branch.span_of.Goals as goal
 
 pub loop-place-init : goal.loop-place-init

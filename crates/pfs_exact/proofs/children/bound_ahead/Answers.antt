@@ -1,4 +1,4 @@
-use Rattle.std.proofs.Common.{◌≡◌, ℕ, ◌+◌, ◌-◌, ◌≤◌, max, List, [], ◌∷◌, ◌++◌, get_or, ap, sym, subst, arith, add-one}
+use Rattle.std.proofs.Common.{◌≡◌, ℕ, ◌-◌, max, [], ◌∷◌, ◌++◌, get_or, ap, sym, subst, arith, add-one}
 use Rattle.pfs_base.specs.FlowShop.{time_of}
 use Rattle.pfs_exact.specs.Private.Nodes.{IsRest}
 use Rattle.pfs_exact.proofs.Machines.{IsBefore, IsReady, before_zero, before_on, end_at, front_left, front_rest}

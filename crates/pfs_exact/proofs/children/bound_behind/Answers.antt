@@ -1,4 +1,4 @@
-use Rattle.std.proofs.Common.{◌≡◌, ℕ, suc, ◌+◌, ◌-◌, ◌<◌, ◌≤◌, max, List, ◌∷◌, get_or, ap, sym, subst, arith}
+use Rattle.std.proofs.Common.{◌≡◌, ℕ, suc, ◌+◌, ◌-◌, ◌<◌, max, ◌∷◌, get_or, ap, subst, arith}
 use Rattle.pfs_base.specs.FlowShop.{time_of}
 use Rattle.pfs_exact.specs.Private.Nodes.{IsLeast}
 use Rattle.pfs_exact.proofs.Machines.{IsAfter, IsTail, after-le, after_max, after_on, after_rest, bound_behind_at}

@@ -1,4 +1,4 @@
-use Rattle.std.proofs.Common.{◌≡◌, ℕ, ◌+◌, List, true, false, sym, subst, arith}
+use Rattle.std.proofs.Common.{◌+◌, true, false, sym, subst, arith}
 use Rattle.pfs_exact.specs.Private.Nodes.{AreBounds, IsOpen}
 use Rattle.pfs_exact.proofs.Bounds.{bounds_none, bounds_set, bounds_skip}
 use Rattle.pfs_exact.proofs.children.children_of.Goals as goal
@@ -33,7 +33,7 @@ loop-job-preserved c =
           }
       | else-marks-job w ↦
           let shut = λ (outside : IsOpen front back job). let marked = c.open_of-marks.ensures.marked job (omega arith) outside in
-              let unmarked = w.if-marks-job.false in absurd cc in
+          let unmarked = w.if-marks-job.false in absurd cc in
           record {
             ahead = subst (AreBounds shop ends true (job + 1)) (sym w.ahead-is)
                 (bounds_skip shop ends true job c.loop-job.ahead shut invariant.ahead);

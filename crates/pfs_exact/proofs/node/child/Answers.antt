@@ -1,4 +1,4 @@
-use Rattle.std.proofs.Common.{◌-◌, [], ◌∷◌, ◌++◌, get_or, true, false, ap, sym, subst, arith}
+use Rattle.std.proofs.Common.{◌-◌, [], ◌∷◌, ◌++◌, get_or, ap, sym, subst, arith}
 use Rattle.pfs_base.specs.FlowShop.{time_of}
 use Rattle.pfs_exact.specs.declared.node.Node.{Node}
 use Rattle.pfs_exact.specs.Private.Nodes.{IsNode, IsRest, IsStart, put_of}

@@ -1,5 +1,4 @@
-use Rattle.std.proofs.Common.{◌≡◌, ℕ, ◌+◌, ◌≤◌, max, List, get_or, sym, subst, arith, add-one}
-use Rattle.pfs_base.specs.FlowShop.{time_of}
+use Rattle.std.proofs.Common.{ℕ, List, get_or, sym, subst, arith, add-one}
 use Rattle.pfs_exact.specs.Private.Nodes.{AreStarts}
 use Rattle.pfs_exact.proofs.Arrays.{partly_none, partly_more}
 use Rattle.pfs_exact.proofs.Machines.{IsBefore, IsEnd, before_zero, before_on, end_at, front_start}

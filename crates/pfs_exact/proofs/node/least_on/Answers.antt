@@ -1,4 +1,4 @@
-use Rattle.std.proofs.Common.{◌≡◌, ap, sym, ◌∙◌, subst, arith, inl, inr, false, true}
+use Rattle.std.proofs.Common.{◌≡◌, ap, subst, arith, inl, inr}
 use Rattle.std.proofs.lemmas.Bool.{cases_lt}
 use Rattle.pfs_base.specs.FlowShop.{time_of}
 use Rattle.pfs_exact.specs.Private.Nodes.{IsOpen}

@@ -1,5 +1,4 @@
 use Rattle.std.proofs.Common.{◌≤◌, arith, replicate}
-use Rattle.std.proofs.lemmas.List.{length-replicate}
 use Rattle.pfs_audit.specs.Bound.{load_of}
 use Rattle.pfs_exact.specs.declared.prove.TheConstants.{MOST_PROVED_MACHINES}
 use Rattle.pfs_exact.proofs.Arrays.{partly_none, partly_more}

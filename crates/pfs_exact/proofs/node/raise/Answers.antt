@@ -1,4 +1,4 @@
-use Rattle.std.proofs.Common.{◌≡◌, ℕ, suc, ◌+◌, ◌-◌, max, get_or, ap, sym, subst, arith}
+use Rattle.std.proofs.Common.{◌≡◌, ℕ, suc, ◌-◌, get_or, ap, subst, arith}
 use Rattle.pfs_exact.specs.Private.Nodes.{IsLeast, IsRest, IsStart}
 use Rattle.pfs_exact.proofs.Arrays.{each_set}
 use Rattle.pfs_exact.proofs.Machines.{start_on, rest_on}

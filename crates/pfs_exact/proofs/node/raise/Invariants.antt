@@ -1,4 +1,3 @@
-use Rattle.std.proofs.Common.{◌≤◌, length}
 use Rattle.pfs_exact.specs.Private.Nodes.{IsNode}
 use Rattle.pfs_exact.proofs.node.raise.Given as goal
 

@@ -1,4 +1,4 @@
-use Rattle.std.proofs.Common.{◌≡◌, ℕ, ◌≤◌, List, [], max, sym, subst, arith}
+use Rattle.std.proofs.Common.{subst, arith}
 use Rattle.pfs_exact.specs.declared.ends.Ends.{Ends}
 use Rattle.pfs_exact.specs.Private.Nodes.{NoneShorter}
 use Rattle.pfs_exact.proofs.Sides.{from_none}
