@@ -292,7 +292,7 @@ int pfs_rounds(struct pfs_instance *instance, const struct pfs_rounds_options *o
  * of orders that begin with some jobs and end with some; its time is O(nm). The search ends after `nodes` nodes. Unless
  * all of these are used, `left` is above 0, and the bound is the makespan: the order is optimal.
  *
- * A search that is called again with more nodes begins anew. Start it from the order that it found, which saves nodes.
+ * A call with more nodes searches from scratch. Start it from the order that the last call found, which saves nodes.
  *
  * @param[in,out] instance the instance, of at most 256 jobs and 64 machines
  * @param[in,out] order all jobs; the order to start from, then the best order found, which is no longer
