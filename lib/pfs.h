@@ -285,6 +285,28 @@ struct pfs_rounds_options {
 int pfs_rounds(struct pfs_instance *instance, const struct pfs_rounds_options *options, uint32_t *order,
                size_t order_length, uint64_t *makespan, uint64_t *cells) PFS_CHECKED;
 
+/** @brief Searches for the shortest order of a small instance, and proves a bound that no order is below. Allocates.
+ *
+ * The search is branch and bound from both ends of the order (Ladhari and Haouari 2005; Gmys, Mezmaz, Melab and Tuyttens
+ * 2020). It begins with the given order, any order of all jobs, which is replaced by the best one found. A node is a set
+ * of orders that begin with some jobs and end with some; its time is O(nm). The search ends after `nodes` nodes. Unless
+ * all of these are used, `left` is above 0, and the bound is the makespan: the order is optimal.
+ *
+ * A call with more nodes searches from scratch. Start it from the order that the last call found, which saves nodes.
+ *
+ * @param[in,out] instance the instance, of at most 256 jobs and 64 machines
+ * @param[in,out] order all jobs; the order to start from, then the best order found, which is no longer
+ * @param[in] order_length length of the order, which is the number of jobs
+ * @param[in] nodes the greatest number of nodes
+ * @param[out] makespan makespan of the best order found
+ * @param[out] bound no order of all jobs has a makespan below it; at least that of pfs_bound
+ * @param[out] left number of nodes that were not used
+ * @return PFS_OK, or the first of PFS_NOT_PREPARED (instance), PFS_LENGTH (order_length), PFS_JOB or PFS_REPEATED (the
+ *     jobs from the left), PFS_SIZE (more than 256 jobs or 64 machines), PFS_MEMORY
+ */
+int pfs_prove(struct pfs_instance *instance, uint32_t *order, size_t order_length, uint64_t nodes, uint64_t *makespan,
+              uint64_t *bound, uint64_t *left) PFS_CHECKED;
+
 /** @brief Finds the best place of a job in a sequence of other jobs. Time O(km).
  *
  * The best place is the first one that gives the least makespan. The job is inserted before the job at this place, or

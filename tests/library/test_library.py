@@ -24,7 +24,7 @@ CALLS = SUPPORT / "library_calls.c"
 # The functions that allocate nothing once their instance is prepared, those that do, and those that need none.
 QUIET = ["makespan", "makespans", "bound", "neh", "rounds", "insert", "insertions", "heads_tails", "construct",
          "local_search"]
-LOUD = ["table", "write"]
+LOUD = ["table", "prove", "write"]
 OTHERS = ["random", "generate", "read", "read_order", "write_order"]
 FUNCTIONS = [*QUIET, *LOUD, *OTHERS, "prepare", "release"]
 TEXTS = {"pfs_message", "pfs_version"}
@@ -322,6 +322,7 @@ def searches(random: Random, shop: Instance) -> list[Call]:
         ("pfs_rounds", [*given(shop), Memory(OPTIONS.pack(random.choice(fuzz.SEEDS[:-1]), random.randint(1, shop.jobs),
                                                           first, random.randint(0, 4), random.randint(0, 2))),
                         *list32(jobs), out64(), out64()]),
+        ("pfs_prove", [*given(shop), *list32(jobs), Number(0), out64(), out64(), out64()]),
         ("pfs_insert", [*given(shop), *list32(some), Number(jobs[-1], 32), out64(), out64()]),
         ("pfs_insertions", [*given(shop), *list32(some), Number(jobs[-1], 32), *list64([PATTERN] * (len(some) + 1))]),
         ("pfs_heads_tails", [*given(shop), *list32(some), *list64([PATTERN] * (len(some) * shop.machines)),
@@ -385,6 +386,8 @@ def is_quick(name: str, arguments: Arguments) -> bool:
     numbers = [argument.value for argument in arguments if isinstance(argument, Number)]
     if name == "pfs_random":
         return numbers[1] <= 10_000
+    if name == "pfs_prove":
+        return numbers[4] == 0
     if name == "pfs_rounds":
         options = [argument.content for argument in arguments if isinstance(argument, Memory)][1]
         _, take, first, count, passes = OPTIONS.unpack(options)

@@ -120,6 +120,9 @@ static int call_named(const char *name) {
         return due.cells = 36, finds_best(pfs_neh(shop, out.list, 3, &out.makespan, &out.cells));
     if (IS("rounds"))
         return due.cells = 80, finds_best(rounds(in_place(NUMBERED), 3, 0, 1, 1));
+    if (IS("prove"))
+        return due.bound = 10, due.cells = 7,
+               finds_best(pfs_prove(shop, in_place(BEST), 3, 7, &out.makespan, &out.bound, &out.cells));
     if (IS("insert"))
         return due.place = 2, due.makespan = 10, pfs_insert(shop, BEST, 2, 2, &out.place, &out.makespan);
     if (IS("insertions"))
@@ -156,10 +159,11 @@ static int call_named(const char *name) {
     return PFS_OK;
 }
 
-static const char *const NAMES[] = {"makespan", "makespans",  "bound",       "table",      "neh",          "rounds",
-                                    "insert",   "insertions", "heads_tails", "construct",  "local_search", "write",
-                                    "generate", "random",     "read",        "read_order", "write_order"};
-enum { ON_SHOP = 12 };
+static const char *const NAMES[] = {"makespan",    "makespans",  "bound",        "table", "neh",      "rounds",
+                                    "prove",       "insert",     "insertions",   "heads_tails",
+                                    "construct",   "local_search", "write",      "generate", "random", "read",
+                                    "read_order",  "write_order"};
+enum { ON_SHOP = 13 };
 
 /* What is wrong in a call on an instance, after the instance itself. */
 static void wrong_calls(void) {
@@ -175,6 +179,8 @@ static void wrong_calls(void) {
     CALL(PFS_TAKE, rounds(in_place(NUMBERED), 3, 0, 4, 101));
     CALL(PFS_PASSES, rounds(in_place(NUMBERED), 3, 0, 3, 101));
     CALL(PFS_ROUNDS, rounds(in_place(NUMBERED), 3, PFS_MOST_ROUNDS, 3, 100));
+    CALL(PFS_LENGTH, pfs_prove(shop, in_place(OUTSIDE), 2, 7, &out.makespan, &out.bound, &out.cells));
+    CALL(PFS_REPEATED, pfs_prove(shop, in_place(TWICE), 3, 7, &out.makespan, &out.bound, &out.cells));
     CALL(PFS_JOB, pfs_insert(shop, OUTSIDE, 3, 9, &out.place, &out.makespan));
     CALL(PFS_REPEATED, pfs_insert(shop, BEST, 2, 0, &out.place, &out.makespan));
     CALL(PFS_LENGTH, pfs_insertions(shop, OUTSIDE, 2, 9, out.makespans, 2));

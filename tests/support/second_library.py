@@ -172,6 +172,17 @@ def pfs_rounds(shop: Instance, options: bytearray, order: bytearray, length: int
     put64(cells, count * second_program.cells_of_round(shop, take, passes))
 
 
+def pfs_prove(shop: Instance, order: bytearray, length: int, nodes: int, span: bytearray, bound: bytearray,
+              left: bytearray) -> None:
+    """The search of no nodes."""
+    expect(length == shop.jobs, LENGTH)
+    given = distinct(shop.jobs, read32(order)[:length])
+    expect(shop.jobs <= 256 and shop.machines <= 64, SIZE)
+    put64(span, makespan(shop, given))
+    put64(bound, second_program.lower_bound(shop))
+    put64(left, nodes)
+
+
 def others_of(shop: Instance, sequence: bytearray, length: int, job: int) -> list[int]:
     """The sequence into which a job is to be inserted."""
     others = distinct(shop.jobs, read32(sequence)[:length])

@@ -6,6 +6,7 @@ pub mod Validation
 pub mod Many
 pub mod Numbers
 pub mod Private
+pub mod Proving
 pub mod Random
 pub mod Searching
 pub mod Tables

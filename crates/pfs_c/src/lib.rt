@@ -9,6 +9,7 @@ mod handle;
 mod kept;
 pub mod laws;
 mod numbers;
+mod proving;
 mod random;
 mod rows;
 mod searching;

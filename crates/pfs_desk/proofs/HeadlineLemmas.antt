@@ -22,6 +22,14 @@ use Rattle.pfs_desk.specs.Uses.{SinkUse}
 abbrev rejecting : LayoutFault → Result Outcome DeskFault
 rejecting fault = Err (faults.Layout fault)
 
+-- a block of a file contains only one problem
+pub one_problem : (layout : Layout) (file : List ℕ) (block : ℕ) → 1 ≤ block → (problem other : Problem)
+    → IsInstanceFile limits layout file block problem → IsInstanceFile limits layout file block other
+    → problem ≡ other
+one_problem layout file block some problem other holds holds_other = ⊎_elim
+    (λ accepted. accepted.0.no_other problem holds ∙ sym (accepted.0.no_other other holds_other))
+    (λ rejected. absurd (rejected.1 problem holds)) (one_verdict layout file block some)
+
 module _ (layout : Layout) (file : List ℕ) (block : ℕ) (some : 1 ≤ block) (options : SolveOptions)
     (reader_failed : Bool) (writer : SinkUse) where
   abbrev Is : Problem → Type 0
@@ -29,12 +37,6 @@ module _ (layout : Layout) (file : List ℕ) (block : ℕ) (some : 1 ≤ block) 
 
   abbrev IsResult : Result Outcome DeskFault → Type 0
   IsResult result = Solves layout file block options reader_failed writer result
-
-  -- a block of a file contains only one problem
-  one_problem : (problem other : Problem) → Is problem → Is other → problem ≡ other
-  one_problem problem other holds holds_other = ⊎_elim
-      (λ accepted. accepted.0.no_other problem holds ∙ sym (accepted.0.no_other other holds_other))
-      (λ rejected. absurd (rejected.1 problem holds)) (one_verdict layout file block some)
 
   -- a block that contains a problem is not rejected
   not_both : (problem : Problem) (fault : LayoutFault) → Is problem → RejectsInstance layout file block fault → ⊥
@@ -46,7 +48,7 @@ module _ (layout : Layout) (file : List ℕ) (block : ℕ) (some : 1 ≤ block) 
       → take_for options.take other.shop.jobs ≤ other.shop.jobs → options.take ≡ Some asked
       → problem.shop.jobs < asked → ⊥
   too_many_taken problem other asked holds holds_other few is above =
-      let same = ap (λ (p : Problem). p.shop.jobs) (one_problem problem other holds holds_other) in
+      let same = ap (λ (p : Problem). p.shop.jobs) (one_problem layout file block some problem other holds holds_other) in
       let taken : asked ≤ other.shop.jobs = rw is at few in
       omega arith
 
@@ -55,7 +57,7 @@ module _ (layout : Layout) (file : List ℕ) (block : ℕ) (some : 1 ≤ block) 
       → take_for options.take problem.shop.jobs ≤ problem.shop.jobs
       → (RunsOn reader_failed writer.failed result → PrintsSolution problem options writer result) → IsResult result
   held {result} problem holds within prints = record {
-    accepted = λ other holds_other few runs. rw (← one_problem problem other holds holds_other) (prints runs);
+    accepted = λ other holds_other few runs. rw (← one_problem layout file block some problem other holds holds_other) (prints runs);
     rejected = λ fault rejects reads. absurd (not_both problem fault holds rejects);
     too_many = λ other asked holds_other is above reads.
         absurd (too_many_taken other problem asked holds_other holds within is above);
@@ -95,7 +97,7 @@ module _ (layout : Layout) (file : List ℕ) (block : ℕ) (some : 1 ≤ block) 
         rejected.above.1);
     rejected = λ reported rejects reads. absurd (not_both rejected.problem reported rejected.holds rejects);
     too_many = λ problem asked holds is above reads. record {
-      reported = cc (one_problem rejected.problem problem rejected.holds holds, rejected.above.0, rejected.above.2);
+      reported = cc (one_problem layout file block some rejected.problem problem rejected.holds holds, rejected.above.0, rejected.above.2);
       kept = nothing.kept;
     };
   }

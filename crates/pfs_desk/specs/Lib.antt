@@ -2,6 +2,7 @@ pub mod Engine
 pub mod FaultText
 pub mod FileState
 pub mod Headline
+pub mod Laws
 pub mod OutputText
 pub mod Private
 pub mod Program

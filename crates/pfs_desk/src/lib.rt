@@ -5,6 +5,7 @@ mod dispatch;
 mod engines;
 pub mod fault;
 mod files;
+pub mod laws;
 mod program;
 mod stop;
 

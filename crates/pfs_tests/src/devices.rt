@@ -235,8 +235,16 @@ fn many_bytes_are_read_and_written_by_one_call_of_std(rt: HostRuntime) {
     let none = (reader.read(&mut []).is_ok(), writer.write(b"").is_ok());
     let read = FromRead::new(&mut reader).read(&mut [0; 5000]);
     let written = ToWrite::new(&mut writer).write(&[b'x'; 5000]);
-    assert_in(&rt, none == (true, true) && (read, written) == (Some(5000), Some(5000)), 0);
-    assert_in(&rt, FromRead::new(&mut &b"abc"[..]).read(&mut [0; 4]) == Some(3), 1);
+    assert_in(
+        &rt,
+        none == (true, true) && (read, written) == (Some(5000), Some(5000)),
+        0,
+    );
+    assert_in(
+        &rt,
+        FromRead::new(&mut &b"abc"[..]).read(&mut [0; 4]) == Some(3),
+        1,
+    );
 }
 
 // Writes a text to a sink that takes this many bytes a call. Returns the result and the number of calls.

@@ -82,6 +82,6 @@ passes_law shop list jobs passes sequence among = (passes_keep shop jobs sequenc
 pub pass_law : PassLaw
 pass_law shop jobs distinct full =
     passes_law shop (all_jobs shop.jobs) jobs (suc zero) distinct (λ k d lt.
-      let small : k < shop.jobs = omega (arith, length-all_jobs shop.jobs) in
-      let is : get_or (all_jobs shop.jobs) k d ≡ k = omega (arith, get_or-range_with_len 0 shop.jobs k d small) in
-      rw is (Contains-all shop.jobs k jobs distinct full small))
+    let small : k < shop.jobs = omega (arith, length-all_jobs shop.jobs) in
+    let is : get_or (all_jobs shop.jobs) k d ≡ k = omega (arith, get_or-range_with_len 0 shop.jobs k d small) in
+    rw is (Contains-all shop.jobs k jobs distinct full small))

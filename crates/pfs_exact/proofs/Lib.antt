@@ -1,0 +1,5 @@
+mod Arrays
+mod Bounds
+mod Heads
+mod Machines
+mod Sides

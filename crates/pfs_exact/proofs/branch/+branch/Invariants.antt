@@ -1,0 +1,19 @@
+use Rattle.std.proofs.Common.{◌≡◌, ◌+◌, ◌-◌, ◌<◌, ◌≤◌, length}
+use Rattle.pfs_exact.specs.Private.Nodes.{AreBounds, IsWork}
+use Rattle.pfs_exact.proofs.branch.+branch.Given as goal
+
+abbrev pub decreases-branch : goal.decreases-branch
+decreases-branch l =
+    l.instance.now.shop.jobs - (length l.work.now.ends.front.jobs + length l.work.now.ends.back.jobs)
+
+abbrev pub invariant-each : goal.invariant-each
+invariant-each l = record {
+  work : IsWork l.instance.shop l.work;
+  ends : l.work.ends ≡ l.fn.work.ends;
+  no_longer : l.work.makespan ≤ l.fn.work.makespan;
+  left : l.work.left < l.fn.work.left;
+  bounds : AreBounds l.instance.shop l.fn.work.ends l.children.forward l.instance.shop.jobs l.children.bounds;
+}
+
+abbrev pub decreases-each : goal.decreases-each
+decreases-each l = l.work.left

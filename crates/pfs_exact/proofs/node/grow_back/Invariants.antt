@@ -1,0 +1,15 @@
+use Rattle.std.proofs.Common.{ℕ, ◌-◌, ◌<◌, ◌∷◌, List}
+use Rattle.pfs_exact.specs.Private.Nodes.{AreRests, IsRest}
+use Rattle.pfs_exact.proofs.Arrays.{Partly}
+use Rattle.pfs_exact.proofs.Machines.{IsAfter}
+use Rattle.pfs_exact.proofs.node.grow_back.Given as goal
+
+abbrev pub invariant-loop-turn : goal.invariant-loop-turn
+invariant-loop-turn l =
+    let shop = l.instance.shop in
+    record {
+      after : l.turn < shop.machines → (front back : List ℕ) → AreRests shop front back l.fn.rests
+          → IsAfter shop front l.job back (shop.machines - 1 - l.turn) l.after;
+      rests : Partly (λ turn time. (front back : List ℕ) → AreRests shop front back l.fn.rests
+          → IsRest shop front (l.job ∷ back) (shop.machines - 1 - turn) time) shop.machines l.turn l.fn.rests l.rests;
+    }

@@ -1,0 +1,138 @@
+-- Orders that begin and end with some jobs, how short they can be, and what a node of the search keeps of them. Jobs and
+-- machines count from 0.
+use Rattle.std.specs.Prelude.{◌≡◌, ℕ, zero, suc, Bool, true, false, ◌+◌, ◌-◌, ◌<◌, ◌≤◌, List, [], ◌∷◌, ◌++◌, length}
+use Rattle.std.specs.Prelude.{slice_index, slice_index_or, remove, sum_by, Contains}
+use Rattle.pfs_base.specs.FlowShop.{FlowShop, time_of}
+use Rattle.pfs_base.specs.Paths.{heaviest, operation, makespan}
+use Rattle.pfs_order.specs.Sequence.{IsSequence}
+use Rattle.pfs_audit.specs.Bound.{IsLowerBound}
+use Rattle.pfs_exact.specs.declared.branch.Work.{Work}
+use Rattle.pfs_exact.specs.declared.children.TheConstants.{CLOSED}
+use Rattle.pfs_exact.specs.declared.ends.Ends.{Ends}
+use Rattle.pfs_exact.specs.declared.node.Node.{Node}
+
+-- when the first `rows` jobs are done on a machine, where each operation begins as soon as it can
+abbrev pub head_of : FlowShop → List ℕ → ℕ → ℕ → ℕ
+head_of shop jobs zero machine = 0
+head_of shop jobs (suc row) machine = heaviest (operation shop jobs) 0 0 row machine
+
+-- the sum of the times of some jobs on a machine
+abbrev pub times_on : FlowShop → ℕ → List ℕ → ℕ
+times_on shop machine jobs = sum_by (λ job. time_of shop job machine) jobs
+
+-- the heads of the first rows
+abbrev pub AreHeads : FlowShop → List ℕ → ℕ → List ℕ → Type 0
+AreHeads shop jobs rows heads =
+    (machine : ℕ) → machine < shop.machines → slice_index heads machine ≡ head_of shop jobs rows machine
+
+-- the first jobs, those between and the last ones are all jobs
+pub record IsFull (shop : FlowShop) (front middle back : List ℕ) : Type 0 where
+  pub sequence : IsSequence shop.jobs (front ++ (middle ++ back))
+  pub full : length (front ++ (middle ++ back)) ≡ shop.jobs
+
+-- each order of all jobs that begins and ends with these has a makespan of at least this number
+abbrev pub NoneShorter : FlowShop → List ℕ → List ℕ → ℕ → Type 0
+NoneShorter shop front back number =
+    (middle : List ℕ) → IsFull shop front middle back → number ≤ makespan shop (front ++ (middle ++ back))
+
+-- a job is at neither end
+abbrev pub IsOpen : List ℕ → List ℕ → ℕ → Type 0
+IsOpen front back job = (Contains front job → ⊥) × (Contains back job → ⊥)
+
+-- ---- bounds on a machine
+
+-- the job after the first ones starts on the machine no sooner than at this time
+abbrev pub IsStart : FlowShop → List ℕ → List ℕ → ℕ → ℕ → Type 0
+IsStart shop front back machine time = (job : ℕ) (more : List ℕ) → IsFull shop front (job ∷ more) back
+    → time + time_of shop job machine ≤ head_of shop (front ++ (job ∷ (more ++ back))) (suc (length front)) machine
+
+-- from the time when the machine is done with the jobs between, there is at least this time to the end
+abbrev pub IsRest : FlowShop → List ℕ → List ℕ → ℕ → ℕ → Type 0
+IsRest shop front back machine time = (middle : List ℕ) → IsFull shop front middle back
+    → head_of shop (front ++ (middle ++ back)) (length front + length middle) machine + time
+    ≤ makespan shop (front ++ (middle ++ back))
+
+-- the jobs between take at least this time on the machine
+abbrev pub IsLeft : FlowShop → List ℕ → List ℕ → ℕ → ℕ → Type 0
+IsLeft shop front back machine time = (middle : List ℕ) → IsFull shop front middle back → time ≤ times_on shop machine middle
+
+-- each job between takes at least this time on the machine; the time is 0 if there is only one
+pub record IsLeast (shop : FlowShop) (front back : List ℕ) (machine time : ℕ) : Type 0 where
+  pub one : (job : ℕ) → IsFull shop front (job ∷ []) back → time ≡ 0
+  pub every : (job : ℕ) → job < shop.jobs → IsOpen front back job → time ≤ time_of shop job machine
+
+-- the first numbers of a list, one for each machine
+abbrev pub Each : (ℕ → ℕ → Type 0) → ℕ → List ℕ → Type 0
+Each Is machines times = (machine : ℕ) → machine < machines → Is machine (slice_index times machine)
+
+abbrev pub AreStarts : FlowShop → List ℕ → List ℕ → List ℕ → Type 0
+AreStarts shop front back starts = Each (IsStart shop front back) shop.machines starts
+
+-- from the last machine on
+abbrev pub AreRests : FlowShop → List ℕ → List ℕ → List ℕ → Type 0
+AreRests shop front back rests = Each (λ turn. IsRest shop front back (shop.machines - 1 - turn)) shop.machines rests
+
+abbrev pub AreLeft : FlowShop → List ℕ → List ℕ → List ℕ → Type 0
+AreLeft shop front back left = Each (IsLeft shop front back) shop.machines left
+
+abbrev pub AreLeast : FlowShop → List ℕ → List ℕ → List ℕ → Type 0
+AreLeast shop front back least = Each (IsLeast shop front back) shop.machines least
+
+pub record IsNode (shop : FlowShop) (front back : List ℕ) (node : Node) : Type 0 where
+  pub starts : AreStarts shop front back node.starts
+  pub rests : AreRests shop front back node.rests
+  pub left : AreLeft shop front back node.left
+
+-- ---- the ends
+
+-- the ends with one more job, after the first jobs or before the last
+abbrev pub put_of : Bool → Ends → ℕ → Ends
+put_of true ends job = record ends { front = record ends.front { jobs = ends.front.jobs ++ job ∷ [] } }
+put_of false ends job = record ends { back = record ends.back { jobs = job ∷ ends.back.jobs } }
+
+-- the ends without the job that was put last
+abbrev pub taken_of : Bool → Ends → Ends
+taken_of true ends = record ends {
+  front = record ends.front { jobs = remove ends.front.jobs (length ends.front.jobs - 1) };
+}
+taken_of false ends = record ends { back = record ends.back { jobs = remove ends.back.jobs 0 } }
+
+-- the end that grows has a job
+abbrev pub IsSome : Bool → Ends → Type 0
+IsSome true ends = 1 ≤ length ends.front.jobs
+IsSome false ends = 1 ≤ length ends.back.jobs
+
+-- both ends are of this many jobs, and no job is in both
+pub record AreEnds (size : ℕ) (ends : Ends) : Type 0 where
+  pub front : ends.front.size ≡ size
+  pub back : ends.back.size ≡ size
+  pub sequence : IsSequence size (ends.front.jobs ++ ends.back.jobs)
+
+-- the marks of the jobs at neither end
+pub record AreOpen (size : ℕ) (ends : Ends) (marks : List Bool) : Type 0 where
+  pub marked : (job : ℕ) → job < size → IsOpen ends.front.jobs ends.back.jobs job → slice_index_or marks job false ≡ true
+  pub only : (job : ℕ) → job < size → slice_index_or marks job false ≡ true → IsOpen ends.front.jobs ends.back.jobs job
+
+-- the orders with one more job at an end, and a number that none of them is shorter than
+abbrev pub IsChild : FlowShop → Ends → Bool → ℕ → ℕ → Type 0
+IsChild shop ends forward job number =
+    NoneShorter shop (put_of forward ends job).front.jobs (put_of forward ends job).back.jobs number
+
+-- such a number for each of `many` jobs at neither end; those of all others are `CLOSED`
+pub record AreBounds (shop : FlowShop) (ends : Ends) (forward : Bool) (many : ℕ) (bounds : List ℕ) : Type 0 where
+  pub every : shop.jobs ≤ length bounds
+  pub low : (job : ℕ) → job < many → IsOpen ends.front.jobs ends.back.jobs job
+      → IsChild shop ends forward job (slice_index bounds job)
+  pub closed : (job : ℕ) → job < shop.jobs → slice_index bounds job < CLOSED
+      → IsOpen ends.front.jobs ends.back.jobs job
+
+-- ---- the search
+
+-- the best order has all jobs and this makespan, and no order is shorter than the floor
+pub record IsWork (shop : FlowShop) (work : Work) : Type 0 where
+  pub ends : AreEnds shop.jobs work.ends
+  pub size : work.best.size ≡ shop.jobs
+  pub room : work.spare.size ≡ shop.jobs
+  pub full : length work.best.jobs ≡ shop.jobs
+  pub exact : work.makespan ≡ makespan shop work.best.jobs
+  pub floor : IsLowerBound shop work.floor

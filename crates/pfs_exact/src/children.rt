@@ -1,0 +1,144 @@
+//! The nodes with one more job at an end, and numbers that none of their orders is shorter than.
+ghost use Rattle.std.specs.Prelude.{◌≡◌, ℕ, ◌+◌, ◌<◌, ◌≤◌, List, [], ◌∷◌, ◌++◌, length, slice_index};
+ghost use Rattle.pfs_audit.specs.Bound.{IsLowerBound};
+ghost use Rattle.pfs_exact.specs.Private.Nodes.{AreBounds, AreEnds, AreLeast, IsNode, NoneShorter};
+
+use crate::ends::{Ends, open_of};
+use crate::node::{Node, least_times, plus, raise};
+use crate::prove::{MOST_PROVED_JOBS, MOST_PROVED_MACHINES};
+use pfs_base::Instance;
+
+// The number of a job that is at an end.
+pub(crate) const CLOSED: u64 = 18_446_744_073_709_551_615;
+
+// Whether the nodes have one more of the first jobs, or of the last; and job by job a number that none of the orders is
+// shorter than.
+#[derive(Clone, Copy)]
+pub(crate) struct Children {
+    pub(crate) forward: bool,
+    pub(crate) bounds: [u64; MOST_PROVED_JOBS],
+}
+
+// The children of a node that has some, at the end at which fewer of them have the least number (Gmys and others 2020),
+// or else at which their numbers have the greater sum.
+pub(crate) fn children_of(instance: &Instance, ends: &Ends, floor: u64, node: &mut Node) -> Children
+    requires jobs { instance.now.shop.jobs ≤ MOST_PROVED_JOBS }
+    requires machines { instance.now.shop.machines ≤ MOST_PROVED_MACHINES }
+    requires ends { AreEnds instance.now.shop.jobs ends.now }
+    requires some { length ends.now.front.jobs + length ends.now.back.jobs < instance.now.shop.jobs }
+    requires node { IsNode instance.now.shop ends.now.front.jobs ends.now.back.jobs node.old }
+    requires floor { IsLowerBound instance.now.shop floor }
+    ensures node { IsNode instance.now.shop ends.now.front.jobs ends.now.back.jobs node.new }
+    ensures bounds { AreBounds instance.now.shop ends.now result.forward instance.now.shop.jobs result.bounds }
+{
+    let marks = open_of(instance, ends);
+    let least = least_times(instance, ends, &marks);
+    raise(instance, ends, &least, node);
+    let mut ahead = [CLOSED; MOST_PROVED_JOBS];
+    let mut behind = [CLOSED; MOST_PROVED_JOBS];
+    for job in 0..instance.jobs() {
+        if marks[job] {
+            ahead[job] = bound_ahead(instance, node, &least, floor, job);
+            behind[job] = bound_behind(instance, node, &least, floor, job);
+        }
+    }
+    if is_forward(&ahead, &behind, instance.jobs()) {
+        Children {
+            forward: true,
+            bounds: ahead,
+        }
+    } else {
+        Children {
+            forward: false,
+            bounds: behind,
+        }
+    }
+}
+
+// Which end to grow. The search is right either way.
+fn is_forward(
+    ahead: &[u64; MOST_PROVED_JOBS],
+    behind: &[u64; MOST_PROVED_JOBS],
+    jobs: usize,
+) -> bool
+    requires { jobs ≤ MOST_PROVED_JOBS }
+{
+    let mut low = CLOSED;
+    for job in 0..jobs {
+        low = low.min(ahead[job]).min(behind[job]);
+    }
+    let mut fronts: u64 = 0;
+    let mut backs: u64 = 0;
+    let mut front_sum: u64 = 0;
+    let mut back_sum: u64 = 0;
+    for job in 0..jobs {
+        fronts = fronts.wrapping_add(u64::from(ahead[job] == low));
+        backs = backs.wrapping_add(u64::from(behind[job] == low));
+        front_sum = front_sum.wrapping_add(ahead[job]);
+        back_sum = back_sum.wrapping_add(behind[job]);
+    }
+    fronts < backs || (fronts == backs && front_sum >= back_sum)
+}
+
+// A number that no order is shorter than which has a job after the first ones: on each machine, the earliest time at which
+// the job after it starts, the times of the jobs between without it, and the rest.
+fn bound_ahead(
+    instance: &Instance,
+    node: &Node,
+    least: &[u64; MOST_PROVED_MACHINES],
+    floor: u64,
+    job: usize,
+) -> u64
+    requires machines { instance.now.shop.machines ≤ MOST_PROVED_MACHINES }
+    requires job { job < instance.now.shop.jobs }
+    requires floor { IsLowerBound instance.now.shop floor }
+    ensures { (front back : List ℕ) → IsNode instance.now.shop front back node.now
+        → AreLeast instance.now.shop front back least.now
+        → NoneShorter instance.now.shop (front ++ job ∷ []) back result }
+{
+    let machines = instance.machines();
+    let mut most = floor;
+    let mut before: u64 = 0;
+    let mut next: u64 = 0;
+    for machine in 0..machines {
+        let time = u64::from(instance.time(job, machine));
+        before = plus(before.max(node.starts[machine]), time);
+        next = next.max(before);
+        let rest = plus(node.left[machine], node.rests[machines - 1 - machine]);
+        most = most.max(plus(next, rest).saturating_sub(time));
+        next = plus(next, least[machine]);
+    }
+    most
+}
+
+// The same of the orders that have a job before the last ones: on each machine, the earliest time at which a job between
+// starts, the times of those without this one, and the rest from its start on.
+fn bound_behind(
+    instance: &Instance,
+    node: &Node,
+    least: &[u64; MOST_PROVED_MACHINES],
+    floor: u64,
+    job: usize,
+) -> u64
+    requires machines { instance.now.shop.machines ≤ MOST_PROVED_MACHINES }
+    requires job { job < instance.now.shop.jobs }
+    requires floor { IsLowerBound instance.now.shop floor }
+    ensures { (front back : List ℕ) → IsNode instance.now.shop front back node.now
+        → AreLeast instance.now.shop front back least.now
+        → NoneShorter instance.now.shop front (job ∷ back) result }
+{
+    let machines = instance.machines();
+    let mut most = floor;
+    let mut after: u64 = 0;
+    let mut last: u64 = 0;
+    for turn in 0..machines {
+        let machine = machines - 1 - turn;
+        let time = u64::from(instance.time(job, machine));
+        after = plus(after.max(node.rests[turn]), time);
+        last = last.max(after);
+        let rest = plus(node.left[machine], node.starts[machine]);
+        most = most.max(plus(last, rest).saturating_sub(time));
+        last = plus(last, least[machine]);
+    }
+    most
+}

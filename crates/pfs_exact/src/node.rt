@@ -1,0 +1,189 @@
+//! What is known of the orders of a node, machine by machine.
+ghost use Rattle.std.specs.Prelude.{◌≡◌, ℕ, ◌+◌, ◌-◌, ◌<◌, ◌≤◌, List, [], ◌∷◌, ◌++◌, length, slice_index};
+ghost use Rattle.pfs_base.specs.FlowShop.{time_of};
+ghost use Rattle.pfs_audit.specs.Bound.{load_of};
+ghost use Rattle.pfs_exact.specs.Private.Nodes.{AreEnds, AreLeast, AreLeft, AreOpen, AreRests, AreStarts};
+ghost use Rattle.pfs_exact.specs.Private.Nodes.{IsNode, IsOpen, put_of};
+ghost use Rattle.pfs_exact.specs.declared.ends.Ends.{Ends};
+
+use crate::ends::Ends;
+use crate::prove::{MOST_PROVED_JOBS, MOST_PROVED_MACHINES};
+use pfs_base::Instance;
+
+// Machine by machine: a time before which the next job does not start; the time from the end of the jobs between to the
+// end of the order, from the last machine on; and the times of the jobs between. Each is a lower bound.
+#[derive(Clone, Copy)]
+pub(crate) struct Node {
+    pub(crate) starts: [u64; MOST_PROVED_MACHINES],
+    pub(crate) rests: [u64; MOST_PROVED_MACHINES],
+    pub(crate) left: [u64; MOST_PROVED_MACHINES],
+}
+
+// The sum, or less if it does not fit, as of any lower bounds.
+pub(crate) fn plus(one: u64, other: u64) -> u64
+    ensures { result ≤ one + other }
+{
+    one.wrapping_add(other)
+}
+
+// The node of all orders.
+pub(crate) fn root(instance: &Instance) -> Node
+    requires { instance.now.shop.machines ≤ MOST_PROVED_MACHINES }
+    ensures { IsNode instance.now.shop [] [] result }
+{
+    Node {
+        starts: [0; MOST_PROVED_MACHINES],
+        rests: [0; MOST_PROVED_MACHINES],
+        left: loads_of(instance),
+    }
+}
+
+// The loads of the machines.
+fn loads_of(instance: &Instance) -> [u64; MOST_PROVED_MACHINES]
+    requires { instance.now.shop.machines ≤ MOST_PROVED_MACHINES }
+    ensures { (machine : ℕ) → machine < instance.now.shop.machines
+        → slice_index result machine ≤ load_of instance.now.shop machine }
+{
+    let mut loads = [0; MOST_PROVED_MACHINES];
+    for machine in 0..instance.machines() {
+        loads[machine] = load_on(instance, machine);
+    }
+    loads
+}
+
+// The load of a machine.
+fn load_on(instance: &Instance, machine: usize) -> u64
+    requires { machine < instance.now.shop.machines }
+    ensures { result ≤ load_of instance.now.shop machine }
+{
+    let mut load: u64 = 0;
+    for job in 0..instance.jobs() {
+        load = plus(load, u64::from(instance.time(job, machine)));
+    }
+    load
+}
+
+// The node with one more job at an end.
+pub(crate) fn child(instance: &Instance, node: &Node, forward: bool, job: usize) -> Node
+    requires machines { instance.now.shop.machines ≤ MOST_PROVED_MACHINES }
+    requires job { job < instance.now.shop.jobs }
+    ensures { (ends : Ends) → IsNode instance.now.shop ends.front.jobs ends.back.jobs node.now
+        → IsNode instance.now.shop (put_of forward ends job).front.jobs (put_of forward ends job).back.jobs result }
+{
+    let mut next = *node;
+    if forward {
+        grow_front(instance, &mut next.starts, job);
+    } else {
+        grow_back(instance, &mut next.rests, job);
+    }
+    leave(instance, &mut next.left, job);
+    next
+}
+
+// The starts after one more of the first jobs.
+fn grow_front(instance: &Instance, starts: &mut [u64; MOST_PROVED_MACHINES], job: usize)
+    requires machines { instance.now.shop.machines ≤ MOST_PROVED_MACHINES }
+    requires job { job < instance.now.shop.jobs }
+    ensures { (front back : List ℕ) → AreStarts instance.now.shop front back starts.old
+        → AreStarts instance.now.shop (front ++ job ∷ []) back starts.new }
+{
+    let mut before: u64 = 0;
+    for machine in 0..instance.machines() {
+        before = plus(
+            before.max(starts[machine]),
+            u64::from(instance.time(job, machine)),
+        );
+        starts[machine] = before;
+    }
+}
+
+// The rests before one more of the last jobs.
+fn grow_back(instance: &Instance, rests: &mut [u64; MOST_PROVED_MACHINES], job: usize)
+    requires machines { instance.now.shop.machines ≤ MOST_PROVED_MACHINES }
+    requires job { job < instance.now.shop.jobs }
+    ensures { (front back : List ℕ) → AreRests instance.now.shop front back rests.old
+        → AreRests instance.now.shop front (job ∷ back) rests.new }
+{
+    let machines = instance.machines();
+    let mut after: u64 = 0;
+    for turn in 0..machines {
+        after = plus(
+            after.max(rests[turn]),
+            u64::from(instance.time(job, machines - 1 - turn)),
+        );
+        rests[turn] = after;
+    }
+}
+
+// The times of the jobs between without a job.
+fn leave(instance: &Instance, left: &mut [u64; MOST_PROVED_MACHINES], job: usize)
+    requires machines { instance.now.shop.machines ≤ MOST_PROVED_MACHINES }
+    requires job { job < instance.now.shop.jobs }
+    ensures { (machine : ℕ) → machine < instance.now.shop.machines
+        → slice_index left.new machine ≤ slice_index left.old machine - time_of instance.now.shop job machine }
+{
+    for machine in 0..instance.machines() {
+        left[machine] = left[machine].saturating_sub(u64::from(instance.time(job, machine)));
+    }
+}
+
+// The least times of the jobs between.
+pub(crate) fn least_times(
+    instance: &Instance,
+    ends: &Ends,
+    marks: &[bool; MOST_PROVED_JOBS],
+) -> [u64; MOST_PROVED_MACHINES]
+    requires jobs { instance.now.shop.jobs ≤ MOST_PROVED_JOBS }
+    requires machines { instance.now.shop.machines ≤ MOST_PROVED_MACHINES }
+    requires ends { AreEnds instance.now.shop.jobs ends.now }
+    requires marks { AreOpen instance.now.shop.jobs ends.now marks.now }
+    ensures { AreLeast instance.now.shop ends.now.front.jobs ends.now.back.jobs result }
+{
+    let mut least = [0; MOST_PROVED_MACHINES];
+    if ends.front.len() + ends.back.len() + 1 < instance.jobs() {
+        for machine in 0..instance.machines() {
+            least[machine] = least_on(instance, marks, machine);
+        }
+    }
+    least
+}
+
+// The least time of the jobs between on a machine.
+fn least_on(instance: &Instance, marks: &[bool; MOST_PROVED_JOBS], machine: usize) -> u64
+    requires jobs { instance.now.shop.jobs ≤ MOST_PROVED_JOBS }
+    requires machine { machine < instance.now.shop.machines }
+    ensures { (ends : Ends) → AreOpen instance.now.shop.jobs ends marks.now
+        → (job : ℕ) → job < instance.now.shop.jobs → IsOpen ends.front.jobs ends.back.jobs job
+        → result ≤ time_of instance.now.shop job machine }
+{
+    let mut least = u64::MAX;
+    for job in 0..instance.jobs() {
+        let time = u64::from(instance.time(job, machine));
+        least = least.min(if marks[job] { time } else { u64::MAX });
+    }
+    least
+}
+
+// Raises a node's times by the least times of the jobs between, of which there is one.
+pub(crate) fn raise(
+    instance: &Instance,
+    ends: &Ends,
+    least: &[u64; MOST_PROVED_MACHINES],
+    node: &mut Node,
+)
+    requires machines { instance.now.shop.machines ≤ MOST_PROVED_MACHINES }
+    requires some { length ends.now.front.jobs + length ends.now.back.jobs < instance.now.shop.jobs }
+    requires least { AreLeast instance.now.shop ends.now.front.jobs ends.now.back.jobs least.now }
+    requires node { IsNode instance.now.shop ends.now.front.jobs ends.now.back.jobs node.old }
+    ensures { IsNode instance.now.shop ends.now.front.jobs ends.now.back.jobs node.new }
+{
+    let machines = instance.machines();
+    for machine in 1..machines {
+        node.starts[machine] = node.starts[machine].max(plus(
+            node.starts[machine - 1],
+            least[machine - 1],
+        ));
+        let other = machines - machine;
+        node.rests[machine] = node.rests[machine].max(plus(node.rests[machine - 1], least[other]));
+    }
+}

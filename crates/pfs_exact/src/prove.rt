@@ -1,0 +1,105 @@
+//! The search of a user.
+ghost use Rattle.std.specs.Prelude.{◌≡◌, ℕ, ◌<◌, ◌≤◌, [], length, IfOk, OnErr};
+ghost use Rattle.pfs_base.specs.Paths.{makespan};
+ghost use Rattle.pfs_audit.specs.Bound.{bound_of, IsLowerBound};
+ghost use Rattle.pfs_exact.specs.Private.Nodes.{IsWork};
+
+use crate::branch::{Work, branch, span_of};
+use crate::ends::Ends;
+use crate::node::root;
+use pfs_audit::bound;
+use pfs_base::Instance;
+use pfs_order::{Order, OrderFault, Seq};
+use std::alloc::{AllocError, Global};
+
+/// The greatest number of jobs: the search calls itself once for each job of an order, on a stack of 2 MiB.
+pub const MOST_PROVED_JOBS: usize = 256;
+
+/// The greatest number of machines.
+pub const MOST_PROVED_MACHINES: usize = 64;
+
+/// What a search proved.
+#[derive(Clone, Copy, Debug)]
+pub struct Proved {
+    /// The makespan of the order that was found.
+    pub makespan: u64,
+    /// No order of all jobs has a makespan below this number. If it is the makespan, the order is optimal.
+    pub bound: u64,
+    /// The nodes that are left of the budget.
+    pub left: u64,
+}
+
+/// Searches for a shorter order, and for a proof that there is none (branch and bound from both ends: Ladhari and Haouari
+/// 2005; Gmys, Mezmaz, Melab and Tuyttens 2020). A node is a set of orders that begin with some jobs and end with some; at
+/// most `nodes` of them are searched. Unless all of these are used, the order that was found is optimal. The only error is
+/// that memory for four sequences could not be allocated, before the search begins; then the order is as it was.
+pub fn prove_order(
+    alloc: Global,
+    instance: &Instance,
+    order: &mut Order,
+    nodes: u64,
+) -> Result<Proved, AllocError>
+    requires jobs { instance.now.shop.jobs ≤ MOST_PROVED_JOBS }
+    requires machines { instance.now.shop.machines ≤ MOST_PROVED_MACHINES }
+    requires full { length order.old ≡ instance.now.shop.jobs }
+    ensures full { length order.new ≡ length order.old }
+    ensures no_longer { makespan instance.now.shop order.new ≤ makespan instance.now.shop order.old }
+    ensures exact { IfOk result (λ proved. proved.makespan ≡ makespan instance.now.shop order.new) }
+    ensures low { IfOk result (λ proved. IsLowerBound instance.now.shop proved.bound) }
+    ensures raised { IfOk result (λ proved. bound_of instance.now.shop ≤ proved.bound) }
+    ensures ended { IfOk result (λ proved. proved.bound < proved.makespan → proved.left ≡ 0) }
+    ensures budget { IfOk result (λ proved. proved.left ≤ nodes) }
+    ensures kept { OnErr result (order.new ≡ order.old) }
+{
+    let floor = bound(instance);
+    let Ok(mut work) = work_of(alloc, instance, order, floor, nodes) else {
+        return Err(AllocError);
+    };
+    let mut low = floor;
+    if floor < work.makespan && nodes > 0 {
+        let mut node = root(instance);
+        low = low.max(branch(instance, &mut work, &mut node));
+    }
+    order.copy_from(&work.best);
+    Ok(Proved {
+        makespan: work.makespan,
+        bound: low,
+        left: work.left,
+    })
+}
+
+// All memory of a search that begins with an order.
+fn work_of(
+    alloc: Global,
+    instance: &Instance,
+    order: &Order,
+    floor: u64,
+    nodes: u64,
+) -> Result<Work, OrderFault>
+    requires machines { instance.now.shop.machines ≤ MOST_PROVED_MACHINES }
+    requires full { length order.now ≡ instance.now.shop.jobs }
+    requires floor { IsLowerBound instance.now.shop floor }
+    ensures work { IfOk result (λ work. IsWork instance.now.shop work) }
+    ensures ends { IfOk result (λ work. work.ends ≡ record {
+      front = record { size = instance.now.shop.jobs; jobs = [] };
+      back = record { size = instance.now.shop.jobs; jobs = [] };
+    }) }
+    ensures makespan { IfOk result (λ work. work.makespan ≡ makespan instance.now.shop order.now) }
+    ensures floor { IfOk result (λ work. work.floor ≡ floor) }
+    ensures nodes { IfOk result (λ work. work.left ≡ nodes) }
+{
+    let front = Seq::new(alloc, instance.jobs())?;
+    let back = Seq::new(alloc, instance.jobs())?;
+    let spare = Seq::new(alloc, instance.jobs())?;
+    let mut best = Seq::new(alloc, instance.jobs())?;
+    best.copy_from(order.seq());
+    let makespan = span_of(instance, &best);
+    Ok(Work {
+        ends: Ends { front, back },
+        best,
+        spare,
+        makespan,
+        floor,
+        left: nodes,
+    })
+}
