@@ -1,6 +1,8 @@
 """The options and the fixtures of all tests."""
+import itertools
 import os
 import pathlib
+import re
 import shutil
 from collections.abc import Iterator
 
@@ -12,11 +14,11 @@ from support.files import make_files
 from support.library import Library
 from support.needs import missing, prepare_process, tool
 from support.program import Program
+from support.tools import TOP
 
-pytest_plugins = ["support.needs", "support.folders", "support.tools", "support.servers",
+pytest_plugins = ["support.needs", "support.tools", "support.servers",
                   "support.experiments", "support.growths", "support.installed"]
 
-TOP = pathlib.Path(__file__).resolve().parent.parent
 PACKAGE = TOP / "tests" / "python"
 # Examples are the same in each run, and none is too slow for a machine that runs other programs too.
 settings.register_profile("pfs", deadline=None, derandomize=True, max_examples=60, database=None,
@@ -24,6 +26,8 @@ settings.register_profile("pfs", deadline=None, derandomize=True, max_examples=6
 # For runs that repeat tests under other conditions, where each example makes the same calls.
 settings.register_profile("few", settings.get_profile("pfs"), max_examples=15)
 settings.load_profile("pfs")
+# The folders of tests so far.
+NUMBERS = itertools.count()
 # The fixtures of what is proved and built.
 BUILT = {"pfs", "pfs_calls", "libpfs"}
 
@@ -132,6 +136,16 @@ def libpfs(pytestconfig: pytest.Config) -> Library:
 def chromium() -> str:
     """A browser."""
     return tool("chromium")
+
+
+@pytest.fixture
+def tmp_path(request: pytest.FixtureRequest, tmp_path_factory: pytest.TempPathFactory) -> pathlib.Path:
+    """An empty folder, in the place of pytest's own fixture. That one looks for a free number among the folders of all
+    tests before, which takes longer from test to test. Pytest removes it with the folders of older runs."""
+    name = re.sub(r"\W", "_", request.node.name)[:30]
+    made = tmp_path_factory.getbasetemp() / f"{name}{next(NUMBERS)}"
+    made.mkdir(mode=0o700)
+    return made
 
 
 @pytest.fixture

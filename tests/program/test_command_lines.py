@@ -5,11 +5,10 @@ import subprocess
 
 import fuzz
 import pytest
-from support.files import THREE_JOBS, USAGE
+from support.files import THREE_JOBS, USAGE, commands
 from support.lines import ANSWERS, EACH, ELEVEN, PRINTING, SHORT, TEXTS, first_line, unwritten
 from support.needs import tool
 from support.program import Program, Ran
-from support.usage import commands
 
 # A text up to this length is cut at each byte. A longer text is cut at the ends of the buffer and at a few other bytes.
 SHORT_TEXT = 200

@@ -10,8 +10,8 @@ from support.files import TITLE, generated
 from support.lines import ANSWERS, EACH, PRINTING, WITH_INSTANCE, WITH_ORDER, refused, unwritten
 from support.needs import missing, tool
 from support.program import Program, Ran
+from support.tools import TOP
 
-TOP = pathlib.Path(__file__).resolve().parents[2]
 COMMANDS, MANUAL = (TOP / "docs" / "COMMANDS.md").read_text(), (TOP / "share" / "pfs.1").read_text()
 # The longest part of a text that goes into the buffer of standard output at once is the title of a file in Taillard's
 # layout.

@@ -21,8 +21,8 @@ import pfs
 import pytest
 from pfs import _library
 from support import plainly
+from support.tools import TOP
 
-TOP = pathlib.Path(__file__).resolve().parents[2]
 MAJOR = int(pfs.__version__.split(".")[0])
 LOADING = "import pfs, pfs._library; print(pfs._library.PATH, pfs.__version__)"
 

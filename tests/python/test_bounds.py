@@ -13,8 +13,8 @@ from collections.abc import Iterator
 import numpy as np
 import pytest
 from pfs import _library
+from support.tools import TOP
 
-TOP = pathlib.Path(__file__).resolve().parents[2]
 # so that the library that touches all memory is compiled once
 pytestmark = pytest.mark.xdist_group("sanitizers")
 FLAGS = "-g -O1 -fPIC -shared -fsanitize=address,undefined -fno-sanitize-recover=all".split()

@@ -27,7 +27,7 @@ from pfs._cli import Misused
 from support import plainly
 from support.plainly import environment
 from support.terminals import Terminal
-from support.tools import run_main, wait_until
+from support.tools import TOP, run_main, wait_until
 
 # A search that would take minutes.
 LONG = ["search", "shop", "--layout", "taillard"]
@@ -853,7 +853,6 @@ def test_a_plan_that_is_interrupted(folder: pathlib.Path) -> None:
 # As the wheel's and the package's scripts call it.
 CALL = "import sys; sys.argv[0] = 'pfs-plan'; from pfs._commands import plan_program; sys.exit(plan_program())"
 CHAIRS = "job [min],saw,drill\nchair,3,2\ntable,2,5\n"
-TOP = pathlib.Path(__file__).resolve().parents[2]
 VERSION = (TOP / "VERSION").read_text().strip()
 
 

@@ -14,8 +14,8 @@ import sys
 import pfs
 import pytest
 from support import plainly
+from support.tools import TOP
 
-TOP = pathlib.Path(__file__).resolve().parents[2]
 PAGE = TOP / "python" / "README.md"
 PLAN = TOP / "docs" / "PLAN.md"
 MODULES = sorted(module.name for module in pkgutil.iter_modules(pfs.__path__) if module.name != "__main__")

@@ -20,9 +20,8 @@ from support.large import run_limited
 from support.lines import TIME_TABLE
 from support.needs import tool
 from support.program import Program
-from support.tools import Done, run_main, run_tool, with_path
+from support.tools import TOP, Done, run_main, run_tool, with_path
 
-TOP = pathlib.Path(__file__).resolve().parents[2]
 PAGE, MANUAL = (TOP / "docs" / "COOKBOOK.md").read_text(), (TOP / "python" / "pfs-gantt.1").read_text()
 THREE = TIME_TABLE.decode()
 IDLE = "#d9d9d9"
@@ -242,7 +241,8 @@ def test_a_jobs_colour_is_that_of_its_number_and_not_of_its_place(folder: pathli
 
 # How much the colours of jobs differ, as the page says.
 COLOURS = re.search(r"Any two of up to (\d+) jobs have colours that differ by ([\d.]+) or more \(CIEDE2000; of (\d+) "
-                    r"jobs by ([\d.]+)\).* Of more jobs, neighbours in the order differ by ([\d.]+) or more", PAGE)
+                    r"jobs by ([\d.]+)\).* Of more jobs, neighbours in the order differ by ([\d.]+) or more",
+                    (TOP / "docs" / "DECISIONS.md").read_text())
 assert COLOURS, "no sentence on the colours"
 FEW, SOME = int(COLOURS[1]), int(COLOURS[3])
 LEAST, LEAST_OF_SOME, OF_NEIGHBOURS = float(COLOURS[2]), float(COLOURS[4]), float(COLOURS[5])

@@ -1,11 +1,15 @@
 """The usage text, and files to run the program on."""
 import pathlib
+import re
+from typing import NamedTuple
 
 from support import second_program
 
 TITLE = b"number of jobs, number of machines, initial seed, upper bound and lower bound :\n"
 
 USAGE = second_program.USAGE
+LAYOUTS = {"taillard", "orlib"}
+LINES = USAGE.decode().splitlines()[1:]
 
 
 def taillard(size_line: bytes, *rows: bytes) -> bytes:
@@ -65,3 +69,19 @@ def make_files(folder: pathlib.Path) -> None:
     for name, text in FILES.items():
         (folder / name).write_bytes(text)
     (folder / "folder").mkdir()
+
+
+class Command(NamedTuple):
+    """The options of a command, each with the letter of its value or nothing, and its paths."""
+    options: dict[str, str]
+    paths: list[str]
+
+
+def commands() -> dict[str, Command]:
+    """The commands of the usage text."""
+    found = {}
+    for line in LINES:
+        _, name, rest = line.split(" ", 2)
+        options = dict(re.findall(r"(--\w+)(?: ([A-Z])\b)?", rest))
+        found[name] = Command(options, re.findall(r"\b(?:FILE|ORDER)\b", rest))
+    return found

@@ -12,9 +12,8 @@ from support.library import Library
 from support.lines import ANSWERS, VALUE
 from support.needs import missing, tool
 from support.program import Program
-from support.tools import Done, output_of, run_tool, with_path, write_script
+from support.tools import TOP, Done, output_of, run_tool, with_path, write_script
 
-TOP = pathlib.Path(__file__).resolve().parent.parent.parent
 VERSION = (TOP / "VERSION").read_text().strip()
 PROGRAM, SHARED = "crates/pfs/out/pfs", "libpfs.so.1"
 # What of a page's table of contents is installed: patterns of files that keep their paths.
@@ -108,7 +107,7 @@ def copy(top: pathlib.Path, pfs: Program, libpfs: Library, tmp_path_factory: pyt
     return made
 
 
-def files_below(folder: pathlib.Path) -> dict[str, bytes]:
+def contents_of(folder: pathlib.Path) -> dict[str, bytes]:
     """Each file below a folder, by its path from there, with its bytes."""
     return {str(path.relative_to(folder)): path.read_bytes() for path in folder.rglob("*") if path.is_file()}
 

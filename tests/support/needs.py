@@ -1,16 +1,39 @@
 """What a test needs besides the built program. If it is missing, the test is skipped, with the package to install as
 the reason. In CI (with the variable CI set to `true`) nothing may be missing: any skip is a failure. A plugin of
 pytest, which conftest.py names."""
+import functools
 import importlib.util
 import os
+import pathlib
 import shutil
 import signal
 from collections.abc import Generator
-from typing import Any, NoReturn
+from typing import Any, NamedTuple, NoReturn
 
 import pytest
 from _pytest.assertion import truncate
-from support.packages import package_of
+
+# The Debian packages.
+LIST = pathlib.Path(__file__).resolve().parents[2] / "tools" / "packages"
+
+
+class Package(NamedTuple):
+    """A package, and the commands, modules or files that it provides."""
+    name: str
+    kind: str
+    provides: list[str]
+
+
+@functools.cache
+def packages() -> list[Package]:
+    """Each package of the list."""
+    lines = [line.split() for line in LIST.read_text().splitlines() if line and line[0] not in "#="]
+    return [Package(name, kind, provides) for name, kind, *provides in lines]
+
+
+def package_of(name: str) -> str | None:
+    """The package that provides this command or module, or None for a name that the list doesn't have."""
+    return next((package.name for package in packages() if name in package.provides), None)
 
 
 def prepare_process() -> None:

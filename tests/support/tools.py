@@ -1,4 +1,4 @@
-"""Runs of scripts, and what they need."""
+"""Runs of scripts, and what they need; the files of the repository."""
 import contextlib
 import csv
 import importlib.machinery
@@ -10,16 +10,27 @@ import subprocess
 import sys
 import time
 import tomllib
-from collections.abc import Callable, Sequence
+from collections.abc import Callable, Iterator, Sequence
 from typing import Any, NamedTuple
 from unittest import mock
 
 import pytest
 from support.needs import not_installed
 
-TOP = pathlib.Path(__file__).resolve().parent.parent.parent
+TOP = pathlib.Path(__file__).resolve().parents[2]
+# Folders of what is made.
+MADE = ("out", "dist", "__pycache__")
 # A script that takes longer hangs.
 MOST_SECONDS = 120.0
+
+
+def files_below(folder: pathlib.Path, *passed_over: str) -> Iterator[pathlib.Path]:
+    """The files below a folder, but for what is made, hidden folders and those of these names."""
+    for path in folder.iterdir():
+        if path.is_file():
+            yield path
+        elif path.name not in (*MADE, *passed_over) and (path.name[0] != "." or path.name == ".ci") and path.is_dir():
+            yield from files_below(path, *passed_over)
 
 
 class Done(NamedTuple):

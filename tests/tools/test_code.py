@@ -7,9 +7,8 @@ import subprocess
 
 import pytest
 from support.needs import tool
-from support.tree import files_below
+from support.tools import TOP, files_below
 
-TOP = pathlib.Path(__file__).resolve().parents[2]
 # By what their first lines name, or by the endings of their names.
 KINDS = {"python3": "python", "sh": "shell", "bash": "shell"}
 ENDINGS = {".py": "python", ".bash": "shell"}

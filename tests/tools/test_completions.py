@@ -6,14 +6,13 @@ import shutil
 from collections.abc import Callable
 
 import pytest
+from support.files import LAYOUTS, commands
 from support.library import Library
 from support.needs import tool
 from support.program import Program
 from support.terminals import Terminal
-from support.tools import output_of, with_path
-from support.usage import LAYOUTS, commands
+from support.tools import TOP, output_of, with_path
 
-TOP = pathlib.Path(__file__).resolve().parents[2]
 SCRIPT, MANUAL = TOP / "share" / "pfs.bash", TOP / "python" / "pfs-experiments.1"
 FILES = {"best", "three", "two words"}
 # What is offered where each line ends, for the program and for the package's programs.

@@ -2,6 +2,7 @@
 of a public function cites, and each on which one of these rests."""
 import pathlib
 import re
+import subprocess
 
 import pytest
 from support.definitions import WORD, Definition, all_definitions, page, reached
@@ -122,3 +123,28 @@ def test_the_page_has_the_comments_of_the_definitions_and_marks_what_a_contract_
     assert re.findall(r"^\| (?!File|-).*$|^##.*$", page(crates), re.MULTILINE) \
         == ["## high", r"| Times | **`Fourfold`** | four of it, by doubled \| and not by thrice |",
             "## low", "| Sums | `doubled` | twice the number |"]
+
+
+# What a crate may cite of another's proofs: the lemmas that it has published for crates above.
+CITED = re.compile(r"Rattle\.(\w+)\.proofs\b(\.Published\.)?(?:\.?\w+)*")
+
+
+def test_crates_cite_what_is_published(top: pathlib.Path) -> None:
+    crates = {crate.name: crate for crate in (top / "crates").iterdir()}
+    hidden, published = list[str](), 0
+    for name, crate in crates.items():
+        for path in (path for folder in ("src", "specs", "proofs") for path in (crate / folder).rglob("*.*t*")):
+            for number, line in enumerate(path.read_text().splitlines(), 1):
+                for cited in CITED.finditer(line):
+                    if cited[1] in crates.keys() - {name}:
+                        published += cited[2] is not None
+                        hidden += [f"{path}:{number}: {cited[0]}"] if cited[2] is None else []
+    assert hidden == [] and published > 100
+
+
+def test_proofs_names_the_installed_kit(top: pathlib.Path) -> None:
+    """It is one of those that PROOFS.md names."""
+    installed = subprocess.run(["rt", "version"], capture_output=True, text=True, check=True).stdout.strip()
+    named = re.findall(r"`(rattle-kit-[^`]*)`", (top / "docs" / "PROOFS.md").read_text())
+    assert installed in named, "PROOFS.md doesn't name the kit of `rt version`: see what that proves, then name it"
+    assert len({name.partition(" logic ")[2] for name in named}) == 1, "these kits prove by different logics"

@@ -8,7 +8,7 @@ import re
 import pytest
 from support.installed import (LIBRARY, NEW, OLD, PLACES, PROGRAM, SHARED, VERSION, VERSIONED, Copy,
                                assert_completions_are_found, assert_runs, assert_same_files, assert_usual_modes,
-                               files_below)
+                               contents_of)
 from support.library import Library
 from support.needs import tool
 from support.program import Program
@@ -39,7 +39,7 @@ def test_what_is_installed_runs_and_is_removed(prefix: str, goal: str, copy: Cop
     variables = [f"DESTDIR={root}"] + ([f"PREFIX={prefix}"] if prefix != "/usr/local" else [])
     for _ in range(2):
         make(copy, goal, *variables)
-    found = files_below(place)
+    found = contents_of(place)
     del found["share/man/man1/other.1"]
     config, version = (found.pop(name).decode() for name in VERSIONED)
     assert config.startswith(f"prefix={prefix}\n") and f"\nVersion: {VERSION}\n" in config and "@" not in config
@@ -54,7 +54,7 @@ def test_what_is_installed_runs_and_is_removed(prefix: str, goal: str, copy: Cop
         assert_completions_are_found(root, place, folder)
     make(copy, "uninstall", *variables)
     make(copy, "uninstall", *variables)
-    assert set(files_below(root)) == {str(mine.relative_to(root))}
+    assert set(contents_of(root)) == {str(mine.relative_to(root))}
     assert [path for path in root.rglob("*") if path.is_symlink() or "pfs" in path.name and path != place] == []
 
 

@@ -1,11 +1,10 @@
 """Limits are constants of the crates. All else that states one states the same number: the header, the package, pages,
 completions, the second implementations and the bench."""
-import pathlib
 import re
 
 import pytest
+from support.tools import TOP
 
-TOP = pathlib.Path(__file__).resolve().parents[2]
 SOURCES = ["pfs_base/src/limits.rt", "pfs_order/src/reading.rt", "pfs_layout/src/generator.rt"]
 
 

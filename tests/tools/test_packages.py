@@ -15,11 +15,11 @@ import zipfile
 from typing import Any, NamedTuple
 
 import pytest
-from support.installed import (BETWEEN, LIBRARY, OLD, PLACES, PROGRAM, SHARED, TOP, VERSION, VERSIONED, Copy,
+from support.installed import (BETWEEN, LIBRARY, OLD, PLACES, PROGRAM, SHARED, VERSION, VERSIONED, Copy,
                                assert_completions_are_found, assert_runs, assert_same_files, assert_usual_modes,
-                               files_below)
+                               contents_of)
 from support.needs import require_module, tool
-from support.tools import imported, output_of, run_tool
+from support.tools import TOP, imported, output_of, run_tool
 
 # so that the copy and the packages are made once
 pytestmark = [pytest.mark.xdist_group("packages"), pytest.mark.seconds(60)]
@@ -202,7 +202,7 @@ def test_the_tarball_has_the_installed_files_runs_and_is_removed(made: Made, fol
     [unpacked] = (folder / "all").iterdir()
     assert_usual_modes(unpacked)
     assert_runs(unpacked / "bin" / "pfs", folder)
-    found = files_below(unpacked)
+    found = contents_of(unpacked)
     sums = found.pop("share/doc/pfs/SHA256SUMS").decode().splitlines()
     assert sums == [f"{hashlib.sha256(found[path]).hexdigest()}  {path}" for path in sorted(found)]
     assert found.pop("share/doc/pfs/PROVED").decode() == (
@@ -237,8 +237,8 @@ def test_the_packages_have_their_files_where_debian_looks(extracted: pathlib.Pat
         | {f"{pages}/README.md": "python/README.md"} \
         | {f"usr/share/lintian/overrides/{name}": f"debian/{name}.lintian-overrides" for name in ("pfs", LIBPFS)}
     for folder, to in (("python/src/pfs", f"{MODULES}/pfs"), ("python/examples", f"{pages}/examples")):
-        places |= {f"{to}/{name}": f"{folder}/{name}" for name in files_below(made.copy.top / folder)}
-    found = files_below(extracted)
+        places |= {f"{to}/{name}": f"{folder}/{name}" for name in contents_of(made.copy.top / folder)}
+    found = contents_of(extracted)
     for package in PACKAGES:
         held = {name: found.pop(f"usr/share/doc/{package}/{name}") for name in DEBIAN_PAGES}
         assert gzip.decompress(held["changelog.gz"]) == (made.copy.top / "CHANGELOG.md").read_bytes()
@@ -324,7 +324,7 @@ def test_a_wheel_holds_the_package_and_the_library(made: Made) -> None:
     # All users can read each file, and only its owner or group writes it.
     assert {name: mode for name, mode in modes.items() if mode & 0o444 != 0o444 or mode & 0o002} == {}
     about = {name: found.pop(name) for name in list(found) if name.startswith("dist-info/")}
-    wanted = {f"pfs/{name}": text for name, text in files_below(top / "python" / "src" / "pfs").items()}
+    wanted = {f"pfs/{name}": text for name, text in contents_of(top / "python" / "src" / "pfs").items()}
     wanted |= {f"pfs/{SHARED}": (top / f"lib/out/{SHARED}").read_bytes(),
                "pfs/_version.py": wanted["pfs/_version.py"].replace(VERSION.encode(), BETWEEN.encode())}
     wanted |= {f"data/data/share/man/man1/{name}.1": (top / "python" / f"{name}.1").read_bytes() for name in PROGRAMS}

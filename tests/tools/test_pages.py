@@ -10,15 +10,13 @@ from collections.abc import Callable
 from typing import NamedTuple
 
 import pytest
-from support.files import USAGE, generated
+from support.files import LAYOUTS, LINES, USAGE, commands, generated
 from support.library import Library
 from support.lines import ANSWERS, KINDS, PRINTING, VALID
 from support.needs import tool
 from support.program import Program, Ran
-from support.tools import Done, run_tool, with_path, write_script
-from support.usage import LAYOUTS, LINES, commands
+from support.tools import TOP, Done, run_tool, with_path, write_script
 
-TOP = pathlib.Path(__file__).resolve().parents[2]
 COMMANDS, FORMATS, TROUBLESHOOTING = ((TOP / "docs" / f"{name}.md").read_text()
                                       for name in ("COMMANDS", "FORMATS", "TROUBLESHOOTING"))
 MANUAL = (TOP / "share" / "pfs.1").read_text()

@@ -5,9 +5,8 @@ import pathlib
 import re
 
 import pytest
-from support.tree import files_below
+from support.tools import TOP, files_below
 
-TOP = pathlib.Path(__file__).resolve().parents[2]
 PAGES = sorted(str(page.relative_to(TOP)) for pattern in ("*.md", "*/*.md", "docs/*/*.md")
                for page in TOP.glob(pattern))
 # A path, or the name of a file, in backquotes.

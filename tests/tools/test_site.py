@@ -8,9 +8,8 @@ from urllib.parse import unquote, urlsplit
 
 import pytest
 from support.needs import tool
-from support.tools import require_debian_module, run_tool
+from support.tools import TOP, require_debian_module, run_tool
 
-TOP = pathlib.Path(__file__).resolve().parents[2]
 
 pytestmark = [pytest.mark.long, pytest.mark.seconds(20), pytest.mark.xdist_group("site")]
 

@@ -10,9 +10,8 @@ from support.files import BEST2, THREE_JOBS
 from support.lines import VALID, WRONG_MAKESPAN
 from support.needs import missing, tool
 from support.program import Program
-from support.tools import Done, run_tool, with_path
+from support.tools import TOP, Done, run_tool, with_path
 
-TOP = pathlib.Path(__file__).resolve().parents[2]
 
 
 def line() -> str:

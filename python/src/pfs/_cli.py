@@ -87,7 +87,7 @@ def run(name: str, command: Callable[[], int], wording: Callable[[str], str] = s
 def report(name: str, error: Exception, wording: Callable[[str], str] = str) -> int:
     """Report an error on standard error, in words that `wording` returns, and return the exit status for it, also if
     the report can't be written. Each fault of a table has a line; other errors have one."""
-    texts = error.messages() if isinstance(error, TableFault) else [" ".join(text_of(error).splitlines())]
+    texts = error.messages() if isinstance(error, TableFault) else [" ".join(message_of(error).splitlines())]
     written(sys.stderr, "".join(f"{name}: {wording(shown(text))}\n" for text in texts))
     if isinstance(error, (Fault, Refused)):
         return REFUSED
@@ -97,7 +97,7 @@ def report(name: str, error: Exception, wording: Callable[[str], str] = str) -> 
     return SYSTEM
 
 
-def text_of(error: Exception) -> str:
+def message_of(error: Exception) -> str:
     """Return what an error says; of an invalid file what the program pfs says."""
     if isinstance(error, MemoryError):
         return "no memory"

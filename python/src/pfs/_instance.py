@@ -18,7 +18,7 @@ from pfs._faults import Interrupted
 from pfs._library import LENGTHS, SHORT, Prepared, quick_insert, quick_insertions, quick_makespan
 from pfs._names import frame_names, is_frame, names_of
 from pfs._schedule import Schedule
-from pfs._search import HeldSearch, Progress, Search, Stop
+from pfs._search import Event, HeldSearch, Progress, Search
 from pfs._solution import Solution, as_order
 from pfs._validate import (BOOLS, MOST_UINT32, Jobs, Order, array_copy, as_uint32, as_uint32_bytes, checked_int,
                            checked_jobs, checked_order, checked_times, jobs_error, layout_number, wrong_job)
@@ -483,7 +483,7 @@ class Instance:
 
     def solve(self, rounds: int | None = None, *, take: int | None = None, passes: int = 0, seed: int = 0,
               start: Jobs | None = None, first: int = 0, progress: Progress | None = None,
-              time_limit: float | None = None, target: int | None = None, stop: Stop | None = None,
+              time_limit: float | None = None, target: int | None = None, stop: Event | None = None,
               history: bool = False, hold: Jobs = (), move: Jobs | None = None) -> Solution:
         """Improve an order by iterated greedy (Ruiz and Stützle 2007).
 

@@ -27,7 +27,7 @@ class Bar(Protocol):
     def update(self, n: int = 1) -> Any: ...
 
 
-class Stop(Protocol):
+class Event(Protocol):
     """An event that ends a search, such as `threading.Event`."""
 
     def is_set(self) -> bool: ...
