@@ -32,10 +32,10 @@
  * Versions of libpfs.so.1 stay compatible: functions, numbers and structs keep their meaning and their layout. Later
  * versions may add functions and numbers. A program that needs an added one compares PFS_VERSION_NUMBER.
  *
- * For every input, what each function does with its arguments is proved, except for pfs_version and pfs_message: the
- * number that it returns, and what it writes. That the declarations below agree with the proved functions (the order
- * and types of the parameters, the fields of the structs, the numbers of the macros), and that pfs_release frees the
- * memory, is tested.
+ * For every input, what each function does with its arguments is proved, except for pfs_version, pfs_version_number and
+ * pfs_message: the number that it returns, and what it writes. That the declarations below agree with the proved
+ * functions (the order and types of the parameters, the fields of the structs, the numbers of the macros), and that
+ * pfs_release frees the memory, is tested.
  */
 #ifndef PFS_H
 #define PFS_H
@@ -132,6 +132,14 @@ extern "C" {
  * @return a constant text, which is never freed
  */
 const char *pfs_version(void);
+
+/** @brief Returns the version of the library as a number, in the form of PFS_VERSION_NUMBER.
+ *
+ * A program that is compiled with one version and runs with another compares it. Since version 2.1.0.
+ *
+ * @return the number
+ */
+int pfs_version_number(void);
 
 /** @brief Returns the meaning of a number, as a short text in English.
  *

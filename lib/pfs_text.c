@@ -1,10 +1,14 @@
 /** @file
- * @brief The texts of libpfs. They are constants in C, since a proved function can't return a pointer.
+ * @brief The texts and the version of libpfs. They are constants in C, since a proved function can't return a pointer.
  */
 #include "pfs.h"
 
 const char *pfs_version(void) {
     return PFS_VERSION;
+}
+
+int pfs_version_number(void) {
+    return PFS_VERSION_NUMBER;
 }
 
 const char *pfs_message(int number) {

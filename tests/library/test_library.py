@@ -27,7 +27,7 @@ QUIET = ["makespan", "makespans", "bound", "neh", "rounds", "insert", "insertion
 LOUD = ["table", "prove", "write"]
 OTHERS = ["random", "generate", "read", "read_order", "write_order"]
 FUNCTIONS = [*QUIET, *LOUD, *OTHERS, "prepare", "release"]
-TEXTS = {"pfs_message", "pfs_version"}
+TEXTS = {"pfs_message", "pfs_version", "pfs_version_number"}
 NAMES = {f"pfs_{name}" for name in FUNCTIONS} | TEXTS
 # The arguments of library_calls: the functions, and calls on a larger instance.
 NAMED = [*QUIET, *LOUD, *OTHERS, "prepare", "prepare_again", "prepare_large", "insert_large", "search_large"]
@@ -77,6 +77,7 @@ def test_the_header_names_the_parameters_as_the_functions_do(top: pathlib.Path) 
     others = {"span": "makespan", "least": "bound", "len": "length"}
     header = re.sub(r"/\*.*?\*/", "", HEADER.read_text(), flags=re.DOTALL)
     declared = re.findall(r"^(int|void) (pfs_\w+)\(([^)]*)\)( PFS_CHECKED)?;", header, re.MULTILINE)
+    declared = [each for each in declared if each[1] not in TEXTS]
     assert {name for _, name, *_ in declared} == NAMES - TEXTS
     for kind, name, parameters, checked in declared:
         got = [re.findall(r"\w+", each)[-1] for each in parameters.split(",")]
@@ -125,7 +126,9 @@ def texts(tmp_path_factory: pytest.TempPathFactory) -> dict[int, str]:
     path = tmp_path_factory.mktemp("texts") / "libtexts.so"
     compile_quietly([tool("gcc"), "-std=c99", "-Wall", "-Wextra", "-Werror", "-fPIC", "-shared", "-o", path,
                      HEADER.with_name("pfs_text.c")])
-    message = ctypes.CDLL(str(path)).pfs_message
+    library = ctypes.CDLL(str(path))
+    assert library.pfs_version_number() == defined()["PFS_VERSION_NUMBER"]
+    message = library.pfs_message
     message.restype = ctypes.c_char_p
     return {number: message(number).decode() for number in range(-2, 100)}
 

@@ -576,7 +576,8 @@ def test_all_is_inside_of_the_picture_and_can_be_read(width: str, options: list[
     title."""
     text = HEAD.replace("\n", ",method\n") + "".join(
         f"{name},{jobs},5,{rounds},1,0,1,1,{100 + at},90,1.0,1000,{rounds / 10},ok,"
-        f'"the method of somebody, number {at}"\n' for at in range(3) for name, jobs in (("i", 20 + at), ("j", 20)) for rounds in (1, 10, 1000))
+        f'"the method of somebody, number {at}"\n'
+        for at in range(3) for name, jobs in (("i", 20 + at), ("j", 20)) for rounds in (1, 10, 1000))
     assert report(text, "--format", "svg", "--width", width, *options).status == 0
     for name in ("gap", "rpd", "seconds", "time", "differences"):
         picture = (folder / "report" / f"{name}.svg").read_text()

@@ -6,9 +6,8 @@ import pytest
 from support.needs import tool
 
 # For version 2.3.4, requests and whether it serves them. Version 1 is another library, libpfs.so.0.
-REQUESTS = {"": True, "2": True,
-            "2.0": True, "2.3.4": True, "2.3.4 EXACT": True, "2.3.5": False, "2.4": False, "3": False,
-            "1": False, "1.1": False, "1.1 EXACT": False, "0.9": False, "2.3 EXACT": False,
+REQUESTS = {"": True, "2": True, "2.0": True, "2.3.4": True, "2.3.4 EXACT": True, "2.3.5": False, "2.4": False,
+            "3": False, "1": False, "1.1": False, "1.1 EXACT": False, "0.9": False, "2.3 EXACT": False,
             "2.0...<3": True, "2...2.3.4": True, "2...<2.3.4": False, "1.0...<2": False, "1.0...1.9": False,
             "1.0...2.9": True, "1...<3": True, "2.3.4...2.9": True, "2.3.5...3": False, "3...<4": False}
 

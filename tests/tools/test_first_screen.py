@@ -38,11 +38,11 @@ def test_what_is_installed_is_on_one_line(status: int, folder: pathlib.Path) -> 
 
 
 def test_files_of_version_1_are_named(folder: pathlib.Path) -> None:
-    words = [TOP / "tools" / "install", "put", "", str(folder), "lib"]
+    words = [str(TOP / "tools" / "install"), "put", "", str(folder), "lib"]
 
     def put() -> str:
-        return subprocess.run(words, cwd=TOP, input="VERSION share/VERSION\n", capture_output=True, text=True,
-                              check=True).stderr
+        given = "VERSION share/VERSION\n"
+        return subprocess.run(words, cwd=TOP, input=given, capture_output=True, encoding="utf-8", check=True).stderr
 
     assert put() == ""
     (folder / "bin").mkdir()

@@ -61,4 +61,4 @@ def taillard_rows() -> tuple[tuple[str, int, int, int, int, int], ...]:
     instances."""
     text = importlib.resources.files("pfs").joinpath("taillard.csv").read_text("utf-8")
     return tuple((name, int(jobs), int(machines), int(seed), int(lower), int(upper))
-                 for name, jobs, machines, seed, lower, upper in list(csv.reader(text.splitlines()))[1:])
+                 for name, jobs, machines, seed, lower, upper, _ in list(csv.reader(text.splitlines()))[1:])

@@ -463,8 +463,9 @@ def generate(jobs: int, machines: int, seed: int) -> Instance:
 
 def taillard(number: int) -> Instance:
     """Return one of the 120 permutation flow shop instances of Taillard's benchmark (1993), with its seed. ``lower`` is
-    the published lower bound, and ``upper`` the best known makespan (Taillard's list of best known bounds). Both are
-    published numbers; they aren't proved here.
+    the published lower bound, and ``upper`` the best known makespan (Taillard's list of best known bounds; of ``ta056``
+    that of Mezmaz, Melab and Talbi 2007). Both are published numbers; they aren't proved here. Some of those with 100
+    jobs and more on 20 machines, or with 200 and more, may have been lowered since.
 
     Parameters
     ----------
