@@ -22,7 +22,7 @@ from typing import Any
 
 import pfs
 import pytest
-from pfs import _commands, _library, _search, _state
+from pfs import _commands, _library, _rounds, _search, _state
 from pfs._cli import Misused
 from support import plainly
 from support.commands import ended, without_summary
@@ -360,12 +360,12 @@ def test_a_plan_is_searched_for_its_seconds(folder: pathlib.Path, monkeypatch: p
     (folder / "times.csv").write_text(ABOVE_BOUND)
     seeds, run_part = set[int](), _search.Search.run_part
 
-    def noted(search: _search.Search, part: _search.Part, count: int) -> None:
+    def noted(search: _search.Search, part: _rounds.Part, count: int) -> None:
         seeds.add(part.seed)
         run_part(search, part, count)
 
     monkeypatch.setattr(_search.Search, "run_part", noted)
-    monkeypatch.setattr(_library, "MOST_ROUNDS", 7)
+    monkeypatch.setattr(_rounds, "MOST_ROUNDS", 7)
     begun = time.monotonic()
     assert "optimal" not in run(["plan", "times.csv", "--seconds", "0.5"], folder)
     assert time.monotonic() - begun >= 0.5 and len(seeds) > 1
