@@ -360,7 +360,7 @@ def test_a_plan_is_searched_for_its_seconds(folder: pathlib.Path, monkeypatch: p
     (folder / "times.csv").write_text(ABOVE_BOUND)
     seeds, run_part = set[int](), _search.Search.run_part
 
-    def noted(search: _search.Search, part: _search.Part, count: int) -> None:
+    def noted(search: _search.Search, part: _rounds.Part, count: int) -> None:
         seeds.add(part.seed)
         run_part(search, part, count)
 

@@ -8,8 +8,8 @@ from support import plainly
 from support.commands import ended
 
 TABLE = "job [min];saw;drill;paint\ntable;30;20;0\nchair;0;50;15\nlamp;10;5;30\n"
-# In the order table, chair, lamp: the saw works up to 30 and 40, the drill from 30 to 50, 100 and 105, and the paint shop
-# from 100 to 115 and 145.
+# In the order table, chair, lamp: the saw works up to 30 and 40, the drill from 30 to 50, 100 and 105, and paint from
+# 100 to 115 and 145.
 MACHINES = [("saw", 40, 27.6, 0, 0, 105, 20.7), ("drill", 75, 51.7, 30, 0, 40, 48.3),
             ("paint", 45, 31.0, 100, 0, 0, 31.0)]
 JOBS = [("table", 0, 50), ("chair", 50, 115), ("lamp", 30, 145)]

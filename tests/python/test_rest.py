@@ -99,8 +99,8 @@ def plan(folder: pathlib.Path, *words: str, status: int = 0) -> tuple[list[str],
 
 @pytest.fixture
 def folder(tmp_path: pathlib.Path) -> pathlib.Path:
-    """A folder with Monday's table and its order: chair up to minute 250 and 650, table up to 550 and 850, lamp up to 610
-    and 880, box up to 640 and 970."""
+    """A folder with Monday's table and its order: chair up to minute 250 and 650, table up to 550 and 850, lamp up to
+    610 and 880, box up to 640 and 970."""
     (tmp_path / "times.csv").write_text(TABLE)
     (tmp_path / "order").write_text("chair\ntable\nlamp\nbox\n")
     return tmp_path
@@ -168,7 +168,7 @@ WRONG = [
     (["--order", "order", "--now", "2026-12-01T08:10", "--down", "saw=2026-12-01T08:10"],
      "--down: 'saw' is up again by then (2026-12-01T08:10)"),
     (["--order", "gone", "--now", "2026-12-01T08:10"],
-     "gone: the table has no job 'desk', but 'lamp' behind it has begun: leave jobs that have begun in the table"),
+     "gone: the table has no job 'desk', but 'lamp' after it has begun: leave jobs that have begun in the table"),
     (["--rest", "times.csv"], "times.csv is read, and writing would replace it: name another file"),
     (["--rest", "rest.ods"], "rest.ods: the name of a table ends with .csv or .xlsx"),
 ]

@@ -275,7 +275,8 @@ def test_the_least_and_the_longest_times_of_tables(tmp_path: pathlib.Path, cell:
 @pytest.mark.parametrize(("cells", "decimals", "times", "kept"), [
     (["0.833333333", "1"], 9, [833333333, 10**9], 9), (["0.833333333", "1"], 2, [83, 100], 2),
     (["0.4996", "1.25"], 2, [50, 125], 2), (["0.4996", "1.5"], 2, [5, 15], 1), (["0.5", "1.4999999999"], 0, [1, 1], 0),
-    (["0.12345678901234567890", "0.99999999995"], 9, [123456789, 10**9], 9), (["7.05", "1000000000.4"], 0, [7, 10**9], 0)])
+    (["0.12345678901234567890", "0.99999999995"], 9, [123456789, 10**9], 9),
+    (["7.05", "1000000000.4"], 0, [7, 10**9], 0)])
 def test_decimals_that_are_rounded(tmp_path: pathlib.Path, cells: list[str], decimals: int, times: list[int],
                                    kept: int) -> None:
     """To the nearest one, and halves up."""

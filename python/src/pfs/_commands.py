@@ -434,7 +434,7 @@ def add_order_words(add: Callable[..., object]) -> None:
         "Jobs that the table lacks are left out, and jobs that the order lacks are inserted at their best places. It "
         "is only evaluated if neither --rounds, --seconds nor an option that holds jobs is there")
     add("--first", metavar="NAME", action="append", default=[],
-        help="a job that has the first place, behind those that --hold holds; given more than once, these jobs come "
+        help="a job that has the first place, after those that --hold holds; given more than once, these jobs come "
         "in this order")
     add("--hold", type=number(1, c.MOST_JOBS), default=0, metavar="K",
         help="the first K jobs of --order that the table has keep the first places")

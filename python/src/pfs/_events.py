@@ -1,4 +1,4 @@
-"""Schedules as calendar files (iCalendar, RFC 5545): an event for each operation, in local times without a time zone."""
+"""Schedules as calendar files (iCalendar, RFC 5545): an event for each operation, in local times."""
 from __future__ import annotations
 
 import hashlib

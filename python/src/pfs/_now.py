@@ -46,13 +46,13 @@ def beginning(given: argparse.Namespace, shop: Instance, found: FoundOrder, cale
 
 
 def check_gone(path: str, shop: Instance, found: FoundOrder, at: int) -> None:
-    """A job that the table lacks has delayed those behind it, if one of them has begun."""
+    """A job that the table lacks has delayed those after it, if one of them has begun."""
     places = np.flatnonzero(begun(*spans_of(shop, found.jobs), at))
     last = int(places.max(initial=-1))
     gone = next((name for name, before in found.gone.items() if before <= last), None)
     if gone is not None:
-        behind = shop.job_name(found.jobs[last])
-        raise ValueError(f"{path}: the table has no job {gone!r}, but {behind!r} behind it has begun: leave jobs that "
+        later = shop.job_name(found.jobs[last])
+        raise ValueError(f"{path}: the table has no job {gone!r}, but {later!r} after it has begun: leave jobs that "
                          "have begun in the table")
 
 
