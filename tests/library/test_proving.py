@@ -13,7 +13,7 @@ import pytest
 from support.library import Library
 
 OK, JOB, REPEATED, LENGTH, SIZE = 0, 5, 6, 3, 2
-SHOPS = 1_000
+SHOPS = 300
 
 
 class Proved(NamedTuple):
@@ -72,7 +72,7 @@ def test_no_order_is_shorter(libpfs: Library) -> None:
 def test_a_budget_ends_anywhere(libpfs: Library) -> None:
     random = Random(2)
     is_cut, is_done = 0, 0
-    for _ in range(SHOPS // 10):
+    for _ in range(SHOPS // 3):
         times = random_times(random)
         start = random.sample(range(len(times)), len(times))
         least = min(makespan(times, list(order)) for order in itertools.permutations(range(len(times))))
