@@ -51,8 +51,8 @@ def makespan(times: list[list[int]], order: list[int]) -> int:
 def random_times(random: Random) -> list[list[int]]:
     """Times of up to 7 jobs on up to 5 machines: any, few different ones, many zeros, or very long ones."""
     low, high = random.choice([(1, 99), (1, 3), (0, 1), (0, 0), (999_999_000, 1_000_000_000)])
-    machines = random.randint(1, 5)
-    return [[random.randint(low, high) for _ in range(machines)] for _ in range(random.choice([1, 2, 3, 4, 5, 5, 6, 7]))]
+    jobs, machines = random.choice([1, 2, 3, 4, 5, 5, 6, 7]), random.randint(1, 5)
+    return [[random.randint(low, high) for _ in range(machines)] for _ in range(jobs)]
 
 
 @pytest.mark.seconds(60)

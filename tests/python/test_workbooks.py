@@ -11,6 +11,7 @@ from typing import Any
 import pfs
 import pytest
 from pfs import _workbooks
+from pfs._orders import order_in
 from support.commands import ended
 from support.needs import tool
 from support.office import Office
@@ -60,6 +61,48 @@ def test_formulas_that_a_spreadsheet_computes(tmp_path: pathlib.Path, office: Of
 def test_no_formula_without_a_value_is_left_out(tmp_path: pathlib.Path, rows: list[Sequence[object]]) -> None:
     text = fault_of(book_of(tmp_path / "times.xlsx", *rows))[2]
     assert text.startswith("has a formula without a value") and text.endswith("in a spreadsheet and save it")
+
+
+def test_a_formula_may_have_an_empty_text(tmp_path: pathlib.Path, office: Office) -> None:
+    """As in rows that are prepared for jobs to come."""
+    path = book_of(tmp_path / "times.xlsx", HOURS[0], HOURS[1], ('=IF(B9="","",B9)', '=IF(B9="","",B9)'))
+    assert fault_of(path)[2].startswith("has a formula without a value (and 1 more)")
+    assert pfs.read_csv(office(path, "xlsx")).job_names == ("table",)
+
+
+def test_orders_of_workbooks(tmp_path: pathlib.Path) -> None:
+    """They are read whole, and not with formulas without values."""
+    shop = pfs.Instance([[1] * 3] * 4_000)
+    shop.schedule(range(3_999, -1, -1)).to_xlsx(tmp_path / "plan.xlsx")
+    assert order_in(tmp_path / "plan.xlsx", shop) == ([*range(3_999, -1, -1)], {})
+    path = book_of(tmp_path / "order.xlsx", ("job",), ("2",), ("=A2",))
+    with pytest.raises(pfs.TableFault, match="cell A3: has a formula without a value"):
+        order_in(path, shop)
+
+
+def test_all_sheets_of_an_audit_have_the_limits_of_workbooks(tmp_path: pathlib.Path,
+                                                             monkeypatch: pytest.MonkeyPatch) -> None:
+    """A sheet that can't be read isn't left out."""
+    shop = pfs.Instance([[3, 2], [2, 5], [4, 1]], name="small")
+    path = book_of(tmp_path / "a.xlsx", ("instance", "makespan", "order"), ("small", 10, "2 1 3"))
+    book = openpyxl.load_workbook(path)
+    book.create_sheet("more").append(("instance", "makespan", "order"))
+    book["more"].append(("small", "=Sheet!B2", "2 1 3"))
+    book.save(path)
+    with pytest.raises(pfs.TableFault, match="a.xlsx, sheet more: cell B2: has a formula without a value"):
+        pfs.audit(path, [shop])
+    book.remove(book["more"])
+    for name in ("a", "b"):
+        book.create_sheet(name)
+    book.save(path)
+    monkeypatch.setattr(_workbooks, "MOST_CELLS", 300_000)
+    rows = "".join(WIDE.format(number) for number in range(1, 11))
+    changed(path, "sheet2.xml", NO_ROWS, f"<sheetData>{rows}</sheetData>")
+    with pytest.warns(UserWarning, match="sheet 'a' is left out"):
+        assert [each.valid for each in pfs.audit(path, [shop])] == [True]
+    changed(path, "sheet3.xml", NO_ROWS, f"<sheetData>{rows}</sheetData>")
+    with pytest.raises(pfs.TableFault, match="it has too many cells"):
+        pfs.audit(path, [shop])
 
 
 def changed(path: pathlib.Path, part: str, old: str, new: str) -> pathlib.Path:

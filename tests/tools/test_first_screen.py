@@ -3,7 +3,7 @@ import pathlib
 import subprocess
 
 import pytest
-from support.installed import TOP
+from support.tools import TOP
 
 APT = """#!/bin/sh
 echo debconf: delaying package configuration

@@ -120,11 +120,12 @@ def check_parts(archive: zipfile.ZipFile) -> None:
 
 
 def formulas_without_values(sheet: bytes) -> Iterator[str]:
-    """Return the names of the cells whose formula has no stored value. openpyxl reads them as empty ones."""
+    """Return the names of the cells whose formula has no stored value, not even an empty text. openpyxl reads them as
+    empty ones."""
     for _, row in ElementTree.iterparse(io.BytesIO(sheet)) if FORMULA.search(sheet) else ():
         if row.tag.endswith("}row"):
-            yield from (cell.get("r", "A1") for cell in row
-                        if cell.find("{*}f") is not None and not cell.findtext("{*}v"))
+            yield from (cell.get("r", "A1") for cell in row if cell.find("{*}f") is not None
+                        and not cell.findtext("{*}v") and cell.get("t") != "str")
             row.clear()
 
 
