@@ -69,7 +69,7 @@ run:
 lib: $(LIBRARY)
 
 check:
-	$(PYTEST) -n auto -q -m check tests
+	$(PYTEST) -n auto -q -m check
 
 test:
 	tools/test

@@ -1,23 +1,29 @@
 """The options and the fixtures of all tests."""
-import contextlib
 import os
 import pathlib
 import shutil
 from collections.abc import Iterator
 
 import pytest
+from hypothesis import HealthCheck, settings
 
 pytest.register_assert_rewrite("support")
 from support.files import make_files
 from support.library import Library
-from support.needs import missing, prepare_process
+from support.needs import missing, prepare_process, tool
 from support.program import Program
 
 pytest_plugins = ["support.needs", "support.folders", "support.tools", "support.servers",
                   "support.experiments", "support.growths", "support.installed"]
 
 TOP = pathlib.Path(__file__).resolve().parent.parent
-LIBRARY = TOP / "lib" / "out" / "libpfs.so.1"
+PACKAGE = TOP / "tests" / "python"
+# Examples are the same in each run, and none is too slow for a machine that runs other programs too.
+settings.register_profile("pfs", deadline=None, derandomize=True, max_examples=60, database=None,
+                          suppress_health_check=[HealthCheck.function_scoped_fixture, HealthCheck.too_slow])
+# For runs that repeat tests under other conditions, where each example makes the same calls.
+settings.register_profile("few", settings.get_profile("pfs"), max_examples=15)
+settings.load_profile("pfs")
 # The fixtures of what is proved and built.
 BUILT = {"pfs", "pfs_calls", "libpfs"}
 
@@ -25,23 +31,30 @@ BUILT = {"pfs", "pfs_calls", "libpfs"}
 def pytest_addoption(parser: pytest.Parser) -> None:
     for name in ("pfs", "pfs_calls"):
         built = TOP / "crates" / name / "out" / name
-        # The tests of the package for Python have an option of the same name and meaning.
-        with contextlib.suppress(ValueError):
-            parser.addoption(f"--{name.replace('_', '-')}", type=pathlib.Path, default=built, metavar="PATH",
-                             help=f"the built program {name} that is tested (default: {built})")
-    parser.addoption("--libpfs", type=pathlib.Path, default=LIBRARY, metavar="PATH",
-                     help=f"the library for C that is tested, with libpfs.a beside it (default: {LIBRARY})")
+        parser.addoption(f"--{name.replace('_', '-')}", type=pathlib.Path, default=built, metavar="PATH",
+                         help=f"the built program {name} that is tested (default: {built})")
+    library = os.environ.get("PFS_LIBRARY") or TOP / "lib" / "out" / "libpfs.so.1"
+    parser.addoption("--libpfs", type=pathlib.Path, default=library, metavar="PATH",
+                     help=f"the library for C and Python that is tested, with libpfs.a beside it (default: {library})")
 
 
 def pytest_configure(config: pytest.Config) -> None:
     prepare_process()
     # Scripts begin with `env python3`: Debian's Python has the packages that they need, and starts fast.
     os.environ["PATH"] = f"/usr/bin:{os.environ['PATH']}"
+    library = pathlib.Path(config.getoption("libpfs")).resolve()
+    if library.is_file():
+        os.environ["PFS_LIBRARY"] = str(library)
     if config.option.collectonly or config.option.markexpr == "check":
         return
     path = config.getoption("pfs").resolve()
     if not path.is_file():
         raise pytest.UsageError(f"no program {path}: `make run` proves and builds it, or --pfs=PATH names another one")
+
+
+def pytest_ignore_collect(collection_path: pathlib.Path, config: pytest.Config) -> bool | None:
+    """The package for Python loads the library, so `make check` leaves its tests out."""
+    return config.option.markexpr == "check" and collection_path.is_relative_to(PACKAGE) or None
 
 
 @pytest.hookimpl(optionalhook=True)  # type: ignore[misc]  # pluggy has no types
@@ -62,14 +75,25 @@ def pytest_collection_modifyitems(items: list[pytest.Item]) -> None:
 
 
 def needs_nothing_built(item: pytest.Item) -> bool:
-    """Whether this test of this folder uses no program or library. The package for Python loads the library."""
-    is_here = isinstance(item, pytest.Function) and item.path.parent == TOP / "tests"
-    return is_here and not BUILT.intersection(getattr(item, "fixturenames", ()))
+    """Whether this test uses no program or library."""
+    return not (item.path.is_relative_to(PACKAGE) or BUILT.intersection(getattr(item, "fixturenames", ())))
 
 
 def seconds_of(item: pytest.Item) -> float:
     marker = item.get_closest_marker("seconds")
     return float(marker.args[0]) if marker else 0.0
+
+
+def pytest_assertrepr_compare(op: str, left: object, right: object) -> list[str] | None:
+    """What differs of two solutions or instances, whose texts leave most of it out."""
+    kind = type(left).__name__
+    if op != "==" or type(left) is not type(right) or kind not in ("Solution", "Instance"):
+        return None
+    names = [name for name in ("times", *getattr(left, "__slots__")) if name[0] != "_" and hasattr(left, name)]
+    pairs = {name: (getattr(left, name), getattr(right, name)) for name in names}
+    lists = {name: [value.tolist() if hasattr(value, "tolist") else value for value in pair]
+             for name, pair in pairs.items()}
+    return [f"{kind} == {kind}", *(f"{name}: {one} != {other}" for name, (one, other) in lists.items() if one != other)]
 
 
 @pytest.fixture(scope="session")
@@ -85,6 +109,12 @@ def pfs(pytestconfig: pytest.Config) -> Program:
 
 
 @pytest.fixture(scope="session")
+def program(pfs: Program) -> str:
+    """Its path, for modules that import the package, whose name is the program's."""
+    return str(pfs.path)
+
+
+@pytest.fixture(scope="session")
 def pfs_calls(pytestconfig: pytest.Config) -> Program:
     """The built test program, which only `rt ci` leaves."""
     path = pytestconfig.getoption("pfs_calls").resolve()
@@ -96,6 +126,12 @@ def libpfs(pytestconfig: pytest.Config) -> Library:
     """The built library for C."""
     path: pathlib.Path = pytestconfig.getoption("libpfs").resolve()
     return Library(path) if path.is_file() else missing(f"no library {path}: `make lib` proves and builds it")
+
+
+@pytest.fixture(scope="session")
+def chromium() -> str:
+    """A browser."""
+    return tool("chromium")
 
 
 @pytest.fixture

@@ -1,4 +1,4 @@
-pub mod Returning
+pub mod Building
 pub mod FaultLaws
 pub mod HandleSteps
 pub mod Jobs
@@ -6,6 +6,6 @@ pub mod ManyLemmas
 pub mod Marks
 pub mod MemoryLemmas
 pub mod RandomWords
+pub mod Returning
 pub mod RowSteps
 pub mod Times
-pub mod Visits

@@ -1,12 +1,11 @@
--- Jobs that are inserted one after the other, passes over a list of jobs, and which arguments are invalid.
-use Rattle.std.specs.Prelude.{◌≡◌, ℕ, zero, suc, ◌+◌, ◌≤◌, List, [], ◌∷◌, ◌++◌, length, fold, nat_eq, Option}
-use Rattle.std.specs.Prelude.{Contains}
-use Rattle.std.specs.List.{All, list_all, list_any}
+-- What construction and local search find, and which of their arguments are invalid.
+use Rattle.std.specs.Prelude.{◌≡◌, ℕ, ◌+◌, ◌≤◌, List, [], ◌∷◌, ◌++◌, length, nat_eq, Option}
+use Rattle.std.specs.List.{list_all, list_any}
 use Rattle.pfs_base.specs.FlowShop.{FlowShop}
 use Rattle.pfs_base.specs.Lists.{first_some}
 use Rattle.pfs_base.specs.Paths.{makespan}
-use Rattle.pfs_order.specs.Sequence.{IsSequence, all_jobs}
-use Rattle.pfs_search.specs.Greedy.{after_passes, moved}
+use Rattle.pfs_order.specs.Sequence.{IsSequence}
+use Rattle.pfs_search.specs.Greedy.{passes_over}
 use Rattle.pfs_search.specs.Neh.{with_jobs}
 use Rattle.pfs_search.specs.Ranking.{ranking}
 use Rattle.pfs_search.specs.Solution.{neh_cells, IsNeh}
@@ -14,17 +13,6 @@ use Rattle.pfs_c.specs.declared.numbers.CallFault.{CallFault}
 use Rattle.pfs_c.specs.declared.numbers.CallFault.TheVariants.{Job}
 use Rattle.pfs_c.specs.Validation.{unless, length_fault, jobs_fault}
 use Rattle.pfs_c.specs.Searching.{passes_fault}
-
--- ---- passes over a list of jobs
-
--- each job of a list leaves its place for its best one, in the order of the list
-abbrev pub visited : FlowShop → List ℕ → List ℕ → List ℕ
-visited shop list jobs = fold (moved shop) jobs list
-
--- the sequence after a number of passes over the list
-abbrev pub after_visits : FlowShop → List ℕ → ℕ → List ℕ → List ℕ
-after_visits shop list zero jobs = jobs
-after_visits shop list (suc passes) jobs = after_visits shop list passes (visited shop list jobs)
 
 -- ---- what is found
 
@@ -39,7 +27,7 @@ pub record IsConstructed (shop : FlowShop) (sequence more order : List ℕ) (spa
 -- a sequence after passes over a list of its jobs, and the makespan
 pub record IsLocalSearch (shop : FlowShop) (sequence list : List ℕ) (passes : ℕ) (order : List ℕ) (span : ℕ)
     : Type 0 where
-  pub found : order ≡ after_visits shop list passes sequence
+  pub found : order ≡ passes_over shop list passes sequence
   -- it has each job once
   pub long : length order ≡ length sequence
   pub distinct : IsSequence shop.jobs order
@@ -68,13 +56,3 @@ local_search_fault shop sequence list passes = first_some (jobs_fault shop.jobs 
 abbrev pub NehLaw : Type 0
 NehLaw = (shop : FlowShop) (order : List ℕ) (span : ℕ) → IsConstructed shop [] (ranking shop) order span
     → IsNeh shop order span (neh_cells shop)
-
--- the passes of a round are passes over all jobs in the order of their numbers
-abbrev pub AllJobsLaw : Type 0
-AllJobsLaw = (shop : FlowShop) (passes : ℕ) (jobs : List ℕ)
-    → after_visits shop (all_jobs shop.jobs) passes jobs ≡ after_passes shop passes jobs
-
--- passes over jobs of a sequence make it no longer
-abbrev pub VisitsLaw : Type 0
-VisitsLaw = (shop : FlowShop) (list jobs : List ℕ) (passes : ℕ) → IsSequence shop.jobs jobs
-    → All (λ job. Contains jobs job) list → makespan shop (after_visits shop list passes jobs) ≤ makespan shop jobs

@@ -9,7 +9,7 @@ ghost use Rattle.pfs_order.specs.Sequence.{IsSequence};
 ghost use Rattle.pfs_iterate.specs.Rounds.{CanIterate, IsIterated};
 ghost use Rattle.pfs_search.specs.Search.{IsSearchOf};
 ghost use Rattle.pfs_search.specs.Solution.{IsImproved, IsNeh};
-ghost use Rattle.pfs_c.specs.Building.{after_visits, visited};
+ghost use Rattle.pfs_search.specs.Greedy.{pass_over, passes_over};
 ghost use Rattle.pfs_c.specs.Inserting.{AreInsertions, insertions_fault};
 ghost use Rattle.pfs_c.specs.Searching.{rounds_fault};
 ghost use Rattle.pfs_c.specs.Validation.{insertion_fault};
@@ -252,8 +252,8 @@ impl Kept {
         requires count { count ≤ length order.old }
         requires sequence { IsSequence self.old.jobs (take count order.old) }
         requires small { All (λ job. job < self.old.jobs) list.now }
-        requires long { length order.old ≡ length (after_visits self.old list.now passes (take count order.old)) }
-        ensures order { order.new ≡ after_visits self.old list.now passes (take count order.old) }
+        requires long { length order.old ≡ length (passes_over self.old list.now passes (take count order.old)) }
+        ensures order { order.new ≡ passes_over self.old list.now passes (take count order.old) }
         ensures span { result ≡ makespan self.old order.new }
         ensures shop { self.new ≡ self.old }
     {
@@ -272,7 +272,7 @@ fn make_visits(instance: &Instance, search: &mut Search, seq: &mut Seq, list: &[
     requires search { IsSearchOf instance.now.shop search.old }
     requires size { seq.old.size ≡ instance.now.shop.jobs }
     requires small { All (λ job. job < instance.now.shop.jobs) list.now }
-    ensures jobs { seq.new ≡ record seq.old { jobs = after_visits instance.now.shop list.now passes seq.old.jobs } }
+    ensures jobs { seq.new ≡ record seq.old { jobs = passes_over instance.now.shop list.now passes seq.old.jobs } }
     ensures search { IsSearchOf instance.now.shop search.new }
     ensures kept { search.new.kept ≡ search.old.kept }
 {
@@ -286,7 +286,7 @@ fn visit_once(instance: &Instance, search: &mut Search, seq: &mut Seq, list: &[u
     requires search { IsSearchOf instance.now.shop search.old }
     requires size { seq.old.size ≡ instance.now.shop.jobs }
     requires small { All (λ job. job < instance.now.shop.jobs) list.now }
-    ensures jobs { seq.new ≡ record seq.old { jobs = visited instance.now.shop list.now seq.old.jobs } }
+    ensures jobs { seq.new ≡ record seq.old { jobs = pass_over instance.now.shop list.now seq.old.jobs } }
     ensures search { IsSearchOf instance.now.shop search.new }
     ensures kept { search.new.kept ≡ search.old.kept }
 {

@@ -1,6 +1,6 @@
 //! A program for tests. Its argument names a call, which it runs on a worked example, and whose result it prints. If an
 //! allocation fails, it prints `memory`, and what the failure has left if the call has changed something or could have.
-//! `tests/test_growths.py` runs each call once for each of its allocations, and makes that one fail.
+//! `tests/program/test_growths.py` runs each call once for each of its allocations, and makes that one fail.
 #![tactic(auto)]
 
 ghost use Rattle.std.specs.Prelude.{◌≡◌, ◌+◌, ◌*◌, ◌<◌, ◌≤◌, ◌^◌, length};

@@ -175,13 +175,6 @@ module _ (Comes : JobResult → Type 0) (layout : Layout) (block : ℕ) (Output 
         reads_order = rw (first, second) reads;
       }))
 
--- a job `value` with one path has a file
-pub value_file : (layout : Layout) (block : ℕ) (path : Option (List ℕ)) (input file : SourceUse) (returned : JobResult)
-    → length (paths_of (Value layout block path)) ≡ 1 → IsUnread input → ReturnsValue layout block file returned
-    → ReturnsFor (Value layout block path) input (file ∷ []) returned
-value_file layout block None input file returned one unread has_result = cc
-value_file layout block (Some path) input file returned one unread has_result = (unread, has_result)
-
 -- only one result reports a given fault of the instance file
 pub reported_by : (fault : LayoutFault) (result : Result Outcome DeskFault) → layout_fault_of result ≡ Some fault
     → result ≡ Err (faults.Layout fault)

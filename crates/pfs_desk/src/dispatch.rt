@@ -46,20 +46,59 @@ pub fn run_job<F: Files, R: Source, W: Sink>(
             file,
         } => match file {
             None => ending(run_value(alloc, input, *layout, *block, writer)),
-            Some(path) => run_on_file(alloc, job, path, files, writer),
+            Some(path) => {
+                let mut file = files.open(path)?;
+                let returned = run_value(alloc, &mut file, *layout, *block, writer);
+                files.close(file);
+                ending(returned)
+            }
         },
-        Job::Solve { file, .. } => run_on_file(alloc, job, file, files, writer),
-        Job::Convert { file, .. } => run_on_file(alloc, job, file, files, writer),
+        Job::Solve {
+            layout,
+            block,
+            options,
+            file: path,
+        } => {
+            let mut file = files.open(path)?;
+            let returned = run_solve(alloc, &mut file, *layout, *block, options, writer);
+            files.close(file);
+            ending(returned)
+        }
+        Job::Convert {
+            source,
+            target,
+            block,
+            file: path,
+        } => {
+            let mut file = files.open(path)?;
+            let returned = run_convert(alloc, &mut file, *source, *target, *block, writer);
+            files.close(file);
+            ending(returned)
+        }
         Job::Check {
-            file,
+            layout,
+            block,
+            file: path,
             order_file,
-            ..
-        } => run_on_both(alloc, job, file, order_file, files, writer),
+        } => {
+            let (mut file, mut orders) = open_both(files, path, order_file)?;
+            let returned = run_check(alloc, &mut file, *layout, *block, &mut orders, writer);
+            files.close(file);
+            files.close(orders);
+            ending(returned)
+        }
         Job::Table {
-            file,
+            layout,
+            block,
+            file: path,
             order_file,
-            ..
-        } => run_on_both(alloc, job, file, order_file, files, writer),
+        } => {
+            let (mut file, mut orders) = open_both(files, path, order_file)?;
+            let returned = run_table(alloc, &mut file, *layout, *block, &mut orders, writer);
+            files.close(file);
+            files.close(orders);
+            ending(returned)
+        }
         Job::Generate {
             jobs,
             machines,
@@ -73,64 +112,6 @@ fn ending(returned: Result<Outcome, DeskFault>) -> Result<Outcome, Stop>
     ensures { result ≡ ending_of returned }
 {
     returned.map_err(Stop::Fault)
-}
-
-// Opens the only file of a job, runs the job on it and closes it.
-fn run_on_file<F: Files, W: Sink>(
-    alloc: Global,
-    job: &Job,
-    path: &PathText,
-    files: &mut F,
-    writer: &mut W,
-) -> Result<Outcome, Stop>
-    requires path { paths_of job.now ≡ path.now ∷ [] }
-    requires within { IsWithinLimits job.now }
-    requires writing { W.has_failed writer.old ≡ false }
-    ensures { (input : SourceUse) → IsUnread input → Delivers (RunsJob job.now
-        (files_use (F.state files.old) (F.log files.old) (F.log files.new)) input) WritesResult
-        (sink_use (W.written writer.old) (W.written writer.new) (W.has_failed writer.new)) result }
-{
-    let mut file = files.open(path)?;
-    let returned = run_engine(alloc, job, &mut file, writer);
-    files.close(file);
-    ending(returned)
-}
-
-// Runs the engine of a job that has one file.
-fn run_engine<R: Source, W: Sink>(
-    alloc: Global,
-    job: &Job,
-    file: &mut R,
-    writer: &mut W,
-) -> Result<Outcome, DeskFault>
-    requires one { length (paths_of job.now) ≡ 1 }
-    requires within { IsWithinLimits job.now }
-    requires reading { R.has_failed file.old ≡ false }
-    requires writing { W.has_failed writer.old ≡ false }
-    ensures { (input : SourceUse) → IsUnread input → Delivers (ReturnsFor job.now input
-        (source_use (R.left file.old) (R.left file.new) (R.has_failed file.new)
-        (R.has_ended file.old) (R.has_ended file.new) ∷ []))
-        WritesResult
-        (sink_use (W.written writer.old) (W.written writer.new) (W.has_failed writer.new)) (ending_of result) }
-{
-    match job {
-        Job::Value { layout, block, .. } => run_value(alloc, file, *layout, *block, writer),
-        Job::Solve {
-            layout,
-            block,
-            options,
-            ..
-        } => run_solve(alloc, file, *layout, *block, options, writer),
-        Job::Convert {
-            source,
-            target,
-            block,
-            ..
-        } => run_convert(alloc, file, *source, *target, *block, writer),
-        Job::Check { .. } => unreachable!(),
-        Job::Table { .. } => unreachable!(),
-        Job::Generate { .. } => unreachable!(),
-    }
 }
 
 // Opens two files, one after the other. If the second can't be opened, the first is closed unread.
@@ -157,59 +138,5 @@ fn open_both<F: Files>(
             files.close(file);
             Err(fault)
         }
-    }
-}
-
-// Opens the two files of a job, runs the job on them and closes them.
-fn run_on_both<F: Files, W: Sink>(
-    alloc: Global,
-    job: &Job,
-    path: &PathText,
-    order_path: &PathText,
-    files: &mut F,
-    writer: &mut W,
-) -> Result<Outcome, Stop>
-    requires paths { paths_of job.now ≡ path.now ∷ order_path.now ∷ [] }
-    requires within { IsWithinLimits job.now }
-    requires writing { W.has_failed writer.old ≡ false }
-    ensures { (input : SourceUse) → IsUnread input → Delivers (RunsJob job.now
-        (files_use (F.state files.old) (F.log files.old) (F.log files.new)) input) WritesResult
-        (sink_use (W.written writer.old) (W.written writer.new) (W.has_failed writer.new)) result }
-{
-    let (mut file, mut orders) = open_both(files, path, order_path)?;
-    let returned = run_audit(alloc, job, &mut file, &mut orders, writer);
-    files.close(file);
-    files.close(orders);
-    ending(returned)
-}
-
-// Runs the engine of a job that has an order file.
-fn run_audit<R: Source, O: Source, W: Sink>(
-    alloc: Global,
-    job: &Job,
-    file: &mut R,
-    orders: &mut O,
-    writer: &mut W,
-) -> Result<Outcome, DeskFault>
-    requires two { length (paths_of job.now) ≡ 2 }
-    requires within { IsWithinLimits job.now }
-    requires reading { R.has_failed file.old ≡ false }
-    requires reading_order { O.has_failed orders.old ≡ false }
-    requires writing { W.has_failed writer.old ≡ false }
-    ensures { (input : SourceUse) → IsUnread input → Delivers (ReturnsFor job.now input
-        (source_use (R.left file.old) (R.left file.new) (R.has_failed file.new)
-        (R.has_ended file.old) (R.has_ended file.new)
-        ∷ source_use (O.left orders.old) (O.left orders.new) (O.has_failed orders.new)
-        (O.has_ended orders.old) (O.has_ended orders.new) ∷ []))
-        WritesResult
-        (sink_use (W.written writer.old) (W.written writer.new) (W.has_failed writer.new)) (ending_of result) }
-{
-    match job {
-        Job::Check { layout, block, .. } => run_check(alloc, file, *layout, *block, orders, writer),
-        Job::Table { layout, block, .. } => run_table(alloc, file, *layout, *block, orders, writer),
-        Job::Value { .. } => unreachable!(),
-        Job::Solve { .. } => unreachable!(),
-        Job::Convert { .. } => unreachable!(),
-        Job::Generate { .. } => unreachable!(),
     }
 }

@@ -23,9 +23,9 @@ pub struct HeadsTails<B: Bench> {
     bench: PhantomData<B>,
 }
 
-// `lengths` has 2n + 1 rows of m lengths, for n jobs on m machines: n rows of heads, n rows of tails, and the row of
-// the inserted job. Row `count` of the heads is that of the first `count` jobs, and row `count` of the tails that of the
-// last `count` jobs. So the first row of each is a row of zeros.
+// `lengths` has 2n + 1 rows of m lengths, for n jobs on m machines: a row of zeros, n - 1 rows of heads, n - 1 rows of
+// tails, a row of zeros, and the row of the inserted job. Row `count` is that of the heads of the first `count` jobs. The
+// tails of the last `count` jobs are `count` rows before the second row of zeros.
 #[derive(Drop)]
 struct Table<S: Length> {
     jobs: usize,
@@ -109,15 +109,15 @@ fn best_in_table<B: Bench>(
     ensures bench { Counted (B.shop bench.old) (B.shop bench.new) (B.counted bench.old) (B.counted bench.new)
         (heads_tails_cost (length seq.now.jobs + 1) (B.shop bench.old).machines) }
 {
-    let tails = seq.size() * bench.machines();
-    fill_rows(bench, seq, table, 0, false);
-    fill_rows(bench, seq, table, tails, true);
+    let (rows, put) = table.split_at_mut(2 * (seq.size() * bench.machines()));
+    fill_rows(bench, seq, rows, false);
+    fill_rows(bench, seq, rows, true);
     let mut best = Placed {
         place: 0,
         span: bench.zero(),
     };
     for place in 0..seq.len() + 1 {
-        let span = span_with(bench, seq, job, place, table);
+        let span = span_with(bench, seq, job, place, rows, put);
         best = better(best, place, span);
     }
     best
@@ -130,23 +130,22 @@ fn span_with<B: Bench>(
     seq: &Seq,
     job: usize,
     place: usize,
-    table: &mut [B::Span],
+    rows: &[B::Span],
+    put: &mut [B::Span],
 ) -> B::Span
     requires job { job < (B.shop bench.old).jobs }
-    requires size { seq.now.size ≡ (B.shop bench.old).jobs }
     requires few { length seq.now.jobs < (B.shop bench.old).jobs }
     requires place { place ≤ length seq.now.jobs }
-    requires rows { HasRows B.Span.number (B.shop bench.old) seq.now.jobs table.old }
+    requires rows { HasRows B.Span.number (B.shop bench.old) seq.now.jobs rows.now }
+    requires put { length put.old ≡ (B.shop bench.old).machines }
     requires room { B.counted bench.old + 2 * (B.shop bench.old).machines < 2 ^ 64 }
     ensures value { B.Span.number result ≡ makespan_with (B.shop bench.old) seq.now.jobs job place }
-    ensures rows { HasRows B.Span.number (B.shop bench.old) seq.now.jobs table.new }
     ensures bench { Counted (B.shop bench.old) (B.shop bench.new) (B.counted bench.old) (B.counted bench.new)
         (2 * (B.shop bench.old).machines) }
 {
     let machines = bench.machines();
-    let tails = seq.size() * machines;
-    let put = 2 * tails;
-    fill_row(bench, job, table, place * machines, put, false);
-    let back = tails + (seq.len() - place) * machines;
-    bench.join_rows(&table[put..], &table[back..back + machines])
+    let front = place * machines;
+    fill_row(bench, job, &rows[front..front + machines], put, false);
+    let back = rows.len() - (seq.len() - place + 1) * machines;
+    bench.join_rows(put, &rows[back..back + machines])
 }

@@ -1,7 +1,6 @@
 pub mod Published
 pub mod Found
 pub mod InTurn
-pub mod Moves
 pub mod NoLonger
 pub mod OneRanking
 pub mod Parts

@@ -1,8 +1,9 @@
 -- Iterated greedy (Ruiz and Stützle 2007): rounds that remove some jobs and insert each again at its best place. The
 -- words are random words, which choose the jobs to remove.
 use Rattle.std.specs.Prelude.{◌≡◌, ℕ, zero, suc, ◌%◌, ◌≤◌, not, List, [], ◌∷◌, length, fold, filter}
-use Rattle.std.specs.Prelude.{nat_le, nat_eq, slice_index, remove, if◌then◌else◌}
+use Rattle.std.specs.Prelude.{Contains, nat_le, nat_eq, slice_index, remove, if◌then◌else◌}
 use Rattle.std.specs.Prelude.{take as front, drop}
+use Rattle.std.specs.List.{All}
 use Rattle.rand_core.specs.Stream.{Stream, next_u32}
 use Rattle.pfs_base.specs.FlowShop.{FlowShop}
 use Rattle.pfs_base.specs.Paths.{makespan}
@@ -32,14 +33,22 @@ rebuilt shop jobs words = with_jobs shop (jobs_left jobs words) (jobs_taken jobs
 abbrev pub moved : FlowShop → List ℕ → ℕ → List ℕ
 moved shop jobs job = with_job shop (filter (λ other. not (nat_eq other job)) jobs) job
 
--- the order after a pass: each job in turn, by increasing number, is removed and inserted at its best place
+-- the order after a pass over a list: each job of the list in turn is removed and inserted at its best place
+abbrev pub pass_over : FlowShop → List ℕ → List ℕ → List ℕ
+pass_over shop list jobs = fold (moved shop) jobs list
+
+-- the order after a number of passes over a list
+abbrev pub passes_over : FlowShop → List ℕ → ℕ → List ℕ → List ℕ
+passes_over shop list zero jobs = jobs
+passes_over shop list (suc passes) jobs = passes_over shop list passes (pass_over shop list jobs)
+
+-- the order after a pass: over all jobs, by increasing number
 abbrev pub pass : FlowShop → List ℕ → List ℕ
-pass shop jobs = fold (moved shop) jobs (all_jobs shop.jobs)
+pass shop jobs = pass_over shop (all_jobs shop.jobs) jobs
 
 -- the order after a number of passes
 abbrev pub after_passes : FlowShop → ℕ → List ℕ → List ℕ
-after_passes shop zero jobs = jobs
-after_passes shop (suc passes) jobs = after_passes shop passes (pass shop jobs)
+after_passes shop passes jobs = passes_over shop (all_jobs shop.jobs) passes jobs
 
 -- the new order where its makespan is at most that of the old one, and else the old one
 abbrev pub kept_of : FlowShop → List ℕ → List ℕ → List ℕ
@@ -70,6 +79,11 @@ stream_after (suc count) stream = stream_after count (next_u32 stream).1
 abbrev pub PassLaw : Type 0
 PassLaw = (shop : FlowShop) (jobs : List ℕ) → IsSequence shop.jobs jobs → length jobs ≡ shop.jobs
     → makespan shop (pass shop jobs) ≤ makespan shop jobs
+
+-- passes over jobs of a sequence don't increase its makespan
+abbrev pub PassesLaw : Type 0
+PassesLaw = (shop : FlowShop) (list jobs : List ℕ) (passes : ℕ) → IsSequence shop.jobs jobs
+    → All (λ job. Contains jobs job) list → makespan shop (passes_over shop list passes jobs) ≤ makespan shop jobs
 
 -- rounds don't increase the makespan of an order, for any words
 abbrev pub NoLongerLaw : Type 0

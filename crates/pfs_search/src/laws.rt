@@ -1,7 +1,7 @@
 //! Laws of the definitions. They are about no code.
 ghost use Rattle.std.specs.Prelude.{◌≡◌, ◌+◌, ◌<◌, ◌^◌};
 ghost use Rattle.pfs_search.specs.Costs.{CostsLaw};
-ghost use Rattle.pfs_search.specs.Greedy.{NoLongerLaw, PassLaw};
+ghost use Rattle.pfs_search.specs.Greedy.{NoLongerLaw, PassLaw, PassesLaw};
 ghost use Rattle.pfs_search.specs.MostCells.{most_neh_cells, most_rounds_cells, FewNehCells, FewRoundsCells};
 ghost use Rattle.pfs_search.specs.Ranking.{RankingLaw};
 ghost use Rattle.pfs_search.specs.Solution.{JoinedPartsLaw, LongerSearchLaw, PartsLaw, SearchedLaw};
@@ -19,9 +19,10 @@ pub fn costs()
     ensures { CostsLaw }
 {}
 
-/// A pass over an order of all jobs doesn't increase its makespan.
+/// A pass over an order of all jobs doesn't increase its makespan, nor do passes over a list of jobs of a sequence.
 pub fn pass_no_longer()
-    ensures { PassLaw }
+    ensures all { PassLaw }
+    ensures list { PassesLaw }
 {}
 
 /// Rounds don't increase the makespan of an order, for any random words.

@@ -1,4 +1,4 @@
-//! A function over any bench. `tests/test_bench.py` has others, which compute with times without the bench and
+//! A function over any bench. `tests/tools/test_bench.py` has others, which compute with times without the bench and
 //! must not compile.
 ghost use Rattle.std.specs.Prelude.{◌≡◌, ◌+◌, ◌<◌, ◌≤◌, ◌^◌, max};
 ghost use Rattle.pfs_base.specs.FlowShop.{time_of};

@@ -10,7 +10,7 @@ use pfs_desk::{DeskFault, Outcome};
 use pfs_layout::LayoutFault;
 use pfs_order::OrderFault;
 use std::alloc::Global;
-use std::io::ErrorKind;
+use std::io::{ErrorKind, Read, Write};
 use std::process::Abort;
 
 /// More calls than any of these texts needs at one byte a call.
@@ -227,6 +227,16 @@ fn a_call_of_std_is_made_once_and_fails_for_an_error_or_a_write_of_nothing(rt: H
     assert_in(&rt, fails_once(Some(ErrorKind::Interrupted), None), 0);
     assert_in(&rt, fails_once(Some(ErrorKind::Other), None), 1);
     assert_in(&rt, fails_once(None, Some(0)), 2);
+}
+
+#[test]
+fn many_bytes_are_read_and_written_by_one_call_of_std(rt: HostRuntime) {
+    let (mut reader, mut writer) = (FailsOnce::new(None), FailsOnce::new(None));
+    let none = (reader.read(&mut []).is_ok(), writer.write(b"").is_ok());
+    let read = FromRead::new(&mut reader).read(&mut [0; 5000]);
+    let written = ToWrite::new(&mut writer).write(&[b'x'; 5000]);
+    assert_in(&rt, none == (true, true) && (read, written) == (Some(5000), Some(5000)), 0);
+    assert_in(&rt, FromRead::new(&mut &b"abc"[..]).read(&mut [0; 4]) == Some(3), 1);
 }
 
 // Writes a text to a sink that takes this many bytes a call. Returns the result and the number of calls.

@@ -14,12 +14,13 @@ from collections.abc import Callable, Iterator, Sequence
 from difflib import SequenceMatcher
 from functools import partial
 from types import SimpleNamespace
-from typing import Any, NoReturn, TextIO
+from typing import Any
 
 from pfs import _library as c
 from pfs._calendar import Calendar, Clock, begin_of, dates_of, days_of, shifts_of, text_of as date_text
 from pfs._chart import ending_of
-from pfs._faults import Fault, TableFault
+from pfs._cli import CommandLine, Misused, number, report, run, written
+from pfs._faults import Fault
 from pfs._files import read, read_order
 from pfs._instance import Instance
 from pfs._names import CLOCK, amount, shown
@@ -27,13 +28,10 @@ from pfs._optional import optional
 from pfs._orders import FoundOrder, numbers_by_name, order_in
 from pfs._search import ROUNDS, HeldSearch, Search, by_total, insert_after, limit_of, solve
 from pfs._solution import Solution
-from pfs._state import State, StateFault
+from pfs._state import State
 from pfs._tables import described, table_of
 from pfs._version import VERSION
-from pfs._words import number
 
-# Exit statuses, the same as those of the program.
-REFUSED, USAGE, SYSTEM = 2, 3, 4
 SIGNALS = (signal.SIGINT, signal.SIGTERM)
 DECIMAL_SIGNS = {"point": ".", "comma": ","}
 # The endings of schedules.
@@ -44,13 +42,6 @@ OPTIONS = {"decimal": "--decimal point or --decimal comma", "allow_totals": "--a
 ARGUMENT = re.compile(f"`({'|'.join(OPTIONS)})`")
 NUMBER_OPTION = re.compile("^(?=(?:rounds|take|passes|seed) must |start has )")
 VERSION_OPTION: dict[str, Any] = {"action": "version", "version": f"pfs {VERSION}"}
-
-
-class CommandLine(argparse.ArgumentParser):
-    """A parser of command lines. An invalid command line ends with the status that the program has for it."""
-
-    def error(self, message: str) -> NoReturn:
-        sys.exit(report(f"pfs: {shown(message)} ({self.prog} --help lists what there is)", USAGE))
 
 
 @contextlib.contextmanager
@@ -173,7 +164,7 @@ def plan_command(given: argparse.Namespace) -> int:
                 output()
             except (OSError, MemoryError, ImportError, ValueError) as failure:
                 faults.append(failure)
-    statuses = [report(line_of(each), SYSTEM) for each in faults]
+    statuses = [report("pfs", each, as_options) for each in faults]
     return statuses[0] if statuses else status_of(caught)
 
 
@@ -420,26 +411,23 @@ def plan_program() -> int:
 
 def main(line: list[str], parser: argparse.ArgumentParser | None = None) -> int:
     """Run a command line, and return its exit status."""
-    given = (parser or words()).parse_args(line)
+    return run("pfs", lambda: command(line, parser or words()), as_options)
+
+
+def command(line: list[str], parser: argparse.ArgumentParser) -> int:
+    """Run the command of a command line, and return its exit status."""
+    given = parser.parse_args(line)
     if given.rounds is None:
         given.rounds = rounds_of(given)
+    if sys.stdout is None:
+        raise OSError("standard output is closed")
     try:
-        if sys.stdout is None:
-            raise OSError("standard output is closed")
-        status: Any = given.run(given)
-        return int(status)
-    except TableFault as fault:
-        return report("\n".join(map(line_of, fault.messages())), REFUSED)
-    except StateFault as fault:
-        return report(line_of(fault), REFUSED)
-    except Fault as fault:
-        return report(fault.text, REFUSED)
+        status: int = given.run(given)
+        return status
+    except Fault:
+        raise
     except ValueError as fault:
-        return report(line_of(fault), USAGE)
-    except (OSError, MemoryError, ImportError) as fault:
-        return report(line_of(fault), SYSTEM)
-    except KeyboardInterrupt:
-        return 128 + signal.SIGINT
+        raise Misused(str(fault)) from None
 
 
 def rounds_of(given: argparse.Namespace) -> int:
@@ -449,35 +437,6 @@ def rounds_of(given: argparse.Namespace) -> int:
     return ROUNDS if given.order is None or given.first or given.hold or given.keep else 0
 
 
-def line_of(fault: Exception | str) -> str:
-    """Return what is printed for an error. Arguments of the package for Python are named as options."""
-    if isinstance(fault, MemoryError):
-        return "pfs: no memory"
-    if isinstance(fault, OSError) and fault.strerror:
-        fault = f"{fault.filename}: {fault.strerror}" if fault.filename else fault.strerror
-    text = ARGUMENT.sub(lambda found: OPTIONS[found[1]], shown(str(fault)))
-    return f"pfs: {NUMBER_OPTION.sub('--', text)}"
-
-
-def report(line: str, status: int) -> int:
-    """Report a fault on standard error, and return the status, also if the report can't be written."""
-    written(sys.stderr, f"{line}\n")
-    if status == SYSTEM:
-        written(sys.stdout, "")
-    return status
-
-
-def written(stream: TextIO | None, text: str) -> bool:
-    """Write a text, and return whether that worked. A stream that fails is redirected to /dev/null, so that flushing it
-    when the interpreter ends doesn't fail again."""
-    if stream is None:
-        return False
-    try:
-        stream.write(text)
-        stream.flush()
-    except OSError:
-        null = os.open(os.devnull, os.O_WRONLY)
-        os.dup2(null, stream.fileno())
-        os.close(null)
-        return False
-    return True
+def as_options(text: str) -> str:
+    """Return a message with the options in place of the arguments of the package for Python."""
+    return NUMBER_OPTION.sub("--", ARGUMENT.sub(lambda found: OPTIONS[found[1]], text))

@@ -10,13 +10,12 @@ import importlib
 import os
 import re
 import sys
-from typing import Any, NoReturn
+from typing import Any
 
 from pfs._atomic import atomic_write
+from pfs._cli import CommandLine, Misused, Refused, inches, number, run
 from pfs._drawing import DPI, UNIT, WIDTH, Chart, draw, picture_of
-from pfs._names import printable
 from pfs._optional import optional
-from pfs._words import inches, number
 
 # The most pixels of a PNG, so that it fits into memory.
 MOST_PIXELS = 100_000_000
@@ -24,15 +23,11 @@ MOST_PIXELS = 100_000_000
 MOST_JOBS, MOST_MACHINES, LONGEST = 5_000, 200, 67_108_864
 
 
-class GanttError(Exception):
-    """An error that is reported on one line."""
-
-
 # The time table
 
 def numbers(line: str, count: int, what: str) -> list[int]:
     if line.count(" ") != count - 1 or not re.fullmatch("[0-9]{1,18}(?: [0-9]{1,18})*", line, re.ASCII):
-        raise GanttError(f"{what} must have {count} numbers")
+        raise Refused(f"{what} must have {count} numbers")
     return [int(word) for word in line.split(" ")]
 
 
@@ -42,19 +37,19 @@ def read_table(text: str) -> tuple[list[int], Any, Any]:
     lines = text.removesuffix("\n").split("\n")
     head, _, size = lines[0].partition(" ")
     if head != "table":
-        raise GanttError("not a time table: the first line must be `table N M`")
+        raise Refused("not a time table: the first line must be `table N M`")
     if not text.endswith("\n"):
-        raise GanttError("the time table is incomplete: its last line has no line end")
+        raise Refused("the time table is incomplete: its last line has no line end")
     jobs, machines = numbers(size, 2, "line 1")
     if jobs > MOST_JOBS or machines > MOST_MACHINES:
-        raise GanttError(f"a time table has at most {MOST_JOBS:,} jobs and {MOST_MACHINES} machines")
+        raise Refused(f"a time table has at most {MOST_JOBS:,} jobs and {MOST_MACHINES} machines")
     if jobs == 0 or machines == 0 or len(lines) != jobs + 2:
-        raise GanttError(f"not a time table of {jobs} jobs and {machines} machines: it has {len(lines)} lines")
+        raise Refused(f"not a time table of {jobs} jobs and {machines} machines: it has {len(lines)} lines")
     table = numpy.array([numpy.array(numbers(line, 2 * machines + 1, f"line {at}"))
                          for at, line in enumerate(lines[1:-1], 2)])
     order, starts, ends = table[:, 0].tolist(), table[:, 1::2], table[:, 2::2]
     if sorted(order) != list(range(1, jobs + 1)):
-        raise GanttError(f"each of the jobs 1 to {jobs} must have one line")
+        raise Refused(f"each of the jobs 1 to {jobs} must have one line")
     # Each operation starts as soon as its job and its machine are free.
     free = numpy.zeros_like(starts)
     free[1:] = ends[:-1]
@@ -62,20 +57,13 @@ def read_table(text: str) -> tuple[list[int], Any, Any]:
     wrong = numpy.argwhere((starts != free) | (ends < starts))
     if len(wrong):
         place, machine = wrong[0].tolist()
-        raise GanttError(f"line {place + 2}: the job must start on machine {machine + 1} at {free[place, machine]}")
+        raise Refused(f"line {place + 2}: the job must start on machine {machine + 1} at {free[place, machine]}")
     if lines[-1] != f"makespan {ends[-1, -1]}":
-        raise GanttError(f"the last line must be `makespan {ends[-1, -1]}`")
+        raise Refused(f"the last line must be `makespan {ends[-1, -1]}`")
     return order, starts, ends
 
 
 # The command line
-
-class CommandLine(argparse.ArgumentParser):
-    """A parser of command lines. Errors are reported on one line."""
-
-    def error(self, message: str) -> NoReturn:
-        raise GanttError(message)
-
 
 def on_one_line(text: str) -> str:
     if not text.isprintable():
@@ -84,7 +72,7 @@ def on_one_line(text: str) -> str:
 
 
 def parse_args() -> argparse.Namespace:
-    parser = CommandLine(usage=(__doc__ or "").partition("usage: ")[2])
+    parser = CommandLine("pfs-gantt", usage=(__doc__ or "").partition("usage: ")[2])
     parser.add_argument("--critical", action="store_true", help="outline a critical path")
     parser.add_argument("--bound", type=number(0, 10 ** 18 - 1), help="draw a dashed line at this lower bound")
     parser.add_argument("--unit", type=on_one_line, default=UNIT, help="the unit of the times")
@@ -97,38 +85,34 @@ def parse_args() -> argparse.Namespace:
     return parser.parse_args()
 
 
-def draw_picture() -> None:
+def draw_picture() -> int:
     given = vars(parse_args())
     optional("numpy", "a picture")
     optional("matplotlib", "a picture").rcdefaults()  # no matplotlibrc of the current folder
     source, picture = given.pop("table"), given.pop("picture")
     extension = os.path.splitext(picture)[1][1:]
     if extension not in ("svg", "png", "pdf"):
-        raise GanttError(f"{picture}: the name of a picture must end with .svg, .png or .pdf")
-    with open(source or 0, encoding="ascii", newline="", closefd=bool(source)) as file:
+        raise Misused(f"{picture}: the name of a picture must end with .svg, .png or .pdf")
+    with open(source or 0, encoding="ascii", errors="replace", newline="", closefd=bool(source)) as file:
         text = file.read(LONGEST + 1)
     if len(text) > LONGEST:
-        raise GanttError(f"not a time table: longer than {LONGEST:,} bytes")
+        raise Refused(f"not a time table: longer than {LONGEST:,} bytes")
     order, starts, ends = read_table(text)
     chart = Chart(order, starts, ends, [*map(str, order)], [str(at + 1) for at in range(starts.shape[1])], **given)
     if chart.bound is not None and chart.bound > chart.makespan:
-        raise GanttError(f"the bound {chart.bound} exceeds the makespan {chart.makespan}")
+        raise Misused(f"the bound {chart.bound} exceeds the makespan {chart.makespan}")
     if chart.width * chart.height * chart.dpi ** 2 > MOST_PIXELS:
-        raise GanttError(f"a picture of {chart.width:g} by {chart.height:g} inches at {chart.dpi} dots per inch has "
-                         "too many pixels")
+        raise Misused(f"a picture of {chart.width:g} by {chart.height:g} inches at {chart.dpi} dots per inch has "
+                      "too many pixels")
     atomic_write(picture, picture_of(draw(chart), extension, chart.dpi))
     if chart.is_image:
         print(f"pfs-gantt: {starts.size:,} operations are too many or too short to draw one by one: the rows are an "
               f"image of {chart.dpi} dots per inch", file=sys.stderr)
+    return 0
 
 
 def main() -> int:
-    try:
-        draw_picture()
-    except (GanttError, ImportError, OSError, UnicodeDecodeError) as error:
-        print(f"pfs-gantt: {printable(' '.join(str(error).split()))}", file=sys.stderr)
-        return 2
-    return 0
+    return run("pfs-gantt", draw_picture)
 
 
 if __name__ == "__main__":

@@ -14,6 +14,7 @@ from typing import Any, Final
 
 import numpy as np
 
+from pfs import _rounds
 from pfs._version import VERSION
 
 FILE = "libpfs.so.1"
@@ -22,10 +23,7 @@ FILE = "libpfs.so.1"
 MOST_JOBS: Final = 5_000
 MOST_MACHINES: Final = 200
 LONGEST_TIME: Final = 1_000_000_000
-MOST_ROUNDS: Final = 1_000_000
-# A search by time that has made all rounds of a seed continues with a seed that is greater by this number, modulo 2^64,
-# so that searches with the seeds 1, 2, 3 share no random numbers.
-SEED_STEP: Final = 0x9E3779B97F4A7C15
+MOST_ROUNDS: Final = _rounds.MOST_ROUNDS
 MOST_PASSES: Final = 100
 MOST_BLOCKS: Final = 1_000
 LONGEST_INPUT: Final = 67_108_864
@@ -55,11 +53,6 @@ class Notes(ctypes.Structure):
 class Block(ctypes.Structure):
     """The sizes and the notes of a block of an instance file."""
     _fields_ = [("jobs", c_size_t), ("machines", c_size_t), ("notes", Notes)]
-
-
-class RoundsOptions(ctypes.Structure):
-    """Which rounds `pfs_rounds` makes."""
-    _fields_ = [("seed", c_uint64), ("take", c_size_t), ("first", c_uint32), ("count", c_uint32), ("passes", c_uint32)]
 
 
 # The parameters of each function, an instance first where it works on one.

@@ -8,22 +8,16 @@ from ctypes import byref, c_uint64
 from typing import TYPE_CHECKING, Any, Protocol, TypeAlias
 
 import numpy as np
-import numpy.typing as npt
 
 from pfs import _library as c
 from pfs._faults import Interrupted
+from pfs._rounds import Pace, Part, Rounds
 from pfs._solution import Improvement, Solution, as_order
 from pfs._validate import BOOLS, Jobs, as_uint32_bytes, checked_int, checked_order, jobs_error
 
 if TYPE_CHECKING:
     from pfs._instance import Instance
 
-# About how long a part takes, in seconds.
-PART = 0.1
-# A part has at most this many times the rounds of the part before it.
-MOST_INCREASE = 4
-# The makespan of a part that hasn't been run. No order has this makespan.
-UNWRITTEN = 2**64 - 1
 ROUNDS = 1_000
 
 
@@ -43,69 +37,31 @@ class Stop(Protocol):
 Progress: TypeAlias = "Callable[[int, int], Any] | Bar | type[Any]"
 
 
-class Part:
-    """The results of one call of the library. The code around the call may be interrupted at any point; `is_done` then
-    says whether the call was made."""
-
-    def __init__(self, order: bytes, rounds: int, cells_before: int, seed: int, total: int) -> None:
-        self.order: npt.NDArray[np.uint32] = np.frombuffer(bytearray(order), dtype=np.uint32)
-        self.makespan, self.cells = c_uint64(UNWRITTEN), c_uint64()
-        # The number of the next round with this seed, and the number of rounds so far with all seeds.
-        self.rounds, self.total = rounds, total
-        self.seed, self.cells_before = seed, cells_before
-        # It is built right after the part, so it isn't lost if memory runs out later.
-        self.solution: Solution | None = None
-
-    def is_done(self) -> bool:
-        return self.makespan.value != UNWRITTEN
-
-
-class Search:
+class Search(Rounds):
     """Iterated greedy on an instance. `solution` returns the best order so far, also after an interruption."""
 
     def __init__(self, shop: Instance, start: Jobs | None, first: int, take: int | None, passes: int,
                  seed: int) -> None:
         self.shop = shop
-        self.take = checked_int(min(4, shop.jobs) if take is None else take, "take", 1, shop.jobs)
-        self.passes = checked_int(passes, "passes", 0, c.MOST_PASSES)
-        self.seed = checked_int(seed, "seed", 0, c.MOST_SEED)
-        self.first = checked_int(first, "first", 0, c.MOST_ROUNDS)
+        super().__init__(
+            lambda *call: c.done(shop._call(*call)), shop.jobs,
+            checked_int(min(4, shop.jobs) if take is None else take, "take", 1, shop.jobs),
+            checked_int(passes, "passes", 0, c.MOST_PASSES), checked_int(seed, "seed", 0, c.MOST_SEED),
+            checked_int(first, "first", 0, c.MOST_ROUNDS))
         self.start = None if start is None else checked_order(as_order(start, shop, "start"), shop.jobs, "start",
                                                               shop.job_names)
-        self.last: Part | None = None
-        self.running: Part | None = None
         # The improvements so far, if they are recorded.
         self.history: list[Improvement] = []
 
     def begin(self) -> None:
         """Compute the start order by NEH, or the makespan of the given one."""
-        shop = self.shop
-        part = self.running = Part(self.start or bytes(4 * shop.jobs), self.first, 0, self.seed, self.first)
         if self.start is None:
-            c.done(shop._call("pfs_neh", part.order.ctypes.data, shop.jobs, byref(part.makespan), byref(part.cells)))
-        elif number := shop._call("pfs_makespan", self.start, shop.jobs, byref(part.makespan)):
-            raise jobs_error(number, shop.jobs, self.start, "start")
+            super().begin()
+            return
+        part = self.running = Part(self.start, self.first, 0, self.seed, self.first)
+        if number := self.shop._call("pfs_makespan", self.start, self.jobs, byref(part.makespan)):
+            raise jobs_error(number, self.jobs, self.start, "start")
         self.keep(part)
-
-    def run_rounds(self, count: int) -> None:
-        """Run the next `count` rounds. After the last round of a seed, those of another one follow."""
-        part = self.running = self.part_after(self.finished(), count)
-        self.run_part(part, count)
-        self.keep(part)
-
-    def part_after(self, before: Part, count: int) -> Part:
-        """Return a part for the next `count` rounds, which aren't run yet."""
-        rounds, seed = before.rounds, before.seed
-        if rounds == c.MOST_ROUNDS and count:
-            rounds, seed = 0, (seed + c.SEED_STEP) % 2**64
-        return Part(before.order.tobytes(), rounds + count, before.cells_before + before.cells.value, seed,
-                    before.total + count)
-
-    def run_part(self, part: Part, count: int) -> None:
-        """Run the `count` rounds of a part."""
-        options = c.RoundsOptions(part.seed, self.take, part.rounds - count, count, self.passes)
-        c.done(self.shop._call("pfs_rounds", byref(options), part.order.ctypes.data, self.shop.jobs,
-                               byref(part.makespan), byref(part.cells)))
 
     def first_within(self, before: Part, after: Part, makespan: int) -> Part:
         """Return the part up to the first round with at most this makespan.
@@ -121,52 +77,19 @@ class Search:
 
     def keep(self, part: Part) -> None:
         """Make this part the last one."""
-        self.running = self.last = part
+        super().keep(part)
         self.solution()
-
-    def finished(self) -> Part:
-        """Return the last part that was run."""
-        if self.running is not None and self.running.is_done():
-            return self.running
-        if self.last is None:
-            self.begin()
-        assert self.last is not None
-        return self.last
 
     def solution(self) -> Solution:
         """Return the best order after the last part that was run."""
         part = self.finished()
-        if part.solution is None:
-            part.solution = Solution(part.order, part.makespan.value, part.cells_before + part.cells.value,
-                                     self.shop.machines, part.rounds, part.seed)
-        if len(part.solution.history) < len(self.history):
-            part.solution.history = tuple(self.history)
-        return part.solution
-
-
-class Pace:
-    """Chooses the rounds of each part, so that it takes about a tenth of a second and ends by the time limit."""
-
-    def __init__(self, time_limit: float | None) -> None:
-        self.end = None if time_limit is None else time.monotonic() + time_limit
-        self.count = 1
-        self.seconds = PART
-
-    def left(self) -> float:
-        """Return the seconds until the limit."""
-        return float("inf") if self.end is None else self.end - time.monotonic()
-
-    def next(self, most: int) -> int:
-        """Return the number of rounds of the next part, at most `most`, and 0 after the time limit."""
-        left = self.left()
-        if left <= 0:
-            return 0
-        fitting = self.count * min(PART, left) / max(self.seconds, 1e-9)
-        return max(1, min(most, MOST_INCREASE * self.count, int(fitting)))
-
-    def took(self, count: int, seconds: float) -> None:
-        """Record how long the last part took."""
-        self.count, self.seconds = count, seconds
+        found: Solution = part.solution
+        if found is None:
+            found = part.solution = Solution(np.frombuffer(part.order, dtype=np.uint32), part.makespan.value,
+                                             part.all_cells(), self.shop.machines, part.rounds, part.seed)
+        if len(found.history) < len(self.history):
+            found.history = tuple(self.history)
+        return found
 
 
 def reporter(progress: Progress | None, rounds: int | None) -> tuple[Callable[..., Any], Callable[..., Any]]:
@@ -242,9 +165,7 @@ class Limits:
         """Return the greatest number of rounds for the next part, 0 if the search has finished."""
         if search.solution().makespan <= self.target or self.is_stopped():
             return 0
-        # Those of the seed, or of the one after it if it has none left.
-        left_of_seed = c.MOST_ROUNDS - search.finished().rounds or c.MOST_ROUNDS
-        return left_of_seed if self.rounds is None else self.rounds - made
+        return search.left_of_seed() if self.rounds is None else self.rounds - made
 
 
 def solve(search: Search, rounds: int | None, progress: Progress | None, time_limit: Any, target: int | None = None,
@@ -355,14 +276,14 @@ class HeldSearch(Search):
 
     def run_part(self, part: Part, count: int) -> None:
         """Run the `count` rounds of a part. A round's order is kept unless its makespan is greater."""
-        order: list[int] = part.order.tolist()
+        order: list[int] = list(part.order)
         makespan = self.shop.makespan(order)
         for number in range(part.rounds - count, part.rounds) if self.moved else ():
             tried = list(order)
             found = self.run_round(tried, random.Random(part.seed << 20 | number))
             if found <= makespan:
                 order, makespan = tried, found
-        part.order[:] = order
+        part.order[:] = [*order]
         part.makespan.value = makespan
 
     def run_round(self, order: list[int], chance: random.Random) -> int:

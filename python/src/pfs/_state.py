@@ -10,6 +10,7 @@ from typing import Any
 
 from pfs import _library as c
 from pfs._atomic import atomic_write
+from pfs._cli import Refused
 from pfs._files import bytes_of
 from pfs._instance import Instance
 from pfs._search import Search
@@ -18,7 +19,7 @@ from pfs._solution import Solution
 VERSION = "pfs search 2"
 
 
-class StateFault(ValueError):
+class StateFault(Refused):
     """A file isn't a state of this search."""
 
 

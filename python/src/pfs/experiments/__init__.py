@@ -5,13 +5,14 @@ import csv
 import io
 from collections.abc import Iterable, Sequence
 
+from pfs._cli import Refused
 from pfs._names import printable as plain
 
 __all__ = ["ExperimentError", "csv_text", "listed", "plain"]
 
 
-class ExperimentError(Exception):
-    """An error that is reported on one line."""
+class ExperimentError(Refused):
+    """A plan, a CSV or a program is invalid."""
 
 
 def listed(names: Sequence[str], most: int = 10) -> str:

@@ -1,7 +1,6 @@
 """The command line `pfs-experiments`."""
 from __future__ import annotations
 
-import argparse
 import importlib
 import io
 import os
@@ -9,23 +8,13 @@ import pathlib
 import shutil
 import signal
 import sys
-from collections.abc import Callable
-from typing import Any, NoReturn
+from typing import Any
 
+from pfs._cli import CommandLine, inches, number, run
 from pfs._optional import optional
-from pfs._words import inches, number
-from pfs.experiments import ExperimentError, plain
 
 # Where the program is searched for: on the path, and in the folder of pfs-experiments.
 PROGRAMS = f"{os.environ.get('PATH', os.defpath)}:{os.path.dirname(os.path.abspath(sys.argv[0]))}"
-
-
-class CommandLine(argparse.ArgumentParser):
-    """A parser of command lines. Errors are reported on one line."""
-
-    def error(self, message: str) -> NoReturn:
-        self.exit(2, f"{self.prog}: {plain(message)} ({' '.join(self.format_usage().split())})\n")
-
 
 # Of each command its module, which has a function of its name, and what it does.
 COMMANDS = {
@@ -73,12 +62,17 @@ def command_line() -> CommandLine:
     return parser
 
 
-def text_of(error: Exception) -> str:
-    """Returns what is printed for an error, on one line."""
-    file = (error.filename2 or error.filename) if isinstance(error, OSError) else None
-    path = f"{os.fsdecode(file)}: " if isinstance(file, (str, bytes)) else ""
-    line = f"{path}{error.strerror}" if isinstance(error, OSError) and error.strerror else str(error)
-    return plain(" ".join(line.split()))
+def command() -> int:
+    """Runs the command of the command line, and returns its exit status."""
+    parser = command_line()
+    args, options = parser.parse_known_args()
+    args.options = options
+    if options and args.command not in ("run", "slurm"):
+        parser.error(f"unrecognized arguments: {' '.join(options)}")
+    for module in ("matplotlib", "pandas", "scipy") if args.command == "report" else ():
+        optional(module, "a report")
+    status: int = vars(importlib.import_module(f"pfs.experiments.{args.module}"))[args.command](args)
+    return status
 
 
 def main() -> int:
@@ -88,22 +82,7 @@ def main() -> int:
     for stream in (sys.stdout, sys.stderr):
         if isinstance(stream, io.TextIOWrapper):
             stream.reconfigure(errors="backslashreplace")
-    name = "pfs-experiments"
-    try:
-        parser = command_line()
-        args, options = parser.parse_known_args()
-        args.options = options
-        name += f" {args.command}"
-        if args.options and args.command not in ("run", "slurm"):
-            parser.error(f"unrecognized arguments: {' '.join(args.options)}")
-        for module in ("matplotlib", "pandas", "scipy") if args.command == "report" else ():
-            optional(module, "a report")
-        command: Callable[[argparse.Namespace], int] = vars(
-            importlib.import_module(f"pfs.experiments.{args.module}"))[args.command]
-        return command(args)
-    except (ExperimentError, OSError, ImportError) as error:
-        print(f"{name}: {text_of(error)}", file=sys.stderr)
-        return 2
+    return run(" ".join(["pfs-experiments", *(word for word in sys.argv[1:2] if word in COMMANDS)]), command)
 
 
 if __name__ == "__main__":

@@ -24,16 +24,18 @@ import sys
 import tempfile
 import time
 from collections import namedtuple
-from collections.abc import Iterable
+from collections.abc import Callable, Iterable
 from types import FrameType
-from typing import NamedTuple
+from typing import TYPE_CHECKING, NamedTuple
+
+if TYPE_CHECKING or __package__:
+    from pfs._rounds import Pace, Rounds
+else:  # among the copies, where nothing else is left
+    sys.dont_write_bytecode = True
+    from rounds import Pace, Rounds
 
 HERE = os.path.dirname(os.path.abspath(__file__))
 LIBRARY = "libpfs.so.1"
-# A seed has this number of rounds. A longer search continues with rounds of the next seed, which is greater by STEP.
-MOST_ROUNDS, STEP = 1_000_000, 0x9E3779B97F4A7C15
-# About how many seconds a part of a search takes, and the greatest ratio of its rounds to those of the part before it.
-PART, MOST_INCREASE = 0.05, 4
 # A command, and each of its processes, may use this multiple of its processor time, and these seconds for its start,
 # in whole seconds. In real time it may take ten times as long, and this number of seconds more.
 TIMES, START, PATIENCE = 1.5, 0.5, 10.0
@@ -112,69 +114,43 @@ def audit(run: Run, order: str) -> tuple[str, str]:
 
 # Searches by time, in parts of rounds
 
-class Options(ctypes.Structure):
-    """Which rounds `pfs_rounds` makes."""
-    _fields_ = [("seed", ctypes.c_uint64), ("take", ctypes.c_size_t), ("first", ctypes.c_uint32),
-                ("count", ctypes.c_uint32), ("passes", ctypes.c_uint32)]
+def caller(times: list[int], jobs: int, machines: int) -> Callable[..., None]:
+    """Returns a function that calls a function of the library for C, which has to succeed, on the instance. The
+    processing times are listed job by job."""
+    library, instance = ctypes.CDLL(os.path.join(HERE, LIBRARY)), ctypes.byref(ctypes.c_void_p())
 
-
-class Search:
-    """Iterated greedy from NEH's order, with the library for C. The processing times are listed job by job."""
-
-    def __init__(self, times: list[int], jobs: int, machines: int, take: int, passes: int, seed: int) -> None:
-        self.library = ctypes.CDLL(os.path.join(HERE, LIBRARY))
-        self.take, self.passes, self.seed = take, passes, seed
-        self.order = (ctypes.c_uint32 * jobs)()
-        self.makespan, self.cells, self.rounds = ctypes.c_uint64(), 0, 0
-        self.instance = ctypes.c_void_p()
-        sizes = [ctypes.c_size_t(size) for size in (len(times), jobs, machines)]
-        self.check("pfs_prepare", (ctypes.c_uint32 * len(times))(*times), *sizes, ctypes.byref(self.instance))
-
-    def call(self, function: str, *arguments: object) -> None:
-        """Calls a function on the instance, and counts the cells that it computed."""
-        cells = ctypes.c_uint64()
-        self.check(function, ctypes.byref(self.instance), *arguments, self.order, ctypes.c_size_t(len(self.order)),
-                   ctypes.byref(self.makespan), ctypes.byref(cells))
-        self.cells += cells.value
-
-    def check(self, function: str, *arguments: object) -> None:
-        """Calls a function of the library, which has to succeed."""
-        number = getattr(self.library, function)(*arguments)
+    def check(function: str, *arguments: object) -> None:
+        number = getattr(library, function)(*arguments)
         if number != 0:
             raise Failed("solve: exit 4, pfs: no memory" if number == 1 else f"libpfs: {function} returns {number}")
 
-    def run_rounds(self, count: int) -> int:
-        """Runs rounds of one seed, at most this number, and returns how many."""
-        first, seed = self.rounds % MOST_ROUNDS, self.seed + self.rounds // MOST_ROUNDS * STEP
-        count = min(count, MOST_ROUNDS - first)
-        self.call("pfs_rounds", ctypes.byref(Options(seed % 2 ** 64, self.take, first, count, self.passes)))
-        self.rounds += count
-        return count
+    sizes = [ctypes.c_size_t(size) for size in (len(times), jobs, machines)]
+    check("pfs_prepare", (ctypes.c_uint32 * len(times))(*times), *sizes, instance)
+    return lambda function, *arguments: check(function, instance, *arguments)
 
 
-def search(running: Search, seconds: float) -> float:
+def search(running: Rounds, seconds: float) -> float:
     """Searches for this processor time, and returns the time spent. A part is only started if it is expected to end in
     time, as estimated from the part before it."""
-    start = time.process_time()
-    running.call("pfs_neh")
-    count, before = 1, time.process_time()
-    while count > 0 and before - start < seconds:
-        made = running.run_rounds(count)
-        now = time.process_time()
-        each, before = max(now - before, 1e-7) / made, now
-        count = min(MOST_INCREASE * count, int(min(PART, seconds - (now - start)) / each))
+    start, pace = time.process_time(), Pace(seconds, time.process_time, least=0)
+    running.begin()
+    while count := pace.next(running.left_of_seed()):
+        before = time.process_time()
+        running.run_rounds(count)
+        pace.took(count, time.process_time() - before)
     return time.process_time() - start
 
 
 def by_time(run: Run) -> Found:
     jobs, machines, *pairs = map(int, pfs(run, "convert", "--to", "orlib").split()[3:])
     try:
-        running = Search(pairs[1::2], jobs, machines, int(run.take), int(run.passes), int(run.seed))
+        running = Rounds(caller(pairs[1::2], jobs, machines), jobs, int(run.take), int(run.passes), int(run.seed))
         spent = search(running, float(run.limit))
     except (OSError, AttributeError) as error:
         raise Failed(f"libpfs: {error}") from None
-    order = order_file(f"order2 {jobs} {machines}", [job + 1 for job in running.order], running.makespan.value)
-    return Found(order, str(running.cells), spent, str(running.rounds))
+    best = running.finished()
+    order = order_file(f"order2 {jobs} {machines}", [job + 1 for job in best.order], best.makespan.value)
+    return Found(order, str(best.all_cells()), spent, str(best.total))
 
 
 # Other programs

@@ -17,7 +17,7 @@ import subprocess
 import sys
 
 from pfs._atomic import FORMULA, text_cell
-from pfs.experiments import ExperimentError, csv_text, one, plain, stage
+from pfs.experiments import csv_text, one, plain, stage
 from pfs.experiments.plan import Row, reference_for, rows_of
 from pfs.experiments.stage import Experiment, prepare, write_text
 
@@ -45,7 +45,7 @@ def begin(args: argparse.Namespace, program: str, package: str) -> tuple[Experim
     """Returns the prepared experiment and the runs that are left, after removing what there is of their results, so
     that processes of an earlier start write into no file of a later one."""
     if shutil.which(program) is None:
-        raise ExperimentError(f"{program} is not installed (Debian: {package})")
+        raise FileNotFoundError(f"{program} is not installed (Debian: {package})")
     experiment = prepare(args.plan, args.csv, args.pfs)
     left = [run for run in experiment.runs if not is_done(experiment.folder, run["number"], args.retry)]
     for run in left:

@@ -21,6 +21,7 @@ import sys
 from collections.abc import Iterator
 from typing import Any, NamedTuple
 
+from pfs import _rounds
 from pfs._atomic import atomic_write
 from pfs._benchmarks import taillard_rows
 from pfs._version import VERSION
@@ -164,7 +165,7 @@ def begin(folder: pathlib.Path, pfs: str) -> None:
         shutil.rmtree(half_done)
     stage = folder / f"pfs-experiment-{secrets.token_hex(6)}"
     (folder / "results").mkdir(exist_ok=True)
-    for source, name in ((pfs, "pfs"), (one.__file__, "one")):
+    for source, name in ((pfs, "pfs"), (one.__file__, "one"), (_rounds.__file__, "rounds.py")):
         copy(source, stage / name)
         (stage / name).chmod(0o755)
 

@@ -1,9 +1,9 @@
 use Rattle.std.proofs.Common.{◌+◌, ◌-◌, refl, ap, arith}
 use Rattle.pfs_base.specs.FlowShop.{FlowShop, time_of, total_of}
 use Rattle.pfs_audit.specs.Private.Sums.{least_among, load_among}
-use Rattle.pfs_audit.proofs.Ranges.{greatest-range-more, sum_by-below-more, total_of-is}
-use Rattle.pfs_audit.proofs.SumLemmas.{least_among-more, load_among-more, load_among-le, time_on-le, time_on-parts}
-use Rattle.pfs_audit.proofs.SumLemmas.{have_none, have_more}
+use Rattle.pfs_audit.proofs.Published.Ranges.{greatest-range-more, sum_by-below-more, total_of-is}
+use Rattle.pfs_audit.proofs.Published.SumLemmas.{least_among-more, load_among-more, load_among-le, time_on-le, time_on-parts}
+use Rattle.pfs_audit.proofs.Published.SumLemmas.{have_none, have_more}
 use Rattle.pfs_audit.proofs.bounds.add_job.Goals as goal
 
 pub loop-machine-init : goal.loop-machine-init

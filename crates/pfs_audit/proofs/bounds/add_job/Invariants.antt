@@ -4,7 +4,7 @@ use Rattle.pfs_base.specs.Paths.{greatest}
 use Rattle.pfs_order.specs.Sequence.{all_jobs}
 use Rattle.pfs_audit.specs.Bound.{time_on}
 use Rattle.pfs_audit.specs.Private.Sums.{least_among, load_among}
-use Rattle.pfs_audit.proofs.SumLemmas.{HavePartly}
+use Rattle.pfs_audit.proofs.Published.SumLemmas.{HavePartly}
 use Rattle.pfs_audit.proofs.bounds.add_job.Given as goal
 
 abbrev pub invariant-loop-machine : goal.invariant-loop-machine

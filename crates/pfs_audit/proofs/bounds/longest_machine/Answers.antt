@@ -1,7 +1,7 @@
 use Rattle.std.proofs.Common.{◌+◌, ◌-◌, arith}
 use Rattle.pfs_audit.specs.Bound.{machine_bound}
-use Rattle.pfs_audit.proofs.Ranges.{greatest-range-more}
-use Rattle.pfs_audit.proofs.SumLemmas.{least_among-is, least_among-le, load_among-le}
+use Rattle.pfs_audit.proofs.Published.Ranges.{greatest-range-more}
+use Rattle.pfs_audit.proofs.Published.SumLemmas.{least_among-is, least_among-le, load_among-le}
 use Rattle.pfs_audit.proofs.bounds.longest_machine.Goals as goal
 
 pub loop-machine-preserved : goal.loop-machine-preserved

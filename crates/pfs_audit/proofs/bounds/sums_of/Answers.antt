@@ -1,7 +1,7 @@
 use Rattle.std.proofs.Common.{refl, arith}
 use Rattle.pfs_base.specs.declared.limits.TheConstants.{MOST_MACHINES}
 use Rattle.pfs_audit.specs.declared.bounds.TheConstants.{LONGEST_TOTAL}
-use Rattle.pfs_audit.proofs.SumLemmas.{all_same}
+use Rattle.pfs_audit.proofs.Published.SumLemmas.{all_same}
 use Rattle.pfs_audit.proofs.bounds.sums_of.Goals as goal
 
 pub loop-job-init : goal.loop-job-init

@@ -1,8 +1,8 @@
 use Rattle.std.proofs.Common.{ℕ, length, drop, refl, arith}
 use Rattle.std.proofs.lemmas.Bool.{eqb-true}
 use Rattle.std.proofs.lemmas.List.{length-append, length-drop, take_at}
-use Rattle.pfs_c.specs.Building.{visited}
-use Rattle.pfs_c.proofs.Visits.{construct_is, more_small}
+use Rattle.pfs_search.specs.Greedy.{pass_over}
+use Rattle.pfs_c.proofs.Building.{construct_is, more_small}
 use Rattle.pfs_c.proofs.searching.construct_in.Goals as goal
 
 pub visit-requires-clause-small : goal.visit-requires-clause-small
@@ -14,7 +14,7 @@ pub visit-requires-clause-long : goal.visit-requires-clause-long
 visit-requires-clause-long c =
     let shop = c.args.kept.now in
     let sequence = c.args.sequence.now in
-    let found = construct_is shop sequence c.args.more.now (visited shop c.args.more.now sequence)
+    let found = construct_is shop sequence c.args.more.now (pass_over shop c.args.more.now sequence)
     (rw c.jobs-jobs.ensures.value at c.in_ok-validate_more.ensures.together) refl in
     rw (
       c.copy_from_slice.ensures.after,

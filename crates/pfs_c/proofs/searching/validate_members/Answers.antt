@@ -1,7 +1,7 @@
 use Rattle.std.proofs.Common.{Contains, refl, rules}
 use Rattle.std.proofs.lemmas.List.{take_all}
 use Rattle.std.proofs.lemmas.List.Elements.{All-more}
-use Rattle.pfs_c.proofs.Visits.{members_all}
+use Rattle.pfs_c.proofs.Building.{members_all}
 use Rattle.pfs_c.proofs.searching.validate_members.Goals as goal
 
 pub returns-clause-validated : goal.returns-clause-validated

@@ -1,5 +1,6 @@
-use Rattle.std.proofs.Common.{refl, ◌∙◌, arith}
+use Rattle.std.proofs.Common.{◌∙◌, arith}
 use Rattle.pfs_base.proofs.Published.Heads.{time_of-le}
+use Rattle.pfs_insert.specs.Private.Rows.{times_in_turn}
 use Rattle.pfs_insert.proofs.RowSteps.{fill}
 use Rattle.pfs_insert.proofs.rows.fill_row.Goals as goal
 
@@ -11,8 +12,9 @@ loop-turn-preserved g c =
     record {
       same_shop = c.step-before.ensures.shop ∙ same;
       counted = omega (arith, c.step-before.ensures.counted, c.loop-turn.invariant.counted);
-      filled = fill c.loop-turn.invariant.filled (omega (arith, c.loop-turn-test.true)) c.requires.before
-          (omega (arith, c.loop-turn.auto.table, c.requires.inside)) (rw machine refl) (rw machine refl)
-          c.index-table-from.is (rw (same, machine) at c.step-before.ensures.value)
+      filled = fill {times = times_in_turn (g.B.Bench.shop c.args.bench.now) c.args.job c.args.back}
+          c.loop-turn.invariant.filled (omega (arith, c.loop-turn-test.true))
+          (c.loop-turn.auto.row ∙ c.requires.width) machine c.index-given-machine.is
+          (rw (same, machine) at c.step-before.ensures.value)
           (time_of-le _ (g.met.B.Bench.within c.args.bench.now) c.args.job _) c.requires.short;
     }

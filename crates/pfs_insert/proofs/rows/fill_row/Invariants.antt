@@ -9,6 +9,6 @@ invariant-loop-turn g l =
     record {
       same_shop : g.B.Bench.shop l.bench ≡ shop;
       counted : g.B.Bench.counted l.bench ≡ g.B.Bench.counted l.fn.bench + l.turn;
-      filled : Filled g.B.Span.Length.number shop.machines (times_in_turn shop l.job l.back) l.back l.fn.table l.table
-          l.from l.to l.turn l.before;
+      filled : Filled g.B.Span.Length.number shop.machines (times_in_turn shop l.job l.back) l.back l.given l.row l.turn
+          l.before;
     }

@@ -8,6 +8,6 @@ invariant-loop-count g l =
     record {
       same_shop : g.B.Bench.shop l.bench ≡ shop;
       counted : g.B.Bench.counted l.bench ≡ g.B.Bench.counted l.fn.bench + l.count * shop.machines;
-      rows : AreRows g.B.Span.Length.number shop l.seq.jobs l.table l.start l.back l.count;
-      kept : AreSameOutside l.fn.table l.table (l.start + shop.machines) (l.start + shop.jobs * shop.machines);
+      rows : AreRows g.B.Span.Length.number shop l.seq.jobs l.rows l.back l.count;
+      kept : AreSameOutside shop l.fn.rows l.rows l.back 1 shop.jobs;
     }

@@ -1,5 +1,6 @@
 use Rattle.std.proofs.Common.{sym, ◌∙◌, arith}
-use Rattle.pfs_search.proofs.Moves.{passes_more}
+use Rattle.pfs_order.specs.Sequence.{all_jobs}
+use Rattle.pfs_search.proofs.Published.Moves.{passes_more}
 use Rattle.pfs_search.proofs.passes.make_passes.Goals as goal
 
 pub loop-done-preserved : goal.loop-done-preserved
@@ -13,6 +14,6 @@ loop-done-preserved g c =
       fits = gives.step.still.fits;
       counted = omega (arith, invariant.counted);
       order = rw (gives.made.jobs_are, invariant.same_shop, invariant.order)
-          (sym (passes_more shop c.loop-done._done c.args.seq.now.jobs));
+          (sym (passes_more shop (all_jobs shop.jobs) c.loop-done._done c.args.seq.now.jobs));
       span = rw (← invariant.same_shop) gives.made.has_span;
     }

@@ -3,7 +3,7 @@ use Rattle.std.proofs.lemmas.List.Edits.{length-insert, length-remove}
 use Rattle.pfs_order.specs.Sequence.{Sequence}
 use Rattle.pfs_order.proofs.Published.Sequences.{Contains-all, absent-remove}
 use Rattle.pfs_insert.specs.Insertion.{with_job}
-use Rattle.pfs_search.proofs.Moves.{moved_is}
+use Rattle.pfs_search.proofs.Published.Moves.{moved_is}
 use Rattle.pfs_search.proofs.passes.move_job.Goals as goal
 
 pub place_of-place-requires : goal.place_of-place-requires

@@ -1,0 +1,4 @@
+-- Lemmas that the proofs of dependent crates may cite.
+pub mod Orders
+pub mod Ranges
+pub mod SumLemmas

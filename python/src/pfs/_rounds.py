@@ -1,0 +1,121 @@
+"""Searches in parts of rounds, each a call of the library for C. The package and the runs of experiments, to whose
+machines it is copied, search with it alone. It needs nothing but Python."""
+from __future__ import annotations
+
+import ctypes
+import time
+from collections.abc import Callable
+from ctypes import byref, c_size_t, c_uint32, c_uint64
+from typing import Any, Final
+
+MOST_ROUNDS: Final = 1_000_000
+# A search that has made all rounds of a seed continues with a seed that is greater by this number, modulo 2^64, so that
+# searches with the seeds 1, 2, 3 share no random numbers.
+SEED_STEP: Final = 0x9E3779B97F4A7C15
+# About how long a part takes, in seconds.
+PART = 0.1
+# A part has at most this many times the rounds of the part before it.
+MOST_INCREASE = 4
+# The makespan of a part that hasn't been run. No order has this makespan.
+UNWRITTEN = 2**64 - 1
+
+
+class RoundsOptions(ctypes.Structure):
+    """Which rounds `pfs_rounds` makes."""
+    _fields_ = [("seed", c_uint64), ("take", c_size_t), ("first", c_uint32), ("count", c_uint32), ("passes", c_uint32)]
+
+
+class Part:
+    """The results of one call of the library. The code around the call may be interrupted at any point; `is_done` then
+    says whether the call was made."""
+
+    def __init__(self, order: bytes, rounds: int, cells_before: int, seed: int, total: int) -> None:
+        self.order = (c_uint32 * (len(order) // 4)).from_buffer_copy(order)
+        self.makespan, self.cells = c_uint64(UNWRITTEN), c_uint64()
+        # The number of the next round with this seed, and the number of rounds so far with all seeds.
+        self.rounds, self.total = rounds, total
+        self.seed, self.cells_before = seed, cells_before
+        # What the package makes of it right after the part, so that it isn't lost if memory runs out later.
+        self.solution: Any = None
+
+    def is_done(self) -> bool:
+        return self.makespan.value != UNWRITTEN
+
+    def all_cells(self) -> int:
+        """Return the cells of this part and of those before it."""
+        return self.cells_before + self.cells.value
+
+
+class Rounds:
+    """Iterated greedy from NEH's order. `call` calls a function of the library on the instance, or raises an error."""
+
+    def __init__(self, call: Callable[..., object], jobs: int, take: int, passes: int, seed: int, first: int = 0) -> None:
+        self.call, self.jobs = call, jobs
+        self.take, self.passes, self.seed, self.first = take, passes, seed, first
+        self.last: Part | None = None
+        self.running: Part | None = None
+
+    def begin(self) -> None:
+        """Compute the order to begin with."""
+        part = self.running = Part(bytes(4 * self.jobs), self.first, 0, self.seed, self.first)
+        self.call("pfs_neh", part.order, c_size_t(self.jobs), byref(part.makespan), byref(part.cells))
+        self.keep(part)
+
+    def run_rounds(self, count: int) -> None:
+        """Run the next `count` rounds. After the last round of a seed, those of another one follow."""
+        part = self.running = self.part_after(self.finished(), count)
+        self.run_part(part, count)
+        self.keep(part)
+
+    def part_after(self, before: Part, count: int) -> Part:
+        """Return a part for the next `count` rounds, which aren't run yet."""
+        rounds, seed = before.rounds, before.seed
+        if rounds == MOST_ROUNDS and count:
+            rounds, seed = 0, (seed + SEED_STEP) % 2**64
+        return Part(bytes(before.order), rounds + count, before.all_cells(), seed, before.total + count)
+
+    def run_part(self, part: Part, count: int) -> None:
+        """Run the `count` rounds of a part."""
+        options = RoundsOptions(part.seed, self.take, part.rounds - count, count, self.passes)
+        self.call("pfs_rounds", byref(options), part.order, c_size_t(self.jobs), byref(part.makespan),
+                  byref(part.cells))
+
+    def keep(self, part: Part) -> None:
+        """Make this part the last one."""
+        self.running = self.last = part
+
+    def finished(self) -> Part:
+        """Return the last part that was run."""
+        if self.running is not None and self.running.is_done():
+            return self.running
+        if self.last is None:
+            self.begin()
+        assert self.last is not None
+        return self.last
+
+    def left_of_seed(self) -> int:
+        """Return how many rounds the seed has left, or the one after it if it has none."""
+        return MOST_ROUNDS - self.finished().rounds or MOST_ROUNDS
+
+
+class Pace:
+    """Chooses the rounds of each part, so that it takes about a tenth of a second and ends by the time limit, in
+    seconds of this clock. A part has at least `least` rounds before the limit."""
+
+    def __init__(self, seconds: float | None, clock: Callable[[], float] | None = None, least: int = 1) -> None:
+        self.clock, self.least = clock or time.monotonic, least
+        self.end = None if seconds is None else self.clock() + seconds
+        # The first part has one round.
+        self.count, self.seconds = 1 / MOST_INCREASE, 0.0
+
+    def next(self, most: int) -> int:
+        """Return the number of rounds of the next part, at most `most`, and 0 after the time limit."""
+        left = float("inf") if self.end is None else self.end - self.clock()
+        if left <= 0:
+            return 0
+        fitting = self.count * min(PART, left) / max(self.seconds, 1e-9)
+        return max(self.least, min(most, int(MOST_INCREASE * self.count), int(fitting)))
+
+    def took(self, count: int, seconds: float) -> None:
+        """Record how long the last part took."""
+        self.count, self.seconds = count, seconds

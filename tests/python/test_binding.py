@@ -1,0 +1,263 @@
+"""Which library is loaded, and the error for one that can't be used. An instance is prepared by the library once, on
+its first call, and released with the object. Copies, pickled ones, forked processes and calls at the same time in
+several threads prepare their own."""
+import copy
+import gc
+import os
+import pathlib
+import pickle
+import re
+import shutil
+import subprocess
+import threading
+import time
+import timeit
+from collections.abc import Callable
+from concurrent.futures import ThreadPoolExecutor
+from typing import Any
+
+import numpy as np
+import pfs
+import pytest
+from pfs import _library
+from support import plainly
+
+TOP = pathlib.Path(__file__).resolve().parents[2]
+MAJOR = int(pfs.__version__.split(".")[0])
+LOADING = "import pfs, pfs._library; print(pfs._library.PATH, pfs.__version__)"
+
+
+def library_of(version: str, folder: pathlib.Path, without: str = "") -> pathlib.Path:
+    """A library of this version whose functions do nothing; one of them is missing."""
+    if shutil.which("gcc") is None:
+        pytest.skip("gcc isn't installed (Debian: gcc)")
+    text = (TOP / "lib" / "pfs.h").read_text()
+    header, count = re.subn(r'(?m)^#define PFS_VERSION ".*"$', f'#define PFS_VERSION "{version}"', text)
+    assert count == 1
+    (folder / "pfs.h").write_text(header)
+    shutil.copy(TOP / "lib" / "pfs_text.c", folder)
+    names = [name for name in _library.PROTOTYPES if name != without]
+    (folder / "nothing.c").write_text("".join(f"int {name}(void) {{ return 0; }}\n" for name in names))
+    words = ["gcc", "-shared", "-fPIC", f"-I{folder}", "-o", str(folder / "libpfs.so.1"), str(folder / "pfs_text.c"),
+             str(folder / "nothing.c")]
+    subprocess.run(words, check=True)
+    return folder / "libpfs.so.1"
+
+
+def loaded(library: pathlib.Path | str, folder: pathlib.Path) -> subprocess.CompletedProcess[str]:
+    """What Python says that imports the package with this library."""
+    return plainly.python("-c", LOADING, cwd=folder, PFS_LIBRARY=str(library))
+
+
+@pytest.mark.parametrize(("version", "fits"), [
+    (f"{MAJOR}.0.0", True), (f"{MAJOR}.7.3", True), (f"{MAJOR}", True), (f"{MAJOR + 1}.0.0", False),
+    (f"{MAJOR}0.0.0", False), (f"{MAJOR - 1}.9.9", False), (f"{MAJOR + 1}", False)])
+def test_a_library_of_another_version_is_rejected(tmp_path: pathlib.Path, version: str, fits: bool) -> None:
+    library = library_of(version, tmp_path)
+    done = loaded(library, tmp_path)
+    got = f"ImportError: the library {library} has version {version}, but this package needs {pfs.__version__}"
+    assert (done.stdout, done.stderr.splitlines()[-1:]) == (
+        (f"{library} {pfs.__version__}\n", []) if fits else ("", [got])), f"a library of version {version}"
+
+
+@pytest.mark.parametrize("what", [*_library.PROTOTYPES, None, b"", b"no library"])
+def test_a_library_without_a_function_and_a_file_that_is_none_are_rejected(tmp_path: pathlib.Path,
+                                                                           what: str | bytes | None) -> None:
+    """When it is loaded, and not when the function is called."""
+    library = library_of(pfs.__version__, tmp_path, what) if isinstance(what, str) else tmp_path / "libpfs.so.1"
+    if isinstance(what, bytes):
+        library.write_bytes(what)
+    got = loaded(library, tmp_path).stderr.splitlines()[-1]
+    assert got.startswith(f"ImportError: pfs can't load its library {library} (")
+    assert not isinstance(what, str) or f"undefined symbol: {what}" in got
+    assert got.endswith("): set PFS_LIBRARY to the path of libpfs.so.1")
+
+
+def test_the_library_that_the_variable_names_goes_before_the_packages(monkeypatch: pytest.MonkeyPatch,
+                                                                     tmp_path: pathlib.Path) -> None:
+    """Then the one in the package, as a wheel has it, and then the system's."""
+    monkeypatch.setattr(_library, "__file__", str(tmp_path / "_library.py"))
+    monkeypatch.delenv("PFS_LIBRARY", raising=False)
+    assert _library.path_of_library() == "libpfs.so.1"
+    (tmp_path / "libpfs.so.1").touch()
+    assert _library.path_of_library() == str(tmp_path / "libpfs.so.1")
+    monkeypatch.setenv("PFS_LIBRARY", "")
+    assert _library.path_of_library() == str(tmp_path / "libpfs.so.1")
+    monkeypatch.setenv("PFS_LIBRARY", "/elsewhere/libpfs.so.1")
+    assert _library.path_of_library() == "/elsewhere/libpfs.so.1", "the package's library goes before the named one"
+
+
+def test_the_numbers_limits_and_functions_are_those_of_the_header() -> None:
+    text = (TOP / "lib" / "pfs.h").read_text()
+    defined = {name: int(value) for name, value in
+               re.findall(r"^#define PFS_(\w+) (?:UINT64_C\()?(\d+)\b", text, re.MULTILINE)}
+    own = {name: value for name, value in vars(_library).items() if isinstance(value, int) and name in defined}
+    assert len(own) > 12 and own == {name: defined[name] for name in own}
+    assert _library.LAYOUTS == {"taillard": defined["TAILLARD"], "orlib": defined["ORLIB"]}
+    assert (_library.MOST_NOTE, _library.MOST_SEED) == (2**32 - 1, 2**64 - 1)
+    version = re.search(r'^#define PFS_VERSION "(.*)"$', text, re.MULTILINE)
+    assert version and version[1] == pfs.__version__
+    types = {"size_t": "c_ulong", "uint32_t": "c_uint", "uint64_t": "c_ulong", "int": "c_int"}
+    header = re.sub(r"/\*.*?\*/", "", (TOP / "lib" / "pfs.h").read_text(), flags=re.DOTALL)
+    declared = dict(re.findall(r"^(?:int|void) (pfs_\w+)\((.*?)\)(?: PFS_CHECKED)?;", header,
+                               re.MULTILINE | re.DOTALL))
+    assert declared.keys() == _library.PROTOTYPES.keys()
+    for name in _library.PROTOTYPES:
+        parameters = declared[name]
+        due = ["c_void_p" if "*" in each else types[each.split()[-2]] for each in parameters.split(",")]
+        assert [kind.__name__ for kind in _library.PROTOTYPES[name]] == due, f"the types of {name}"
+        assert [kind.__name__ for kind in getattr(_library.library, name).argtypes] == due
+
+
+def test_modules_that_need_no_library_are_imported_without_one(tmp_path: pathlib.Path) -> None:
+    """Those that draw a time table, and those of experiments. A name of the package says what is missing."""
+    code = ("import pfs, pfs._gantt, pfs.experiments.__main__\n"
+            "from pfs.experiments import plan, run\nprint(pfs.__version__)\npfs.Instance\n")
+    done = plainly.python("-c", code, cwd=tmp_path, PFS_LIBRARY="/none")
+    assert done.stdout == f"{pfs.__version__}\n", done.stderr
+    assert done.stderr.splitlines()[-1].startswith("ImportError: pfs can't load its library /none")
+
+
+# Instances that the library has prepared
+
+@pytest.fixture
+def counted(monkeypatch: pytest.MonkeyPatch) -> dict[str, int]:
+    """The number of calls of these functions. Instances of earlier tests are released before."""
+    gc.collect()
+    counts = {"pfs_prepare": 0, "pfs_release": 0}
+
+    def counting(name: str, real: Callable[..., Any]) -> Callable[..., Any]:
+        def call(*given: Any) -> Any:
+            counts[name] += 1
+            return real(*given)
+        return call
+
+    for name in counts:
+        monkeypatch.setattr(_library.library, name, counting(name, getattr(_library.library, name)))
+    return counts
+
+
+def test_an_instance_is_prepared_once_and_released_with_it(counted: dict[str, int]) -> None:
+    shop = pfs.generate(12, 4, 1)
+    assert counted == {"pfs_prepare": 0, "pfs_release": 0}, "before the first call"
+    order = shop.neh()
+    shop.makespan(order), shop.best_place(range(11), 11), shop.bound(), shop.schedule(order), shop.to_text()
+    shop.places([0, 1], 2), shop.makespans([[0, 1]]), shop.insert_all([0], [1]), shop.local_search([1, 0])
+    shop.solve(50)
+    assert counted == {"pfs_prepare": 1, "pfs_release": 0}
+    del shop
+    gc.collect()
+    assert counted == {"pfs_prepare": 1, "pfs_release": 1}
+
+
+@pytest.mark.parametrize("again", [copy.copy, copy.deepcopy, lambda shop: pickle.loads(pickle.dumps(shop))])
+def test_a_copy_prepares_its_own(counted: dict[str, int], again: Callable[[pfs.Instance], pfs.Instance]) -> None:
+    shop = pfs.generate(12, 4, 1)
+    due = shop.makespan(range(12))
+    other = again(shop)
+    assert counted["pfs_prepare"] == 1
+    del shop
+    gc.collect()
+    assert other.makespan(range(12)) == due and counted == {"pfs_prepare": 2, "pfs_release": 1}
+
+
+def test_threads_share_no_result() -> None:
+    """Each has orders of its own for one instance, also in its first call."""
+    shop, other = pfs.generate(30, 5, 1), pfs.generate(30, 5, 1)
+    orders = [[*range(at, 30), *range(at)] for at in range(8)]
+    due = [(other.makespan(order), other.best_place(order[1:], order[0]), other.solve(20, start=order))
+           for order in orders]
+
+    def many(at: int) -> bool:
+        order, (makespan, place, found) = orders[at], due[at]
+        return all(shop.makespan(order) == makespan and shop.best_place(order[1:], order[0]) == place
+                   and (turn % 50 or shop.solve(20, start=order) == found) for turn in range(400))
+
+    with ThreadPoolExecutor(8) as threads:
+        assert all(threads.map(many, range(8)))
+
+
+def test_threads_on_one_instance_do_not_wait_for_each_other(counted: dict[str, int],
+                                                            monkeypatch: pytest.MonkeyPatch) -> None:
+    """A call returns while another one is made, for which it prepares the instance once more."""
+    shop, begun, ended = pfs.generate(12, 4, 1), threading.Event(), threading.Event()
+    due, real = shop.makespan(range(12)), _library.library.pfs_rounds
+
+    def waiting(*given: Any) -> int:
+        begun.set()
+        assert ended.wait(30)
+        return int(real(*given))
+
+    monkeypatch.setattr(_library.library, "pfs_rounds", waiting)
+    with ThreadPoolExecutor(1) as threads:
+        found = threads.submit(shop.solve, 1)
+        assert begun.wait(30)
+        assert [shop.makespan(range(12)) for _ in range(3)] == [due] * 3 and counted["pfs_prepare"] == 2
+        ended.set()
+        assert found.result().rounds == 1
+    assert shop.makespan(range(12)) == due and counted["pfs_prepare"] == 2
+
+
+@pytest.mark.skipif(not hasattr(os, "fork"), reason="needs fork")
+@pytest.mark.filterwarnings("ignore:This process.*multi-threaded:DeprecationWarning")
+def test_a_forked_process_prepares_its_own_instance() -> None:
+    """Also while another thread makes a call."""
+    shop, stop = pfs.generate(200, 20, 1), threading.Event()
+    due = shop.makespan(range(200))
+    search = threading.Thread(target=lambda: shop.solve(100_000, stop=stop))
+    search.start()
+    time.sleep(0.3)
+    assert shop.makespan(range(200)) == due
+    kept = list(shop._prepared)
+    child = os.fork()
+    if child == 0:
+        is_right = shop.makespan(range(200)) == due and shop.solve(1).rounds == 1
+        os._exit(0 if is_right and not any(one is other for one in kept for other in shop._prepared) else 1)
+    deadline = time.monotonic() + 30
+    while (ended := os.waitpid(child, os.WNOHANG))[0] == 0 and time.monotonic() < deadline:
+        time.sleep(0.01)
+    stop.set()
+    search.join()
+    assert ended == (child, 0), "the child waits, or has another result"
+
+
+def test_nothing_is_printed_when_python_ends_with_an_instance(tmp_path: pathlib.Path) -> None:
+    """Also where the names of the module are gone before."""
+    script = "import pfs; shop = pfs.taillard(1); pfs.kept = [shop, shop.solve(1)]; print(shop.bound()); " \
+             "pfs._library.Prepared = pfs._library.library = None"
+    done = plainly.python("-c", script, cwd=tmp_path)
+    assert (done.stdout, done.stderr, done.returncode) == ("1232\n", "", 0)
+
+
+# A call from Python costs little more than what it computes
+
+def microseconds(call: Callable[[], object]) -> float:
+    """The best of many short runs, since other programs run too."""
+    return min(timeit.repeat(call, number=50, repeat=100)) / 50 * 1e6
+
+
+@pytest.mark.parametrize("kind", ["list", "int64", "uint32"])
+def test_a_call_for_20_jobs_on_5_machines(kind: str) -> None:
+    """3 microseconds on a machine that does nothing else."""
+    shop = pfs.taillard(1)
+    order = shop.neh().order
+    given = order.tolist() if kind == "list" else np.array(order, dtype=kind)
+    others, job = given[1:], int(order[0])
+    calls: dict[str, Callable[[], object]] = {
+        "makespan": lambda: shop.makespan(given), "best_place": lambda: shop.best_place(others, job)}
+    for name, call in calls.items():
+        assert (took := microseconds(call)) < 8, f"{name}: {took:.1f} microseconds"
+
+
+def test_many_orders_and_places_cost_little_more_than_the_library() -> None:
+    """Of 1,000 orders most of the time is the library's; all places take little longer than the best one."""
+    shop, orders = pfs.taillard(1), np.array([np.roll(range(20), at) for at in range(1000)], dtype=np.uint32)
+    spans, others = np.empty(1000, dtype=np.int64), orders[0][1:]
+    words = orders.ctypes.data, orders.size, 20, spans.ctypes.data, spans.size
+    calls: list[tuple[float, int, Callable[[], object], Callable[[], object]]] = [
+        (1.25, 1, lambda: shop.makespans(orders), lambda: shop._call("pfs_makespans", *words)),
+        (1.5, 50, lambda: shop.places(others, 0), lambda: shop.best_place(others, 0))]
+    for most, number, *both in calls:
+        # The least of ten ratios, since other programs run too.
+        turns = ([min(timeit.repeat(call, number=number, repeat=50)) for call in both] for _ in range(10))
+        assert (ratio := min(took / base for took, base in turns)) < most, f"{ratio:.2f} times as long"

@@ -1,0 +1,376 @@
+"""Dates and times of day for the times of a schedule: by hand, against a walk minute by minute, in files and charts."""
+import datetime
+import itertools
+import pathlib
+import re
+from collections.abc import Iterator
+from typing import Any, NamedTuple
+from xml.etree import ElementTree
+
+import numpy as np
+import pfs
+import pytest
+from hypothesis import assume, given
+from hypothesis import strategies as st
+from pfs._calendar import Clock
+from support.browser import PEN, looked_at
+
+DAY = datetime.timedelta(days=1)
+DAYS = ["mon", "tue", "wed", "thu", "fri", "sat", "sun"]
+EARLY = {"shifts": "06:00-14:00", "days": "mon-fri"}
+NIGHT = {"shifts": "22:00-06:00", "days": "mon-fri"}
+BREAK = {"shifts": ["06:00-09:00", "09:30-14:00"], "days": "mon-fri"}
+SHORT = {"shifts": ["mon-thu:06:00-14:00", "fri:06:00-10:00,12:00-14:00"]}
+ALWAYS: dict[str, Any] = {}
+# A calendar, the times of an operation in minutes, and when it starts and ends. 2026-11-30 is a Monday.
+BY_HAND: dict[str, tuple[str, dict[str, Any], int, int, str, str]] = {
+    "to midnight": ("2026-11-30T06:00", {"shifts": "16:00-24:00"}, 0, 480, "2026-11-30 16:00", "2026-12-01 00:00"),
+    "days alone": ("2026-12-04T23:00", {"days": "mon,fri"}, 60, 120, "2026-12-07 00:00", "2026-12-07 01:00"),
+    "the clocks change": ("2026-03-28T22:00", {"shifts": "22:00-06:00"}, 0, 480, "2026-03-28 22:00",
+                          "2026-03-29 06:00"),
+    "a short Friday": ("2026-12-03T06:00", SHORT, 830, 850, "2026-12-04 13:50", "2026-12-07 06:10"),
+    "around the clock on other days": ("2026-12-03T12:00", {"shifts": "fri:06:00-07:00", "days": "mon-thu"}, 720, 721,
+                                       "2026-12-04 06:00", "2026-12-04 06:01"),
+    "closed over the new year": ("2026-12-23T06:00", EARLY | {"closed": ["2026-12-24..2027-01-01", "2027-01-05"]}, 470,
+                                 970, "2026-12-23 13:50", "2027-01-06 06:10"),
+    "no time at the begin": ("2026-11-30T05:00", EARLY, 0, 0, "2026-11-30 06:00", "2026-11-30 06:00"),
+    "no time at the end of a shift": ("2026-11-30T06:00", EARLY, 480, 480, "2026-11-30 14:00", "2026-11-30 14:00"),
+}
+
+
+def clock_of(begin: str, words: dict[str, Any], unit: str = "min", decimals: int = 0) -> Clock:
+    return Clock(pfs.Calendar(begin, **words), pfs.Instance([[1]], unit=unit, decimals=decimals))
+
+
+def minutes(moment: datetime.datetime) -> str:
+    assert moment.second == moment.microsecond == 0
+    return moment.strftime("%Y-%m-%d %H:%M")
+
+
+@pytest.mark.parametrize("case", BY_HAND)
+def test_calendars_by_hand(case: str) -> None:
+    begin, words, start, end, first, last = BY_HAND[case]
+    assert [minutes(moment) for moment in clock_of(begin, words).span(start, end)] == [first, last]
+
+
+@pytest.mark.parametrize(("unit", "decimals", "time", "end"), [
+    ("min", 0, 90, "07:30:00"), ("Minuten", 1, 905, "07:30:30"), ("h", 0, 2, "08:00:00"), ("Std", 2, 125, "07:15:00"),
+    ("s", 0, 61, "06:01:01"), ("S", 3, 1500, "06:00:01.500000"), ("d", 1, 5, "18:00:00"),
+    ("h", 3, 1, "06:00:03.600000"), ("s", 9, 500, "06:00:00.000001"), ("s", 9, 499, "06:00:00"),
+    ("min", 9, 10**9, "06:01:00")])
+def test_units_and_decimals(unit: str, decimals: int, time: int, end: str) -> None:
+    """To the nearest microsecond."""
+    moment = clock_of("2026-11-30T06:00", ALWAYS, unit, decimals).span(0, time)[1]
+    assert str(moment) == f"2026-11-30 {end}"
+
+
+@pytest.mark.parametrize("decimals", range(8))
+def test_seconds_have_as_many_decimals_as_they_need(decimals: int) -> None:
+    """At most six; whole minutes have no seconds."""
+    clock = clock_of("2026-11-30T06:00", ALWAYS, "s", decimals)
+    times = (np.array([0, time * 10**decimals // 10**shift]) for time, shift in ((1, decimals), (1, 0), (60, 0)))
+    assert [clock.digits(each) for each in times] == [min(decimals, 6), 0, -1]
+
+
+class Drawn(NamedTuple):
+    """A calendar: its shifts with their lengths, which don't overlap, a day of the week with the last of them alone,
+    and a date with the first one alone."""
+    begin: datetime.datetime
+    shifts: list[tuple[int, int]]
+    days: list[int]
+    closed: list[datetime.date]
+    short: int
+    extra: datetime.date
+
+    def starting(self, date: datetime.date) -> list[tuple[int, int]]:
+        own = self.shifts if date.weekday() in self.days else []
+        own = [] if date in self.closed else self.shifts[-1:] if date.weekday() == self.short else own
+        return self.shifts[:1] if date == self.extra else own
+
+    def minutes(self) -> Iterator[datetime.datetime]:
+        """The minutes with work from the begin on, found by looking at one after the other."""
+        moment = self.begin
+        while True:
+            minute, date = 60 * moment.hour + moment.minute, moment.date()
+            if any(start <= at < start + length for at, day in ((minute, date), (minute + 1440, date - DAY))
+                   for start, length in self.starting(day)):
+                yield moment
+            moment += datetime.timedelta(minutes=1)
+
+
+@st.composite
+def calendars(draw: st.DrawFn) -> Drawn:
+    begin = draw(st.datetimes(datetime.datetime(1960, 1, 1), datetime.datetime(2090, 1, 1)))
+    cuts = sorted(draw(st.sets(st.integers(0, 1439), min_size=2, max_size=6)))
+    cuts = cuts[:len(cuts) // 2 * 2]
+    if draw(st.booleans()):
+        # The last shift crosses midnight.
+        cuts = [*cuts[1:], cuts[0] + 1440]
+    shifts = [(start, end - start) for start, end in zip(cuts[::2], cuts[1::2])]
+    closed = [begin.date() + DAY * day for day in draw(st.sets(st.integers(-3, 12)))]
+    days = sorted(draw(st.sets(st.integers(0, 6), min_size=1)))
+    return Drawn(begin.replace(second=0, microsecond=0), shifts, days, closed, draw(st.integers(0, 6)),
+                 begin.date() + DAY * draw(st.integers(-2, 14)))
+
+
+def calendar_of(drawn: Drawn) -> pfs.Calendar:
+    words = ["-".join(f"{minute % 1440 // 60:02}:{minute % 60:02}" for minute in (start, start + length))
+             for start, length in drawn.shifts]
+    words += [f"{drawn.extra}:{words[0]}", f"{DAYS[drawn.short]}:{words[-1]}"]
+    return pfs.Calendar(drawn.begin, words, [DAYS[day] for day in drawn.days], map(str, drawn.closed))
+
+
+@given(calendars(), st.integers(1, 400))
+def test_calendars_are_those_of_a_walk(drawn: Drawn, count: int) -> None:
+    """Operations of a minute each take one minute with work after the other."""
+    clock = Clock(calendar_of(drawn), pfs.Instance([[1]], unit="min"))
+    minute = datetime.timedelta(minutes=1)
+    due = [*itertools.islice(drawn.minutes(), count)]
+    assert [clock.span(time, time + 1) for time in range(count)] == [(moment, moment + minute) for moment in due]
+    assert clock.span(0, count) == (due[0], due[-1] + minute)
+    at, days = 0, []
+    for time, moment in enumerate(due):
+        if moment.date() != due[at].date() or time == 0:
+            at = time
+            days.append((time, moment.strftime("%a %Y-%m-%d")))
+    breaks = clock.breaks(count)
+    assert [each for each in breaks if each[1]] == days
+    gaps = [time for time in range(count) if time == 0 or due[time] - due[time - 1] > minute]
+    assert set(gaps) <= {time for time, _ in breaks}, "each shift that begins after a break is marked"
+    for end in gaps:
+        assert clock.breaks(end) == [each for each in breaks if each[0] < end], "no shift from the end on is marked"
+
+
+@given(calendars(), st.lists(st.integers(0, 10**6), min_size=2, max_size=20), st.sampled_from(["s", "min", "h"]))
+def test_dates_increase_and_lead_back_to_the_times(drawn: Drawn, times: list[int], unit: str) -> None:
+    calendar = calendar_of(drawn)
+    clock = Clock(calendar, pfs.Instance([[1]], unit=unit))
+    times = sorted(set(times))
+    moments = [moment for time in times for moment in clock.span(time, time + 1)]
+    assume(len(times) > 1)
+    assert moments == sorted(moments) and all(first < last for first, last in zip(moments[::2], moments[1::2]))
+    spans, loop = calendar.spans, calendar.loop
+    week = sum(end - start for start, end in spans[loop:])
+    for time, last in zip(times, moments[1::2]):
+        past = (last - datetime.datetime(1970, 1, 5)) // datetime.timedelta(microseconds=1)
+        weeks = max(0, (past - spans[loop][0]) // (7 * 86_400 * 10**6))
+        rest = past - weeks * 7 * 86_400 * 10**6
+        worked = weeks * week + sum(min(rest, end) - start for start, end in spans if start < rest)
+        assert worked == (time + 1) * {"s": 1, "min": 60, "h": 3600}[unit] * 10**6, "the working time up to a moment"
+
+
+@pytest.mark.parametrize(("words", "kind", "why"), [
+    ({"begin": "2026-11-30"}, ValueError, "'2026-11-30' is not a local date and time such as 2026-11-30T06:00"),
+    ({"begin": "2026-11-31T06:00"}, ValueError, "is not a local date and time"),
+    ({"begin": "2026-11-30T24:00"}, ValueError, "is not a local date and time"),
+    ({"begin": "2026-11-30T06:00+01:00"}, ValueError, "is not a local date and time"),
+    ({"begin": "\u0662026-11-30T06:00"}, ValueError, "is not a local date and time"),
+    ({"begin": 2026}, TypeError, "begin must be a date and time, not 2026"),
+    ({"begin": datetime.datetime(2026, 11, 30, tzinfo=datetime.timezone.utc)}, ValueError, "without a time zone"),
+    ({"begin": datetime.datetime(2026, 11, 30, microsecond=1)}, ValueError, "in whole seconds"),
+    ({"shifts": "6-14"}, ValueError, "'6-14' is not a shift such as 06:00-14:00"),
+    ({"shifts": "06:00"}, ValueError, "'06:00' is not a shift"), ({"shifts": ""}, ValueError, "'' is not a shift"),
+    ({"shifts": "06:00-14:60"}, ValueError, "'06:00-14:60' is not a shift such as 06:00-14:00: 14:60 is not a time"),
+    ({"shifts": "06:00-24:01"}, ValueError, "24:01 is not a time of day"),
+    ({"shifts": "06:00-06:00"}, ValueError, "'06:00-06:00' has no length: a whole day is 00:00-24:00"),
+    ({"shifts": "24:00-06:00"}, ValueError, "'24:00-06:00' starts at 24:00: write 00:00"),
+    ({"shifts": "06:00-14:00,13:00-20:00"}, ValueError, "shifts overlap on Mon 2026-11-30 at 13:00"),
+    ({"shifts": ["22:00-06:00", "05:00-13:00"]}, ValueError, "shifts overlap on Tue 2026-12-01 at 05:00"),
+    ({"shifts": ["00:00-24:00", "05:00-13:00"]}, ValueError, "shifts overlap on Mon 2026-11-30 at 06:00"),
+    ({"shifts": ["sun:22:00-06:00", "mon:05:00-13:00"]}, ValueError, "shifts overlap on Mon 2026-12-07 at 05:00"),
+    ({"shifts": ["22:00-06:00", "2026-12-05:05:00-13:00"]}, ValueError, "shifts overlap on Sat 2026-12-05 at 05:00"),
+    ({"shifts": ["mon-fri:06:00-14:00", "fri:06:00-12:00"]}, ValueError, "shifts overlap on Fri 2026-12-04 at 06:00"),
+    ({"begin": "2026-12-01T06:00", "closed": "2026-12-01", "shifts": ["tue:22:00-06:00", "wed:05:00-07:00"]},
+     ValueError, "shifts overlap on Wed 2026-12-09 at 05:00"),
+    ({"shifts": "fry:06:00-12:00"}, ValueError, "'fry' is not a day of the week"),
+    ({"shifts": "2026-11-31:06:00-12:00"}, ValueError, "'2026-11-31' is not a date such as 2026-12-24"),
+    ({"shifts": "fri:"}, ValueError, "'' is not a shift"), ({"shifts": "fri"}, ValueError, "'fri' is not a shift"),
+    ({"closed": "24.12.2026"}, ValueError, "'24.12.2026' is not a date such as 2026-12-24, or dates such as "),
+    ({"closed": "20261224"}, ValueError, "is not a date"), ({"closed": ""}, ValueError, "'' is not a date"),
+    ({"closed": "2026-12-24..2026-12-23"}, ValueError, "is not a first and a last date, as 2026-12-24..2027-01-01 is"),
+    ({"closed": "2026-12-24..2026-12-25..2026-12-26"}, ValueError, "is not a first and a last date"),
+    ({"closed": "2036-12-08"}, ValueError, "2036-12-08 is more than ten years after the begin"),
+    ({"closed": [24]}, TypeError, "dates must be texts, not 24"),
+    ({"shifts": [6]}, TypeError, "shifts must be texts, not 6"),
+    ({"days": "mo-fr"}, ValueError, "'mo-fr' is not a day of the week such as mon, or days such as mon-fri"),
+    ({"days": "mon-wed-fri"}, ValueError, "is not a day"), ({"days": ""}, ValueError, "'' is not a day"),
+    ({"days": "mon,,tue"}, ValueError, "'' is not a day"),
+    ({"days": "mon-mon"}, ValueError, "'mon-mon' has the same day twice: write mon"),
+    ({"days": "mon-wed,tue"}, ValueError, "the day tue is there twice"),
+    ({"days": [1]}, TypeError, "days must be texts, not 1"),
+])
+def test_calendars_that_are_rejected(words: dict[str, Any], kind: type[Exception], why: str) -> None:
+    with pytest.raises(kind, match=re.escape(why)):
+        pfs.Calendar(**{"begin": "2026-11-30T06:00"} | words)
+
+
+def test_what_is_read_as_the_same_calendar() -> None:
+    plain = pfs.Calendar("2026-11-30T06:00", ["06:00-14:00", "14:00-22:00"], "mon-wed")
+    begins: list[str | datetime.datetime] = ["2026-11-30 06:00", "2026-11-30T06:00:00",
+                                             datetime.datetime(2026, 11, 30, 6)]
+    for begin in begins:
+        other = pfs.Calendar(begin, "14:00-22:00, 6:00-14:00", ["MON", "wed", "tue"])
+        assert (other.begin, other.spans, other.loop) == (plain.begin, plain.spans, plain.loop)
+    for shifts in (["mon-wed:06:00-14:00,14:00-22:00"],
+                   ["mon,Tue:06:00-14:00,14:00-22:00", "wed:14:00-22:00,06:00-14:00"]):
+        assert pfs.Calendar("2026-11-30T06:00", shifts).spans == plain.spans
+    dated = [pfs.Calendar("2026-11-30T06:00", f"2026-12-05:{words}").spans
+             for words in ("06:00-09:00,10:00-14:00", "10:00-14:00,06:00-09:00")]
+    assert dated[0] == dated[1]
+    assert pfs.Calendar("2026-11-30T06:00", "06:00-14:00,14:00-22:00,22:00-06:00").is_always
+    assert pfs.Calendar("2026-11-30T06:00").is_always and not plain.is_always
+    assert not pfs.Calendar("2026-11-30T06:00", closed="2026-12-24").is_always
+
+
+NEEDED = "which dates need: write min, h, s or d in brackets into the first cell of the table, as in 'job [min]', or " \
+         "set "
+
+
+@pytest.mark.parametrize(("unit", "why"), [
+    ("", f"the times have no unit, {NEEDED}`unit`"), ("pieces", f"'pieces' is not a unit of time, {NEEDED}`unit`"),
+    ("d", "a day of work may be 24 hours or the shifts of a day: write the times in hours")])
+def test_units_that_have_no_dates(tmp_path: pathlib.Path, unit: str, why: str) -> None:
+    made = pfs.Instance([[3, 2]], unit=unit).schedule([0])
+    calendar = pfs.Calendar("2026-11-30T06:00", days="mon-fri")
+    with pytest.raises(ValueError, match=f"^{re.escape(why)}$"):
+        made.to_csv(calendar=calendar)
+    with pytest.raises(ValueError, match=f"^{re.escape(why)}$"):
+        made.plot(tmp_path / "chart.html", calendar=calendar)
+    assert not list(tmp_path.iterdir())
+
+
+def test_the_calendar_ends() -> None:
+    made = pfs.Instance([[10**9]], unit="h").schedule([0])
+    with pytest.raises(ValueError, match="^the schedule ends after the year 9999$"):
+        made.to_csv(calendar=pfs.Calendar("2026-11-30T06:00"))
+
+
+# Files
+
+@pytest.mark.parametrize(("unit", "decimals", "begin", "rows"), [
+    ("min", 0, "2026-11-30T06:00", ["a;x;2026-11-30 06:00;2026-11-30 06:30", "a;y;2026-11-30 06:30;2026-11-30 06:45"]),
+    ("h", 1, "2026-11-30T13:00", ["a;x;2026-11-30 13:00;2026-12-01 08:00", "a;y;2026-12-01 08:00;2026-12-01 09:30"]),
+    ("min", 0, "2026-11-30T06:00:20", ["a;x;2026-11-30 06:00:20;2026-11-30 06:30:20",
+                                       "a;y;2026-11-30 06:30:20;2026-11-30 06:45:20"]),
+    ("s", 0, "2026-11-30T06:00", ["a;x;2026-11-30 06:00:00;2026-11-30 06:00:30",
+                                  "a;y;2026-11-30 06:00:30;2026-11-30 06:00:45"]),
+    ("s", 2, "2026-11-30T06:00", ["a;x;2026-11-30 06:00:00,00;2026-11-30 06:00:00,30",
+                                  "a;y;2026-11-30 06:00:00,30;2026-11-30 06:00:00,45"]),
+])
+def test_a_schedule_has_dates(unit: str, decimals: int, begin: str, rows: list[str]) -> None:
+    """As exact as all of its times need."""
+    shop = pfs.Instance([[30, 15]], job_names=["a"], machine_names=["x", "y"], unit=unit, decimals=decimals)
+    text = shop.schedule([0]).to_csv(None, ";", calendar=pfs.Calendar(begin, **EARLY))
+    assert text is not None and text.splitlines() == ["job;machine;start;end", *rows]
+
+
+def plan(unit: str = "min") -> pfs.Schedule:
+    shop = pfs.Instance([[240, 250, 0], [200, 500, 150], [400, 100, 200]], name="plan", unit=unit,
+                        job_names=["table", "chair", "box"], machine_names=["saw", "drill", "paint"])
+    return shop.schedule([1, 0, 2])
+
+
+def test_a_picture_has_dates_on_its_scale(tmp_path: pathlib.Path) -> None:
+    """The work begins at 12:00, and the shift of 8 hours ends at 14:00."""
+    pytest.importorskip("matplotlib")
+    figure = plan().plot(tmp_path / "chart.svg", calendar=pfs.Calendar("2026-11-30T12:00", **EARLY))
+    axis = figure.axes[0]
+    marks = [(mark.get_position()[0], mark.get_text()) for mark in axis.get_xticklabels()]
+    assert marks == [(0, "12:00\nMon 2026-11-30"), (240, "08:00\nTue 2026-12-01"), (480, "12:00"),
+                     (720, "08:00\nWed 2026-12-02"), (960, "12:00"), (1200, "08:00\nThu 2026-12-03")]
+    days, = (lines for lines in axis.collections if lines.get_gid() == "days")
+    assert [segment[0][0] for segment in days.get_segments()] == [120, 600, 1080], "where a day begins"
+    assert axis.get_xlabel() == "date and time, in shifts only"
+    texts = {text.text for text in ElementTree.parse(tmp_path / "chart.svg").iter("{http://www.w3.org/2000/svg}text")}
+    assert {"Mon 2026-11-30", "Wed 2026-12-02"} <= texts
+    always = plan().plot(calendar=pfs.Calendar("2026-11-30T12:00"))
+    assert always.axes[0].get_xlabel() == "date and time"
+    assert plan().plot().axes[0].get_xlabel() == "time (min)"
+    assert axis.get_title().endswith(" min, end Thu 2026-12-03 08:50")
+    assert not plan().plot().axes[0].get_title().endswith(" min")
+
+
+# What the page says of each operation that one points at, and what its scale has.
+SAID = PEN + """
+const seen = {tips: [], lists: [], scale: drawnBy(() => press("0")).texts.filter(text => text.y > yOf(machines))};
+for (let machine = 0; machine < machines; ++machine) {
+  for (let place = 0; place < jobs; ++place) {
+    const middle = (table.starts[machine][place] + table.ends[machine][place]) / 2;
+    send("pointermove", PointerEvent, xOf(middle), yOf(machine) + ROW / 2);
+    seen.tips.push(table.starts[machine][place] < table.ends[machine][place] ? tip.textContent : "");
+  }
+  choice.value = machine;
+  choice.dispatchEvent(new Event("change"));
+  const rows = [...lists[machine].querySelectorAll("tbody tr")];
+  seen.lists.push(rows.map(row => [...row.cells].map(cell => cell.textContent)));
+}
+choice.value = "all";
+choice.dispatchEvent(new Event("change"));
+document.body.style.width = `${130 + 60 * days.length}px`;
+seen.days = drawnBy(draw).texts.filter(text => text.y < TOP).map(text => text.text);
+document.body.style.width = "160px";
+const range = document.createRange(), cells = [...document.querySelectorAll("#lists th, #lists td")];
+seen.lines = cells.filter(cell => !cell.textContent.includes(" ")).map(cell => {
+  range.selectNodeContents(cell);
+  return range.getClientRects().length;
+});
+tell(seen);
+"""
+PAGES: dict[str, tuple[str, dict[str, Any], str]] = {
+    "shifts": ("2026-11-30T12:00", EARLY, "min"), "an end with a shift": ("2026-11-30T10:40", EARLY, "min"),
+    "nights": ("2026-12-04T20:00", NIGHT, "min"),
+    "breaks": ("2026-12-04T08:00:30", BREAK, "min"), "always": ("2026-12-30T12:00", ALWAYS, "h"),
+    "seconds": ("1969-12-31T23:59:50", {"shifts": "23:59-00:01"}, "s"),
+    "Sunday": ("2026-12-06T23:00", NIGHT | {"days": "sun"}, "min"),
+    "closed": ("2026-12-23T12:00", SHORT | {"closed": "2026-12-24..2027-01-03"}, "min"),
+}
+
+
+@pytest.mark.seconds(15)
+@pytest.mark.parametrize("case", PAGES)
+def test_a_page_has_the_dates_of_the_schedule(chromium: str, tmp_path: pathlib.Path, case: str) -> None:
+    """What it says of each operation, and its list of each machine, are the rows of the table."""
+    begin, words, unit = PAGES[case]
+    calendar, made = pfs.Calendar(begin, **words), plan(unit)
+    made.plot(tmp_path / "chart.html", calendar=calendar)
+    seen = looked_at(chromium, tmp_path / "chart.html", tmp_path, SAID)
+    text = made.to_csv(calendar=calendar)
+    assert text is not None
+    rows = [line.split(",") for line in text.splitlines()[1:]]
+    by_machine = [rows[at::3] for at in range(3)]
+    assert seen["lists"] == [listed(each) for each in by_machine]
+    due = [f"job {job}\nmachine {machine}\nstart {start}\nend {end}" for each in by_machine
+           for job, machine, start, end in each]
+    assert [tip for tip in seen["tips"] if tip] == [text for text in due if " 0\n" not in text and not is_empty(text)]
+    assert set(seen["lines"]) == {1}, "a word is broken where a list is narrow"
+    assert all(re.fullmatch(r"\w{3}( (\d{4}-)?\d\d-\d\d)?", day) for day in seen["days"]), seen["days"]
+    marks = [text for text in seen["scale"] if re.fullmatch(r"\w{3} \d{4}-\d\d-\d\d", text["text"])]
+    assert all(after["x"] - before["x"] > 95 for before, after in zip(marks, marks[1:])), "dates overlap"
+    dates = [text["text"] for text in marks]
+    days = [datetime.date.fromisoformat(text[4:]) for text in dates]
+    assert days and days == sorted(set(days)), "each date once, from left to right"
+    assert dates[0] == with_day(rows[0][2][:10]) and dates == [with_day(str(day)) for day in days]
+
+
+def with_day(date: str) -> str:
+    return datetime.date.fromisoformat(date).strftime("%a %Y-%m-%d")
+
+
+def listed(rows: list[list[str]]) -> list[list[str]]:
+    """The list of a machine: each date once, and no job that skips the machine."""
+    found: list[list[str]] = []
+    days: list[str] = []
+    for place, (job, _, start, end) in enumerate(rows, 1):
+        if start != end:
+            if [start[:10]] != days[-1:]:
+                days.append(start[:10])
+                found.append([with_day(start[:10])])
+            other = "" if end[:10] == start[:10] else with_day(end[:10]) + " "
+            found.append([str(place), job, start[11:], other + end[11:]])
+    return found
+
+
+def is_empty(text: str) -> bool:
+    """Whether an operation takes no time."""
+    start, end = re.findall(r"(?:start|end) (.*)", text)
+    return bool(start == end)

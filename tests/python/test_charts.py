@@ -1,0 +1,215 @@
+"""Pictures of schedules, and what they have in common with pages. Bars are drawn as by pfs-gantt, which
+test_gantt.py tests."""
+import json
+import pathlib
+import re
+import sys
+from typing import Any
+from xml.etree import ElementTree
+
+import pfs
+import pytest
+from support import plainly
+from test_chart_pages import LENGTHS, MACHINES, NAMES, ORDER, TIMES, plan
+
+matplotlib = pytest.importorskip("matplotlib")
+
+BEGINNINGS = {"svg": b"<?xml", "png": b"\x89PNG\r\n", "pdf": b"%PDF-", "html": b"<!DOCTYPE html>"}
+
+
+def named() -> pfs.Schedule:
+    """Names that a page or a formula would take for something else, and times with a decimal."""
+    shop = pfs.Instance(TIMES, name="plan", job_names=["table $x$", "</script><b>", "box & \"lid\""], decimals=1,
+                        unit="h", machine_names=["saw", "drill $y$", "<paint>"])
+    return shop.schedule([1, 0, 2])
+
+
+def a_schedule() -> pfs.Schedule:
+    return pfs.Instance([[3, 2], [2, 5], [4, 1]]).schedule([1, 0, 2])
+
+
+@pytest.mark.parametrize("ending", BEGINNINGS)
+def test_each_ending(tmp_path: pathlib.Path, ending: str) -> None:
+    first, again = tmp_path / f"chart.{ending.upper()}", tmp_path / f"again.{ending}"
+    figure = named().plot(first, critical=True, bound=True)
+    assert first.read_bytes().startswith(BEGINNINGS[ending]) and (figure is None) == (ending == "html")
+    named().plot(str(again), critical=True, bound=True)
+    assert hash(again.read_bytes()) == hash(first.read_bytes()), "a chart that is drawn again has other bytes"
+
+
+def test_the_picture_has_the_names() -> None:
+    axis = named().plot(critical=True, bound=True).axes[0]
+    assert [label.get_text() for label in axis.get_yticklabels()] == ["saw", "drill $y$", "<paint>"]
+    assert {"table $x$", "</script><b>", 'box & "lid"'} <= {text.get_text() for text in axis.texts}
+    lengths = f"makespan {named().makespan / 10}, bound {named().instance.bound() / 10} (dashed)"
+    assert axis.get_title() == f"3 jobs on 3 machines: {lengths}, critical path outlined"
+    assert axis.get_xlabel() == "time (h)" and axis.xaxis.get_major_formatter()(25) == "2.5"
+    assert named().plot(unit="days").axes[0].get_xlabel() == "time (days)"
+    axis = pfs.Instance(TIMES).schedule([2, 0, 1]).plot().axes[0]
+    assert [label.get_text() for label in axis.get_yticklabels()] == ["0", "1", "2"]
+    assert {"0", "1", "2"} <= {text.get_text() for text in axis.texts}
+    assert axis.get_xlabel() == "time (units of the instance)"
+
+
+# Prints what of the settings of the process is another one after a chart.
+SETTINGS = """
+import json, locale, logging, os, sys, warnings
+import matplotlib
+import pfs
+
+def settings():
+    found = {f"rcParams {name}": repr(value) for name, value in matplotlib.rcParams.items()}
+    found |= {f"level of {name}": logging.getLogger(name).level for name in ("matplotlib", "")}
+    found |= {"backend": matplotlib.get_backend(), "environment": dict(os.environ), "path": list(sys.path)}
+    return found | {"warnings": repr(warnings.filters), "locale": locale.setlocale(locale.LC_ALL), "at": os.getcwd()}
+
+made = pfs.Instance([[3, 2], [2, 5]]).schedule([1, 0])
+before = settings()
+try:
+    made.plot(sys.argv[1], critical=True, bound=True)
+except OSError as error:
+    print(error, file=sys.stderr)
+print(json.dumps({name: [before[name], now] for name, now in settings().items() if before[name] != now}))
+"""
+
+
+@pytest.mark.parametrize("path", ["chart.svg", "chart.png", "chart.pdf", "chart.html", "none/chart.svg"])
+def test_settings_stay_as_they_are(tmp_path: pathlib.Path, path: str) -> None:
+    """In another process: an earlier test may have changed them in this one."""
+    done = plainly.python("-c", SETTINGS, path, cwd=tmp_path)
+    assert done.returncode == 0 and (tmp_path / path).exists() == (path[:4] != "none"), done.stderr
+    assert json.loads(done.stdout) == {}, "settings of the process that a chart has changed"
+
+
+# Names that are shown by escapes: what moves a cursor, ends a line, turns its direction, or isn't a character of XML.
+ESCAPED = {"saw\x1b[2J\x07": "saw\\x1b[2J\\x07", "two\nlines": "two\\nlines", "car\rriage": "car\\rriage",
+           "a\u2028b\u2029c": "a\\u2028b\\u2029c", "\u202eright to left": "\\u202eright to left", "\x9b5m": "\\x9b5m",
+           "p\udce4rt": "p\\udce4rt", "\ufffe": "\\ufffe", "nul\0": "nul\\x00"}
+
+
+@pytest.mark.parametrize("ending", BEGINNINGS)
+def test_names_with_control_characters(tmp_path: pathlib.Path, ending: str) -> None:
+    """Whoever reads a chart sees them; a picture is XML."""
+    names, path = [*ESCAPED, "Z\xfcrich", "plain"], tmp_path / f"chart.{ending}"
+    shop = pfs.Instance([[90] * len(names)] * 2, job_names=[names[0], names[-2]], machine_names=names,
+                        unit="\x1b[1mh", name="pl\udce4n\x1b.csv")
+    path.write_text("the old one")
+    shop.schedule([0, 1]).plot(path)
+    due = [*ESCAPED.values(), "Z\xfcrich", "plain"]
+    if ending == "svg":
+        texts = {text.text for text in ElementTree.parse(path).iter("{http://www.w3.org/2000/svg}text")}
+        assert set(due) <= texts and "time (\\x1b[1mh)" in texts
+    if ending == "html":
+        page = path.read_text("utf-8")
+        found = re.search(r'id="data">(.*?)</script>', page)
+        assert found and json.loads(found[1])["machines"] == due
+        assert json.loads(found[1])["jobs"] == [due[0], due[-2]]
+        assert "<title>pl\\udce4n\\x1b.csv: 2 jobs on 11 machines: makespan 1080 \\x1b[1mh<" in page
+
+
+# The frame of a picture
+
+def test_width_dpi_title_and_axes_of_ones_own(tmp_path: pathlib.Path) -> None:
+    figure = a_schedule().plot(tmp_path / "chart.png", width=4, dpi=50)
+    assert int.from_bytes((tmp_path / "chart.png").read_bytes()[16:20], "big") == 200
+    assert figure.get_size_inches()[0] == 4
+    titles: dict[Any, str] = {False: "", "my $x$ title": "my $x$ title", "": "",
+                              True: "3 jobs on 2 machines: makespan 10"}
+    for title, due in titles.items():
+        assert a_schedule().plot(title=title).axes[0].get_title() == due
+    figure = matplotlib.figure.Figure(figsize=(8, 3))
+    axes = figure.subplots(1, 2)
+    assert a_schedule().plot(ax=axes[1], title="right") is figure
+    assert (axes[0].get_title(), axes[1].get_title()) == ("", "right")
+    assert not axes[0].collections and len(axes[1].collections) == 4, "two strips and two rows"
+    assert figure.get_size_inches().tolist() == [8, 3]
+    with pytest.raises(ValueError, match="ax is for pictures: a page has no axes"):
+        a_schedule().plot("chart.html", ax=axes[0])
+
+
+def test_jupyter_shows_the_chart(monkeypatch: pytest.MonkeyPatch) -> None:
+    text = a_schedule()._repr_svg_()
+    assert text is not None and "<svg" in text and "critical" in text and "bound" in text
+    assert pfs.generate(100, 20, 1).schedule(range(100))._repr_svg_(), "the largest picture"
+    assert pfs.generate(2001, 1, 1).schedule(range(2001))._repr_svg_() is None, "a very large picture"
+    modules: dict[str, Any] = sys.modules
+    monkeypatch.setitem(modules, "matplotlib", None)
+    assert a_schedule()._repr_svg_() is None
+
+
+@pytest.mark.parametrize(("words", "kind", "why"), [
+    ({"width": 1}, ValueError, "width must be from 2 to 100 inches, not 1"),
+    ({"width": float("nan")}, ValueError, "width must be from 2 to 100 inches, not nan"),
+    ({"width": "4"}, TypeError, "width must be a number of inches, not '4'"),
+    ({"width": True}, TypeError, "width must be a number of inches, not True"),
+    ({"dpi": 10}, ValueError, "dpi must be from 20 to 2,400, not 10"),
+    ({"dpi": 99.5}, TypeError, "dpi must be an integer"),
+    ({"title": 3}, TypeError, "title must be True, False or a text, not 3"),
+    ({"ax": 3}, TypeError, "ax must be matplotlib axes, not 3")])
+def test_frames_of_pictures_that_are_rejected(tmp_path: pathlib.Path, words: dict[str, Any], kind: type[Exception],
+                                              why: str) -> None:
+    for name in ("chart.svg", "chart.html"):
+        with pytest.raises(kind, match=why):
+            a_schedule().plot(tmp_path / name, **words)
+        assert not (tmp_path / name).exists()
+
+
+# The key of bars that are too short for a name
+
+def texts_of(made: pfs.Schedule, **more: Any) -> tuple[dict[int, list[str]], list[str], Any]:
+    """The texts on bars by place, each inside of its bar, those of the key, and the figure."""
+    figure = made.plot(**more)
+    figure.draw_without_rendering()
+    texts = [text.get_text() for text in figure.texts]
+    key = [text for text in texts if text != "\u25a0"]
+    assert len(texts) == 2 * len(key), "a square for each job"
+    axis, bars = figure.axes[0], dict[int, list[str]]()
+    spans = {((start + end) / 2, machine + 1): (place, start, end) for machine in range(made.instance.machines)
+             for place, (start, end) in enumerate(zip(made.starts[:, machine].tolist(), made.ends[:, machine].tolist()))
+             if start < end}
+    for text in axis.texts:
+        if text.get_text() != "idle":
+            place, *span = spans[text.get_position()]
+            (left, _), (right, _) = axis.transData.transform([(at, 0) for at in span])
+            assert left <= text.get_window_extent().x0 and text.get_window_extent().x1 <= right, text
+            bars.setdefault(place, []).append(text.get_text())
+    return bars, key, figure
+
+
+@pytest.mark.parametrize(("names", "sign"), [(NAMES, ""), (["4711", *NAMES[1:]], "#")])
+def test_bars_of_pictures_have_names_or_places_of_a_key(names: list[str], sign: str) -> None:
+    bars, key, figure = texts_of(plan(names))
+    assert key == [f"{sign}{place} {names[job]}" for place, job in enumerate(ORDER, 1)]
+    assert bars[0] == [names[0]] * 3
+    for place in (1, 2, 3, 4):
+        assert {*bars[place]} - {names[ORDER[place]]} == {f"{sign}{place + 1}"}, f"names or the place {place + 1}"
+    fills, = [each.get_facecolor()[:, :3] for each in figure.axes[0].collections if each.get_gid() == "machine-1"]
+    assert [text.get_color() for text in figure.texts[::2]] == [tuple(fill) for fill in fills], "squares of the key"
+    # The key is inside the picture, below the title of the scale.
+    boxes = [text.get_window_extent() for text in figure.texts]
+    scale = figure.axes[0].xaxis.label.get_window_extent()
+    assert all(0 <= box.y0 and box.y1 < scale.y0 and 0 <= box.x0 and box.x1 <= figure.bbox.width for box in boxes)
+
+
+def test_pictures_without_a_key_and_with_names_that_are_cut_in_it() -> None:
+    """Where all names fit, there are none, the rows are low, or the axes are the caller's."""
+    for made in (plan([*"abcde"], [[100, 100, 100]] * 5), plan(None)):
+        assert texts_of(made)[1] == []
+    many = pfs.Instance([[10 + at % 3] * 100 for at in range(5)], job_names=NAMES).schedule(ORDER)
+    assert texts_of(many)[:2] == ({}, [])
+    bars, key, _ = texts_of(plan(), ax=matplotlib.figure.Figure(figsize=(12, 3)).subplots())
+    assert key == [] and {name for each in bars.values() for name in each} <= {*NAMES}, "no place without a key"
+    narrow = matplotlib.figure.Figure(figsize=(4, 3)).subplots()
+    assert texts_of(plan(["a table of oak for twelve", *NAMES[1:]]), ax=narrow)[0] == {}, "wider than their bars"
+    names = ["x" * 300, *NAMES[1:]]
+    _, key, figure = texts_of(plan(names), width=4)
+    assert key[0].startswith("1 xxx") and key[0].endswith("x\u2026") and len(key[0]) < 100
+    assert [line.split(" ", 1)[1] for line in key[1:]] == [names[job] for job in ORDER[1:]]
+    assert max(text.get_window_extent().x1 for text in figure.texts) <= figure.bbox.width
+
+
+def test_names_fit_the_bars_next_to_long_names_of_machines() -> None:
+    made = pfs.Instance(LENGTHS, job_names=["0815-" * 30, *NAMES[1:]], machine_names=[*MACHINES[:2], "oven " * 30])
+    bars, _, figure = texts_of(made.schedule(ORDER))
+    assert figure.axes[0].get_yticklabels()[2].get_text() == ("oven " * 30)[:41] + "\u2026"
+    assert all(text.startswith("1 0815-") and text.endswith("\u2026") for text in bars[0])

@@ -1,0 +1,822 @@
+"""The CSV of an experiment has the results of pfs itself: with GNU parallel, here and over ssh, and on a Slurm cluster
+of one node, also if its runs were killed at various moments and repeated, and if two experiments start at once."""
+import functools
+import hashlib
+import json
+import os
+import pathlib
+import re
+import shutil
+import signal
+import subprocess
+import time
+from typing import Any
+
+import pytest
+from pfs import _rounds
+from pfs._rounds import Rounds
+from pfs.experiments import one, plan, run
+from support.experiments import HALF, HEAD, PLAN, Experiment
+from support.library import Library
+from support.needs import missing, tool
+from support.program import Program
+from support.servers import Cluster, Server
+from support.terminals import Terminal
+from support.tools import Done, csv_rows, run_tool, wait_until, with_path, write_script
+
+README = (pathlib.Path(__file__).resolve().parents[2] / "experiments" / "README.md").read_text()
+on_slurm = pytest.mark.xdist_group("slurm")
+
+
+def ended(count: int, failed: int = 0, left: int = 0, said: str = "", name: str = "out.csv") -> Done:
+    """The result of a start that has made this number of runs."""
+    line = f"{name}: {count} runs, {failed} of them failed, {left} still to run\n"
+    return Done(1 if failed or left else 0, "", said + line)
+
+
+def assert_refused(got: Done, *said: str, status: int = 2) -> None:
+    """With one line, which has these texts."""
+    assert (got.status, got.stdout, got.stderr.count("\n")) == (status, "", 1), got.stderr[-500:]
+    assert [text for text in said if text not in got.stderr] == [], got.stderr[-500:]
+
+
+# Plans and starts
+
+# The instances of a plan, to which other lines may be added.
+ALL, ONLY_B = 'instances = ["shops/*"]\n', 'instances = ["shops/b"]\n'
+MINE = ALL + 'method = "m"\n'
+INVALID = {
+    "seed": ALL + "seed = [1]\n", "rounds must": ALL + "rounds = 3\n", "rounds must be": ALL + "rounds = []\n",
+    "seeds": ALL + "seeds = [1.5]\n", "seeds must": ALL + "seeds = [true]\n", "passes": ALL + "passes = [101]\n",
+    "repetitions": ALL + "repetitions = 0\n", "layout": ALL + 'layout = "csv"\n', "plan.toml": ALL + "rounds = [1\n",
+    "instances": "", "none*": 'instances = ["none*"]', "shops is not a file": 'instances = ["sh*"]',
+    "from 0 to 1,000,000": ALL + "rounds = [1000001]\n", "shops/b has only 3 jobs": ALL + "takes = [2, 4]\n",
+    "blocks": ALL + "blocks = [1001]\n", "reference must": ALL + "reference = 1\n",
+    "none.csv": ALL + 'reference = "none.csv"\n', "no column instance, makespan": ALL + 'reference = "plan.toml"\n',
+    "nested": "x = " + "[" * 5000 + "]" * 5000, "shops/": 'instances = ["shops/\\u0000"]\n',
+    "time_factors": ALL + "time_factors = [nan]\n",
+    "needs method": ALL + 'command = "a {instance}"\n', "must contain {instance}": MINE + 'command = "a"\n',
+    "{x}, but there are only {block}, {instance}": MINE + 'command = "a {instance} {x}"\n',
+    "needs time_factors": MINE + 'command = "a {instance} {seconds}"\n',
+    "must contain {block}": MINE + 'blocks = [2]\ncommand = "a {instance}"\n',
+    "rounds is for pfs": MINE + 'rounds = [1]\ncommand = "a {instance}"\n',
+    "no file matches a": MINE + 'command = "./a {instance}"\n', "files needs": MINE + 'files = ["shops/*"]\n',
+    "/etc/passwd": MINE + 'command = "a {instance}"\nfiles = ["/etc/passwd"]\n',
+    "../": MINE + 'command = "a {instance}"\nfiles = ["../*/shops/a"]\n', "method": ALL + 'method = "a\\nb"\n',
+    "must be tables": ALL + "methods = [1]\n", "key 'layout' of methods": ALL + '[[methods]]\nlayout = "orlib"\n',
+    "each of methods needs method": ALL + "[[methods]]\n[[methods]]\n",
+}
+
+
+@pytest.mark.parametrize(("named", "text"), INVALID.items(), ids=INVALID)
+def test_an_invalid_plan_is_rejected_with_its_fault(text: str, named: str, experiment: Experiment) -> None:
+    assert_refused(experiment.plan(text).run(), "pfs-experiments run: ", named, status=4 if named == "none.csv" else 2)
+    assert sorted(os.listdir(experiment.folder)) == ["plan.toml", "shops"]
+
+
+def test_readme_has_the_keys_of_a_plan_with_their_defaults_the_columns_and_the_number_of_tasks() -> None:
+    keys = README.partition("## Plan")[2].partition("## CSV")[0]
+    cells = [[cell.strip() for cell in re.split(r"(?<!\\)\|", line)[1:-1]] for line in keys.splitlines()
+             if line.startswith("| `")]
+    got = {key: cell for names, _, cell in cells for key, cell in
+           zip(re.findall("`(\\w+)`", names), [each.strip() for each in cell.split(",")] * 9)}
+    assert got.keys() == plan.KEYS, "the keys in experiments/README.md"
+    for key, usual in plan.NUMBERS.items():
+        assert got[key] == (f"`{usual}`" if usual is not None else "that of `pfs solve`"), f"the default of {key}"
+    assert (got["layout"], got["repetitions"]) == ('`"taillard"`', "`1`")
+    columns = re.findall(r"^\| (`.*`) \|", README.partition("## CSV")[2].partition("\n## ")[0], re.MULTILINE)
+    assert [name for cell in columns for name in re.findall("`([^`]+)`", cell)] == HEAD
+    assert f"Each of at most {run.MOST_TASKS:,} tasks (`--tasks`)" in README
+
+
+NO_PFS = {"prints nothing": "#!/bin/sh\n", "prints its words": "#!/bin/sh\necho \"$@\"\n",
+          "prints without end": "#!/bin/sh\nyes\n", "is a text": "some words\n", "is a binary": "\x7fELF"}
+PATHS = {"shops": 2, "plan.toml/out.csv": 4, "x" * 255: 4, "\udcff.csv": 2}
+# The status, the arguments, what is said, the text of a program that isn't pfs, and variables.
+REFUSED: dict[str, tuple[int, str, str, str, dict[str, str]]] = {
+    **{f"the CSV {path[:20]!r}": (status, f"run plan.toml {path}", "", "", {}) for path, status in PATHS.items()},
+    **{f"a program that {what}": (2, "run plan.toml out.csv", "program is not pfs: ", text, {})
+       for what, text in NO_PFS.items()},
+    **{f"a library that is {path}": (4, "run timed.toml out.csv", path, "", {"PFS_LIBRARY": path})
+       for path in ("./none.so", "./plan.toml")},
+    "no GNU parallel": (4, "run plan.toml out.csv", "parallel is not installed (Debian: parallel)", "",
+                        {"PATH": "/none"}),
+    "no Slurm": (4, "slurm plan.toml out.csv", "sbatch is not installed (Debian: slurm-client)", "", {"PATH": "/none"}),
+    "no words": (3, "run", "required: PLAN, CSV (pfs-experiments run --help ", "", {}),
+    "another option": (3, "check out.csv --jobs", "--jobs", "", {}),
+}
+
+
+@pytest.mark.parametrize(("status", "words", "said", "text", "env"), REFUSED.values(), ids=REFUSED)
+def test_a_start_is_refused_before_anything_is_written(status: int, words: str, said: str, text: str,
+                                                       env: dict[str, str], experiment: Experiment) -> None:
+    """Or is run: the replacement would note it."""
+    program = write_script(experiment.folder / "program", text) if text else experiment.replacement()
+    (experiment.folder / "timed.toml").write_text(ALL + "time_factors = [1]\n")
+    before = sorted(os.listdir(experiment.folder))
+    assert_refused(experiment.script(*words.split(), program=program, env={**os.environ, **env}), said,
+                   status=status)
+    assert sorted(os.listdir(experiment.folder)) == before
+
+
+def test_an_interruption_at_the_start_prints_nothing(experiment: Experiment) -> None:
+    """While modules are imported."""
+    (experiment.folder / "secrets.py").write_text("import os, signal, time\nos.kill(os.getpid(), signal.SIGINT)\n")
+    got = experiment.run(env=dict(os.environ, PYTHONPATH=str(experiment.folder)))
+    assert got == Done(-signal.SIGINT, "", ""), "what an interruption prints"
+
+
+# Whole experiments
+
+@pytest.mark.quick
+def test_the_csv_is_what_pfs_gives_and_a_second_start_makes_nothing_again(experiment: Experiment) -> None:
+    """No link in the place of the lock is followed. A smaller plan is rejected. The program is found next to the script
+    that is not on the path."""
+    (experiment.folder / "victim").write_text("kept\n")
+    experiment.runs.mkdir()
+    (experiment.runs / "lock").symlink_to(experiment.folder / "victim")
+    assert_refused(experiment.run(), status=4)
+    (experiment.runs / "lock").unlink()
+    assert experiment.run() == ended(12)
+    assert experiment.rows() == experiment.wanted()
+    assert [seconds for seconds, in experiment.columns("seconds") if not 0 < float(seconds) < 60] == []
+    first = (experiment.folder / "out.csv").read_text()
+    (experiment.folder / "out.csv").unlink()
+    assert experiment.run() == ended(12)
+    for other, said in ((PLAN.replace("[10, 30]", "[30]"), "another plan"), (PLAN.replace("*", "a"), "another plan"),
+                        (PLAN + "layout = \"orlib\"\n", "another layout")):
+        assert_refused(experiment.plan(other).run(), said)
+    assert (experiment.folder / "out.csv").read_text() == first
+    assert (experiment.folder / "victim").read_text() == "kept\n"
+    shutil.copytree(experiment.scripts, experiment.folder / "bin")
+    shutil.copy(experiment.pfs.path, experiment.folder / "bin" / "pfs")
+    got = run_tool([experiment.folder / "bin" / "pfs-experiments", "check", "out.csv"], experiment.folder,
+                   env={"PATH": "/usr/bin"})
+    assert got == Done(0, "out.csv: 12 orders audited, 0 of them wrong\n", "")
+
+
+def test_layouts_blocks_takes_passes_and_repetitions(experiment: Experiment) -> None:
+    """And a file that isn't an instance, and one whose bound is 0, which has the gap 0."""
+    experiment.plan('layout = "orlib"\ninstances = ["two.or", "bad.or", "zero.or"]\nblocks = [2, 1]\nrounds = [5]\n'
+                    "takes = [2, 1]\npasses = [1]\nseeds = [7]\nrepetitions = 2\n")
+    shops = [experiment.printed("convert", "--from", "taillard", "--to", "orlib", f"shops/{name}") for name in "ab"]
+    for name, text in (("two", "".join(shops)), ("bad", "3 2\n0 1 1 x\n"), ("zero", "2 1\n0 0\n0 0\n" * 2)):
+        (experiment.folder / f"{name}.or").write_text(text)
+    fault = "solve: exit 2, pfs: mixed line at 10"
+    assert experiment.run() == ended(24, 8, 0, f"bad.or:2 (rounds 5, take 2, passes 1, seed 7) and 7 more failed: "
+                                               f"{fault}\n")
+    rows = experiment.rows()
+    assert [(*row[:8], row[-1]) for row in rows] == [
+        (f"{name}:{block}", *size, "5", take, "1", "7", again, status)
+        for name, sizes, status in (("two.or", [("3", "2"), ("20", "5")], "ok"), ("bad.or", [("", "")] * 2, fault),
+                                    ("zero.or", [("2", "1")] * 2, "ok"))
+        for block, size in zip((2, 1), sizes) for take in "21" for again in "12"]
+    line = "solve --layout orlib --block 1 --rounds 5 --take 2 --passes 1 --seed 7 --cells two.or"
+    *_, makespan, cells = experiment.printed(*line.split(" ")).splitlines()
+    assert [makespan.split()[1], cells.split()[1]] == [rows[4][8], rows[4][11]]
+    assert rows[4][8:12] == rows[5][8:12], "repetitions of a run"
+    assert {row[8:11] for row in rows[16:]} == {("0", "0", "0.0000")}, "makespan, bound and gap"
+    assert experiment.script("check", "out.csv").status == 0, "an optimal order is wrong"
+
+
+def test_each_order_is_kept_and_check_audits_it_again(made: Experiment) -> None:
+    """The CSV says where, and a person finds it by its name. A row without an order is wrong too."""
+    rows = made.columns("instance", "rounds", "seed", "order")
+    for shop, rounds, seed, order in rows:
+        assert re.fullmatch(rf"out.csv.d/orders/{shop[6:]}-rounds-{rounds}-take-.*-seed-{seed}-.*", order)
+        wanted = made.printed("solve", "--layout", "taillard", "--rounds", rounds, "--seed", seed, shop)
+        assert (made.folder / order).read_text() == wanted
+    orders = [order for *_, order in rows]
+    (made.folder / orders[0]).unlink()
+    (made.folder / orders[1]).write_text(f"order2 20 5\n{' '.join(map(str, range(1, 21)))}\nmakespan 1448\n")
+    (made.folder / orders[3]).write_text("order2 3 2\n1 2 3\nmakespan 1\n")
+    text = (made.folder / "out.csv").read_text()
+    (made.folder / "out.csv").write_text(text.replace(orders[4], ""))
+    got = made.script("check", "out.csv")
+    *wrong, last = got.stdout.splitlines()
+    assert (got.status, got.stderr, last) == (1, "", "out.csv: 6 orders audited, 4 of them wrong")
+    assert [re.findall(r"number-(\d+)", line)[:1] for line in wrong] == [["1"], ["2"], ["4"], []], wrong
+    assert wrong[3].endswith(": the run has no order file"), wrong
+    (made.folder / "old.csv").write_text("instance,makespan\na,1\n")
+    assert_refused(made.script("check", "old.csv"), "pfs-experiments check: old.csv: no column rounds, take")
+
+
+def test_a_plan_may_grow(experiment: Experiment) -> None:
+    """What is done is kept, and the CSV is in the order of the plan that has grown. No file is written in place: a link
+    to the old one has the old text."""
+    program, before, old = experiment.replacement(), list[tuple[str, ...]](), dict[pathlib.Path, bytes]()
+    settings: dict[str, Any] = {"shops": ["a"], "rounds": [10], "seeds": [1], "takes": [3]}
+    for key, more in (("seeds", [1]), ("rounds", [10, 30]), ("seeds", [2, 1]), ("takes", [1, 3]), ("repetitions", 2),
+                      ("shops", ["a", "b"])):
+        settings[key] = more
+        lines = {**settings, "instances": [f"shops/{name}" for name in settings["shops"]]}
+        experiment.plan("".join(f"{key} = {json.dumps(value)}\n" for key, value in lines.items() if key != "shops"))
+        assert experiment.run(program=program).status == 0
+        assert [link for link, text in old.items() if link.read_bytes() != text] == [], "written in place"
+        for path in (experiment.folder / "out.csv", experiment.runs / "plan.json"):
+            link = path.with_name(f"{len(old)}.old")
+            link.hardlink_to(path)
+            old[link] = path.read_bytes()
+        after = experiment.columns(*HEAD)
+        assert [row for row in before if row not in after] == [], "runs that are gone, or were made again"
+        assert len(experiment.started()) == len(after) > len(before), "each is made once"
+        assert experiment.rows() == experiment.wanted(**settings), "the rows of the plan that has grown"
+        before = after
+    assert experiment.script("check", "out.csv").status == 0
+    assert run_tool([experiment.scripts / "pfs-experiments", "status", "out.csv"], experiment.folder).status == 0
+    assert experiment.columns(*HEAD) == before
+
+
+def test_a_search_of_0_rounds_is_made_once(experiment: Experiment) -> None:
+    """Take, passes and seed don't change it, also if the plan grows by those that come before. Repetitions are made."""
+    for takes, count in (("[3]", 2 + 8), ("[2, 3]", 2 + 16)):
+        assert experiment.plan(ONLY_B + f"rounds = [0, 1]\ntakes = {takes}\npasses = [0, 1]\nseeds = [5, 6]\n"
+                               "repetitions = 2\n").run(program=experiment.replacement()).status == 0
+        zeros = [row[:8] for row in experiment.rows() if row[3] == "0"]
+        assert zeros == [("shops/b", "3", "2", "0", "3", "0", "5", again) for again in "12"]
+        assert len(experiment.rows()) == len(experiment.started()) == count
+
+
+HOSTILE = ["=1+1", "+1", "-1", "@SUM(1)", "=cmd|' _C calc'!A0", "<b>&", "\x1b[31m", "a,b", 'a"b', "$x$", "\u00e4" * 120]
+
+
+def test_names_of_instances_are_not_formulas_in_a_spreadsheet(experiment: Experiment) -> None:
+    """They stay the paths of their files, and `check` finds them. One that is not UTF-8 is reported."""
+    for name in HOSTILE:
+        shutil.copy(experiment.folder / "shops" / "b", experiment.folder / name)
+    listed = ", ".join(json.dumps(re.sub(r"([\[*?])", r"[\1]", name)) for name in HOSTILE)
+    assert experiment.plan(f"instances = [{listed}]\n").run("=out.csv").status == 0
+    rows = csv_rows(experiment.folder / "=out.csv")
+    assert [cell for row in rows for cell in row.values() if re.match(r"[=+@\t\r-]", cell)] == [], "formulas"
+    assert [os.path.normpath(row["instance"]) for row in rows] == HOSTILE
+    assert [(experiment.folder / row["order"]).exists() for row in rows] == [True] * len(HOSTILE)
+    assert experiment.script("check", "=out.csv").status == 0
+    shutil.copy(experiment.folder / "shops" / "b", experiment.folder / os.fsdecode(b"shops/\xff"))
+    assert_refused(experiment.plan(PLAN).run(), "plan.toml: the name b'shops/\\xff' is not UTF-8")
+
+
+# Folders that are damaged, and small disks
+
+RESULTS = [b"\xff\n", b'1,"\n', b"1,\0\n", b"o\n1,x,y,z,t,ok\n", b"1,1,1,1,1.000000,ok\n",
+           b"o\n1,1,1,1,1.000000,o", b"o\n1,1,1,1,1.000000,ok,12", None]
+PLANS = [b"{", b"[]", b'{"places": 1}', b"[" * 100_000, b'{"layout": "\xff"}', b'{"places": {}, "runs": []}']
+
+
+def test_a_damaged_result_is_made_again_and_a_damaged_plan_is_reported(made: Experiment) -> None:
+    """On one line; so is a folder without a program."""
+    (made.runs / "joblog").write_bytes(b"\xff\n1\t2\n")
+    for data in RESULTS:
+        path = made.runs / "results" / "1"
+        path.unlink() if data is None else path.write_bytes(data)
+        assert made.run() == ended(6), f"{data!r} is taken as it is"
+        assert made.rows() == made.wanted(rounds=(10,)), data
+    with open(path, "w") as earlier:  # a run that continues after its start was killed
+        assert made.run() == ended(6)
+        earlier.write("torn")
+    assert made.run() == ended(6)
+    assert made.script("check", "out.csv").status == 0, "an order into which an earlier start has written"
+    before, (stage,) = (made.folder / "out.csv").read_text(), made.runs.glob("pfs-experiment-*")
+    whole = (made.runs / "plan.json").read_bytes()
+    for data in (*PLANS, whole.replace(b'"number": "1"', b'"number": "2"'), whole):
+        (made.runs / "plan.json").write_bytes(data)
+        if data == whole:
+            stage.rename(made.folder / "elsewhere")
+        said = "no copy of the program" if data == whole else "plan.json is damaged"
+        assert_refused(made.plan(PLAN + "repetitions = 2\n").run(), said, "out.csv")
+        assert (made.folder / "out.csv").read_text() == before
+
+
+@pytest.mark.parametrize("kib", [4, 24, 48, 160])
+def test_a_full_disk_is_reported(kib: int, experiment: Experiment) -> None:
+    """On one line. Once there is room, the same command completes the work."""
+    if subprocess.run([tool("unshare"), "-m", "true"], capture_output=True).returncode != 0:
+        missing("nobody but root mounts a small disk here")
+    small = experiment.plan(HALF).folder / "small"
+    small.mkdir()
+    line = " ".join(map(str, experiment.words("run", "plan.toml", "small/out.csv", program=experiment.replacement())))
+    script = (f"mount -t tmpfs -o size={kib}k none small && {line} 2> report; echo $? > status; "
+              "find small -name '*.new' > halves; "
+              f"mount -o remount,size=9m small && {line} 2> again; echo $? >> again; cp small/out.csv all.csv")
+    done = subprocess.run(["unshare", "-m", "sh", "-c", script], cwd=experiment.folder, capture_output=True, text=True)
+    assert done.returncode == 0, done.stderr
+    status, got, again, halves = ((experiment.folder / name).read_text() for name in
+                                  ("status", "report", "again", "halves"))
+    refused = re.fullmatch("pfs-experiments run: [^\n]*: No space left on device\n", got)
+    assert (status == "4\n" and refused) or (status == "0\n" and kib > 100), got
+    assert halves == "", "what is left of files that had no room"
+    assert again == f"small/{ended(6).stderr}0\n" and experiment.rows("all.csv") == experiment.wanted(rounds=(10,))
+
+
+# Runs by time
+
+def test_runs_by_time_take_their_time(experiment: Experiment, with_library: dict[str, str]) -> None:
+    """Jobs times half the machines times the factor, in milliseconds. The order is that of the rounds in the CSV."""
+    before = ALL + "takes = [2]\nseeds = [1, 2]\nrounds = [5]\n"
+    assert experiment.plan(before).run().status == 0
+    kept = experiment.columns(*HEAD)
+    assert experiment.plan(before + "time_factors = [1, 2.5]\n").run(env=with_library).status == 0
+    assert [row for row in experiment.columns(*HEAD) if row in kept] == kept, "a plan that grows by times"
+    rows = [row for row in csv_rows(experiment.folder / "out.csv") if row["time_factor"]]
+    assert [(row["instance"], row["time_factor"], row["seed"]) for row in rows] \
+        == [(shop, factor, seed) for shop in ("shops/a", "shops/b") for factor in ("1", "2.5") for seed in "12"]
+    for row in rows:
+        given = (20 * 5 if row["instance"] == "shops/a" else 3 * 2) / 2 * float(row["time_factor"]) / 1000
+        assert 0.5 * given <= float(row["seconds"]) <= given + 0.05, f"seconds of {row}"
+        wanted = experiment.printed("solve", "--layout", "taillard", "--rounds", row["rounds"], "--take", "2", "--seed",
+                                    row["seed"], "--cells", row["instance"])
+        assert (experiment.folder / row["order"]).read_text() + f"cells {row['cells']}\n" == wanted
+    assert experiment.script("check", "out.csv") == Done(0, "out.csv: 12 orders audited, 0 of them wrong\n", "")
+    sums = json.loads((experiment.runs / "provenance.json").read_text())["sha256"]
+    assert sums["libpfs.so.1"] == hashlib.sha256(pathlib.Path(with_library["PFS_LIBRARY"]).read_bytes()).hexdigest()
+
+
+def test_readmes_plans_by_time(experiment: Experiment, with_library: dict[str, str]) -> None:
+    """For files in OR-Library's layout, and for several methods."""
+    for_vfr, of_mine, methods = re.findall(r"```\n([^`]*time_factors[^`]*)```", README)
+    (experiment.folder / "VFR10_5_1_Gap.txt").write_text(
+        experiment.printed("convert", "--from", "taillard", "--to", "orlib", "shops/b"))
+    (experiment.folder / "best.csv").write_text("instance,makespan\nVFR10_5_1,20\n")
+    assert experiment.plan(for_vfr).run(env=with_library).status == 0
+    assert experiment.columns("instance", "time_factor", "reference") == [("VFR10_5_1_Gap.txt", "30", "20")]
+    write_script(experiment.folder / "mine", "#!/bin/sh\necho 1 2 3\n")
+    for text, found in ((of_mine, {("mine", "")}), (methods, {("mine", ""), ("pfs", "1")})):
+        experiment.plan(re.sub("out/taillard/[^\"]*", "shops/b", text))
+        assert experiment.run("methods.csv", env=with_library).status == 0
+        assert {*experiment.columns("method", "passes", csv_name="methods.csv")} == found
+
+
+def test_a_search_by_time_continues_with_another_seed(libpfs: Library, monkeypatch: pytest.MonkeyPatch) -> None:
+    """After the last round of a seed, here the eighth. No part goes beyond it. If NEH takes as long as there is, no
+    round begins. By the clock NEH takes 3 s and a round 1 s."""
+    def search(number: int) -> Rounds:
+        return Rounds(one.caller([at * at % 97 for at in range(1, 201)], 20, 10), 20, 4, 0, number % 2 ** 64)
+
+    def spent_by(found: Rounds, seconds: float) -> float:
+        monkeypatch.setattr(time, "process_time", lambda: 10.0 + (3 + found.last.total if found.last else 0))
+        return one.search(found, seconds)
+
+    monkeypatch.setattr(one, "HERE", str(libpfs.path.parent))
+    monkeypatch.setattr(one, "LIBRARY", libpfs.path.name)
+    for seconds, spent, rounds in ((2.5, 3, 0), (5, 4, 1)):
+        found = search(1)
+        assert (spent_by(found, seconds), found.finished().total) == (spent, rounds)
+    monkeypatch.setattr(_rounds, "PART", 5)
+    monkeypatch.setattr(_rounds, "MOST_ROUNDS", 8)
+    seed, step = 2 ** 64 - 5, 11400714819323198485
+    found = search(seed)
+    assert spent_by(found, 18) <= 18 and found.finished().total > 12
+    monkeypatch.setattr(_rounds, "MOST_ROUNDS", 1_000_000)
+    orders = []
+    for second in (seed + step, seed):
+        again, other = search(seed), search(second)
+        again.begin()
+        again.run_rounds(8)
+        other.begin()
+        other.finished().order[:] = list(again.finished().order)
+        other.run_rounds(found.finished().total - 8)
+        orders.append(list(other.finished().order))
+    assert orders[0] == list(found.finished().order) != orders[1], "rounds of two seeds"
+
+
+# Other programs
+
+# What a program does for each seed, and the status of its run. $line has the jobs in the order of their numbers. The
+# first one changes the copy of the instance that it gets.
+OTHERS = [
+    ("""stat -c '%a %n' "$1" > ../../../copy; chmod 644 "$1"; echo 1 > "$1"; echo "$line" """, "ok"),
+    ('echo "$line"', "ok"), (r"printf 'order 20\n%s\nmakespan 1448\n' " '"$line"', "ok"),
+    ("kill -SEGV $$", "command: signal 11"),
+    ("echo 'Traceback: something' >&2; exit 3", "command: exit 3, Traceback: something"),
+    ("echo 'the best order is 3 2 1'", "command: no order printed: 'the best order is 3 2 1'"),
+    (":", "command: nothing printed"), ("echo '1 1 1'", "check: exit 2, pfs: order file job repeated at place 2"),
+    ("while :; do :; done & while :; do :; done",
+     r"command: took too long: \d+\.\d\d s of processor time instead of 0.5 s"),
+    ('yes "$line"', "command: more than 1,048,576 bytes printed"),
+    ('test "$4 $5 $6" = "a 20 5" && echo "$line" | sed "s/ /, /g; s/$/,/"', "ok"),
+    ("echo '2 0 1'", "command: job 0: jobs count from 1"),
+    (r"printf 'order 20\n%s\nmakespan 1\n' " '"$line"', "check: exit 1, wrong makespan, stated 1, computed 1448"),
+    (r'''echo "π = (J$line)" | sed 's/ \([0-9]\)/ J\1/g' ''', "ok"), ('echo "$line" | tr " " -', "ok"),
+    ("echo '2 -1 3'", "command: no order printed: '2 -1 3'"),
+    (r"printf '1%900000s\n' 2", "check: exit 1, wrong size, .*"),
+]
+PROGRAM = "line=$(seq -s ' ' 20)\ncase $2 in\n" + "".join(
+    f"{seed}) {line} ;;\n" for seed, (line, _) in enumerate(OTHERS, 1)) + "esac"
+OTHER = f"""instances = ["shops/a"]
+time_factors = [10]
+seeds = {[*range(1, len(OTHERS) + 1)]}
+method = "solve"
+command = "./mine {{instance}} {{seed}} {{seconds}} {{name}} {{jobs}} {{machines}}"
+"""
+
+
+def with_other(experiment: Experiment, plan: str, program: str) -> Experiment:
+    write_script(experiment.folder / "mine", f"#!/bin/sh\n{program}\n")
+    return experiment.plan(plan)
+
+
+def test_another_program_is_run_and_audited(experiment: Experiment) -> None:
+    """An order file, or the jobs on one line. A run that crashes, prints no order, states a wrong makespan or takes too
+    long has failed, and isn't made again. Ten kinds of errors are reported. The instance is a copy that is read-only,
+    and that is gone after the run: no program changes the one that audits it."""
+    got = with_other(experiment, OTHER, PROGRAM).run()
+    lines = got.stderr.splitlines(keepends=True)
+    assert len(lines) == 12 and got == ended(17, 11, 0, "".join(lines[:10]) + "1 more kinds of errors\n")
+    rows = experiment.columns("seed", "status", "method", "time_factor", "rounds", "take", "passes", "cells")
+    assert [row[0] for row in rows] == [str(seed) for seed in range(1, 18)]
+    assert [(row[1], wanted) for row, (_, wanted) in zip(rows, OTHERS) if not re.fullmatch(wanted, row[1])] == []
+    assert {row[2:] for row in rows} == {("solve", "10", "", "", "", "")}
+    assert experiment.script("check", "out.csv") == Done(0, "out.csv: 6 orders audited, 0 of them wrong\n", "")
+    makespans = {row for row in experiment.columns("status", "makespan", "bound") if row[0] == "ok"}
+    assert makespans == {("ok", "1448", "1232")}, "the makespan of the order by numbers"
+    mode, _, copy = (experiment.folder / "copy").read_text().strip().partition(" ")
+    assert (mode, os.path.exists(copy)) == ("444", False), "the mode of the copy, and whether it stays"
+    before = experiment.written()
+    assert experiment.run().status == 1
+    assert experiment.written() == before, "runs that were made again"
+
+
+def test_a_plan_has_several_methods(experiment: Experiment) -> None:
+    """Each with its own settings. It may grow by some, whose commands can't change."""
+    first = ONLY_B + 'seeds = [1, 2]\n[[methods]]\nmethod = "=p"\nrounds = [0, 5]\n'
+    more = [f'[[methods]]\nmethod = "{name}"\nseeds = [3]\ncommand = "./{name} {{instance}} {{seed}}"\n'
+            for name in ("mine", "other")]
+    grown = first + "".join(more)
+    write_script(experiment.folder / "other", "#!/bin/sh\necho 2 1 3\n")
+    with_other(experiment, first, "echo 3 2 1").run()
+    before = experiment.written()
+    assert experiment.plan(grown).run() == ended(5)
+    assert before.items() <= experiment.written().items(), "runs that were made again"
+    assert experiment.columns("method", "rounds", "take", "passes", "seed") == [
+        ("'=p", "0", "3", "0", "1"), ("'=p", "5", "3", "0", "1"), ("'=p", "5", "3", "0", "2"),
+        ("mine", "", "", "", "3"), ("other", "", "", "", "3")]
+    orders = [experiment.folder / name for name, in experiment.columns("order")[-2:]]
+    assert [order.read_text().splitlines()[1] for order in orders] == ["3 2 1", "2 1 3"]
+    assert experiment.script("check", "out.csv") == Done(0, "out.csv: 5 orders audited, 0 of them wrong\n", "")
+    orders[1].unlink()
+    assert experiment.script("check", "out.csv").stdout.startswith(
+        "instance shops/b, method other, seed 3, repetition 1: ")
+    assert_refused(experiment.plan(grown.replace("{seed}", "7")).run(), "was started with another command")
+    assert_refused(experiment.plan(first).run(), "was started with another plan, which has block 1, method mine")
+
+
+# In this many seconds of processor time; what a line prints, and how many processes it leaves, or how it fails.
+SPIN = "setsid python3 -c 'import time\nwhile time.process_time() < 9: pass' "
+SLEEP = "setsid sleep 60 "
+LINES = [
+    ("0.01", "sleep 1000 & sleep 1000", "still running, and used .* s of processor time of 0.01 s"),
+    ("0.1", "exec >&- 2>&-; sleep 1000", "still running, .*"),
+    ("0.1", f"{SLEEP} & {SLEEP} > /dev/null 2>&1 & sleep 0.1; echo 1", "1 2"), ("0.1", "sleep 1; echo 2", "2 0"),
+    ("0.2", f"({SPIN} &); sleep 1000", r"took too long: [01]\.\d\d s of processor time instead of 0.2 s"),
+    ("0.05", "for each in $(seq 200); do (for at in $(seq 30000); do :; done); done; echo 3", "took too long: .*"),
+    ("0.01", "python3 -c 'import time\nwhile time.process_time() < 0.3: pass'; echo 4", "4 0"),
+    ("9", "kill -9 $$", "signal 9"),
+]
+
+
+@pytest.mark.parametrize(("seconds", "line", "wanted"), LINES, ids=[line[:30] for _, line, _ in LINES])
+def test_a_program_that_waits_or_takes_too_long_is_ended_with_all_that_it_has_started(
+        seconds: str, line: str, wanted: str, folder: pathlib.Path) -> None:
+    code = ("import sys; from pfs.experiments import one; one.PATIENCE = 3\n"
+            "try: text, _, left = one.run_command(['sh', '-c', sys.argv[2]], '.', float(sys.argv[1]))\n"
+            "except one.Failed as failure: print(failure)\nelse: print(text.strip(), left)\n")
+    env = dict(os.environ, PYTHONPATH=str(pathlib.Path(one.__file__).parents[2]))
+    got = run_tool(["/usr/bin/python3", "-B", "-c", code, seconds, line], folder, env=env)
+    assert (got.status, got.stderr) == (0, "") and re.fullmatch(wanted, got.stdout.strip()), got
+    left = [path for path in pathlib.Path("/proc").glob("[0-9]*/cwd") if os.path.realpath(path) == str(folder)]
+    assert left == [], "processes that are left"
+
+
+# Runs that fail
+
+# What pfs does for each seed from 1, and the status of the run.
+FAILING = [("$pfs \"$@\" | sed 's/^makespan .*/makespan 1/'; exit",
+            "check: exit 1, wrong makespan, stated 1, computed"),
+           ("kill -9 $$", "solve: signal 9"),
+           ('echo "no memory, perhaps" >&2; exit 4', "solve: exit 4, no memory, perhaps"),
+           ('echo "nothing that could be read"; exit', "solve: no cells printed"),
+           ("kill -9 $PPID", "lost: exit 137, signal 0")]
+
+
+def test_the_csv_has_a_failed_run_with_its_status(experiment: Experiment) -> None:
+    """A run that was killed is made by the next start, and the others are with --retry."""
+    program = experiment.replacement("\n".join(f'"solve "*"--seed {seed} "*) {line};;'
+                                               for seed, (line, _) in enumerate(FAILING, 1)))
+    got = experiment.plan(HALF.replace("[1, 2, 3]", "[0, 1, 2, 3, 4, 5]")).run(program=program)
+    statuses = ["ok", *(status for _, status in FAILING)]
+    assert got._replace(stderr=re.sub(r"(?<=computed) \d+", "", got.stderr)) == ended(12, 10, 0, "".join(
+        f"shops/a (rounds 10, take 4, passes 0, seed {seed}) and 1 more failed: {statuses[seed]}\n"
+        for seed in (1, 2, 3, 4, 5)))
+    assert [re.sub(r"(?<=computed) \d+", "", row[-1]) for row in experiment.rows()] == statuses * 2
+    assert {row[8:-1] for row in experiment.rows() if row[-1] != "ok"} == {("",) * 4}, "results of runs that failed"
+    (experiment.folder / "notes").unlink()
+    (experiment.folder / "fixed").touch()
+    assert experiment.run(program=program).status == 1
+    assert sorted(line.partition("--seed ")[2][0] for line in experiment.started()) == ["2", "2", "5", "5"]
+    assert experiment.run("out.csv", "--retry", program=program) == ended(12)
+    assert experiment.rows() == experiment.wanted(rounds=[10], seeds=range(6))
+
+
+# Interruptions
+
+# After how many runs which process gets which signal.
+Kills = list[tuple[int, str, int]]
+KILLS: dict[str, Kills] = {
+    "interrupted": [(2, "all", signal.SIGINT)], "terminated": [(1, "starter", signal.SIGTERM)],
+    "killed three times": [(0, "starter", signal.SIGKILL), (2, "parallel", signal.SIGKILL), (1, "all", signal.SIGKILL)],
+}
+
+
+def interrupted(experiment: Experiment, most: int, whom: str, number: int) -> set[str]:
+    """Starts the plan, lets `most` more runs finish and sends a signal while two wait; returns the runs that are done
+    by then."""
+    before, started_before = len(experiment.done()), len(experiment.started())
+    with experiment.gate() as let_through:
+        begun = experiment.start("--jobs", "2")
+        let_through(most)
+        try:
+            wait_until(lambda: len(experiment.done()) == before + most
+                       and len(experiment.started()) == started_before + most + 2, f"{most} runs are done, two wait")
+            done = experiment.done()
+        finally:
+            os.kill({"all": -begun.pid, "starter": begun.pid}.get(whom) or
+                    int((experiment.folder / "parallel").read_text()), number)
+            begun.wait(60)
+        if (whom, number) != ("all", signal.SIGKILL):
+            wait_until(lambda: experiment.left() == [], "what a start has begun ends with it")
+    wait_until(lambda: experiment.left() == [], "what a start has begun ends")
+    return done
+
+
+@pytest.mark.parametrize("kills", KILLS.values(), ids=KILLS)
+def test_no_run_is_lost_or_made_again(kills: Kills, experiment: Experiment) -> None:
+    """Each run is in the CSV once, and none that was done before a kill is made again."""
+    wanted, made = experiment.plan(HALF).wanted(rounds=(10,)), {}
+    # as a start leaves it that was killed while it made copies
+    (experiment.runs / "pfs-experiment-begun" / "instances").mkdir(parents=True)
+    for most, whom, number in kills:
+        done = interrupted(experiment, most, whom, number)
+        counts = experiment.searches()
+        made.update({number: counts[number] for number in done})
+        if number in (signal.SIGINT, signal.SIGTERM):
+            so_far = experiment.rows()
+            assert len(so_far) >= most and [row for row in so_far if row not in wanted] == [], "the CSV so far"
+            assert experiment.script("check", "out.csv").status == 0, "the orders so far, each whole"
+        if whom == "starter":
+            assert len(experiment.started()) <= most + 2, "runs that GNU parallel begins without its starter"
+    assert experiment.run(program=experiment.replacement()).status == 0
+    assert experiment.rows() == wanted and len([*experiment.runs.glob("pfs-experiment-*")]) == 1
+    counts = experiment.searches()
+    assert [number for number, count in counts.items() if count == 0] == [], "runs that were never made"
+    assert {number: counts[number] for number in made if counts[number] != made[number]} == {}, "runs made again"
+    assert sum(counts.values()) <= len(counts) + 2 * len(kills), "searches that were lost by kills"
+
+
+@pytest.mark.parametrize("number", [signal.SIGTERM, signal.SIGKILL])
+def test_what_gnu_parallel_leaves_has_no_lock(number: signal.Signals, experiment: Experiment) -> None:
+    """If it is ended at its start, processes by which it counts how many there may be are left."""
+    process = experiment.start(env=experiment.parallel("sleep 60 &\necho > started\nwait"))
+    wait_until((experiment.runs / "started").exists, "GNU parallel has started")
+    process.send_signal(number)
+    process.wait(60)
+    held = run_tool(["flock", "--nonblock", experiment.runs / "lock", "true"], experiment.folder).status
+    assert held == 0, "a process that GNU parallel has left holds the lock"
+    assert number == signal.SIGKILL or experiment.left() == [], "processes that GNU parallel has left"
+    assert experiment.run() == ended(12)
+
+
+def test_two_starts_at_once_make_each_run_once(experiment: Experiment) -> None:
+    experiment.plan(HALF)
+    with experiment.gate(), open(experiment.folder / "report", "wb") as got:
+        first = experiment.start("--jobs", "1")
+        wait_until(lambda: len(experiment.started()) == 1, "the first start makes a run")
+        second = experiment.start("--jobs", "1", stderr=got)
+        waits = (experiment.folder / "report").read_text
+        wait_until(lambda: len(experiment.started()) > 1 or "\n" in waits(), "the second start waits, or makes a run")
+        started, line = experiment.started(), waits()
+    statuses = [start.wait(60) for start in (first, second)]
+    assert len(started) == 1, "runs that are made at once by two starts"
+    holder = f"process {first.pid} on {os.uname().nodename}"
+    assert (line, statuses) == (f"waiting for {holder}, which is already running out.csv\n", [0, 0])
+    assert set(experiment.searches().values()) == {1}, "how often each run was made"
+
+
+# GNU parallel on a terminal and on another machine
+
+def test_on_a_terminal_the_share_that_is_done_is_shown(experiment: Experiment) -> None:
+    words = [str(word) for word in experiment.words("run", "plan.toml", "out.csv")]
+    with Terminal(words, experiment.folder) as terminal:
+        assert terminal.read_all() == 0
+        assert re.search(rb"100% 12:0=\d+s", terminal.seen), terminal.seen[-300:]
+        assert b"citation" not in terminal.seen.lower()
+
+
+@pytest.mark.xdist_group("ssh")
+def test_over_ssh_the_csv_is_the_same(ssh_server: Server, experiment: Experiment) -> None:
+    """Of pfs and of another program. All runs are made on the other machine, and nothing is left there, once none is
+    left to run: before that, a replacement of GNU parallel, which makes no run, isn't asked to remove anything."""
+    (experiment.folder / "machines").write_text(ssh_server.line)
+    with_other(experiment, ALL + 'seeds = [1, 2, 3]\n[[methods]]\nrounds = [10]\n[[methods]]\nmethod = "m"\n'
+               'command = "./mine {instance} {jobs}"\n', "seq -s ' ' $2")
+    words = ["out.csv", "--sshloginfile", "machines"]
+    got = experiment.run(*words, env=experiment.parallel(f'echo "$*" >> {experiment.folder}/calls'))
+    assert got == ended(0, 0, 12)
+    assert "--nonall" not in (experiment.folder / "calls").read_text()
+    assert experiment.run(*words) == ended(12)
+    assert [*experiment.rows()[:3], *experiment.rows()[6:9]] == experiment.wanted(rounds=(10,))
+    lines = (experiment.runs / "joblog").read_text().splitlines()[1:]
+    assert {line.split("\t")[1].split()[-1] for line in lines} == {"127.0.0.1"}
+    assert [path.name for path in ssh_server.home.iterdir() if path.name != ".parallel"] == []
+
+
+# Slurm
+
+@on_slurm
+def test_on_slurm_the_csv_is_the_same(experiment: Experiment, slurm: Cluster) -> None:
+    """The runs are one array of the requested number of tasks, and each is made by one task. What Slurm says of tasks
+    that it ended is in the CSV. The next start makes their runs, and a later one those whose results are gone."""
+    words = ["--tasks", "2", "--time=5"]
+    with experiment.plan(HALF).gate():
+        begun = experiment.start(*words, name="slurm", env=slurm.env)
+        wait_until(lambda: len(experiment.started()) == 2, "two tasks make a run each")
+        number = slurm.tells("squeue", "-h", "-o", "%F").split()[0]
+        assert slurm.tells("scontrol", "-o", "show", "job", number).count(f"ArrayJobId={number} ") == 2
+        slurm.tells("scancel", "--full", number)
+        assert begun.wait(100) == 1
+    said = r"lost: \*\*\* JOB \d+ ON \S+ CANCELLED AT \S+ \*\*\*"
+    assert [bool(re.fullmatch(said, row[-1])) for row in experiment.rows()] == [True] * 2
+    (experiment.folder / "notes").unlink()
+    assert experiment.start(*words, name="slurm", env=slurm.env).wait(100) == 0
+    assert experiment.rows() == experiment.wanted(rounds=(10,))
+    assert set(experiment.searches().values()) == {1}, "how often each run was made"
+    results, before = experiment.runs / "results", experiment.written()
+    (results / "2").unlink()
+    (results / "5").write_text("5,1")
+    assert experiment.start(*words, name="slurm", env=slurm.env).wait(100) == 0
+    assert {name for name, _ in experiment.written().items() - before.items()} == {"2", "5"}
+    got = experiment.script("slurm", *words[:2], "plan.toml", "out.csv", env=slurm.env)
+    assert got == ended(6), "a start where nothing is left to do"
+
+
+@on_slurm
+def test_on_slurm_a_second_start_waits_for_the_array_of_the_first(experiment: Experiment, slurm: Cluster) -> None:
+    """Also if the first start was killed while it waited for its array. A result exists only once it is complete."""
+    experiment.plan(HALF)
+    with experiment.gate():
+        first = experiment.start("--tasks", "1", "--time=5", name="slurm", env=slurm.env)
+        wait_until(lambda: len(experiment.started()) == 1, "the array makes a run")
+        os.killpg(first.pid, signal.SIGKILL)
+        first.wait(60)
+        assert experiment.done() == set(), "results of runs that have not ended"
+        second = experiment.start("--tasks", "1", "--time=5", name="slurm", env=slurm.env)
+        wait_until(lambda: "Dependency" in slurm.tells("squeue", "-h", "-o", "%r"), "the second array waits")
+    assert second.wait(120) == 0
+    assert set(experiment.searches().values()) == {1}, "how often each run was made"
+    assert experiment.rows() == experiment.wanted(rounds=(10,))
+
+
+def test_the_last_array_says_how_a_run_ended(folder: pathlib.Path) -> None:
+    """By the times of the logs, which may have any bytes; numbers of arrays have more and more digits."""
+    (folder / "slurm").mkdir()
+    for age, name in enumerate(("9-1.log", "10-1.log")):
+        (folder / "slurm" / name).write_bytes(b"\xff\nrun 1\nrun 7\nslurmstepd-host: error: %s\n" % name.encode())
+        os.utime(folder / "slurm" / name, (age, age))
+    assert run.endings(folder) == {"7": "lost: 10-1.log"}
+
+
+# A run of the first shop takes minutes with as many passes as there may be, and one of the second less than a second.
+LONG = 'instances = ["shops/a"]\nrounds = [1000000]\npasses = [100]\nseeds = {}\n'
+ARRAYS = {
+    "long runs": (LONG.format([1, 2, 3]), [], "1-3"), "many": (LONG.format(list(range(1100))), [], "1-1000"),
+    "short runs share a task": (ONLY_B + f"rounds = [1]\nseeds = {[*range(1100)]}\n", [], "1-1"),
+    "fewer tasks": (PLAN, ["--tasks", "5"], "1-5"), "as many tasks as runs": (PLAN, ["--tasks", "50"], "1-12"),
+    "a command without a time": (MINE + 'seeds = [1, 2]\ncommand = "m {instance} {seed}"\n', [], "1-4"),
+    # 100 runs of 1.5 seconds and 100 of 0.09
+    "a command with a time": (MINE + f'time_factors = [30]\nseeds = {[*range(100)]}\n'
+                              'command = "m {instance} {seed}"\n', [], "1-3"),
+}
+
+
+@pytest.mark.parametrize(("plan", "words", "array"), ARRAYS.values(), ids=ARRAYS)
+def test_slurm_is_asked_for_an_array_of(plan: str, words: list[str], array: str, experiment: Experiment) -> None:
+    """A dry run prints the line, which makes the runs, and submits nothing."""
+    write_script(experiment.folder / "bin" / "sbatch", "#!/bin/sh\necho \"$@\" > submitted\n")
+    env = with_path(experiment.folder / "bin")
+    got = experiment.plan(plan).script("slurm", "--dry-run", *words, "plan.toml", "out.csv", "--time=5", env=env)
+    assert got.status == 0 and not (experiment.runs / "submitted").exists()
+    assert not (experiment.folder / "out.csv").exists()
+    assert run_tool(["sh", "-c", got.stdout], experiment.folder, env=env).status == 0
+    submitted = (experiment.runs / "submitted").read_text().split()
+    assert {f"--array={array}", "--wait", "--dependency=singleton", "--time=5"} <= {*submitted}
+    assert submitted[-2:] == [str(pathlib.Path(one.__file__).with_name("task")),
+                              *(path.name for path in experiment.runs.glob("pfs-experiment-*"))]
+
+
+# What the runs were made with, their reference, and what there is before the end
+
+ORDER = "#!/bin/sh\necho {order}\n"
+WITH_FILE = """instances = ["shops/b"]
+seeds = [{seeds}]
+method = "mine"
+command = "./mine {{instance}}"
+files = ["data"]
+"""
+
+
+@pytest.fixture
+def mine(experiment: Experiment) -> Experiment:
+    """An experiment with a command and a file."""
+    write_script(experiment.folder / "mine", ORDER.format(order="1 2 3"))
+    (experiment.folder / "data").write_text("1\n")
+    return experiment.plan(WITH_FILE.format(seeds="1"))
+
+
+def test_the_file_has_the_version_the_sums_and_each_start(mine: Experiment, top: pathlib.Path) -> None:
+    """What has changed since is reported, and the copies are used."""
+    inputs = {"pfs": mine.pfs.path, **{name: mine.folder / name for name in ("shops/b", "data", "mine")}}
+    wanted = {name: hashlib.sha256(path.read_bytes()).hexdigest() for name, path in inputs.items()}
+    assert mine.run() == mine.run() == ended(1)
+    stored = json.loads((mine.runs / "provenance.json").read_text())
+    assert stored["version"] == (top / "VERSION").read_text().strip() and stored["sha256"] == wanted
+    method, = stored["plan"]["methods"]
+    assert (method["seeds"], method["method"]) == ([1], "mine")
+    assert [start["host"] for start in stored["starts"]] == [os.uname().nodename] * 2
+    assert stored["starts"][0]["at"] <= stored["starts"][1]["at"]
+    before = mine.columns("makespan")
+    write_script(mine.folder / "mine", ORDER.format(order="1 3 2"))
+    for name in ("data", "shops/b"):
+        with open(mine.folder / name, "a") as file:
+            file.write("# changed\n")
+    got = mine.plan(WITH_FILE.format(seeds="1, 2")).run()
+    assert got == ended(2, said="out.csv: changed since they were copied for its runs: data, mine, shops/b. The copies "
+                                "are used: to begin anew, name another CSV or delete out.csv.d\n")
+    assert mine.columns("makespan") == before * 2
+    assert json.loads((mine.runs / "provenance.json").read_text())["sha256"] == wanted, "sums of the copies"
+    assert mine.run("new.csv") == ended(2, name="new.csv")
+    assert mine.columns("makespan", csv_name="new.csv") != before * 2
+    for damaged in (b"", b"{", b"[1]", b'{"starts": 3}', b"\xff"):
+        (mine.runs / "provenance.json").write_bytes(damaged)
+        assert mine.run().status == 0
+        assert len(json.loads((mine.runs / "provenance.json").read_text())["starts"]) == 1
+    for name in ("mine", "data"):
+        (mine.folder / name).rename(mine.folder / f"{name}.gone")
+    assert "no file matches data" in mine.run().stderr
+
+
+def test_a_reference_must_name_an_instance_and_status_writes_what_there_is(experiment: Experiment) -> None:
+    """By its name in the plan, or without folder, ending and in lower case. What it lacks is reported. It may begin
+    with a byte order mark, and be named once all runs are made. The CSV has the order of the plan, and what the
+    reference had at the start."""
+    status = functools.partial(run_tool, [experiment.scripts / "pfs-experiments", "status", "out.csv"],
+                               experiment.folder)
+    assert_refused(status(), "pfs-experiments status: out.csv was not started: out.csv.d is missing\n")
+    plan = 'instances = ["shops/*"]\nseeds = [2, 1]\nrounds = [1]\nreference = "best.csv"\n'
+    (experiment.folder / "best.csv").write_text("instance,makespan\nc,9\n")
+    assert_refused(experiment.plan(plan).run(), "pfs-experiments run: plan.toml: the reference best.csv names none of "
+                                                "the instances: it has c, and the plan shops/a\n")
+    assert not experiment.runs.exists()
+    with experiment.plan(plan.rpartition("reference")[0]).gate() as let_through:
+        begun = experiment.start("--jobs", "1")
+        let_through(1)
+        wait_until(lambda: (experiment.runs / "plan.json").exists() and status() == ended(1, 0, 3), "a run has ended")
+        assert experiment.columns("instance", "seed", "reference") == [("shops/a", "2", "")]
+    assert begun.wait(60) == 0
+    (experiment.folder / "best.csv").write_text("\N{BOM}instance,makespan,source\nc,9,no paper\nB.txt,7.0,a paper\n")
+    assert experiment.plan(plan).run() == ended(4, 0, 0, "best.csv lacks 1 of 2 instances: shops/a\n")
+    (experiment.folder / "best.csv").unlink()
+    before = (experiment.folder / "out.csv").read_bytes()
+    assert status() == ended(4)
+    assert (experiment.folder / "out.csv").read_bytes() == before and before.count(b"\n") == 5
+    assert experiment.columns("seed", "reference", "source") == [
+        (seed, *known) for known in (("", ""), ("7", "a paper")) for seed in "21"]
+
+
+# The pages
+
+@pytest.mark.seconds(20)
+def test_the_lines_of_the_way_lead_to_a_report(top: pathlib.Path, pfs: Program, folder: pathlib.Path,
+                                               scripts: pathlib.Path, scipy: None) -> None:
+    """Of README, in a copy that has the built program, which is taken as it is, and of the manual page, whose exit
+    statuses these are. The plan has fewer runs."""
+    tool("parallel")
+    for name in ("experiments", "python/src"):
+        shutil.copytree(top / name, folder / name, ignore=shutil.ignore_patterns("out", "__pycache__"))
+    for name in ("Makefile", "crates.txt"):
+        shutil.copy(top / name, folder / name)
+    shutil.copytree(scripts, folder / "bin")
+    for place in ("crates/pfs/out", "bin"):
+        (folder / place).mkdir(parents=True, exist_ok=True)
+        shutil.copy(pfs.path, folder / place / "pfs")
+    plan = folder / "experiments" / "example.toml"
+    plan.write_text(plan.read_text().replace("[1-3]", "1").replace(", 100, 1000]", ", 20]"))
+    block, = re.findall(r"```\n(sudo apt-get install parallel .*?)```", README, re.DOTALL)
+    page = (top / "python" / "pfs-experiments.1").read_text()
+    sections = {name: page.partition(f".Sh {name}")[2].partition(".Sh ")[0] for name in ("EXAMPLES", "EXIT STATUS")}
+    manual = re.findall(r"^\$ (.*)$", sections["EXAMPLES"], re.MULTILINE)
+    lines = [line.partition("#")[0].strip() for line in block.splitlines()[1:]]
+    assert len(lines) == 5 and len(manual) == 4 and manual[0].startswith("cp ")
+    for line in (*lines, "cp experiments/example.toml .", "rm -r example.csv example.csv.d report", *manual[1:]):
+        assert run_tool(line.split(" "), folder, env=with_path(folder / "bin")).status == 0, line
+    assert sum(int(row["runs"]) for row in csv_rows(folder / "report" / "table.csv")) == 3 * (1 + 2 * 3)
+    got = dict(re.findall(r"^\.It (\d)\n([^.]*\.)", sections["EXIT STATUS"], re.MULTILINE))
+    assert list(got) == ["0", "1", "2", "3", "4"] and got["0"] == "Done." and "rejected" in got["2"]
+    assert "failed" in got["1"] and "wrong" in got["1"]

@@ -1,0 +1,530 @@
+"""Files: instances, order files and Taillard's benchmark, against the program and byte for byte."""
+import contextlib
+import io
+import os
+import pathlib
+import resource
+import secrets
+import signal
+import stat
+import tempfile
+import time
+import types
+from collections.abc import Callable, Iterator
+from typing import Any
+
+import pfs
+import pytest
+from hypothesis import given
+from hypothesis import strategies as st
+from pfs import _search, _state
+from support import plainly
+from support.plainly import written
+
+TITLE = "number of jobs, number of machines, initial seed, upper bound and lower bound :\n"
+THREE = TITLE + "3 2 7 9 8\nprocessing times :\n3 2 4\n2 5 1\n"
+THREE_BY_JOB = "flow shop instance\n3 2\n0 3 1 2\n0 2 1 5\n0 4 1 1\n"
+TWO_BLOCKS = "+++\ninstance 1\n+++\nfirst\n1 1\n0 7\n+++\nsecond\n3 2\n0 3 1 2\n0 2 1 5\n0 4 1 1\n+++\n"
+
+# A file, its layout, and of its fault the name, the place, the line, the column and the hint.
+NO_SIZE_LINE = "the file has no size line: no line consists of numbers alone"
+FAULTS: dict[str, tuple[str, str, str, int, int, int, str]] = {
+    "nothing": ("", "taillard", "no block", 0, 1, 0, NO_SIZE_LINE),
+    "words": ("a\nb 2\n", "orlib", "no block", 0, 2, 0, NO_SIZE_LINE),
+    "the other layout": ("x\n3 2\n", "taillard", "size count", 2, 2, 0,
+                         "the line has 2 numbers, but a size line has 5; in the layout 'orlib' it has 2"),
+    "three numbers": ("1 2 3\n", "orlib", "size count", 1, 1, 0, "the line has 3 numbers, but a size line has 2"),
+    "words beside the size": ("11 5 # 11 jobs\n0 3 1 2 2 7\n", "orlib", "size count", 2, 2, 0,
+                              "line 1 has words next to its numbers, so it isn't read as a size line"),
+    "many jobs": ("5001 1\n", "orlib", "size range", 1, 1, 0,
+                  "a block has 1 to 5,000 jobs and 1 to 200 machines, and the notes are at most 4,294,967,295"),
+    "a decimal": ("2 1 0 0 0\n3 4.5\n", "taillard", "mixed line", 13, 2, 4,
+                  "a line of times has only digits and blanks: no words, signs or decimal points"),
+    "a long time": ("1 1 0 0 0\n 1000000001\n", "taillard", "time range", 11, 2, 2, "times are 0 to 1,000,000,000"),
+    "a time missing": ("2 2\n0 3 1\n0 5 1 2\n1 1\n0 3\n", "orlib", "machine number", 12, 3, 3,
+                       "line 2 has 3 numbers, but a row of this block has 4"),
+    "a time missing in block 2": ("1 1 0 0 0\n7\n3 2 0 0 0\n1 2 3\n4 5\n1 1 0 0 0\n7\n", "taillard", "extra number", 34,
+                                  6, 3, "line 5 has 2 numbers, but a row of this block has 3"),
+    "a plain matrix": ("2 3\n4 5 6\n7 8 9\n", "orlib", "machine number", 4, 2, 1,
+                       "line 2 has 3 numbers: perhaps only times, instead of pairs of machine and time"),
+    "an end inside": ("2 2 0 0 0\n3 4\n5", "taillard", "truncated", 3, 3, 0,
+                      "line 3 has 1 numbers, but a row of this block has 2"),
+    "an end after whole rows": ("2 2 0 0 0\n3 4\n", "taillard", "truncated", 2, 2, 0, ""),
+}
+BAD_ORDERS = {
+    "another text": ("order3 3\n", "syntax", 5), "a job 4 of 3": ("order 3\n2 1 4\nmakespan 10\n", "job range", 3),
+    "a job twice": ("order 3\n2 2 3\nmakespan 10\n", "job repeated", 2),
+    "a long file": ("o" * 65537, "order file too long", 0)}
+
+
+@pytest.mark.parametrize(("text", "layout", "notes"), [(THREE, "taillard", (7, 9, 8)),
+                                                       (THREE_BY_JOB, "orlib", (0, 0, 0))])
+def test_read(tmp_path: pathlib.Path, text: str, layout: str, notes: tuple[int, int, int]) -> None:
+    path = written(tmp_path, text, "three")
+    sources: list[Any] = [path, str(path), io.BytesIO(text.encode())]
+    for source in sources:
+        shop = pfs.read(source, layout=layout)
+        assert shop.times.tolist() == [[3, 2], [2, 5], [4, 1]]
+        assert (shop.seed, shop.upper, shop.lower) == notes
+        assert shop.name == ("" if isinstance(source, io.BytesIO) else "three")
+    with pytest.raises(TypeError, match="binary mode"):
+        pfs.read(io.StringIO(text), layout)  # type: ignore[arg-type]
+
+
+class Drops(io.RawIOBase):
+    """A file whose reads return a few bytes at a time, as those of an unbuffered pipe may."""
+
+    def __init__(self, text: bytes, most: int) -> None:
+        self.left = text
+        self.most = most
+
+    def readable(self) -> bool:
+        return True
+
+    def readinto(self, place: Any) -> int:
+        count = min(len(place), self.most, len(self.left))
+        place[:count], self.left = self.left[:count], self.left[count:]
+        return count
+
+
+FORTY = b"2 2\n0 3 1 2\n0 2 1 40\n"
+ORDER = b"order2 12 2\n2 1 3 4 5 6 7 8 9 10 12 11\nmakespan 140\n"
+
+
+@pytest.mark.parametrize("most", [1, 2, 7, 1000])
+def test_reads_of_a_few_bytes(most: int) -> None:
+    reads: list[Any] = [Drops(FORTY, most), Drops(TWO_BLOCKS.encode(), most), Drops(ORDER, most)]
+    assert pfs.read(reads[0], "orlib").times.tolist() == [[3, 2], [2, 40]]
+    assert [shop.jobs for shop in pfs.read_all(reads[1], "orlib")] == [1, 3]
+    assert pfs.read_order(reads[2]).order.tolist() == [1, 0, 2, 3, 4, 5, 6, 7, 8, 9, 11, 10]
+    endless: Any = Drops(b"order " + b"1" * 70_000, most)
+    with pytest.raises(pfs.OrderFault, match="order file too long"):
+        pfs.read_order(endless)
+    assert len(endless.left) == 70_006 - 65_537, "no more is read than one byte above the limit"
+    nothing: Any = types.SimpleNamespace(read=lambda _: None)
+    with pytest.raises(BlockingIOError):
+        pfs.read(nothing, "orlib")
+
+
+def test_blocks_their_names_and_the_end_of_the_file(tmp_path: pathlib.Path) -> None:
+    path = written(tmp_path, TWO_BLOCKS, "two")
+    assert [shop.times.tolist() for shop in pfs.read_all(path, "orlib")] == [[[7]], [[3, 2], [2, 5], [4, 1]]]
+    assert [shop.name for shop in pfs.read_all(path, "orlib")] == ["two 1", "two 2"]
+    assert pfs.read(path, "orlib", block=2).times.tolist() == [[3, 2], [2, 5], [4, 1]]
+    with pytest.raises(pfs.FileFault) as fault:
+        pfs.read(path, "orlib", block=3)
+    assert (fault.value.name, fault.value.place, fault.value.text) == ("no block", 2, "pfs: no block, found 2")
+    assert fault.value.hint == ""
+    file = io.BytesIO(b"+++\n instance car1\n+++\n Carlier 1x1 instance\n 1 1\n 0 7\n+++\n"
+                      b"Instance x\nINSTANCE reC05 \r\nby instance z2 of\n1 1\n0 3\ninstance 7\n1 1\n0 5\n1 1\n0 9\n")
+    file.name = "dir/flowshop1"
+    shops = pfs.read_all(file, "orlib")
+    assert [shop.name for shop in shops] == ["car1", "reC05", "flowshop1 3", "flowshop1 4"]
+    assert [int(shop.times[0, 0]) for shop in shops] == [7, 3, 5, 9]
+    with pytest.raises(pfs.FileFault, match="truncated after 0 times"):
+        pfs.read_all(io.BytesIO((TWO_BLOCKS + "1 1\n").encode()), "orlib")
+    with pytest.raises(pfs.FileFault, match="no block, found 0"):
+        pfs.read_all(io.BytesIO(b"nothing\n"), "orlib")
+    assert len(pfs.read_all(io.BytesIO(b"1 1\n0 7\n" * 1000), "orlib")) == 1000
+
+
+@pytest.mark.parametrize(("text", "first", "due"), [
+    ("2, 1, 3", 1, [1, 0, 2]), ("1 0 2", 0, [1, 0, 2]), ("[2;1;3]", 1, [1, 0, 2]), ("(2,1 , 3,)\n", 1, [1, 0, 2]),
+    ("  {01\t02\n3}  ", 1, [0, 1, 2]), ("0", 0, [0]), ("1", 1, [0])])
+def test_orders_of_papers(text: str, first: int, due: list[int]) -> None:
+    order = pfs.parse_order(text, first=first)
+    assert order.tolist() == due and order.dtype == "int64"
+
+
+@pytest.mark.parametrize(("text", "first", "kind", "why"), [
+    ("", 0, ValueError, "'' isn't a list of whole numbers"), ("1,,2", 1, ValueError, "isn't a list of whole numbers"),
+    ("1, -2", 1, ValueError, "isn't a list"), ("1.5", 1, ValueError, "isn't a list"),
+    ("j1 j2", 1, ValueError, "isn't a list"), ("\u0661", 1, ValueError, "isn't a list"),
+    ("2 1 3", 0, ValueError, "3 at place 2 isn't a job: the 3 jobs are 0 to 2"),
+    ("0 1", 1, ValueError, "0 at place 0 isn't a job: the 2 jobs are 1 to 2"),
+    ("2 1 2", 1, ValueError, "job 2 occurs twice, at places 0 and 2"),
+    ("1 " + "9" * 5000, 1, ValueError, "9{20} at place 1 isn't a job"), ("0 " * 5001, 0, ValueError, "5,001 jobs"),
+    (b"1 2", 1, TypeError, "text must be a str"), ([1, 2], 1, TypeError, "text must be a str"),
+    ("1 2", 2, ValueError, "first must be from 0 to 1, not 2"), ("1 2", True, TypeError, "first must be")])
+def test_orders_of_papers_that_are_rejected(text: Any, first: Any, kind: type[Exception], why: str) -> None:
+    with pytest.raises(kind, match=why):
+        pfs.parse_order(text, first)
+
+
+LINES = st.text(alphabet="ab+ \t\r0123456789\xe4", max_size=12).map(str.encode)
+# Lines that aren't number lines, so that blocks around them stay as they are.
+TITLES = [b"", b" \t", b"title", b"instance 7", b"+++", b"x1 2", b"\r", b"\xff\xe4"]
+SKIPPED = st.lists(st.sampled_from(TITLES), max_size=3)
+
+
+@st.composite
+def blocks(draw: st.DrawFn, layout: str) -> bytes:
+    """A block with other blanks, leading zeros, and its numbers on other lines; it may have a fault."""
+    times = draw(plainly.shops(4, 3))
+    jobs, machines = len(times), len(times[0])
+    head = [jobs, machines, 7, 9, 8] if layout == "taillard" else [jobs, machines]
+    body = [row[at] for at in range(machines) for row in times] if layout == "taillard" else [
+        number for row in times for at, time in enumerate(row) for number in (at, time)]
+    between = st.sampled_from([b" ", b"\t", b"  ", b"\r\n", b"\n", b"\n\n", b"\nplain\n", b" \n 0", b" " + b"0" * 90])
+    text = draw(st.sampled_from([b"", b" \t", b"\r"])) + b" ".join(b"%d" % number for number in head)
+    text += draw(st.sampled_from([b"\n", b" \r\n"]))
+    text += b"".join(b"%d" % number + draw(between) for number in body[:-1]) + b"%d" % body[-1]
+    cut = draw(st.sampled_from([None] * 9 + [-1, -4]))
+    return text[:cut] + draw(st.sampled_from([b"\n"] * 9 + [b" \r\n", b" 5\n", b"x\n"]))
+
+
+def one_by_one(text: bytes, layout: str) -> tuple[list[pfs.Instance], pfs.FileFault]:
+    """The blocks up to the first fault, each read from the start of the file, and that fault."""
+    found: list[pfs.Instance] = []
+    for block in range(1, 1_001):
+        try:
+            found.append(pfs.read(io.BytesIO(text), layout, block))
+        except pfs.FileFault as fault:
+            return found, fault
+    pytest.fail("a file of more than 1,000 blocks")
+
+
+@given(st.sampled_from(["taillard", "orlib"]), st.data())
+def test_all_blocks_are_those_that_are_read_one_by_one(layout: str, data: st.DataObject) -> None:
+    parts = data.draw(st.lists(SKIPPED.map(lambda lines: b"".join(line + b"\n" for line in lines)) | blocks(layout)
+                               | LINES, max_size=6))
+    text = b"".join(parts)
+    text = data.draw(st.sampled_from([text, text.removesuffix(b"\n")]))
+    due, fault = one_by_one(text, layout)
+    if fault.name == "no block" and due:
+        found = pfs.read_all(io.BytesIO(text), layout)
+        for shop, other in zip(found, due, strict=True):
+            shop.name = ""
+            assert shop == other, "read_all has another block than read"
+    else:
+        with pytest.raises(pfs.FileFault) as again:
+            pfs.read_all(io.BytesIO(text), layout)
+        assert (again.value.number, again.value.place) == (fault.number, fault.place)
+
+
+@pytest.mark.seconds(8)
+@pytest.mark.parametrize("layout", ["taillard", "orlib"])
+def test_all_blocks_of_60_megabytes_take_at_most_5_seconds(layout: str) -> None:
+    """Of processor time: other programs run besides."""
+    one = pfs.generate(200, 100, 3)
+    block = one.to_text(layout).encode()
+    count = min(1000, 60_000_000 // len(block))
+    text = block * count
+    begun = time.process_time()
+    shops = pfs.read_all(io.BytesIO(text), layout)
+    seconds = time.process_time() - begun
+    assert len(shops) == count and (shops[-1].times == one.times).all()
+    assert seconds < 5, f"{len(text) / 1e6:.0f} MB took {seconds:.1f} s"
+
+
+def read_table(text: bytes) -> None:
+    with tempfile.NamedTemporaryFile() as file:
+        file.write(text)
+        file.flush()
+        pfs.read_csv(file.name)
+
+
+COUNT = 500_000
+# Readers, and what took them the square or the cube of its length.
+SLOW: dict[str, Callable[[], object]] = {
+    "blanks in an order": lambda: pfs.parse_order("1" + " " * COUNT + "x"),
+    "blanks before an order": lambda: pfs.parse_order(" " * COUNT + "("),
+    "a head": lambda: read_table(b"job" + b" " * 100_000 + b"b;a\nx;y\n"),
+}
+
+
+@pytest.mark.parametrize("case", SLOW)
+def test_readers_take_linear_time(case: str) -> None:
+    begun = time.process_time()
+    with pytest.raises(ValueError):
+        SLOW[case]()
+    assert time.process_time() - begun < 2, f"{case}: the time grows faster than the length"
+
+
+MEASURED = """
+import io, resource, sys, pfs
+kind, text = sys.argv[1], open(sys.argv[2], "rb").read()
+before = resource.getrusage(resource.RUSAGE_SELF).ru_maxrss
+size = len(text)
+try:
+    if kind == "matrix":
+        pfs.read(io.BytesIO(text), kind)
+    else:
+        del text
+        pfs.read_csv(sys.argv[2])
+except ValueError as fault:
+    print(str(fault)[:99], file=sys.stderr)
+print((resource.getrusage(resource.RUSAGE_SELF).ru_maxrss - before) * 1024 / size)
+"""
+MILLION = 2**20
+LARGE: dict[str, tuple[str, bytes]] = {
+    "line ends of a matrix": ("matrix", b"\n" * (8 * MILLION)),
+    "titles of a table": ("table", b"t\n" * (4 * MILLION) + b"job,a\nx,1\n"),
+    "cells of a table": ("table", b"job,a\nx" + b",12" * (3 * MILLION)),
+}
+
+
+@pytest.mark.parametrize("case", LARGE)
+def test_readers_take_little_memory(tmp_path: pathlib.Path, case: str) -> None:
+    kind, text = LARGE[case]
+    (tmp_path / "file").write_bytes(text)
+    done = plainly.python("-c", MEASURED, kind, tmp_path / "file", cwd=tmp_path)
+    assert float(done.stdout) < 10, f"{case}: {done.stdout.strip()} bytes of memory for each byte ({done.stderr})"
+
+
+@pytest.mark.seconds(4)
+def test_all_blocks_up_to_the_limit() -> None:
+    """One byte more than the limit is a fault, before the end of a block or after it; not so after 1,000 blocks."""
+    block = b"1 1\n0 7\n"
+    spaces = 67_108_864 - 2 * len(block)
+    assert len(pfs.read_all(io.BytesIO(block + b" " * spaces + block), "orlib")) == 2
+    with pytest.raises(pfs.FileFault, match="input too long"):
+        pfs.read_all(io.BytesIO(block + b" " * (spaces + 1) + block), "orlib")
+    with pytest.raises(pfs.FileFault, match="input too long"):
+        pfs.read_all(io.BytesIO(block + b" " * spaces + block + b"title\n"), "orlib")
+    many = b" " * (67_108_864 - 1000 * len(block))
+    assert len(pfs.read_all(io.BytesIO(block * 999 + many + block + b"title\n"), "orlib")) == 1000
+    with pytest.raises(pfs.FileFault, match="input too long"):
+        pfs.read_all(io.BytesIO(block * 999 + many + b" " + block), "orlib")
+
+
+@pytest.mark.parametrize("case", FAULTS)
+def test_faults_of_instance_files(tmp_path: pathlib.Path, program: str, case: str) -> None:
+    """Their texts are those that the program prints."""
+    text, layout, *due = FAULTS[case]
+    path, block = written(tmp_path, text), 2 if "block 2" in case else 1
+    reads: list[Callable[[], Any]] = [lambda: pfs.read(path, layout, block), lambda: pfs.read_all(path, layout)]
+    for read in reads:
+        with pytest.raises(pfs.FileFault) as caught:
+            read()
+        fault = caught.value
+        assert [fault.name, fault.place, fault.line, fault.column, fault.hint] == due and isinstance(fault, ValueError)
+        hint = f" ({fault.hint})" if fault.hint else ""
+        assert fault.path == str(path) and str(fault) == f"{path}: {fault.text.removeprefix('pfs: ')}{hint}"
+        words = [program, "value", "--layout", layout, "--block", str(block), str(path)]
+        assert plainly.run(words, 2) == fault.text + "\n"
+
+
+@pytest.mark.parametrize("case", BAD_ORDERS)
+def test_faults_of_order_files(tmp_path: pathlib.Path, program: str, case: str) -> None:
+    text, name, place = BAD_ORDERS[case]
+    path, shop = written(tmp_path, text), written(tmp_path, THREE, "three")
+    with pytest.raises(pfs.OrderFault) as fault:
+        pfs.read_order(path)
+    assert (fault.value.name, fault.value.place) == (name, place)
+    assert plainly.run([program, "check", "--layout", "taillard", str(shop), str(path)], 2) == fault.value.text + "\n"
+
+
+@given(plainly.shops(), st.sampled_from(["taillard", "orlib"]), st.integers(0, 2**32 - 1))
+def test_what_is_written_is_read(times: plainly.Table, layout: str, note: int) -> None:
+    shop = pfs.Instance(times, seed=note, upper=note // 2, lower=note // 3)
+    text = shop.to_text(layout)
+    machines = range(len(times[0]))
+    if layout == "taillard":
+        rows = [" ".join(str(row[machine]) for row in times) for machine in machines]
+        head = f"{TITLE}{len(times)} {len(times[0])} {note} {note // 2} {note // 3}\nprocessing times :\n"
+    else:
+        rows = [" ".join(f"{machine} {row[machine]}" for machine in machines) for row in times]
+        head = f"flow shop instance\n{len(times)} {len(times[0])}\n"
+    assert text == head + "".join(row + "\n" for row in rows)
+    again = pfs.read(io.BytesIO(text.encode()), layout)
+    assert again.times.tolist() == times
+    assert layout == "orlib" or again == shop
+
+
+def test_long_numbers_fit() -> None:
+    shop = pfs.Instance([[10**9] * 200] * 300, seed=2**32 - 1, upper=2**32 - 1, lower=2**32 - 1)
+    for layout in ("taillard", "orlib"):
+        assert (pfs.read(io.BytesIO(shop.to_text(layout).encode()), layout).times == 10**9).all()
+    shop = pfs.read(io.BytesIO(b"200 50 0 0 0\n" + b"7 " * 9999 + b"7"), "taillard")
+    assert shop.times.shape == (200, 50) and (shop.times == 7).all()
+
+
+@given(plainly.shops_and_orders(), st.integers(0, 10**18 - 1))
+def test_order_files(case: tuple[plainly.Table, list[int]], span: int) -> None:
+    times, order = case
+    machines = len(times[0])
+    solution = pfs.Solution(order, span, 0, machines)
+    assert solution.to_text() == plainly.order_file(order, machines, span)
+    assert pfs.read_order(io.BytesIO(solution.to_text().encode())) == solution
+    bare = pfs.Solution(order, span)
+    assert bare.to_text() == plainly.order_file(order, None, span)
+    assert pfs.read_order(io.BytesIO(bare.to_text().encode())) == bare
+
+
+@pytest.mark.parametrize(("order", "span", "why"), [
+    ([0, 2], 1, "order: 2 at place 1 isn't a job: jobs are 0 to 1"),
+    ([1, 0, 1], 1, "order: job 1 occurs twice, at places 0 and 2"),
+    ([], 1, "out of its limits"), ([0], 10**18, "more than 18 digits")])
+def test_solutions_that_no_file_holds(order: list[int], span: int, why: str) -> None:
+    with pytest.raises(ValueError, match=why):
+        pfs.Solution(order, span).to_text()
+
+
+def test_taillards_instances_are_those_of_the_lists() -> None:
+    """Their upper bounds are the best known makespans."""
+    rows = pathlib.Path(pfs.__file__).with_name("taillard.csv").read_text().splitlines()[1:]
+    assert len(rows) == 120
+    for number, row in enumerate(rows, 1):
+        shop = pfs.taillard(number)
+        assert ",".join(map(str, [shop.name, shop.jobs, shop.machines, shop.seed, shop.lower, shop.upper])) == row
+        assert shop.upper >= shop.lower
+
+
+@pytest.mark.parametrize("number", [1, 31, 61, 120])
+def test_taillards_instances_are_the_programs(program: str, number: int) -> None:
+    shop = pfs.taillard(number)
+    shop.lower = shop.upper = 0
+    assert shop.to_text() == plainly.run([program, "generate", str(shop.jobs), str(shop.machines), str(shop.seed)])
+
+
+# The layout "matrix": the sizes on one line, and then a line of times for each job
+
+def matrix_of(text: str) -> pfs.Instance:
+    return pfs.read(io.BytesIO(text.encode("latin-1")), "matrix")
+
+
+@given(plainly.shops(), st.data())
+def test_a_matrix_is_read_as_it_is(times: plainly.Table, data: st.DataObject) -> None:
+    """With any blanks and empty lines, and the name of its file."""
+    blanks, ends = st.sampled_from([" ", "\t", "  "]), st.sampled_from(["\n", "\r\n", "\n\n", " \n\t\n "])
+    text = data.draw(st.sampled_from(["", "\n\n ", " "]))
+    for row in [[len(times), len(times[0])], *times]:
+        width = data.draw(st.sampled_from([1, 3]))
+        text += data.draw(blanks).join(str(number).zfill(width) for number in row) + data.draw(ends)
+    file = io.BytesIO(data.draw(st.sampled_from([text, text.rstrip()])).encode())
+    file.name = "folder/mine.txt"
+    assert pfs.read(file, "matrix") == pfs.Instance(times, name="mine.txt")
+
+
+@pytest.mark.parametrize(("text", "line", "column", "why"), [
+    ("", 1, 0, "0 numbers on the size line"),
+    ("\n3 2 0\n3 2\n2 5\n4 1\n", 2, 0, "3 numbers on the size line"),
+    ("0 2\n", 1, 1, "'0' is not a whole number from 1 to 5,000"),
+    ("3 201\n", 1, 2, "'201' is not a whole number from 1 to 200"),
+    ("3 x\n", 1, 2, "'x' is not a whole number from 1 to 200"),
+    ("3 2\n3 2\n2 5\n", 3, 0, "2 lines of times for 3 jobs"),
+    ("3 2\n", 1, 0, "0 lines of times for 3 jobs"),
+    ("3 2\n3 2\n2 5\n4 1\n7 7\n7 7\n", 5, 0, "more than 3 lines of times for 3 jobs"),
+    ("3 2\n3 2\n2\n4 1\n", 3, 0, "1 times for 2 machines"),
+    ("3 2\n3 2\n2 5 1\n4 1\n", 3, 0, "3 times for 2 machines"),
+    ("3 2\n3 2 4\n2 5 1\n", 2, 0, "3 times for 2 machines: the layout has a line for each job, not for each machine"),
+    ("3 2\n3 2\n2 -5\n4 1\n", 3, 2, "'-5' is not a whole number from 0 to 1,000,000,000"),
+    ("3 2\n3 2\n2 5\n4.5 1\n", 4, 1, "'4.5' is not a whole number"),
+    ("3 2\n3 2\n2 5\n4 1000000001\n", 4, 2, "'1000000001' is not a whole number"),
+    ("3 2\n3 2\n2 5\n4 \xb2\n", 4, 2, "'\xb2' is not a whole number"),
+    ("1 1\n" + "9" * 5000 + "\n", 2, 1, f"'{'9' * 20}' is not a whole number"),
+])
+def test_a_fault_has_its_line_and_column(text: str, line: int, column: int, why: str) -> None:
+    with pytest.raises(pfs.TableFault) as fault:
+        matrix_of(text)
+    assert (fault.value.line, fault.value.column) == (line, column) and fault.value.text.startswith(why)
+
+
+def test_there_is_one_block_and_a_limit_of_bytes(monkeypatch: pytest.MonkeyPatch) -> None:
+    with pytest.raises(ValueError, match="block must be from 1 to 1, not 2"):
+        pfs.read(io.BytesIO(b"1 1\n7\n"), "matrix", 2)
+    with pytest.raises(ValueError, match="layout must be 'taillard' or 'orlib', not 'matrix'"):
+        pfs.read_all(io.BytesIO(b"1 1\n7\n"), "matrix")
+    with pytest.raises(ValueError, match="layout must be 'taillard', 'orlib' or 'matrix', not 'matrices'"):
+        pfs.read(io.BytesIO(b"1 1\n7\n"), "matrices")
+    monkeypatch.setattr("pfs._library.LONGEST_INPUT", 8)
+    assert matrix_of("1 1\n700\n") == pfs.Instance([[700]])
+    with pytest.raises(pfs.TableFault, match="the file has more than 8 bytes"):
+        matrix_of("1 1\n7000\n")
+
+
+# Each file that the package writes is whole, the old one or the new one, and never written through a planted link
+
+SHOP = pfs.Instance([[30, 25], [20, 50], [40, 10]], job_names=["table", "chair", "shelf"], machine_names=["a", "b"])
+MADE = SHOP.schedule([1, 0, 2])
+WRITERS: dict[str, Callable[[pathlib.Path], object]] = {
+    "an instance": lambda path: SHOP.write(path),
+    "an order": lambda path: SHOP.solve(3).write(path),
+    "a schedule": lambda path: MADE.to_csv(path),
+    "a picture": lambda path: MADE.plot(path.with_suffix(".svg")),
+    "a page": lambda path: MADE.plot(path.with_suffix(".html")),
+    "a state": lambda path: _state.State(str(path), SHOP, _search.Search(SHOP, None, 0, None, 0, 0)).write(SHOP.neh()),
+}
+PATHS = {"a picture": "file.svg", "a page": "file.html"}
+
+
+@contextlib.contextmanager
+def files_of_at_most(size: int) -> Iterator[None]:
+    """No file gets longer meanwhile: a write ends in an error then, as on a full disk."""
+    soft, hard = resource.getrlimit(resource.RLIMIT_FSIZE)
+    resource.setrlimit(resource.RLIMIT_FSIZE, (size, hard))
+    try:
+        yield
+    finally:
+        resource.setrlimit(resource.RLIMIT_FSIZE, (soft, hard))
+
+
+def path_for(kind: str, folder: pathlib.Path) -> pathlib.Path:
+    return folder / PATHS.get(kind, "file")
+
+
+@pytest.mark.parametrize("kind", WRITERS)
+def test_a_full_disk_and_ctrl_c_leave_the_old_file(tmp_path: pathlib.Path, kind: str,
+                                                   monkeypatch: pytest.MonkeyPatch) -> None:
+    path = path_for(kind, tmp_path)
+    path.write_text("the old one")
+    with files_of_at_most(16), pytest.raises(OSError, match="File too large") as fault:
+        WRITERS[kind](path)
+    assert fault.value.filename == str(path)
+    with monkeypatch.context() as patch, pytest.raises(KeyboardInterrupt):
+        patch.setattr(os, "fsync", lambda _: signal.raise_signal(signal.SIGINT))
+        WRITERS[kind](path)
+    assert path.read_text() == "the old one", f"{kind} was written in place"
+    assert os.listdir(tmp_path) == [path.name], "half a file is left"
+    WRITERS[kind](path)
+    assert path.read_text() != "the old one" and os.listdir(tmp_path) == [path.name]
+
+
+@pytest.mark.parametrize("kind", WRITERS)
+def test_a_link_to_a_file_stays_and_no_other_one_is_followed(tmp_path: pathlib.Path, kind: str,
+                                                             monkeypatch: pytest.MonkeyPatch) -> None:
+    path = path_for(kind, tmp_path)
+    (tmp_path / "folder").mkdir()
+    target = tmp_path / "folder" / "target"
+    path.symlink_to("folder/target")
+    monkeypatch.setattr(secrets, "token_hex", lambda _: "0123")
+    new = ".new" if kind == "a state" else ".0123.new"
+    path.with_name(path.name + new).mkdir()  # beside the link, perhaps on another disk, nothing is written
+    WRITERS[kind](path)
+    target.write_text("the old one")
+    target.chmod(0o600)
+    WRITERS[kind](path)
+    assert path.is_symlink() and target.read_text() != "the old one"
+    assert stat.S_IMODE(target.stat().st_mode) == 0o600, "the permissions have changed"
+    path = path_for(kind, tmp_path / "folder")
+    precious = path.with_name("precious")
+    precious.write_text("kept")
+    path.with_name(path.name + new).symlink_to(precious)
+    WRITERS[kind](path)
+    assert precious.read_text() == "kept", f"{kind} was written through a link"
+    assert not path.is_symlink() and {*os.listdir(path.parent)} == {path.name, "precious", "target"}
+
+
+@pytest.mark.parametrize("mask", [0o022, 0o077])
+def test_a_new_file_has_the_permissions_of_the_mask(tmp_path: pathlib.Path, mask: int) -> None:
+    before = os.umask(mask)
+    try:
+        SHOP.write(tmp_path / "shop")
+    finally:
+        os.umask(before)
+    assert stat.S_IMODE((tmp_path / "shop").stat().st_mode) == 0o666 & ~mask
+
+
+def test_a_pipe_is_written_to_and_names_that_no_file_holds_are_not(tmp_path: pathlib.Path) -> None:
+    os.mkfifo(tmp_path / "pipe")
+    reader = os.open(tmp_path / "pipe", os.O_RDONLY | os.O_NONBLOCK)
+    SHOP.write(tmp_path / "pipe")
+    assert os.read(reader, 4096).decode() == SHOP.to_text()
+    os.close(reader)
+    assert os.listdir(tmp_path) == ["pipe"]
+    (tmp_path / "out.csv").write_text("the old one")
+    shop = pfs.Instance([[1]], job_names=["\udce4"])
+    with pytest.raises(UnicodeEncodeError):
+        shop.schedule([0]).to_csv(tmp_path / "out.csv")
+    assert (tmp_path / "out.csv").read_text() == "the old one"

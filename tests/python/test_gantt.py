@@ -1,0 +1,557 @@
+"""pfs-gantt draws each operation that takes time at its time, on its machine's row and in its job's colour, with the
+job's number if that fits. The tests look at the figure that matplotlib saves. An invalid time table is rejected, and no
+file is left."""
+import itertools
+import os
+import pathlib
+import random
+import re
+import struct
+from typing import Any, NamedTuple
+from unittest import mock
+
+import numpy
+import pytest
+from pfs import _drawing, _gantt
+from support import second_program
+from support.colours import contrast, hexadecimal, least_difference
+from support.files import generated
+from support.large import run_limited
+from support.needs import tool
+from support.program import Program
+from support.tools import Done, run_main, run_tool, with_path
+
+TOP = pathlib.Path(__file__).resolve().parents[2]
+PAGE, MANUAL = (TOP / "docs" / "COOKBOOK.md").read_text(), (TOP / "python" / "pfs-gantt.1").read_text()
+THREE = "table 3 2\n2 0 2 2 7\n1 2 5 7 9\n3 5 9 9 10\nmakespan 10\n"
+IDLE = "#d9d9d9"
+# The sizes of the letters on bars, and how wide a digit is in these sizes.
+LETTERS, SMALL, DIGIT = 8, 7, 0.636
+BEGINNINGS = {"svg": b"<?xml", "png": b"\x89PNG\r\n", "pdf": b"%PDF-"}
+
+# Start and end of each operation, by place in the order and by machine.
+Schedule = list[list[tuple[int, int]]]
+
+BAD = {
+    "an empty line": "\n",
+    "a verdict": "wrong size\norder 2\njobs 3\n",
+    "another line after it": THREE + "makespan 10\n",
+    "carriage returns": THREE.replace("\n", "\r\n"),
+    "two blanks": THREE.replace(" 9 10", "  9 10"),
+    "no number of machines": THREE.replace("table 3 2", "table 3"),
+    "a job more in the first line": THREE.replace("table 3 2", "table 4 2"),
+    "a machine less in the first line": THREE.replace("table 3 2", "table 3 1"),
+    "no jobs": "table 0 2\nmakespan 0\n",
+    "a job twice": THREE.replace("\n3 5", "\n2 5"),
+    "a start before the machine is free": THREE.replace("1 2 5 7 9", "1 1 5 7 9"),
+    "a start that waits for nothing": THREE.replace("1 2 5 7 9", "1 3 5 7 9"),
+    "an end before its start": THREE.replace("1 2 5 7 9", "1 2 5 7 6"),
+    "a digit of another script": THREE.replace("1 2 5 7 9", "1 2 5 7 \u0669"),
+    "not a number": THREE.replace("1 2 5 7 9", "1 2 5 7 nan"),
+    "another makespan": THREE.replace("makespan 10", "makespan 11"),
+    **{f"its first {end} bytes": THREE[:end] for end in range(len(THREE))},
+}
+BAD_WORDS = {
+    "a picture without an ending": ["table", "picture"],
+    "a bound above the makespan": ["--bound", "11", "table", "picture.svg"],
+    "a bound that isn't a number": ["--bound", "x", "table", "picture.svg"],
+    "a width that isn't a number": ["--width", "nan", "table", "picture.svg"],
+    "a width of 51 inches": ["--width", "51", "table", "picture.svg"],
+    "no dots": ["--dpi", "0", "table", "picture.svg"],
+    "more pixels than memory has room for": ["--width", "50", "--dpi", "2400", "table", "picture.svg"],
+    "a unit with a line end": ["--unit", "a\nb", "table", "picture.svg"],
+    "a unit with a byte that XML doesn't have": ["--unit", "a\x01b", "table", "picture.svg"],
+    "such an option": ["--x\x1b[2J", "table", "picture.svg"],
+    "a name that is not UTF-8": ["table", os.fsdecode(b"ch\xe4rt.gif")],
+}
+# What the system refuses.
+REFUSED = {
+    "a folder's name": ["table", "folder.svg"],
+    "a folder that is missing": ["table", "nowhere/picture.svg"],
+    "a table that is missing": ["missing", "picture.svg"],
+    "a table whose name has control characters": ["missing\x1b[2J", "picture.svg"],
+}
+
+
+def gantt(folder: pathlib.Path, *words: str, text: str = THREE) -> Done:
+    """Runs pfs-gantt in this process and in a folder whose file `table` has this text."""
+    (folder / "table").write_text(text)
+    with pytest.importorskip("matplotlib").rc_context():
+        return run_main(_gantt.main, ["pfs-gantt", *words], folder)
+
+
+class Bar(NamedTuple):
+    """A bar from one time to another, the middle and the height of its row, and its colour."""
+    start: float
+    end: float
+    row: float
+    height: float
+    fill: str
+
+
+class Picture:
+    """A figure, with what is drawn on its axes by the names of the groups."""
+
+    def __init__(self, figure: Any) -> None:
+        figure.draw_without_rendering()
+        self.figure, self.axis = figure, figure.axes[0]
+        self.groups = {each.get_gid(): each for each in (*self.axis.collections, *self.axis.lines) if each.get_gid()}
+        self.title = self.axis.get_title().replace("\n", " ")
+        # The texts on bars.
+        self.labels = [text for text in self.axis.texts if text.get_text() != "idle"]
+
+    def bars(self, name: str) -> list[Bar]:
+        """The bars of a group, in the order in which they were drawn."""
+        group = self.groups.get(name)
+        boxes = [path.get_extents() for path in group.get_paths()] if group else []
+        fills = [hexadecimal(colour[:3]) for colour in group.get_facecolors()] if group else []
+        return [Bar(box.x0, box.x1, (box.y0 + box.y1) / 2, box.height, fill)
+                for box, fill in zip(boxes, fills or ["none"] * len(boxes), strict=True)]
+
+    def points(self, time: float) -> float:
+        """How long a time is in the picture, in points."""
+        (left, _), (right, _) = self.axis.transData.transform([(0, 0), (time, 0)])
+        return float(right - left) * 72 / float(self.figure.dpi)
+
+    def texts(self) -> list[Any]:
+        """All texts that are seen."""
+        ticks = [label for axis in (self.axis, *self.axis.child_axes) for label in
+                 (*axis.get_xticklabels(), *axis.get_yticklabels())]
+        labels = (self.axis.title, self.axis.xaxis.label, self.axis.yaxis.label)
+        return [text for text in (*self.axis.texts, *ticks, *labels) if text.get_text() and text.get_visible()]
+
+
+def drawn(folder: pathlib.Path, *words: str, text: str = THREE, said: str = "") -> Picture:
+    """What is drawn with these words, and a message."""
+    kept: list[Any] = []
+
+    def keep(figure: Any, *_: object) -> bytes:
+        kept.append(figure)
+        return b""
+
+    with mock.patch.object(_gantt, "picture_of", keep):
+        assert gantt(folder, *words, "table", "picture.svg", text=text) == Done(0, "", said)
+    return Picture(kept[0])
+
+
+# Schedules
+
+class Case(NamedTuple):
+    """What is drawn, and with which options."""
+    name: str
+    order: list[int]
+    schedule: Schedule
+    options: tuple[str, ...] = ("--critical",)
+
+    @property
+    def makespan(self) -> int:
+        return self.schedule[-1][-1][1]
+
+    def operations(self, machine: int) -> list[tuple[int, int, int]]:
+        """Job, start and end of each operation on a machine that takes time."""
+        return [(job, start, end) for job, row in zip(self.order, self.schedule) for start, end in [row[machine]]
+                if start < end]
+
+    def machines(self) -> range:
+        return range(len(self.schedule[0]))
+
+    def drawn(self, folder: pathlib.Path, *words: str, said: str = "") -> Picture:
+        """The picture of what pfs prints of it, with more words."""
+        lines = [f"table {len(self.order)} {len(self.schedule[0])}"]
+        lines += [f"{job} " + " ".join(f"{start} {end}" for start, end in row)
+                  for job, row in zip(self.order, self.schedule)]
+        text = "\n".join([*lines, f"makespan {self.makespan}"]) + "\n"
+        return drawn(folder, *self.options, *words, text=text, said=said)
+
+
+def schedule_of(times: list[list[int]]) -> Schedule:
+    """Start and end of each operation, jobs in their order."""
+    return second_program.spans_of(second_program.instance_of(times), range(len(times)))
+
+
+def at_random(number: int) -> Case:
+    draws = random.Random(number)
+    jobs, machines, most = draws.randint(1, 12), draws.randint(1, 6), draws.choice([1, 3, 99, 1_000_000])
+    times = [[draws.randint(0, most) for _ in range(machines)] for _ in range(jobs)]
+    times[-1][-1] += not any(map(any, times))
+    order = draws.sample(range(1, jobs + 1), jobs)
+    return Case(f"random {number}, {jobs} by {machines}", order, schedule_of(times))
+
+
+def by_taillard(jobs: int, machines: int, seed: int, *options: str) -> Case:
+    times = [list(job) for job in zip(*second_program.generated(jobs, machines, seed).times)]
+    return Case(f"{jobs} by {machines} {' '.join(options)}", [*range(jobs, 0, -1)], schedule_of(times[::-1]), options)
+
+
+PAPER = by_taillard(20, 5, 873654221, "--critical", "--bound", "1232", "--width", "3.5", "--unit", "s")
+CASES = [
+    Case("nothing takes time, 1 by 1", [1], schedule_of([[0]])),
+    Case("nothing takes time, 2 by 2", [1, 2], schedule_of([[0, 0], [0, 0]])),
+    *map(at_random, range(8)), by_taillard(20, 5, 873654221, "--critical"), PAPER,
+    by_taillard(500, 20, 5, "--critical")]
+
+
+@pytest.fixture(scope="module", params=CASES, ids=[case.name for case in CASES])
+def case(request: pytest.FixtureRequest) -> Case:
+    made: Case = request.param
+    return made
+
+
+@pytest.fixture(scope="module")
+def picture(case: Case, tmp_path_factory: pytest.TempPathFactory) -> Picture:
+    return case.drawn(tmp_path_factory.mktemp("picture"))
+
+
+# Bars
+
+def test_each_operation_has_its_bar_in_its_jobs_colour(case: Case, picture: Picture) -> None:
+    """On a grey strip from 0 to the makespan. Time goes to the right, and machines go down."""
+    assert picture.axis.get_xlim() == (0, max(1, case.makespan))
+    assert picture.axis.get_ylim() == (len(case.machines()) + 0.5, 0.5)
+    for machine in case.machines():
+        strip, = picture.bars(f"strip-{machine + 1}")
+        assert (strip.start, strip.end, strip.fill) == (0, case.makespan, IDLE)
+        bars = picture.bars(f"machine-{machine + 1}")
+        assert [bar[:2] for bar in bars] == [spent[1:] for spent in case.operations(machine)], f"machine {machine + 1}"
+        assert all(bar.row == pytest.approx(machine + 1) and 0.5 < bar.height < 1 for bar in (strip, *bars))
+    colours = colours_of(case, picture)
+    assert [job for job, each in colours.items() if len(each) != 1] == [], "jobs of several colours"
+    assert len(set().union(*colours.values())) >= 0.98 * len(colours), "colours, for so many jobs"
+    for machine in case.machines():
+        shortest = picture.points(min((end - start for _, start, end in case.operations(machine)), default=0))
+        assert all(edge <= shortest / 4 + 1e-6 for edge in picture.groups[f"machine-{machine + 1}"].get_linewidths()), \
+            f"edges on machine {machine + 1}, whose shortest bar is {shortest}"
+
+
+def colours_of(case: Case, picture: Picture) -> dict[int, set[str]]:
+    """The colours of each job's bars."""
+    found: dict[int, set[str]] = {}
+    for machine in case.machines():
+        for (job, *_), bar in zip(case.operations(machine), picture.bars(f"machine-{machine + 1}")):
+            found.setdefault(job, set()).add(bar.fill)
+    return found
+
+
+def test_a_jobs_colour_is_that_of_its_number_and_not_of_its_place(folder: pathlib.Path) -> None:
+    times = [[3, 2], [2, 5], [4, 1], [1, 1]]
+    cases = [Case("", order, schedule_of([times[job - 1] for job in order])) for order in ([1, 2, 3, 4], [3, 1, 4, 2])]
+    found = [colours_of(case, case.drawn(folder)) for case in cases]
+    assert found[0] == found[1], "colours of the same jobs in another order"
+
+
+# How much the colours of jobs differ, as the page says.
+COLOURS = re.search(r"Any two of up to (\d+) jobs have colours that differ by ([\d.]+) or more \(CIEDE2000; of (\d+) "
+                    r"jobs by ([\d.]+)\).* Of more jobs, neighbours in the order differ by ([\d.]+) or more", PAGE)
+assert COLOURS, "no sentence on the colours"
+FEW, SOME = int(COLOURS[1]), int(COLOURS[3])
+LEAST, LEAST_OF_SOME, OF_NEIGHBOURS = float(COLOURS[2]), float(COLOURS[4]), float(COLOURS[5])
+
+
+def fills_of(jobs: int, folder: pathlib.Path, step: int = 1) -> list[str]:
+    """The colours of jobs that take one unit on a machine, in their order."""
+    case = Case("", [*range(1, jobs + 1)][::step], schedule_of([[1]] * jobs), ())
+    return [bar.fill for bar in case.drawn(folder).bars("machine-1")]
+
+
+@pytest.mark.parametrize(("jobs", "got"), [(SOME, LEAST_OF_SOME), (FEW, LEAST)])
+def test_any_two_of_few_jobs_differ_as_much_as_the_page_says(jobs: int, got: float, folder: pathlib.Path) -> None:
+    """For all eyes, also from the grey of idle time, rounded to a tenth."""
+    fills = [*fills_of(jobs, folder), IDLE]
+    assert len(fills) == jobs + 1
+    least = min(least_difference(one, other) for at, one in enumerate(fills) for other in fills[:at])
+    assert round(least, 1) == got, f"the colours of {jobs} jobs"
+
+
+@pytest.mark.parametrize("jobs", [FEW + 1, FEW + 2, FEW + 3, 500])
+def test_neighbours_of_many_jobs_are_distinguishable(jobs: int, folder: pathlib.Path) -> None:
+    """Also if an operation that takes no time is between them; and each of them from idle time."""
+    fills = fills_of(jobs, folder, -1)
+    assert len(fills) == jobs
+    for apart in (1, 2):
+        least = min(map(least_difference, fills, fills[apart:]))
+        assert least >= OF_NEIGHBOURS, f"colours of jobs that are {apart} apart differ by {least}"
+    assert min(least_difference(fill, IDLE) for fill in fills) >= 5
+
+
+@pytest.mark.parametrize("width", ["12", "50"])
+def test_the_outline_of_the_path_leaves_an_operation_of_one_unit_to_be_seen(width: str, folder: pathlib.Path) -> None:
+    """Half of its line lies on the first and on the last operation that it surrounds, each a unit long here."""
+    case = Case("", [1, 2], schedule_of([[1, 300], [2, 1]]))
+    picture = case.drawn(folder, "--width", width)
+    for machine in case.machines():
+        line, = picture.groups[f"critical-{machine + 1}"].get_linewidths()
+        assert 0.7 < line < max(0.9, 0.55 * picture.points(1)), (machine, line)
+
+
+def test_numbers_are_in_the_middle_of_bars_and_at_the_scales(case: Case, picture: Picture) -> None:
+    """In small letters, if not in others, and in a colour that can be read on the bar's."""
+    fills, places = colours_of(case, picture), {text.get_position(): text for text in picture.labels}
+    assert len(places) == len(picture.labels)
+    for machine in case.machines():
+        for job, start, end in case.operations(machine):
+            text, wanted = places.pop(((start + end) / 2, machine + 1), None), DIGIT * SMALL * len(str(job))
+            if text is None:
+                assert picture.points(end - start) <= 1.3 * wanted + 3, f"no number of job {job} on {machine + 1}"
+                continue
+            assert text.get_text() == str(job) and text.get_size() in (LETTERS, SMALL)
+            assert (text.get_ha(), text.get_va()) == ("center", "center")
+            assert text.get_window_extent().width * 72 / picture.figure.dpi < picture.points(end - start), text
+            ink = {"black": "#000000", "white": "#ffffff"}[text.get_color()]
+            assert contrast(ink, *fills[job]) >= 4.5, f"{ink} letters on {fills[job]}"
+    assert places == {}, "texts that are on no bar"
+    times, machines = ([int(label.get_text().replace("\N{MINUS SIGN}", "-")) for label in labels if label.get_text()]
+                       for labels in (picture.axis.get_xticklabels(), picture.axis.get_yticklabels()))
+    assert times == list(picture.axis.get_xticks()) and 2 <= len(times) <= 16
+    assert machines == list(picture.axis.get_yticks()) and {*machines} <= {machine + 1 for machine in case.machines()}
+    busy = [sum(end - start for _, start, end in case.operations(machine - 1)) for machine in machines]
+    right, = picture.axis.child_axes
+    assert [label.get_text() for label in right.get_yticklabels()] == [
+        f"{100 - 100 * each / case.makespan:.0f} %" if case.makespan else "" for each in busy]
+    assert list(right.get_yticks()) == machines
+
+
+# Axes
+
+def test_what_is_drawn_is_named_in_letters_that_can_be_read(folder: pathlib.Path) -> None:
+    """The title is above the rows, and names the bound and the path where they are drawn."""
+    plain, whole = drawn(folder), drawn(folder, "--critical", "--bound", "9", "--unit", "min")
+    title = "3 jobs on 2 machines: makespan 10"
+    assert (plain.title, whole.title) == (title, title + ", bound 9 (dashed), critical path outlined")
+    marks = {"bound", "beside-bound", "critical-1", "critical-2"}
+    assert marks & plain.groups.keys() == set() and marks <= whole.groups.keys()
+    assert plain.axis.get_xlabel() == "time (units of the instance)"
+    assert (whole.axis.get_xlabel(), whole.axis.get_ylabel()) == ("time (min)", "machine")
+    box, = (text.get_window_extent() for text in whole.axis.texts if text.get_text() == "idle")
+    rows = whole.axis.get_window_extent()
+    assert box.x0 > rows.x1 and box.y0 >= rows.y1 - 1, "the label of idle shares stands above them"
+    assert whole.axis.title.get_window_extent().y0 > rows.y1
+    picture = PAPER.drawn(folder)
+    assert picture.figure.get_figwidth() == 3.5
+    for text in picture.texts():
+        box = text.get_window_extent()
+        assert text.get_size() >= 7 and box.x0 >= 0 and box.x1 <= picture.figure.bbox.x1, text
+    boxes = [label.get_window_extent() for label in picture.axis.get_xticklabels()]
+    assert len(boxes) > 2 and all(after.x0 > before.x1 + 2 for before, after in itertools.pairwise(boxes))
+
+
+@pytest.mark.parametrize("bound", [9, 10])
+def test_the_bound_is_a_dashed_line_at_its_time_through_all_rows(bound: int, folder: pathlib.Path) -> None:
+    """A wider white line is drawn under it, and over the bars and the path. Nothing cuts them at the end."""
+    groups = drawn(folder, "--critical", "--bound", str(bound)).groups
+    line, below = groups["bound"], groups["beside-bound"]
+    for each in (line, below):
+        assert (list(each.get_xdata()), list(each.get_ydata())) == ([bound] * 2, [0, 1]) and not each.get_clip_on()
+    assert line.is_dashed() and not below.is_dashed() and below.get_linewidth() > line.get_linewidth()
+    assert (line.get_color(), below.get_color()) == ("black", "white")
+    assert line.get_zorder() > below.get_zorder() > groups["critical-2"].get_zorder() > 2
+
+
+def test_the_critical_path_leads_from_0_to_the_makespan_without_idle_time(case: Case, picture: Picture) -> None:
+    at = 0.0
+    for machine in case.machines():
+        for outline in picture.bars(f"critical-{machine + 1}"):
+            assert outline[0] == at and outline.row == pytest.approx(machine + 1) and outline.fill == "none"
+            at = outline.end
+            busy = sum(end - start for _, start, end in case.operations(machine)
+                       if outline.start <= start and end <= at)
+            assert busy == at - outline.start, f"idle time on the path, machine {machine + 1}"
+    assert at == case.makespan, "end of the path"
+
+
+# Papers
+
+@pytest.mark.parametrize(("words", "due"), [(["--no-title"], ""), (["--title", ""], ""),
+                                            (["--title", "jobs of $48$"], "jobs of $48$")])
+def test_the_title_is_the_one_given(folder: pathlib.Path, words: list[str], due: str) -> None:
+    assert drawn(folder, *words).title == due
+
+
+@pytest.mark.parametrize("unit", ["$x_{$", "$x$", "\\$", "a < b & c", "\u00b5s"])
+def test_a_unit_is_text(unit: str, folder: pathlib.Path) -> None:
+    """And no formula."""
+    label = drawn(folder, "--unit", unit).axis.xaxis.label
+    assert label.get_text() == f"time ({unit})" and not label.get_parse_math()
+    assert gantt(folder, "--unit", unit, "table", "picture.png") == Done(0, "", "")
+
+
+@pytest.mark.parametrize(("words", "text", "size"), [
+    ([], THREE, (1320, 235)), (["--width", "3.5"], THREE, (385, 235)), (["--dpi", "300"], THREE, (3600, 642)),
+    (["--dpi", "20"], f"table 1 200\n1{' 0 0' * 200}\nmakespan 0\n", (240, 266)),
+], ids=["usual", "narrow", "fine", "the most rows"])
+def test_a_png_has_the_requested_size(words: list[str], text: str, size: tuple[int, int], folder: pathlib.Path) -> None:
+    """Inches times dots per inch; two rows of 0.42 inches and 1.3 inches for the rest. The most rows are 12 inches
+    high."""
+    assert gantt(folder, *words, "table", "picture.png", text=text) == Done(0, "", "")
+    png = (folder / "picture.png").read_bytes()
+    assert struct.unpack(">II", png[16:24]) == pytest.approx(size, abs=1)
+
+
+def test_the_pages_state_the_defaults_and_the_exit_statuses(folder: pathlib.Path) -> None:
+    """The same picture comes of it, and another one of another value."""
+    items = re.findall(r"^\.It Fl -(\w+)[^\n]*\n(.*?)(?=^\.It|^\.El)", MANUAL, re.MULTILINE | re.DOTALL)
+    stated = {option: re.findall(r"^The default is (.*)\.$", text, re.MULTILINE) for option, text in items}
+    got = dict(re.findall(r"^\| `--(\w+) [^|]*\|[^|]*\| (\S+) \|$", PAGE, re.MULTILINE))
+    assert {option: value for option, [*values] in stated.items() for value in values} == got
+    assert got.keys() == {"width", "dpi"}
+    assert gantt(folder, "table", "usual.png") == Done(0, "", "")
+    for option, value in got.items():
+        for number, is_usual in ((value, True), (str(int(value) - 1), False)):
+            assert gantt(folder, f"--{option}", number, "table", "picture.png") == Done(0, "", "")
+            is_same = (folder / "picture.png").read_bytes() == (folder / "usual.png").read_bytes()
+            assert is_same == is_usual, f"--{option} {number}, where the page states {value} as its default"
+    source = MANUAL.partition("\n.Sh EXIT STATUS\n")[2].partition("\n.Sh ")[0]
+    assert re.findall(r"^\.It (\d)\n(.*)$", source, re.MULTILINE) == [
+        ("0", "The picture is written."), ("2", "The time table is rejected."), ("3", "The command line is rejected."),
+        ("4", "A file can't be read or written, or a package is missing.")]
+    assert re.findall(r"rejected with one line on standard error and status (\d)", PAGE) == ["2"]
+
+
+@pytest.mark.quick
+def test_the_example_of_the_manual_page(folder: pathlib.Path, pfs: Program, scripts: pathlib.Path,
+                                        matplotlib: None) -> None:
+    """It draws what pfs prints."""
+    line = re.search(r"^\.Dl \$ (.*)$", MANUAL, re.MULTILINE)
+    assert line
+    (folder / "instance").write_bytes(generated(20, 5, 873654221))
+    (folder / "order").write_bytes(pfs.run("solve --layout taillard instance", folder).stdout)
+    for name, path in (("pfs", pfs.path), ("pfs-gantt", scripts / "pfs-gantt")):
+        (folder / name).symlink_to(path)
+    assert run_tool(["sh", "-c", line[1]], folder, env=with_path(folder)) == Done(0, "", "")
+    picture = (folder / "chart.svg").read_text()
+    assert {"machine-5", "critical-1", "critical-5"} <= set(re.findall('<g id="(.*?)"', picture))
+    assert {">time (units of the instance)<", ">20<"} <= set(re.findall(r">[^<>\n]+<", picture)), "texts are texts"
+
+
+# Rows that are an image
+
+# 2,000 jobs of one unit on each of two machines, but for one of 600 on the first one, for which the second one waits.
+STEPS = Case("", [*range(1, 2001)], schedule_of([[600 if job == 1000 else 1, 1] for job in range(2000)]), ())
+
+
+def test_a_pixel_of_an_image_has_the_mean_of_the_colours_at_its_time(folder: pathlib.Path) -> None:
+    """Grey where no operation is, one colour where one is, and none of these where there are several. With more pixels
+    the rows are bars."""
+    said = ("pfs-gantt: 4,000 operations are too many or too short to draw one by one: the rows are an image of 100 "
+            "dots per inch\n")
+    image, = STEPS.drawn(folder, "--dpi", "100", said=said).axis.images
+    assert tuple(image.get_extent()) == (0, 2600, 2.5, 0.5)
+    pixels = [[hexadecimal(pixel / 255) for pixel in line] for line in image.get_array()]
+    assert len(pixels[0]) == 1050, "pixels from left to right: 12 inches but for 1.5, at 100 an inch"
+    each = len(pixels) // 2
+    for machine in STEPS.machines():
+        for at, fill in enumerate(pixels[each * machine + each // 2]):
+            start, end = (2600 * edge / 1050 for edge in (at, at + 1))
+            busy = sum(min(last, end) - max(first, start) for _, first, last in STEPS.operations(machine)
+                       if first < end and start < last) / (end - start)
+            assert (fill == IDLE) == (busy < 1e-9), f"pixel {at} of machine {machine + 1}: {fill}, {busy:.3f} busy"
+    assert {fill for line in (pixels[0], pixels[each - 1], pixels[-1]) for fill in line} == {"#ffffff"}, "between rows"
+    long = {fill for at, fill in enumerate(pixels[each // 2]) if 1000 < 2600 * at / 1050 < 1595}
+    bars = STEPS.drawn(folder, "--dpi", "300")
+    assert long == colours_of(STEPS, bars)[1001] and not bars.axis.images, "colours of the one long operation"
+
+
+def test_from_this_number_of_operations_on_the_rows_are_an_image() -> None:
+    stated, = re.findall(r"^- Of more than ([\d,]+) operations", PAGE, re.MULTILINE)
+    most = int(stated.replace(",", ""))
+    for count in (most, most + 1):
+        machines = max(each for each in range(1, 201) if count % each == 0)
+        times = [[0] * machines] * (count // machines)
+        spans = numpy.array(times)
+        chart = _drawing.Chart([*range(1, len(times) + 1)], spans, spans, ["a"] * len(times), ["b"] * machines)
+        assert chart.is_image == (count > most), f"{count:,} operations"
+
+
+@pytest.fixture(scope="module")
+def greatest(pfs: Program, tmp_path_factory: pytest.TempPathFactory) -> pathlib.Path:
+    """A folder with the greatest time table, 5,000 by 200."""
+    folder = tmp_path_factory.mktemp("greatest")
+    (folder / "shop").write_bytes(pfs.run("generate 5000 200 7", folder).stdout)
+    (folder / "order").write_bytes(second_program.order_text(range(5000), 200, 0))
+    (folder / "table").write_bytes(pfs.run("table --layout taillard shop order", folder).stdout)
+    return folder
+
+
+@pytest.mark.seconds(10)
+@pytest.mark.xdist_group("gantt, greatest")
+@pytest.mark.parametrize("ending", BEGINNINGS)
+def test_the_greatest_table_is_drawn_soon_and_small(ending: str, scripts: pathlib.Path, matplotlib: None,
+                                                    greatest: pathlib.Path) -> None:
+    """Within 20 seconds, 300 MB of memory and 20 MB of file."""
+    picture = greatest / f"picture.{ending}"
+    ran = run_limited(Program(scripts / "pfs-gantt"), ["--critical", "table", picture.name], greatest, 4_000_000_000)
+    assert ran.status == 0 and picture.read_bytes().startswith(BEGINNINGS[ending])
+    assert (ran.seconds < 20, ran.resident < 300e6, picture.stat().st_size < 20e6) == (True,) * 3, ran
+
+
+# Files
+
+@pytest.mark.parametrize("ending", BEGINNINGS)
+def test_a_kind_of_picture_is_the_same_each_time(ending: str, scripts: pathlib.Path, folder: pathlib.Path) -> None:
+    """The second one is drawn by a process whose sets and hashes differ."""
+    words = ["--critical", "table", f"picture.{ending}"]
+    assert gantt(folder, *words) == Done(0, "", "")
+    texts = [(folder / f"picture.{ending}").read_bytes()]
+    assert run_tool([scripts / "pfs-gantt", *words], folder) == Done(0, "", "")
+    texts.append((folder / f"picture.{ending}").read_bytes())
+    assert texts[0].startswith(BEGINNINGS[ending])
+    assert ending != "pdf" or (b"/FontFile2" in texts[0] and b"/Type3" not in texts[0]), "the fonts are TrueType"
+    assert [hash(texts[0]), len(texts[0])] == [hash(texts[1]), len(texts[1])], "the second picture has other bytes"
+    assert sorted(path.name for path in folder.iterdir()) == [f"picture.{ending}", "table"]
+
+
+@pytest.mark.parametrize("ending", BEGINNINGS)
+def test_a_full_disk_keeps_the_old_picture(scripts: pathlib.Path, folder: pathlib.Path, matplotlib: None,
+                                           ending: str) -> None:
+    (folder / "table").write_text(THREE)
+    (folder / f"picture.{ending}").write_text("the old one")
+    got = run_tool([tool("prlimit"), "--fsize=1000", scripts / "pfs-gantt", "table", f"picture.{ending}"], folder)
+    assert got == Done(4, "", f"pfs-gantt: picture.{ending}: File too large\n")
+    assert (folder / f"picture.{ending}").read_text() == "the old one", "the picture was written in place"
+    assert sorted(os.listdir(folder)) == [f"picture.{ending}", "table"]
+
+
+@pytest.mark.parametrize(("line", "what", "module"), [
+    *(("pfs-gantt table made.svg", "pfs-gantt: a picture", module) for module in ("numpy", "matplotlib")),
+    *(("pfs-experiments report runs made.svg", "pfs-experiments report: a report", module)
+      for module in ("matplotlib", "pandas", "scipy"))])
+def test_a_missing_module_is_named_with_its_package(line: str, what: str, module: str, scripts: pathlib.Path,
+                                                    folder: pathlib.Path, matplotlib: None) -> None:
+    """Before anything is written, here or by the report of an experiment."""
+    (folder / "without").mkdir()
+    (folder / "without" / f"{module}.py").write_text("raise ImportError('none')\n")
+    (folder / "table").write_text(THREE)
+    (folder / "runs").write_text("instance,makespan\na,1\n")
+    got = run_tool([scripts / line.split()[0], *line.split()[1:]], folder,
+                   env=dict(os.environ, PYTHONPATH=str(folder / "without"), PYTHONDONTWRITEBYTECODE="1"))
+    assert got == Done(4, "", f"{what} needs {module} (Debian: python3-{module}; pip install 'pfs[charts]')\n")
+    assert not (folder / "made.svg").exists()
+
+
+@pytest.mark.parametrize("path", ["/dev/zero", "long"])
+def test_a_table_without_end(scripts: pathlib.Path, folder: pathlib.Path, matplotlib: None, path: str) -> None:
+    with open(folder / "long", "wb") as file:
+        file.truncate(67_108_865)
+    got = run_tool([tool("prlimit"), "--as=4000000000", scripts / "pfs-gantt", path, "picture.svg"], folder)
+    assert got == Done(2, "", "pfs-gantt: not a time table: longer than 67,108,864 bytes\n")
+
+
+@pytest.mark.parametrize("size", ["5001 1", "1 201", "5001 201", "20 1000", "100000 1"])
+def test_sizes_over_the_limits_are_rejected_at_once(folder: pathlib.Path, size: str) -> None:
+    got = gantt(folder, "table", "picture.svg", text=THREE.replace("3 2", size, 1))
+    assert got == Done(2, "", "pfs-gantt: a time table has at most 5,000 jobs and 200 machines\n")
+
+
+@pytest.mark.parametrize(("status", "words", "text"), [
+    *((2, ["table", "picture.svg"], text) for text in BAD.values()),
+    *((3, words, THREE) for words in BAD_WORDS.values()), *((4, words, THREE) for words in REFUSED.values())],
+    ids=[*BAD, *BAD_WORDS, *REFUSED])
+def test_what_is_rejected_leaves_the_old_picture(status: int, words: list[str], text: str,
+                                                 folder: pathlib.Path) -> None:
+    """With nothing but one line on standard error."""
+    (folder / "picture.svg").write_text("old")
+    (folder / "folder.svg").mkdir()
+    got = gantt(folder, *words, text=text)
+    assert (got.status, got.stdout) == (status, "") and re.fullmatch("pfs-gantt: [^\n]+\n", got.stderr), got
+    assert got.stderr[:-1].isprintable(), f"a terminal interprets a part of this as a command: {got.stderr!r}"
+    assert sorted(os.listdir(folder)) == ["folder.svg", "picture.svg", "table"]
+    assert (folder / "picture.svg").read_text() == "old"

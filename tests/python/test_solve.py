@@ -1,0 +1,606 @@
+"""Searches: the same end however they are cut into parts, progress, limits, interruptions, threads."""
+import io
+import itertools
+import os
+import pathlib
+import signal
+import sys
+import threading
+import time
+import types
+from collections.abc import Callable
+from concurrent.futures import ThreadPoolExecutor
+from typing import Any
+
+import numpy as np
+import pfs
+import pytest
+from hypothesis import given
+from hypothesis import strategies as st
+from pfs import _commands, _library, _rounds, _search
+from support import plainly
+
+
+class Clock:
+    """In the place of the module `time`. Only rounds move it, so that the lengths of parts are known: each takes this
+    number of seconds."""
+
+    def __init__(self, seconds: float) -> None:
+        self.now, self.seconds = 1024.0, seconds
+        # The rounds of each part so far.
+        self.parts: list[int] = []
+
+    def monotonic(self) -> float:
+        return self.now
+
+    def perf_counter(self) -> float:
+        return self.now
+
+    def patch(self, monkeypatch: pytest.MonkeyPatch) -> None:
+        """Makes it the clock of searches."""
+        made = _search.Search.run_rounds
+
+        def run_rounds(search: _search.Search, count: int) -> None:
+            made(search, count)
+            self.now += count * self.seconds
+            self.parts.append(count)
+
+        monkeypatch.setattr(_search.Search, "run_rounds", run_rounds)
+        for module in (_rounds, _search, _commands):
+            monkeypatch.setattr(module, "time", self)
+
+
+class Cut:
+    """In the place of the pace of a search: parts of given lengths, again and again."""
+
+    def __init__(self, counts: list[int]) -> None:
+        self.counts = list(counts)
+        self.at = -1
+
+    def __call__(self, time_limit: float | None) -> "Cut":
+        return self
+
+    def next(self, most: int) -> int:
+        self.at += 1
+        return min(most, self.counts[self.at % len(self.counts)])
+
+    def took(self, count: int, seconds: float) -> None:
+        """No part is longer for it."""
+
+
+@pytest.fixture
+def cut(monkeypatch: pytest.MonkeyPatch) -> Callable[[list[int]], None]:
+    """Cuts searches into parts of these lengths."""
+    return lambda counts: monkeypatch.setattr(_search, "Pace", Cut(counts))
+
+
+@given(times=plainly.shops(), counts=st.lists(st.integers(1, 9), min_size=1, max_size=5), rounds=st.integers(0, 30),
+       seed=st.integers(0, 2**64 - 1), passes=st.integers(0, 2), chance=st.randoms(use_true_random=False))
+def test_any_cutting_ends_where_one_part_does(cut: Callable[[list[int]], None], times: plainly.Table, counts: list[int],
+                                              rounds: int, seed: int, passes: int, chance: Any) -> None:
+    shop = pfs.Instance(times)
+    take = chance.randint(1, shop.jobs)
+    cut([1_000_000])
+    whole = shop.solve(rounds, take=take, passes=passes, seed=seed)
+    cut(counts)
+    got: list[tuple[int, int]] = []
+    parts = shop.solve(rounds, take=take, passes=passes, seed=seed, progress=lambda *line: got.append(line))
+    assert parts == whole
+    assert whole.makespan == plainly.makespan(times, whole.order.tolist()) <= shop.neh().makespan
+    assert whole.rounds == rounds and sorted(whole.order) == list(range(shop.jobs))
+    assert [made for made, _ in got] == sorted({made for made, _ in got}) and (not got or got[-1][0] == rounds)
+    spans = [span for _, span in got]
+    assert spans == sorted(spans, reverse=True) and (not got or spans[-1] == whole.makespan)
+    # In several calls.
+    half = shop.solve(chance.randint(0, rounds), take=take, passes=passes, seed=seed)
+    rest = shop.solve(rounds - half.rounds, take=take, passes=passes, seed=seed, start=half.order, first=half.rounds)
+    assert rest.to_text() == whole.to_text() and rest.rounds == rounds
+    assert half.cells + rest.cells == whole.cells
+
+
+@pytest.mark.parametrize(("number", "words"), [
+    (1, {}), (1, {"rounds": 200}), (2, {"rounds": 57, "take": 3, "seed": 7}), (31, {"rounds": 20, "passes": 1}),
+    (3, {"rounds": 40, "take": 20, "seed": 2**64 - 1, "passes": 2}), (91, {"rounds": 3})])
+@pytest.mark.parametrize("counts", [[1], [7, 2], [1000]])
+def test_the_program_prints_the_same_order(tmp_path: pathlib.Path, program: str, cut: Callable[[list[int]], None],
+                                           number: int, words: dict[str, int], counts: list[int]) -> None:
+    shop = pfs.taillard(number)
+    shop.write(tmp_path / "shop")
+    options = [word for name, value in words.items() for word in (f"--{name}", str(value))]
+    printed = plainly.run([program, "solve", "--layout", "taillard", "--cells", *options, str(tmp_path / "shop")])
+    cut(counts)
+    found = shop.solve(**({"rounds": 0} | words))  # type: ignore[arg-type]
+    assert found.to_text() + f"cells {found.cells}\n" == printed
+
+
+def test_the_defaults() -> None:
+    shop = pfs.taillard(4)
+    assert shop.solve() == shop.solve(1000, take=4, passes=0, seed=0, first=0)
+    assert shop.solve(3, time_limit=60) == shop.solve(3, time_limit=float("inf")) == shop.solve(3)
+    assert shop.solve(time_limit=10**400, rounds=2) == shop.solve(2), "a limit longer than any float"
+    assert shop.solve(10, first=999_990, start=range(20)).rounds == 1_000_000
+    assert pfs.Instance([[1], [2]]).solve(3) == pfs.Instance([[1], [2]]).solve(3, take=2)
+
+
+@given(plainly.shops_and_orders())
+def test_a_start_of_ones_own(case: tuple[plainly.Table, list[int]]) -> None:
+    times, order = case
+    shop = pfs.Instance(times)
+    kept = shop.solve(0, start=order)
+    assert (kept.order.tolist(), kept.makespan, kept.cells) == (order, plainly.makespan(times, order), 0)
+    assert shop.solve(5, start=order) == shop.solve(5, start=kept) == shop.solve(5, start=np.array(order, dtype=">i2"))
+    assert shop.solve(5, start=order).makespan <= kept.makespan
+
+
+class Closing:
+    """A progress bar that counts how often it is closed."""
+    total = made = closed = makespan = 0
+
+    def __init__(self, total: int) -> None:
+        kind = type(self)
+        kind.total, kind.made, kind.closed, kind.makespan = total, 0, 0, 0
+
+    def update(self, n: int = 1) -> None:
+        type(self).made += n
+
+    def set_postfix(self, makespan: int, refresh: bool) -> None:
+        type(self).makespan = makespan
+
+    def close(self) -> None:
+        for _ in range(3):
+            pass
+        type(self).closed += 1
+
+
+@pytest.mark.parametrize(("make", "closed"), [(lambda: Closing(300), 0), (lambda: Closing, 1)], ids=["bar", "class"])
+def test_a_bar_is_moved(make: Callable[[], Any], closed: int) -> None:
+    """One that the search has made of a class is also closed."""
+    found = pfs.taillard(1).solve(300, progress=make())
+    assert (Closing.total, Closing.made, Closing.makespan, Closing.closed) == (300, 300, found.makespan, closed)
+
+
+def test_tqdm() -> None:
+    tqdm = pytest.importorskip("tqdm").tqdm
+    got = io.StringIO()
+    with tqdm(total=500, file=got) as bar:
+        found = pfs.taillard(1).solve(500, progress=bar)
+    assert bar.n == 500
+    assert f"makespan={found.makespan}" in got.getvalue() and "500/500" in got.getvalue()
+
+
+@pytest.mark.parametrize("kind", [KeyError, OSError, SystemExit, MemoryError])
+def test_what_progress_raises_has_the_solution(cut: Callable[[list[int]], None], kind: type[BaseException]) -> None:
+    """By a function, or by `close` of a bar."""
+    cut([10])
+    shop, raised = pfs.taillard(1), kind("enough")
+
+    def refuse(made: int, makespan: int) -> None:
+        if made == 20:
+            raise raised
+
+    class Bar(Closing):
+        def close(self) -> None:
+            raise raised
+
+    cases: list[tuple[Any, int]] = [(refuse, 20), (Bar, 50)]
+    for progress, rounds in cases:
+        with pytest.raises(kind, match="enough") as stop:
+            shop.solve(50, progress=progress)
+        best = getattr(stop.value, "solution", None)
+        assert stop.value is raised and best == shop.solve(rounds), "the exception has no solution"
+        assert shop.solve(50 - rounds, start=best, first=best.rounds).to_text() == shop.solve(50).to_text()
+        del raised.solution  # type: ignore[attr-defined]
+
+
+def test_memory_that_runs_out_loses_nothing(cut: Callable[[list[int]], None],
+                                              monkeypatch: pytest.MonkeyPatch) -> None:
+    """The rounds before are kept, and nothing is allocated to hand them out."""
+    cut([10])
+    shop = pfs.taillard(1)
+    whole = shop.solve(30)
+    calls, real = 0, _library.library
+
+    class Library:
+        def __getattr__(self, name: str) -> Any:
+            return refusing if name == "pfs_rounds" else getattr(real, name)
+
+    def refusing(*given: Any) -> int:
+        nonlocal calls
+        calls += 1
+        if calls == 4:
+            monkeypatch.setattr(_search, "Solution", lambda *_: pytest.fail("a solution is made where memory is short"))
+            return 1
+        return int(real.pfs_rounds(*given))
+
+    monkeypatch.setattr(_library, "library", Library())
+    with pytest.raises(MemoryError) as stop:
+        shop.solve(50)
+    assert getattr(stop.value, "solution", None) == whole
+
+
+# The rounds of the parts by the limit in rounds, of which each takes a 1,024th of a second: parts of a tenth of a
+# second, each at most four times as long as the one before it, and a last one that ends by the limit.
+LIMITS: dict[float, list[int]] = {
+    0: [], 0.5: [1], 20: [1, 4, 15], 100: [1, 4, 16, 64, 15], 354: [1, 4, 16, 64, 102, 102, 65],
+    392: [1, 4, 16, 64, 102, 102, 102, 1]}
+
+
+@pytest.mark.parametrize("limit", LIMITS)
+def test_parts_take_a_tenth_of_a_second_and_the_last_one_ends_by_the_limit(monkeypatch: pytest.MonkeyPatch,
+                                                                          limit: float) -> None:
+    clock = Clock(1 / 1024)
+    clock.patch(monkeypatch)
+    got: list[int] = []
+    shop = pfs.generate(6, 3, 1)
+    found = shop.solve(time_limit=limit / 1024, progress=lambda made, makespan: got.append(made))
+    assert clock.parts == LIMITS[limit], f"the parts within the time of {limit} rounds"
+    assert got == list(itertools.accumulate(LIMITS[limit])) and found.rounds == sum(LIMITS[limit])
+    # From the command line too.
+    clock.parts.clear()
+    ends: list[int] = []
+    search = _search.Search(shop, None, 0, None, 0, 0)
+    best, fault = _commands.searched(search, 1_000_000, limit / 1024, [],
+                                     lambda kept: ends.append(kept.rounds))
+    assert clock.parts == LIMITS[limit] and ends == [0, *got] and (best.rounds, fault) == (found.rounds, None)
+
+
+@pytest.mark.parametrize(("seconds", "due"), [(1 / 1024, [1, 4, 16, 64, 102, 102, 11]), (2, [1] * 300),
+                                             (1 / 32, [1, *[3] * 99, 2]), (0, [1, 4, 16, 64, 215])])
+def test_parts_without_a_limit(monkeypatch: pytest.MonkeyPatch, seconds: float, due: list[int]) -> None:
+    """A part has a round at least, and no more than are due."""
+    clock = Clock(seconds)
+    clock.patch(monkeypatch)
+    pfs.generate(6, 3, 1).solve(300)
+    assert clock.parts == due, f"the parts of 300 rounds, of {seconds} seconds each"
+
+
+@pytest.mark.parametrize("seconds", [0.02, 0.11, 0.34, 0.55])
+def test_a_signal_loses_nothing(seconds: float) -> None:
+    """It comes wherever it does: in a call of the library, or around one."""
+    shop, left = pfs.generate(60, 10, 9), 200
+    timer = threading.Timer(seconds, os.kill, (os.getpid(), signal.SIGINT))
+    timer.start()
+    with pytest.raises(pfs.Interrupted) as stop:
+        shop.solve(time_limit=20)
+    timer.join()
+    done = stop.value.solution
+    assert done.makespan == shop.makespan(done)
+    assert done == shop.solve(done.rounds), "not where so many rounds end"
+    on, whole = shop.solve(left, start=done, first=done.rounds), shop.solve(done.rounds + left)
+    assert on.to_text() == whole.to_text() and done.cells + on.cells == whole.cells
+
+
+TRACED = {str(pathlib.Path(pfs.__file__).with_name(f"_{name}.py")) for name in ("rounds", "search", "solution", "faults")}
+
+
+class Interrupting:
+    """Traces the bytecodes of the package's searches and of the progress bar, and raises KeyboardInterrupt at one."""
+
+    def __init__(self, at: int, begins_at_once: bool = True) -> None:
+        self.left = at
+        self.begins_at_once = begins_at_once
+        self.runs = False
+        self.has_come = False
+
+    def __call__(self, frame: types.FrameType, event: str, _: Any) -> Callable[..., Any] | None:
+        """Called for each frame."""
+        code = frame.f_code
+        if code.co_filename not in TRACED and code.co_name != "close":
+            return None
+        frame.f_trace_opcodes = True
+        self.runs |= self.begins_at_once and code is _search.solve.__code__
+        return self.step
+
+    def step(self, frame: types.FrameType, event: str, _: Any) -> Callable[..., Any]:
+        """Called for each bytecode."""
+        if event == "opcode" and self.runs:
+            self.left -= 1
+            if self.left < 0:
+                self.has_come = True
+                raise KeyboardInterrupt
+        return self.step
+
+
+def interrupted(shop: pfs.Instance, tracer: Interrupting, progress: Any) -> pfs.Solution:
+    """The solution that `solve` returns, or that its exception has."""
+    sys.settrace(tracer)
+    try:
+        return shop.solve(ROUNDS, progress=progress)
+    except KeyboardInterrupt as stop:
+        assert isinstance(stop, pfs.Interrupted), f"interrupted at a bytecode, it is no pfs.Interrupted: {stop!r}"
+        return stop.solution
+    finally:
+        sys.settrace(None)
+
+
+ROUNDS, PARTS = 15, 3
+# More than such a search has.
+MOST_BYTECODES = 50_000
+
+
+@pytest.fixture
+def ends(cut: Callable[[list[int]], None]) -> dict[int, pfs.Solution]:
+    """The solution after each part."""
+    cut([ROUNDS // PARTS])
+    shop = pfs.generate(6, 2, 1)
+    found = {rounds: shop.solve(rounds) for rounds in range(0, ROUNDS + 1, ROUNDS // PARTS)}
+    for rounds, best in found.items():
+        rest = shop.solve(ROUNDS - rounds, start=best, first=best.rounds)
+        assert rest.to_text() == found[ROUNDS].to_text()
+    return found
+
+
+@pytest.mark.seconds(5)
+@pytest.mark.parametrize("first", range(PARTS + 1))
+def test_an_interruption_at_each_bytecode_loses_nothing(ends: dict[int, pfs.Solution], monkeypatch: pytest.MonkeyPatch,
+                                                        first: int) -> None:
+    """Each part counts that the library has made, also before its result is used. After some parts, a first
+    interruption comes from `progress`, and a second one at any bytecode after that."""
+    shop, real = pfs.generate(6, 2, 1), _library.library.pfs_rounds
+    due, made = first * ROUNDS // PARTS or ROUNDS, list[int]()
+
+    def noting(*given: Any) -> int:
+        made.append(real(*given))
+        return made[-1]
+
+    class Bar(Closing):
+        def update(self, n: int = 1) -> None:
+            super().update(n)
+            if first and self.made == due:
+                tracer.runs = True
+                raise KeyboardInterrupt
+
+    monkeypatch.setattr(_library.library, "pfs_rounds", noting)
+    for at in range(MOST_BYTECODES):
+        made.clear()
+        tracer = Interrupting(at, begins_at_once=not first)
+        best = interrupted(shop, tracer, Bar)
+        assert best == ends[best.rounds], f"interrupted at bytecode {at}: not where so many rounds end"
+        assert best.rounds == len(made) * ROUNDS // PARTS, f"interrupted at bytecode {at}: a part that was made is lost"
+        if not tracer.has_come:
+            break
+    assert best == ends[due] and (10 if first else 1000) < at < MOST_BYTECODES - 1, f"{at} bytecodes"
+    assert Bar.closed == 1
+
+
+def test_a_call_frees_the_lock() -> None:
+    """While one thread is in a long call, another one continues."""
+    shop = pfs.generate(5000, 20, 1)
+    beats, ended = list[float](), threading.Event()
+
+    def beat() -> None:
+        while not ended.wait(0.001):
+            beats.append(time.monotonic())
+
+    with ThreadPoolExecutor(1) as threads:
+        threads.submit(beat)
+        begun = time.monotonic()
+        shop.neh()
+        end = time.monotonic()
+        ended.set()
+    during = [at for at in beats if begun < at < end]
+    assert len(during) > 5, f"{len(during)} beats in {end - begun:.3f} s"
+
+
+@pytest.mark.parametrize(("words", "kind", "why"), [
+    ({"rounds": -1}, ValueError, "rounds must be from 0 to 1,000,000, not -1"),
+    ({"rounds": 1_000_001}, ValueError, "rounds must be from .*, not 1000001"),
+    ({"rounds": 2, "first": 999_999}, ValueError, "rounds must be from 0 to 1, not 2$"),
+    ({"first": 1_000_001}, ValueError, "first must be from .*, not 1000001"),
+    ({"rounds": 1.5}, TypeError, "rounds must be an integer, not 1.5"),
+    ({"take": 0}, ValueError, "take must be from 1 to 20, not 0"),
+    ({"take": 21}, ValueError, "take must be from 1 to 20, not 21"),
+    ({"take": 2**64 + 1}, ValueError, "take must be from .*, not 18446744073709551617"),
+    ({"passes": 101}, ValueError, "passes must be from 0 to 100, not 101"),
+    ({"seed": -1}, ValueError, "seed must be from .*, not -1"),
+    ({"seed": 2**64}, ValueError, "seed must be from .*, not 18446744073709551616"),
+    ({"seed": "1"}, TypeError, "seed must be an integer, not '1'"),
+    ({"start": [0, 1]}, ValueError, "start has 2 jobs, but the instance has 20"),
+    ({"start": [0] * 20}, ValueError, "start: job 0 occurs twice, at places 0 and 1"),
+    ({"time_limit": -1}, ValueError, "time_limit must be 0 or more seconds, not -1.0"),
+    ({"time_limit": float("nan")}, ValueError, "time_limit must be 0 or more seconds, not nan"),
+    ({"time_limit": -10**400}, ValueError, "time_limit must be 0 or more seconds, not -inf"),
+    ({"time_limit": "1"}, TypeError, "time_limit must be a number of seconds, not '1'"),
+    ({"progress": 3}, TypeError, "progress must be callable"),
+    ({"target": -1}, ValueError, "target must be from 0 to [0-9,]+, not -1"),
+    ({"target": 1278.0}, TypeError, "target must be an integer, not 1278.0"),
+    ({"stop": True}, TypeError, "stop must be an event with `is_set`, such as threading.Event, not True"),
+    ({"history": 1}, TypeError, "history must be True or False, not 1"),
+    ({"hold": [1, 1]}, ValueError, "hold: job 1 occurs twice, at places 0 and 1"),
+    ({"hold": [20]}, ValueError, "hold: 20 at place 0 isn't a job: jobs are 0 to 19"),
+    ({"move": [20]}, ValueError, "move: 20 at place 0 isn't a job: jobs are 0 to 19"),
+    ({"hold": ["d"]}, ValueError, "hold: 'd' at place 0 isn't the name of a job"),
+    ({"hold": 1}, ValueError, r"hold must be a list of jobs, not of the shape \(\)"),
+    ({"move": [0.5]}, ValueError, "move: 0.5 at place 0 isn't a whole number"),
+])
+def test_options_that_are_rejected(words: dict[str, Any], kind: type[Exception], why: str) -> None:
+    shop = pfs.Instance(pfs.taillard(1).times, job_names=map(str, range(20)))
+    with pytest.raises(kind, match=f"^{why}"):
+        shop.solve(**words)
+
+
+# Ends before the rounds are made, improvements, and seeds that follow each other
+
+@given(times=plainly.shops(), counts=st.lists(st.integers(1, 40), min_size=1, max_size=3), seed=st.integers(0, 9),
+       chance=st.randoms(use_true_random=False))
+def test_a_search_ends_with_the_first_round_that_comes_to_the_target(
+        cut: Callable[[list[int]], None], times: plainly.Table, counts: list[int], seed: int, chance: Any) -> None:
+    """For any parts, and with the order after that number of rounds."""
+    shop = pfs.Instance(times)
+    start = chance.sample(range(shop.jobs), shop.jobs)
+    cut([1])
+    spans = [shop.solve(count, take=1, seed=seed, start=start).makespan for count in range(31)]
+    cut(counts)
+    for target in {*spans, spans[-1] - 1, spans[0] + 1} - {-1}:
+        due = next((count for count, span in enumerate(spans) if span <= target), 30)
+        for history in (False, True):
+            found = shop.solve(30, take=1, seed=seed, start=start, target=target, history=history)
+            assert found == shop.solve(due, take=1, seed=seed, start=start), f"target {target} of {spans}"
+    lines = shop.solve(30, take=1, seed=seed, start=start, history=True).history
+    due_lines = [(count, span) for count, span in enumerate(spans) if count == 0 or span < spans[count - 1]]
+    assert [(line.round, line.makespan) for line in lines] == due_lines
+    seconds = [line.seconds for line in lines]
+    assert seconds == sorted(seconds) and seconds[0] >= 0
+
+
+def test_the_history_counts_rounds_from_the_first_and_is_kept(cut: Callable[[list[int]], None]) -> None:
+    cut([7])
+    shop = pfs.taillard(11)
+    whole = shop.solve(100, start=range(20), history=True).history
+    assert len(whole) > 5
+    half = shop.solve(50, start=range(20), history=True)
+    rest = shop.solve(50, start=half, first=50, history=True).history
+    assert rest[0][::2] == (50, half.makespan)
+    assert [line[::2] for line in half.history + rest[1:]] == [line[::2] for line in whole]
+    assert shop.solve(100, start=range(20)).history == ()
+
+    def interrupt(made: int, makespan: int) -> None:
+        if made == 49:
+            raise KeyboardInterrupt
+
+    with pytest.raises(pfs.Interrupted) as stop:
+        shop.solve(100, start=range(20), history=True, progress=interrupt)
+    assert [line[::2] for line in stop.value.solution.history] == [line[::2] for line in whole if line.round <= 49]
+
+
+def test_an_improvement_has_the_time_of_its_round(monkeypatch: pytest.MonkeyPatch) -> None:
+    """Also one in the middle of a part."""
+    clock = Clock(0.001)
+    clock.patch(monkeypatch)
+    history = pfs.taillard(11).solve(100, start=range(20), history=True).history
+    assert [line.seconds for line in history] == pytest.approx([line.round / 1000 for line in history])
+    assert {line.round for line in history} - {0, *itertools.accumulate(clock.parts)}
+
+
+def test_a_search_by_time_ends_at_the_bound() -> None:
+    """And one by rounds doesn't: its order is the one after that number of rounds."""
+    shop = pfs.generate(40, 2, 3)
+    assert shop.solve(300).makespan == shop.bound()
+    begun = time.monotonic()
+    found = shop.solve(time_limit=60)
+    assert time.monotonic() - begun < 30 and found.makespan == shop.bound() and found.rounds < 300
+    assert shop.solve(300).rounds == 300 and shop.solve(300, time_limit=60).rounds == 300
+    assert shop.solve(time_limit=0.2, target=0).rounds > found.rounds, "a target of 0 ends no search early"
+
+
+def test_progress_that_returns_true_and_an_event_end_the_search(cut: Callable[[list[int]], None]) -> None:
+    cut([10])
+    shop = pfs.taillard(1)
+    enough: list[Any] = [True, np.True_]
+    for value in enough:
+        assert shop.solve(50, progress=lambda made, makespan: made == 20 and value) == shop.solve(20)
+    others: list[Any] = [1, "yes", False, np.False_, None, [0]]
+    for value in others:
+        assert shop.solve(50, progress=lambda made, makespan: value).rounds == 50, f"{value!r} ends the search"
+
+    class Shown(Closing):
+        def update(self, n: int = 1) -> Any:
+            super().update(n)
+            return True
+
+    assert shop.solve(50, progress=Shown).rounds == 50, "a bar that says that it was shown ends the search"
+    stop = threading.Event()
+
+    def set_at(made: int, makespan: int) -> None:
+        if made == 30:
+            stop.set()
+
+    assert shop.solve(50, progress=set_at, stop=stop) == shop.solve(30)
+    assert shop.solve(50, stop=stop) == shop.neh()
+    assert shop.solve(50, stop=threading.Event()) == shop.solve(50)
+
+
+def test_a_search_by_time_continues_with_another_seed(monkeypatch: pytest.MonkeyPatch) -> None:
+    """After round 1,000,000 with round 0 of the seed that the plans of experiments continue with."""
+    shop = pfs.generate(6, 3, 1)
+    Clock(1 / 1024).patch(monkeypatch)
+    got: list[int] = []
+    words: dict[str, Any] = {"start": range(6), "take": 2, "target": 0, "history": True}
+    found = shop.solve(time_limit=300 / 1024, first=999_900, seed=2**64 - 1, progress=lambda made, _: got.append(made),
+                       **words)
+    next_seed = 11400714819323198485 - 1
+    assert (found.seed, found.rounds) == (next_seed, got[-1] - 100) and got == sorted(set(got)) and got[-1] > 250
+    before = shop.solve(100, first=999_900, seed=2**64 - 1, start=range(6), take=2)
+    assert (before.seed, before.rounds) == (2**64 - 1, 1_000_000)
+    after = shop.solve(got[-1] - 100, start=before, seed=next_seed, take=2)
+    assert (found.order.tolist(), found.cells) == (after.order.tolist(), before.cells + after.cells)
+    assert found.history[0].round == 999_900
+    # A number of rounds doesn't go beyond the last one of its seed.
+    with pytest.raises(ValueError, match="rounds must be from 0 to 100, not 101"):
+        shop.solve(101, first=999_900, start=range(6), time_limit=1)
+
+
+def test_a_solution_of_another_instance_is_rejected() -> None:
+    one, other = pfs.taillard(41), pfs.taillard(51)
+    best = one.neh()
+    calls: dict[str, Callable[[], object]] = {
+        "start": lambda: other.solve(1, start=best), "order": lambda: other.schedule(best)}
+    for what, call in calls.items():
+        with pytest.raises(ValueError, match=f"^{what} is an order for 10 machines, but the instance has 20$"):
+            call()
+    assert other.solve(0, start=best.order).order.tolist() == best.order.tolist()
+    assert other.solve(0, start=pfs.Solution(best.order, 1)).order.tolist() == best.order.tolist()
+
+
+# Searches that hold jobs
+
+@st.composite
+def held_searches(draw: st.DrawFn) -> tuple[plainly.Table, list[int], list[int], list[int]]:
+    """Times, an order, jobs that are held, and jobs that move."""
+    times, order = draw(plainly.shops_and_orders())
+    jobs = st.lists(st.sampled_from(range(len(times))), unique=True)
+    return times, order, draw(jobs), draw(jobs)
+
+
+@given(held_searches(), st.integers(0, 2), st.integers(1, 6), st.integers(0, 2**64 - 1))
+def test_held_jobs_stay_where_they_are(case: tuple[plainly.Table, list[int], list[int], list[int]], passes: int,
+                                       take: int, seed: int) -> None:
+    """The first ones keep their places and those that don't move their order, and no makespan is above the start's."""
+    times, order, hold, move = case
+    shop = pfs.Instance(times)
+    words: dict[str, Any] = {"take": min(take, shop.jobs), "passes": passes, "seed": seed, "start": order}
+    start = [*hold, *(job for job in order if job not in hold)]
+    for moved in (move, None):
+        found = shop.solve(5, **words, hold=hold, move=moved)
+        jobs = found.order.tolist()
+        assert jobs[:len(hold)] == hold and sorted(jobs) == list(range(shop.jobs))
+        assert found.makespan == plainly.makespan(times, jobs) <= plainly.makespan(times, start)
+        if moved is not None:
+            stay = [job for job in start if job in hold or job not in moved]
+            assert [job for job in jobs if job in stay] == stay
+        begun = shop.solve(0, **words, hold=hold, move=moved)
+        assert not hold and moved is None or begun.order.tolist() == start
+
+
+@given(plainly.shops())
+def test_without_a_start_the_others_are_inserted_as_neh_does(times: plainly.Table) -> None:
+    shop = pfs.Instance(times)
+    order = [0]
+    for job in sorted(range(1, shop.jobs), key=lambda job: -sum(times[job])):
+        spans = [plainly.makespan(times, [*order[:at], job, *order[at:]]) for at in range(1, len(order) + 1)]
+        order.insert(1 + spans.index(min(spans)), job)
+    assert shop.solve(0, hold=[0]).order.tolist() == order
+
+
+def test_a_search_that_holds_jobs_is_continued() -> None:
+    """After an interruption, and in parts of any length."""
+    shop = pfs.generate(50, 10, 4)
+    whole = shop.solve(60, hold=[3, 1])
+    assert whole.makespan < shop.solve(0, hold=[3, 1]).makespan
+
+    def interrupt(rounds: int, makespan: int) -> None:
+        if rounds >= 20:
+            raise KeyboardInterrupt
+
+    with pytest.raises(pfs.Interrupted) as stop:
+        shop.solve(60, hold=[3, 1], progress=interrupt)
+    half = stop.value.solution
+    assert 20 <= half.rounds < 60
+    rest = shop.solve(60 - half.rounds, hold=[3, 1], start=half, first=half.rounds)
+    assert (rest.order.tolist(), rest.rounds) == (whole.order.tolist(), 60)
+    assert shop.solve(60, hold=[3, 1], target=whole.makespan).makespan == whole.makespan
+    shop = pfs.Instance(pfs.generate(20, 8, 4).times % 4)
+    makespans = [shop.solve(rounds, hold=[3], take=2).makespan for rounds in range(60)]
+    assert makespans == sorted(makespans, reverse=True) and len(set(makespans)) > 1
+    shop = pfs.Instance([[3, 2], [2, 5], [4, 1]], job_names=["a", "b", "c"])
+    assert shop.solve(10, hold=["c", "a"]).order.tolist() == [2, 0, 1], "names are jobs too"

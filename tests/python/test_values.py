@@ -1,0 +1,346 @@
+"""The results of the package are those of the definitions, and of the program."""
+import copy
+import csv
+import inspect
+import io
+import itertools
+import pathlib
+import pickle
+import re
+import sys
+from collections.abc import Callable
+from typing import Any
+
+import numpy as np
+import pfs
+import pytest
+from hypothesis import given
+from hypothesis import strategies as st
+from support import plainly
+
+
+@pytest.mark.quick
+@given(plainly.shops_and_sequences())
+def test_makespan_and_insertions(case: tuple[plainly.Table, list[int]]) -> None:
+    """Of a sequence, and of each other job at each place of it."""
+    times, sequence = case
+    shop = pfs.Instance(times)
+    assert shop.makespan(sequence) == plainly.makespan(times, sequence)
+    for job in set(range(len(times))) - set(sequence):
+        spans = shop.places(sequence, job)
+        due = [plainly.makespan(times, [*sequence[:at], job, *sequence[at:]]) for at in range(len(sequence) + 1)]
+        assert spans.tolist() == due and spans.dtype == np.int64
+        assert shop.best_place(sequence, job) == plainly.best_place(times, sequence, job)
+
+
+@pytest.mark.quick
+@given(plainly.shops(5, 5))
+def test_bounds_and_neh(times: plainly.Table) -> None:
+    """The bound of pairs of machines has the best order of each pair by trying all; and no order is shorter."""
+    shop, machines = pfs.Instance(times), range(len(times[0]))
+    pairs = [plainly.two_machine_bound(times, one, other) for one, other in itertools.combinations(machines, 2)]
+    assert shop.bound() == shop.bound("machines") == plainly.bound(times)
+    assert shop.bound("pairs") == max([plainly.bound(times), *pairs]) <= plainly.shortest(times)
+    order, cells = plainly.neh(times), 2 * len(machines) * len(times)**2
+    assert shop.neh() == pfs.Solution(order, plainly.makespan(times, order), cells, len(machines))
+
+
+@given(plainly.shops(), st.data())
+def test_makespans(times: plainly.Table, data: st.DataObject) -> None:
+    length = data.draw(st.integers(0, len(times)))
+    rows = data.draw(st.lists(st.permutations(range(len(times))).map(lambda order: order[:length]), max_size=5))
+    spans = pfs.Instance(times).makespans(np.array(rows, dtype=np.int64).reshape(len(rows), length))
+    assert spans.tolist() == [plainly.makespan(times, row) for row in rows] and spans.dtype == np.int64
+
+
+@given(plainly.shops_and_orders())
+def test_schedule_critical_path_and_idle_times(case: tuple[plainly.Table, list[int]]) -> None:
+    times, order = case
+    made = pfs.Instance(times).schedule(order)
+    rows = plainly.schedule(times, order)
+    assert made.order.tolist() == order
+    assert made.starts.tolist() == [[start for start, _ in row] for row in rows]
+    assert made.ends.tolist() == [[end for _, end in row] for row in rows]
+    assert made.makespan == rows[-1][-1][1]
+    operations = [[job, machine, *row[machine]] for job, row in zip(order, rows) for machine in range(len(row))]
+    assert list(csv.reader(io.StringIO(made.to_csv() or ""))) == [["job", "machine", "start", "end"],
+                                                                  *([str(cell) for cell in row] for row in operations)]
+    frame = made.to_frame()
+    assert list(frame.columns) == ["job", "machine", "start", "end"]
+    assert frame.to_numpy().tolist() == operations
+    path = made.critical_path()
+    assert path[0] == (0, 0) and path[-1] == (len(order) - 1, len(times[0]) - 1)
+    steps = [(after[0] - before[0], after[1] - before[1]) for before, after in zip(path, path[1:])]
+    assert set(steps) <= {(0, 1), (1, 0)}
+    assert sum(times[order[place]][machine] for place, machine in path) == plainly.makespan(times, order)
+    assert all(type(number) is int for operation in path for number in operation)
+    due = [[start - (rows[place - 1][machine][1] if place else 0) for machine, (start, _) in enumerate(row)]
+           for place, row in enumerate(rows)]
+    assert made.idle().tolist() == due and made.idle().dtype == np.int64
+    made.idle()[:] = 7
+    assert made.starts.tolist() == [[start for start, _ in row] for row in rows], "idle times share memory with starts"
+
+
+@pytest.mark.parametrize("names", [{"job_names": ["table", "chair, small"]}, {"machine_names": ["saw", "drill"]}, {}])
+def test_a_schedule_has_the_names_that_there_are(names: dict[str, Any], tmp_path: pathlib.Path,
+                                                 monkeypatch: pytest.MonkeyPatch) -> None:
+    """And times with the decimals of the instance."""
+    made = pfs.Instance([[30, 25], [20, 50]], **names, decimals=1).schedule([1, 0])
+    (table, chair), (saw, drill) = (names.get(name, [0, 1]) for name in ("job_names", "machine_names"))
+    due = [[chair, saw, 0.0, 2.0], [chair, drill, 2.0, 7.0], [table, saw, 2.0, 5.0], [table, drill, 7.0, 9.5]]
+    assert made.to_frame().to_numpy().tolist() == due
+    assert made.to_csv(tmp_path / "plan.csv") is None
+    with open(tmp_path / "plan.csv", newline="") as file:
+        assert list(csv.reader(file))[1:] == [list(map(str, row)) for row in due]
+    assert (made.to_csv(delimiter=";") or "").splitlines()[-1] == f"{table};{drill};7,0;9,5"
+    modules: dict[str, Any] = sys.modules
+    monkeypatch.setitem(modules, "pandas", None)
+    with pytest.raises(ImportError, match="to_frame needs pandas"):
+        made.to_frame()
+
+
+@pytest.mark.parametrize("delimiter", [",", ";", "\t"])
+@pytest.mark.parametrize("name", ["car\rriage", "two\nlines", "both\r\n", '"quoted"', "a,b;c\td", " ", "", "=1", " =1",
+                                  "-1", "+a", "@a", "\t", "\r"])
+def test_a_name_is_one_cell(tmp_path: pathlib.Path, name: str, delimiter: str) -> None:
+    """A reader of CSV finds the rows, with each name as it is."""
+    shop = pfs.Instance([[1, 2]], job_names=[name], machine_names=["saw", f"{name}2"])
+    shop.schedule([0]).to_csv(tmp_path / "plan.csv", delimiter)
+    with open(tmp_path / "plan.csv", newline="", encoding="utf-8") as file:
+        rows = list(csv.reader(file, delimiter=delimiter, strict=True))
+    # A spreadsheet would take these for formulas.
+    mark = "'" if name.strip()[:1] in tuple("=+-@") or name in ("\r", "\t") else ""
+    due = [["job", "machine", "start", "end"], [mark + name, "saw", "0", "1"],
+           [mark + name, f"{mark}{name}2", "1", "3"]]
+    assert rows == due, f"the name {name!r} has broken a row"
+    text = (tmp_path / "plan.csv").read_bytes().decode()
+    # Spreadsheets end rows at a carriage return that isn't quoted.
+    assert re.sub('"[^"]*"', "", text).count("\r") == 0 and text.endswith("3\n")
+
+
+def test_the_greatest_shops() -> None:
+    shop = pfs.Instance(np.full((5000, 200), 1_000_000_000))
+    assert shop.times.dtype == np.int64, "times and their differences wrap"
+    assert shop.makespan(range(5000)) == shop.bound() == 5199 * 10**9
+    assert shop.schedule(np.arange(5000)).makespan == 5199 * 10**9
+    shop = pfs.generate(5000, 1, 1)
+    assert (shop.n_jobs, shop.n_machines) == (5000, 1)
+    found = shop.insert_all(range(2500), range(2500, 5000))
+    assert sorted(found.jobs.tolist()) == [*range(5000)] and found.makespan == shop.makespan(found.jobs)
+    assert shop.heads(range(5000))[-1, -1] == found.makespan
+
+
+def test_rpd() -> None:
+    shop = pfs.Instance([[3, 2], [2, 5]], upper=8)
+    spans: list[Any] = [8, 10, 6, np.int64(16), 0]
+    assert [shop.rpd(span) for span in spans] == [0, 25, -25, 100, -100]
+    assert shop.rpd(pfs.Solution([1, 0], 9)) == 12.5 and shop.rpd(9, reference=10) == -10
+    assert pfs.Instance([[1]]).rpd(3, 2) == 50
+
+
+def test_returned_arrays_are_read_only() -> None:
+    times = np.array([[3, 2], [2, 5], [4, 1]], dtype=np.uint32)
+    shop = pfs.Instance(times)
+    times[:] = 9
+    assert shop.times.tolist() == [[3, 2], [2, 5], [4, 1]]
+    made = shop.schedule([0, 1, 2])
+    kept: Any
+    for kept in (shop.times, shop.neh().order, made.order, made.starts, made.ends):
+        with pytest.raises(ValueError, match="read-only"):
+            kept[0] = 1
+    for kept in (shop.times, shop.times.base):
+        with pytest.raises((ValueError, AttributeError)):
+            kept.flags.writeable = True
+    for name in ("times", "jobs", "machines"):
+        with pytest.raises(AttributeError):
+            setattr(shop, name, getattr(shop, name))
+
+
+# Each parameter of a class whose objects are compared, with two values. The first ones make an object in which no
+# attribute has its default.
+INSTANCES: dict[str, tuple[Any, Any]] = {
+    "times": ([[3, 2], [2, 5]], [[3, 2], [2, 6]]), "name": ("plan", "other"), "unit": ("h", "min"),
+    "job_names": (("table", "chair"), ("table", "box")), "machine_names": (("saw", "drill"), ("saw", "paint")),
+    "decimals": (2, 3), "seed": (7, 8), "upper": (19, 20), "lower": (11, 12)}
+SOLUTIONS: dict[str, tuple[Any, Any]] = {
+    "order": ([1, 0], [0, 1]), "makespan": (9, 10), "cells": (16, 17), "machines": (2, 3), "rounds": (5, 6),
+    "seed": (7, 8)}
+COMPARED = {pfs.Instance: INSTANCES, pfs.Solution: SOLUTIONS}
+
+
+def made_of(kind: type[Any], changed: str = "") -> Any:
+    """An object of the first values, but for one."""
+    return kind(**{name: values[name == changed] for name, values in COMPARED[kind].items()})
+
+
+@pytest.mark.parametrize("kind", COMPARED)
+def test_each_parameter_is_compared(kind: type[Any]) -> None:
+    """Objects of which one attribute is another are unequal."""
+    assert set(inspect.signature(kind).parameters) == COMPARED[kind].keys()
+    kept = kept_by(made_of(kind))
+    assert {name: kept[name] for name in COMPARED[kind]} == {name: one for name, (one, _) in COMPARED[kind].items()}
+    defaults = {name: parameter.default for name, parameter in inspect.signature(kind).parameters.items()}
+    assert not [name for name in COMPARED[kind] if kept[name] == defaults[name]], "a default"
+    for name in COMPARED[kind]:
+        one, other = made_of(kind), made_of(kind, name)
+        assert not one == other and one != other, f"two of another {name} are equal"
+
+
+def things() -> list[Any]:
+    """What is copied, with a value in each attribute."""
+    return [
+        *map(made_of, COMPARED), pfs.taillard(1).solve(200, history=True), made_of(pfs.Instance).schedule([1, 0]),
+        pfs.FileFault("file", 24, 17, 3, 2, "a hint"), pfs.OrderFault("order", 31, 3),
+        pfs.TableFault("plan.csv", 4, 2, "no time", "saw", (pfs.TableFault("plan.csv", 5, 2, "none"),)),
+        pfs.Interrupted(pfs.Solution([1, 0], 9, 16, 2, 5)), pfs.InterruptedAll({(0, 1): pfs.Solution([0], 1)})]
+
+
+def kept_by(thing: Any) -> dict[str, Any]:
+    """Each attribute, as a list, a text or a number."""
+    names = [name for name in getattr(thing, "__slots__", None) or vars(thing) if name[0] != "_"]
+    values = {name: getattr(thing, name) for name in [*names, *(["times"] if isinstance(thing, pfs.Instance) else [])]}
+    return {name: value.tolist() if isinstance(value, np.ndarray) else list(map(kept_by, value)) if name == "others"
+            else value for name, value in values.items()}
+
+
+@pytest.mark.parametrize("protocol", [*range(pickle.HIGHEST_PROTOCOL + 1), None])
+def test_a_copy_has_each_attribute(protocol: int | None) -> None:
+    """Pickled by a protocol, or copied."""
+    for one in things():
+        if isinstance(one, pfs.Schedule) and protocol in (0, 1):
+            continue
+        other = copy.copy(one) if protocol is None else pickle.loads(pickle.dumps(one, protocol))
+        assert type(other) is type(one) and str(other) == str(one)
+        assert kept_by(other) == kept_by(one) != {}, "an attribute is lost"
+        if type(one) in COMPARED:
+            assert other == one and hash(other) == hash(one) and one != 1
+    assert pfs.taillard(1).solve(200, history=True) == pfs.taillard(1).solve(200), "the history is compared"
+
+
+def test_instances_and_solutions_are_shown() -> None:
+    shop = pfs.taillard(1)
+    assert shop != pfs.taillard(2) and shop.neh() != shop.solve(100)
+    assert repr(shop) == "<Instance ta001: 20 jobs, 5 machines>"
+    assert repr(pfs.Instance([[1]])) == "<Instance 1 jobs, 1 machines>"
+    shown = "0, 1, 2, 3, 4, 5, 6, 7, ..., 22, 23, 24, 25, 26, 27, 28, 29"
+    assert repr(pfs.Solution(range(30), 7)) == f"Solution(order=[{shown}], makespan=7)"
+    assert str(pfs.Interrupted(pfs.Solution([1, 0], 9, 16, 2, 5))) == "interrupted after round 5, makespan 9"
+    assert str(pfs.InterruptedAll({(0, 1): shop.neh()})) == "interrupted after 1 searches"
+    assert repr(pfs.Solution(range(3), 7)) == "Solution(order=[0, 1, 2], makespan=7)"
+    assert repr(shop.schedule(range(20))) == f"Schedule(20 jobs, 5 machines, makespan={shop.makespan(range(20))})"
+
+
+def test_a_frame_keeps_its_names() -> None:
+    pandas = pytest.importorskip("pandas")
+    frame = pandas.DataFrame([[3, 2], [2, 5]], index=["table", 7], columns=["saw", "drill"])
+    for shop in (pfs.Instance(frame), pfs.from_frame(frame)):
+        assert shop.times.tolist() == [[3, 2], [2, 5]]
+        assert shop.makespan(pandas.Series([1, 0])) == plainly.makespan([[3, 2], [2, 5]], [1, 0])
+        assert (shop.job_names, shop.machine_names) == (("table", "7"), ("saw", "drill"))
+    assert pfs.Instance(frame, job_names=["a", "b"]).job_names == ("a", "b")
+    plain = pfs.Instance(pandas.DataFrame([[3, 2], [2, 5]]))
+    assert (plain.job_names, plain.machine_names) == (None, None)
+    assert pfs.Instance(frame.iloc[::-1].T).job_names == ("saw", "drill")
+    with pytest.raises(ValueError, match="job_names: 'a' occurs twice"):
+        pfs.Instance(pandas.DataFrame([[1], [2]], index=["a", "a"]))
+
+
+@pytest.mark.parametrize(("times", "decimals", "due"), [
+    ([[2.5, 3]], 1, [[25, 30]]), ([[0.1, 0.2, 0.3, 0.7]], 1, [[1, 2, 3, 7]]), ([[1.005, 4.35]], 3, [[1005, 4350]]),
+    ([[999_999.999]], 3, [[999_999_999]]), ([[3, 2]], 2, [[300, 200]]), ([[3.0, 2.0]], 0, [[3, 2]]),
+    (np.array([[99_999.9]], np.float32), 1, [[999_999]]), (np.array([[3, 2.5]], object), 1, [[30, 25]])])
+def test_a_frame_of_decimal_times(times: Any, decimals: int, due: list[list[int]]) -> None:
+    pandas = pytest.importorskip("pandas")
+    shop = pfs.from_frame(pandas.DataFrame(times), decimals=decimals, unit="h")
+    assert (shop.times.tolist(), shop.decimals, shop.unit) == (due, decimals, "h")
+    for dtype in ("object", "category", "Float64"):
+        frame = pandas.DataFrame({"saw": pandas.Series([2, 3], dtype=dtype), "drill": [4, 5]})
+        assert pfs.from_frame(frame, decimals=1).times.tolist() == [[20, 40], [30, 50]], f"{dtype} isn't scaled"
+
+
+@pytest.mark.parametrize(("times", "decimals", "kind", "why"), [
+    ([[2.55]], 1, ValueError, "times: 25.5 at job 0, machine 0 isn't a whole number"),
+    ([[2.5]], 0, ValueError, "times: 2.5 at job 0"), ([[1.0, float("nan")]], 1, ValueError, "times: nan at job 0"),
+    ([[float("inf")]], 2, ValueError, "times: inf at job 0"), ([[-0.5]], 1, ValueError, "times: -5 at job 0"),
+    ([[2.50000009]], 1, ValueError, "isn't a whole number"),
+    ([[1_000_000_001]], 0, ValueError, "isn't from 0 to 1,000,000,000"), ([[1e9]], 1, ValueError, "isn't from 0 to"),
+    ([["x"]], 1, TypeError, "times: x at job 0, machine 0 isn't a whole number"), ([[True]], 1, TypeError, "bool"),
+    ([[1]], 10, ValueError, "decimals must be from 0 to 9, not 10"), ([[1]], True, TypeError, "decimals must be")])
+def test_frames_that_are_rejected(times: Any, decimals: Any, kind: type[Exception], why: str) -> None:
+    pandas = pytest.importorskip("pandas")
+    with pytest.raises(kind, match=why):
+        pfs.from_frame(pandas.DataFrame(times), decimals=decimals)
+
+
+def test_jobs_by_their_names() -> None:
+    times = [[3, 2], [2, 5], [4, 1]]
+    shop = pfs.Instance(times, job_names=["table", "chair", "box"])
+    orders: list[Any] = [["chair", "table", "box"], ("chair", "table", "box"), np.array(["chair", "table", "box"]),
+                         np.array(["chair", "table", "box"], dtype=object)]
+    for order in orders:
+        assert shop.makespan(order) == plainly.makespan(times, [1, 0, 2])
+        assert shop.schedule(order).order.tolist() == [1, 0, 2]
+        assert shop.solve(0, start=order).order.tolist() == [1, 0, 2]
+    assert shop.makespan(["box"]) == 5 and shop.makespan([]) == 0
+
+
+@pytest.mark.parametrize(("order", "kind", "why"), [
+    (["chair", "bed", "box"], ValueError, "'bed' at place 1 isn't the name of a job"),
+    (["chair", 0, "box"], TypeError, "0 at place 1 isn't a name, but others are"),
+    (["chair", "table", "chair"], ValueError, "job 1 occurs twice, at places 0 and 2"),
+    ([0, "table", "box"], TypeError, "(order|start) must be whole numbers")])
+def test_names_that_are_rejected(order: list[Any], kind: type[Exception], why: str) -> None:
+    shop = pfs.Instance([[3, 2], [2, 5], [4, 1]], job_names=["table", "chair", "box"])
+    calls: list[Callable[[Any], Any]] = [shop.makespan, shop.schedule, lambda start: shop.solve(0, start=start)]
+    for call in calls:
+        with pytest.raises(kind, match=why):
+            call(order)
+    with pytest.raises(TypeError, match="order has names, but the jobs of the instance have none"):
+        pfs.Instance([[3]]).makespan(["table"])
+
+
+# Building blocks of search methods: heads and tails, construction and local search
+
+def moved(times: plainly.Table, sequence: list[int], jobs: list[int]) -> list[int]:
+    """The sequence after each of these jobs was inserted at its best place. A job of the sequence is removed before."""
+    for job in jobs:
+        sequence = [other for other in sequence if other != job]
+        sequence.insert(plainly.best_place(times, sequence, job)[0], job)
+    return sequence
+
+
+@given(st.data(), plainly.shops_and_sequences(), st.integers(0, 3))
+def test_building_blocks(data: st.DataObject, case: tuple[plainly.Table, list[int]], passes: int) -> None:
+    """Heads are the ends of the schedule, and tails those of the reversed one."""
+    times, sequence = case
+    shop = pfs.Instance(times)
+    ends = [[end for _, end in row] for row in plainly.schedule(times, sequence)]
+    heads = shop.heads(sequence)
+    assert heads.tolist() == ends and heads.shape == (len(sequence), len(times[0])) and heads.dtype == np.int64
+    backwards = plainly.schedule([row[::-1] for row in times], sequence[::-1])
+    assert shop.tails(sequence).tolist() == [[end for _, end in row][::-1] for row in backwards][::-1]
+    jobs, more = (data.draw(st.permutations(each))[:data.draw(st.integers(0, len(each)))]
+                  for each in (sequence, sorted({*range(shop.jobs)} - {*sequence})))
+    calls: list[tuple[pfs.Sequence, list[int]]] = [
+        (shop.insert_all(sequence, more), more), (shop.local_search(sequence, jobs, passes=passes), jobs * passes),
+        (shop.local_search(sequence, passes=passes), sorted(sequence) * passes)]
+    for found, inserted in calls:
+        due = moved(times, sequence, inserted)
+        assert (found.jobs.tolist(), found.makespan) == (due, plainly.makespan(times, due))
+
+
+def test_a_sequence_is_taken_where_an_order_is() -> None:
+    """As the list of its jobs."""
+    shop = pfs.taillard(1)
+    found = shop.insert_all([], range(20))
+    calls: list[Callable[[Any], object]] = [
+        shop.makespan, shop.check, shop.heads, shop.tails, shop.local_search, lambda own: shop.makespans([own, own]),
+        lambda own: shop.schedule(own).starts, lambda own: shop.solve(2, start=own),
+        lambda own: shop.solve(2, hold=own), lambda own: shop.insert_all([], own),
+        lambda own: pfs.Solution(own, found.makespan)]
+    assert [repr(call(found)) for call in calls] == [repr(call(found.jobs.tolist())) for call in calls]
+    assert shop.check(found).valid and not shop.check(found._replace(makespan=1)).valid
+    assert shop.rpd(found) == shop.rpd(found.makespan)
+    others = pfs.Sequence(found.jobs[1:], 0)
+    assert shop.best_place(others, int(found.jobs[0])) == shop.best_place(others.jobs, int(found.jobs[0]))
+    assert (shop.places(others, int(found.jobs[0])) == shop.places(others.jobs, int(found.jobs[0]))).all()
