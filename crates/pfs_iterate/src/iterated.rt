@@ -13,6 +13,7 @@ use crate::work::Work;
 use pfs_base::Instance;
 use pfs_order::Order;
 use pfs_search::Search;
+use pfs_wave::OfShop;
 use std::alloc::{AllocError, Global};
 use std::marker::Model;
 
@@ -88,7 +89,7 @@ impl Iterated {
         current: &mut [u32],
         best: &mut [u32],
     ) -> Makespans
-        requires search { IsSearchOf instance.now.shop search.old }
+        requires search { ⟦<Search as OfShop>⟧.is_of search.old instance.now.shop }
         requires size { self.old ≡ instance.now.shop.jobs }
         requires options { CanIterate instance.now.shop options.now }
         requires current_all { length current.old ≡ instance.now.shop.jobs }
@@ -99,7 +100,7 @@ impl Iterated {
         ensures done { IsIterated instance.now.shop options.now accept.now current.old best.old
             current.new result.current best.new result.best }
         ensures size { self.new ≡ self.old }
-        ensures search { IsSearchOf instance.now.shop search.new }
+        ensures search { ⟦<Search as OfShop>⟧.is_of search.new instance.now.shop }
     {
         start(&mut self.current, &mut self.work, instance, search, current);
         start(&mut self.best, &mut self.work, instance, search, best);
