@@ -91,7 +91,7 @@ extern "C" {
 #define PFS_TIME 4          /**< a time is greater than PFS_LONGEST_TIME */
 #define PFS_JOB 5           /**< a job is not below the number of jobs, or a job of a list is not in the sequence */
 #define PFS_REPEATED 6      /**< a job occurs twice, or the job to insert is in the sequence already */
-#define PFS_TAKE 7          /**< the destruction size is not 1 to the number of jobs */
+#define PFS_TAKE 7          /**< the destruction size is not 1 to the number of jobs that may move */
 #define PFS_PASSES 8        /**< more than PFS_MOST_PASSES passes */
 #define PFS_ROUNDS 9        /**< first + count is greater than PFS_MOST_ROUNDS */
 #define PFS_SEED 10         /**< the seed is not 1 to 2147483646, the seeds of Taillard's generator */
@@ -100,6 +100,7 @@ extern "C" {
 #define PFS_MAKESPAN 13     /**< the makespan is greater than PFS_MOST_MAKESPAN */
 #define PFS_ROOM 14         /**< too little room for the result; the outputs say how much it needs */
 #define PFS_NOT_PREPARED 15 /**< the struct holds no prepared instance */
+#define PFS_HELD 16         /**< the best order does not begin with the held jobs of the current one */
 /** @} */
 
 /** @name Faults of instance files, and what place is then.
@@ -314,6 +315,54 @@ int pfs_rounds(struct pfs_instance *instance, const struct pfs_rounds_options *o
  */
 int pfs_prove(struct pfs_instance *instance, uint32_t *order, size_t order_length, uint64_t nodes, uint64_t *makespan,
               uint64_t *bound, uint64_t *left) PFS_CHECKED;
+
+/** @brief Which rounds pfs_iterate makes. */
+struct pfs_iterate_options {
+    uint64_t seed;    /**< seed of the random words */
+    size_t take;      /**< number of jobs that a round removes, 1 to the number of jobs - held */
+    size_t held;      /**< number of jobs at the front of the order that keep their places */
+    uint32_t first;   /**< the first round, counted from 0 */
+    uint32_t count;   /**< number of rounds; first + count is at most PFS_MOST_ROUNDS */
+    uint32_t partial; /**< most passes over the jobs that are left after the removal, at most PFS_MOST_PASSES */
+    uint32_t passes;  /**< most passes over all jobs, at most PFS_MOST_PASSES */
+};
+
+/** @brief Makes rounds of an iterated greedy search that also accepts longer orders.
+ *
+ * The search is that of Ruiz and Stützle (2007), with the local search on partial orders of Dubois-Lacoste, Pagnozzi
+ * and Stützle (2017). It has a current order, which may become longer, and the best one so far. Each round removes
+ * `take` jobs of the current order, makes passes over the jobs that are left, inserts the removed jobs at their best
+ * places and makes passes over all jobs. In a pass each job, in the random order of the round, leaves its place for
+ * its best one. Passes end early after one that makes the sequence no shorter. Best places are the first ones from
+ * place `held` on.
+ *
+ * The order that a round finds becomes the best one if it is shorter than that. It becomes the current one if it is no
+ * longer, or if it is longer by d and the first random word of the round is less than accept[d]; an order that is
+ * longer by accept_length or more does not. So accept[d] is the probability in units of 2^-32. accept[0] is not used.
+ * With accept[d] = 2^32 * exp(-d / t) the search is that with the constant temperature t.
+ *
+ * Round r uses the n + take + 1 random words from word r * (n + take + 1) of the seed on, n being the number of jobs:
+ * one to accept, `take` to remove, and n for the order of the passes. So a search may be made in parts: rounds 0 to 99
+ * and then rounds 100 to 199, from both orders of the first part, leave the same orders as rounds 0 to 199.
+ *
+ * @param[in,out] instance the instance
+ * @param[in] options which rounds to make
+ * @param[in] accept chances of longer orders
+ * @param[in] accept_length number of chances
+ * @param[in,out] current all jobs; the order to start from, then the current order after the rounds
+ * @param[in] current_length length of the current order, which is the number of jobs
+ * @param[out] current_makespan makespan of the current order after the rounds
+ * @param[in,out] best all jobs, first the held ones of the current order; then the best order after the rounds. At the
+ *     start of a search it is a copy of the current order.
+ * @param[in] best_length length of the best order, which is the number of jobs
+ * @param[out] best_makespan makespan of the best order after the rounds
+ * @return PFS_OK, or the first of PFS_NOT_PREPARED (instance), PFS_LENGTH (current_length, best_length), PFS_JOB or
+ *     PFS_REPEATED (the jobs of the current and then of the best order, from the left), PFS_TAKE (take, held), PFS_HELD
+ *     (best), PFS_PASSES (partial, passes), PFS_ROUNDS (first + count)
+ */
+int pfs_iterate(struct pfs_instance *instance, const struct pfs_iterate_options *options, const uint32_t *accept,
+                size_t accept_length, uint32_t *current, size_t current_length, uint64_t *current_makespan,
+                uint32_t *best, size_t best_length, uint64_t *best_makespan) PFS_CHECKED;
 
 /** @brief Finds the best place of a job in a sequence of other jobs. Time O(km).
  *

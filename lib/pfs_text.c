@@ -20,7 +20,7 @@ const char *pfs_message(int number) {
     case PFS_TIME: return "a time is greater than 1000000000";
     case PFS_JOB: return "a job isn't below the number of jobs, or isn't in the sequence";
     case PFS_REPEATED: return "a job occurs twice";
-    case PFS_TAKE: return "the destruction size isn't from 1 to the number of jobs";
+    case PFS_TAKE: return "the destruction size isn't from 1 to the number of jobs that may move";
     case PFS_PASSES: return "more than 100 passes";
     case PFS_ROUNDS: return "more than 1000000 rounds";
     case PFS_SEED: return "the seed isn't from 1 to 2147483646";
@@ -29,6 +29,7 @@ const char *pfs_message(int number) {
     case PFS_MAKESPAN: return "the makespan has more than 18 digits";
     case PFS_ROOM: return "too little room for the result";
     case PFS_NOT_PREPARED: return "no instance is prepared";
+    case PFS_HELD: return "the best order doesn't begin with the held jobs of the current one";
     case PFS_NO_BLOCK: return "the file ends before the block";
     case PFS_SIZE_COUNT: return "a size line has too few or too many numbers";
     case PFS_SIZE_RANGE: return "a number of a size line is out of range";

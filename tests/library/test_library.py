@@ -16,14 +16,14 @@ from support.library import (HEADER, SUPPORT, Answer, Library, Memory, Number, c
                              list64, read32, text, u32s, u64s)
 from support.needs import tool
 from support.program import Program, Ran
-from support.second_library import OPTIONS, by_job
+from support.second_library import ITERATE_OPTIONS, OPTIONS, by_job
 from support.second_program import Instance
 from support.tools import output_of
 
 CALLS = SUPPORT / "library_calls.c"
 # The functions that allocate nothing once their instance is prepared, those that do, and those that need none.
-QUIET = ["makespan", "makespans", "bound", "neh", "rounds", "insert", "insertions", "heads_tails", "construct",
-         "local_search"]
+QUIET = ["makespan", "makespans", "bound", "neh", "rounds", "iterate", "insert", "insertions", "heads_tails",
+         "construct", "local_search"]
 LOUD = ["table", "prove", "write"]
 OTHERS = ["random", "generate", "read", "read_order", "write_order"]
 FUNCTIONS = [*QUIET, *LOUD, *OTHERS, "prepare", "release"]
@@ -31,7 +31,7 @@ TEXTS = {"pfs_message", "pfs_version", "pfs_version_number"}
 NAMES = {f"pfs_{name}" for name in FUNCTIONS} | TEXTS
 # The arguments of library_calls: the functions, and calls on a larger instance.
 NAMED = [*QUIET, *LOUD, *OTHERS, "prepare", "prepare_again", "prepare_large", "insert_large", "search_large"]
-ALL_CALLS = Ran(b"151 calls, 0 failures\n", b"", 0)
+ALL_CALLS = Ran(b"172 calls, 0 failures\n", b"", 0)
 # No call makes as many allocations.
 MOST_GROWTHS = 200
 SHOPS = 200
@@ -111,7 +111,7 @@ def test_a_compiler_warns_if_a_program_ignores_the_number(folder: pathlib.Path, 
 MEANT = {
     0: "done", 1: "memory", 2: "number of jobs or of machines", 3: "list", 4: "^a time is greater",
     5: "^a job isn't below", 6: "^a job occurs twice", 7: "destruction size", 8: "passes", 9: "rounds", 10: "seed",
-    11: "layout", 12: "block isn't from 1", 13: "makespan", 14: "room", 15: "prepared", 20: "ends before the block",
+    11: "layout", 12: "block isn't from 1", 13: "makespan", 14: "room", 15: "prepared", 16: "held jobs", 20: "ends before the block",
     21: "too few or too many", 22: "number of a size line is out", 23: "and a word", 24: "time of the file is greater",
     25: "machine number", 26: "follows the last time", 27: "ends inside a block", 28: "doesn't end within",
     30: "not an order file", 31: "0 or greater than the number of jobs", 32: "job of the order file occurs twice",
@@ -312,6 +312,7 @@ def searches(random: Random, shop: Instance) -> list[Call]:
     jobs = list(range(shop.jobs))
     random.shuffle(jobs)
     some = jobs[:random.randint(0, shop.jobs - 1)]
+    held = random.choice([0, len(some)])
     size = shop.jobs * shop.machines
     first = random.choice([0, 0, 1, 7, second_program.MOST_JOBS])
     count, length = random.randint(0, 5), random.randint(0, shop.jobs)
@@ -326,6 +327,11 @@ def searches(random: Random, shop: Instance) -> list[Call]:
                                                           first, random.randint(0, 4), random.randint(0, 2))),
                         *list32(jobs), out64(), out64()]),
         ("pfs_prove", [*given(shop), *list32(jobs), Number(0), out64(), out64(), out64()]),
+        ("pfs_iterate", [*given(shop), Memory(ITERATE_OPTIONS.pack(
+            random.choice(fuzz.SEEDS[:-1]), random.randint(1, shop.jobs - held), held, first, random.randint(0, 4),
+            random.choice([0, 1, 2, 100]), random.choice([0, 1, 2, 100]))),
+                         *list32([random.getrandbits(32) for _ in range(random.choice([0, 1, 2, 9]))]),
+                         *list32(jobs), out64(), *list32(jobs[:held] + jobs[held:][::-1]), out64()]),
         ("pfs_insert", [*given(shop), *list32(some), Number(jobs[-1], 32), out64(), out64()]),
         ("pfs_insertions", [*given(shop), *list32(some), Number(jobs[-1], 32), *list64([PATTERN] * (len(some) + 1))]),
         ("pfs_heads_tails", [*given(shop), *list32(some), *list64([PATTERN] * (len(some) * shop.machines)),
@@ -394,6 +400,10 @@ def is_quick(name: str, arguments: Arguments) -> bool:
     if name == "pfs_rounds":
         options = [argument.content for argument in arguments if isinstance(argument, Memory)][1]
         _, take, first, count, passes = OPTIONS.unpack(options)
+    elif name == "pfs_iterate":
+        options = [argument.content for argument in arguments if isinstance(argument, Memory)][1]
+        _, take, _, first, count, *each = ITERATE_OPTIONS.unpack(options)
+        take, passes = take + numbers[1], sum(each)
     elif name == "pfs_local_search":
         take, first, count, passes = 1, 0, 1, numbers[4]
     else:

@@ -80,6 +80,19 @@ static int rounds(uint32_t *order, size_t length, uint32_t first, size_t take, u
     return pfs_rounds(shop, &options, order, length, &out.makespan, &out.cells);
 }
 
+static int iterate(uint32_t *orders, size_t length, uint32_t first, size_t take, size_t fixed, uint32_t passes) {
+    struct pfs_iterate_options options = {
+        .seed = 7, .take = take, .held = fixed, .first = first, .count = 1, .partial = 1, .passes = passes};
+    return pfs_iterate(shop, &options, NULL, 0, orders, length, &out.makespan, orders + 3, 3, &out.bound);
+}
+
+/* Two lists that a call reads and overwrites. */
+static uint32_t *both(const uint32_t *current, const uint32_t *best) {
+    memcpy(due.list + 3, best, 3 * sizeof *best);
+    memcpy(out.list + 3, best, 3 * sizeof *best);
+    return in_place(current);
+}
+
 #define TITLE "number of jobs, number of machines, initial seed, upper bound and lower bound :\n"
 #define THREE_JOBS TITLE "3 2 7 9 8\nprocessing times :\n3 2 4\n2 5 1\n"
 #define BY_JOB "flow shop instance\n3 2\n0 3 1 2\n0 2 1 5\n0 4 1 1\n"
@@ -123,6 +136,9 @@ static int call_named(const char *name) {
     if (IS("prove"))
         return due.bound = 10, due.cells = 7,
                finds_best(pfs_prove(shop, in_place(BEST), 3, 7, &out.makespan, &out.bound, &out.cells));
+    if (IS("iterate"))
+        return memcpy(due.list + 3, BEST, sizeof BEST), due.bound = 10,
+                                                        finds_best(iterate(both(NUMBERED, NUMBERED), 3, 0, 1, 0, 1));
     if (IS("insert"))
         return due.place = 2, due.makespan = 10, pfs_insert(shop, BEST, 2, 2, &out.place, &out.makespan);
     if (IS("insertions"))
@@ -159,10 +175,11 @@ static int call_named(const char *name) {
     return PFS_OK;
 }
 
-static const char *const NAMES[] = {"makespan", "makespans", "bound",      "table",       "neh",        "rounds",
-                                    "prove",    "insert",    "insertions", "heads_tails", "construct",  "local_search",
-                                    "write",    "generate",  "random",     "read",        "read_order", "write_order"};
-enum { ON_SHOP = 13 };
+static const char *const NAMES[] = {"makespan",    "makespans", "bound",        "table",      "neh",
+                                    "rounds",      "iterate",   "prove",        "insert",     "insertions",
+                                    "heads_tails", "construct", "local_search", "write",      "generate",
+                                    "random",      "read",      "read_order",   "write_order"};
+enum { ON_SHOP = 14 };
 
 /* What is wrong in a call on an instance, after the instance itself. */
 static void wrong_calls(void) {
@@ -180,6 +197,15 @@ static void wrong_calls(void) {
     CALL(PFS_ROUNDS, rounds(in_place(NUMBERED), 3, PFS_MOST_ROUNDS, 3, 100));
     CALL(PFS_LENGTH, pfs_prove(shop, in_place(OUTSIDE), 2, 7, &out.makespan, &out.bound, &out.cells));
     CALL(PFS_REPEATED, pfs_prove(shop, in_place(TWICE), 3, 7, &out.makespan, &out.bound, &out.cells));
+    CALL(PFS_LENGTH, iterate(both(OUTSIDE, OUTSIDE), 2, 0, 0, 0, 101));
+    CALL(PFS_REPEATED, iterate(both(TWICE, OUTSIDE), 3, 0, 0, 0, 101));
+    CALL(PFS_JOB, iterate(both(BEST, OUTSIDE), 3, 0, 0, 0, 101));
+    CALL(PFS_TAKE, iterate(both(BEST, NUMBERED), 3, 0, 0, 1, 101));
+    CALL(PFS_TAKE, iterate(both(BEST, NUMBERED), 3, 0, 3, 1, 101));
+    CALL(PFS_TAKE, iterate(both(BEST, NUMBERED), 3, 0, 1, SIZE_MAX, 101));
+    CALL(PFS_HELD, iterate(both(BEST, NUMBERED), 3, 0, 2, 1, 101));
+    CALL(PFS_PASSES, iterate(both(BEST, BEST), 3, 0, 2, 1, 101));
+    CALL(PFS_ROUNDS, iterate(both(BEST, BEST), 3, PFS_MOST_ROUNDS, 2, 1, 100));
     CALL(PFS_JOB, pfs_insert(shop, OUTSIDE, 3, 9, &out.place, &out.makespan));
     CALL(PFS_REPEATED, pfs_insert(shop, BEST, 2, 0, &out.place, &out.makespan));
     CALL(PFS_LENGTH, pfs_insertions(shop, OUTSIDE, 2, 9, out.makespans, 2));

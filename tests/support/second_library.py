@@ -13,6 +13,7 @@ from support.second_program import (LONGEST_TIME, MOST_GENERATOR_SEED, MOST_JOBS
                                     ends_of, makespan)
 
 OK, SIZE, LENGTH, TIME, JOB, REPEATED, TAKE, PASSES, ROUNDS, SEED, LAYOUT, BLOCK, MAKESPAN, ROOM = 0, *range(2, 15)
+HELD = 16
 MOST_ROUNDS = 1_000_000
 MOST_PASSES = 100
 MOST_BLOCKS = 1_000
@@ -181,6 +182,65 @@ def pfs_prove(shop: Instance, order: bytearray, length: int, nodes: int, span: b
     put64(span, makespan(shop, given))
     put64(bound, second_program.lower_bound(shop))
     put64(left, nodes)
+
+
+# How `struct pfs_iterate_options` lies in memory: the seed, `take`, `held`, `first`, `count`, `partial` and `passes`.
+ITERATE_OPTIONS = struct.Struct("=QQQIIII")
+
+
+def pfs_iterate(shop: Instance, options: bytearray, accept: bytearray, accept_length: int, current: bytearray,
+                length: int, span: bytearray, best: bytearray, best_length: int, best_span: bytearray) -> None:
+    seed, take, held, first, count, partial, passes = ITERATE_OPTIONS.unpack(options)
+    expect(length == best_length == shop.jobs, LENGTH)
+    kept = distinct(shop.jobs, read32(current)[:length])
+    shortest = distinct(shop.jobs, read32(best)[:length])
+    expect(1 <= take <= shop.jobs - held, TAKE)
+    expect(kept[:held] == shortest[:held], HELD)
+    expect(max(partial, passes) <= MOST_PASSES, PASSES)
+    expect(first + count <= MOST_ROUNDS, ROUNDS)
+    chances = read32(accept)[:accept_length]
+    each = shop.jobs + take + 1
+    words = words_of(seed, first * each, count * each)
+    for index in range(0, count * each, each):
+        left, taken = removed(kept, held, words[index + 1:index + 1 + take])
+        visited = removed(list(range(shop.jobs)), 0, words[index + 1 + take:index + each])[1]
+        left = improved(shop, left, held, visited, partial)
+        for job in taken:
+            left = placed(shop, left, held, job)
+        new = improved(shop, left, held, visited, passes)
+        longer = makespan(shop, new) - makespan(shop, kept)
+        shortest = min(shortest, new, key=lambda order: makespan(shop, order))
+        if longer <= 0 or longer < len(chances) and words[index] < chances[longer]:
+            kept = new
+    put32(current, kept)
+    put64(span, makespan(shop, kept))
+    put32(best, shortest)
+    put64(best_span, makespan(shop, shortest))
+
+
+def removed(order: list[int], held: int, words: list[int]) -> tuple[list[int], list[int]]:
+    """The jobs that are left after each word has removed one behind the held ones, and the removed ones."""
+    left = order[held:]
+    taken = [left.pop(word % len(left)) for word in words]
+    return order[:held] + left, taken
+
+
+def placed(shop: Instance, order: list[int], held: int, job: int) -> list[int]:
+    """The order with a job at the first of its best places behind the held jobs."""
+    places = range(held, len(order) + 1)
+    return min((order[:place] + [job] + order[place:] for place in places), key=lambda made: makespan(shop, made))
+
+
+def improved(shop: Instance, order: list[int], held: int, visited: list[int], passes: int) -> list[int]:
+    """The order after passes, up to the first that makes it no shorter."""
+    for _ in range(passes):
+        before = makespan(shop, order)
+        for job in visited:
+            if job in order[held:]:
+                order = placed(shop, [other for other in order if other != job], held, job)
+        if makespan(shop, order) >= before:
+            break
+    return order
 
 
 def others_of(shop: Instance, sequence: bytearray, length: int, job: int) -> list[int]:

@@ -1,8 +1,8 @@
 -- What a call returns if the function that it calls returns an error.
-use Rattle.std.proofs.Common.{◌≡◌, ℤ, Ok, Err, Option, Some, None, ap, refl, ◌∙◌, inr}
+use Rattle.std.proofs.Common.{◌≡◌, ◌≢◌, ℤ, pos, Ok, Err, Option, Some, None, Result, IsOk, IfErr, ap, refl, ◌∙◌, inr}
 use Rattle.pfs_c.specs.declared.numbers.CallFault.{CallFault}
 use Rattle.pfs_c.specs.declared.numbers.CallFault.TheVariants.{Memory}
-use Rattle.pfs_c.specs.Numbers.{Returns, fault_number}
+use Rattle.pfs_c.specs.Numbers.{Returns, fault_number, number_returned}
 use Rattle.pfs_c.specs.Private.Outcomes.{Rejects, Validates}
 
 pub rejected : (A : Type 0) (why : CallFault) (found : Option CallFault) (number : ℤ) → Rejects {A = A} (Err why) found
@@ -20,3 +20,10 @@ pub allocated : (A B : Type 0) (value : B) (found : Option CallFault) → Valida
     → Rejects {A = A} (Err Memory) found
 allocated A B value None h = refl
 allocated A B value (Some why) h = absurd cc
+
+-- a call that succeeds unless it finds a fault returns the number of that
+pub returned : (A : Type 0) (done : Result A CallFault) (found : Option CallFault) (number : ℤ) → Validates done found
+    → (IsOk done → number ≡ pos 0) → IfErr done (λ why. (number ≡ fault_number why) × (number ≢ pos 0))
+    → number ≡ number_returned found
+returned A done None number h ok err = ok h
+returned A done (Some why) number h ok err = (rw h at err).0

@@ -2,6 +2,7 @@ pub mod Building
 pub mod Faults
 pub mod HeadsTails
 pub mod Inserting
+pub mod Iterating
 pub mod Validation
 pub mod Many
 pub mod Numbers

@@ -6,6 +6,7 @@ ghost use Rattle.pfs_base.specs.Limits.{limits};
 ghost use Rattle.pfs_base.specs.Paths.{makespan};
 ghost use Rattle.pfs_insert.specs.Inserter.{IsBestPlace};
 ghost use Rattle.pfs_order.specs.Sequence.{IsSequence};
+ghost use Rattle.pfs_iterate.specs.Rounds.{CanIterate, IsIterated};
 ghost use Rattle.pfs_search.specs.Search.{IsSearchOf};
 ghost use Rattle.pfs_search.specs.Solution.{IsImproved, IsNeh};
 ghost use Rattle.pfs_search.specs.Greedy.{pass_over, passes_over};
@@ -19,6 +20,7 @@ use crate::numbers::CallFault;
 use crate::rows::span_of;
 use crate::searching::RoundsOptions;
 use pfs_base::{Bench, Instance, MOST_JOBS, MOST_PASSES, MOST_ROUNDS};
+use pfs_iterate::{Iterated, Makespans, Options};
 use pfs_order::Seq;
 use pfs_search::{Rounds, Search};
 use std::alloc::Global;
@@ -32,6 +34,7 @@ pub(crate) struct Kept {
     // Whether the makespan that the search keeps is that of its order.
     is_span_known: bool,
     sequence: Seq,
+    iterated: Iterated,
 }
 
 impl Model for Kept {
@@ -50,6 +53,7 @@ impl Model for Kept {
       search : IsSearchOf a.instance.shop a.search;
       span : IsTrue a.is_span_known → a.search.kept.span ≡ makespan a.instance.shop a.search.kept.order;
       size : a.sequence.size ≡ a.instance.shop.jobs;
+      iterated : a.iterated ≡ a.instance.shop.jobs;
     } };
 }
 
@@ -65,11 +69,15 @@ impl Kept {
         let Ok(sequence) = Seq::new(alloc, instance.jobs()) else {
             return Err(CallFault::Memory);
         };
+        let Ok(iterated) = Iterated::new(alloc, &instance) else {
+            return Err(CallFault::Memory);
+        };
         Ok(Kept {
             instance,
             search,
             is_span_known: false,
             sequence,
+            iterated,
         })
     }
 
@@ -147,6 +155,35 @@ impl Kept {
         copy_sequence(self.search.kept.order.seq(), order);
         *span = bench.reveal(self.search.kept.span);
         Ok(())
+    }
+
+    /// Makes rounds that also accept longer orders from two orders, which it overwrites, and returns their makespans.
+    pub(crate) fn iterate(
+        &mut self,
+        options: &Options,
+        accept: &[u32],
+        current: &mut [u32],
+        best: &mut [u32],
+    ) -> Makespans
+        requires options { CanIterate self.old options.now }
+        requires current_all { length current.old ≡ self.old.jobs }
+        requires current { IsSequence self.old.jobs current.old }
+        requires best_all { length best.old ≡ self.old.jobs }
+        requires best { IsSequence self.old.jobs best.old }
+        requires front { take options.now.held best.old ≡ take options.now.held current.old }
+        ensures done { IsIterated self.old options.now accept.now current.old best.old
+            current.new result.current best.new result.best }
+        ensures shop { self.new ≡ self.old }
+    {
+        self.is_span_known = false;
+        self.iterated.rounds(
+            &self.instance,
+            &mut self.search,
+            options,
+            accept,
+            current,
+            best,
+        )
     }
 
     // The makespan of a sequence, which is known if the search has just found this sequence.

@@ -6,6 +6,7 @@
 
 mod given;
 mod handle;
+mod iterating;
 mod kept;
 pub mod laws;
 mod numbers;

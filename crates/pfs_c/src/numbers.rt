@@ -29,7 +29,7 @@ pub(crate) enum CallFault {
     Job = 5,
     /// A job occurs twice, or the job to insert is in the sequence already.
     Repeated = 6,
-    /// The destruction size is not from 1 to the number of jobs.
+    /// The destruction size is not from 1 to the number of jobs that may move.
     Take = 7,
     /// More than `MOST_PASSES` passes.
     Passes = 8,
@@ -47,6 +47,8 @@ pub(crate) enum CallFault {
     Room = 14,
     /// The struct holds no prepared instance.
     NotPrepared = 15,
+    /// The best order does not begin with the held jobs of the current one.
+    Held = 16,
     /// The file ends before the block.
     NoBlock = 20,
     /// A size line has too few or too many numbers.

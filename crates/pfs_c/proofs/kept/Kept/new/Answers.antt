@@ -7,4 +7,5 @@ invariant_of-result c = record {
   search = search rules;
   span = λ known. absurd cc;
   size = search rules;
+  iterated = search rules;
 }
