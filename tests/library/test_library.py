@@ -67,14 +67,15 @@ def test_the_numbers_are_those_of_the_crate(top: pathlib.Path) -> None:
     answered = {name: value for name, value in defined().items()
                 if not re.match("PFS_(MOST|LONGEST)_|PFS_(TAILLARD|ORLIB|VERSION_NUMBER)$", name)}
     assert answered == numbers
-    assert sorted(answered.values()) == [*range(16), *range(20, 29), *range(30, 34)]
+    assert sorted(answered.values()) == [*range(17), *range(20, 29), *range(30, 34)]
 
 
 def test_the_header_names_the_parameters_as_the_functions_do(top: pathlib.Path) -> None:
     """In the same order, since two of them may have the same type. A slice is a pointer and a length in C. Each returns
     a number, or nothing."""
     source = "\n".join(path.read_text() for path in sorted((top / "crates" / "pfs_c" / "src").rglob("*.rt")))
-    others = {"span": "makespan", "least": "bound", "len": "length"}
+    others = {"span": "makespan", "current_span": "current_makespan", "best_span": "best_makespan", "least": "bound",
+              "len": "length"}
     header = re.sub(r"/\*.*?\*/", "", HEADER.read_text(), flags=re.DOTALL)
     declared = re.findall(r"^(int|void) (pfs_\w+)\(([^)]*)\)( PFS_CHECKED)?;", header, re.MULTILINE)
     declared = [each for each in declared if each[1] not in TEXTS]
@@ -111,11 +112,11 @@ def test_a_compiler_warns_if_a_program_ignores_the_number(folder: pathlib.Path, 
 MEANT = {
     0: "done", 1: "memory", 2: "number of jobs or of machines", 3: "list", 4: "^a time is greater",
     5: "^a job isn't below", 6: "^a job occurs twice", 7: "destruction size", 8: "passes", 9: "rounds", 10: "seed",
-    11: "layout", 12: "block isn't from 1", 13: "makespan", 14: "room", 15: "prepared", 16: "held jobs", 20: "ends before the block",
-    21: "too few or too many", 22: "number of a size line is out", 23: "and a word", 24: "time of the file is greater",
-    25: "machine number", 26: "follows the last time", 27: "ends inside a block", 28: "doesn't end within",
-    30: "not an order file", 31: "0 or greater than the number of jobs", 32: "job of the order file occurs twice",
-    33: "order file of more than"}
+    11: "layout", 12: "block isn't from 1", 13: "makespan", 14: "room", 15: "prepared", 16: "held jobs",
+    20: "ends before the block", 21: "too few or too many", 22: "number of a size line is out", 23: "and a word",
+    24: "time of the file is greater", 25: "machine number", 26: "follows the last time", 27: "ends inside a block",
+    28: "doesn't end within", 30: "not an order file", 31: "0 or greater than the number of jobs",
+    32: "job of the order file occurs twice", 33: "order file of more than"}
 LIMITS_TOLD = {4: ["LONGEST_TIME"], 8: ["MOST_PASSES"], 9: ["MOST_ROUNDS"], 12: ["MOST_BLOCKS"], 24: ["LONGEST_TIME"],
                28: ["LONGEST_INPUT"], 33: ["LONGEST_ORDER_FILE"]}
 
