@@ -112,11 +112,11 @@ def test_a_compiler_warns_if_a_program_ignores_the_number(folder: pathlib.Path, 
 MEANT = {
     0: "done", 1: "memory", 2: "number of jobs or of machines", 3: "list", 4: "^a time is greater",
     5: "^a job isn't below", 6: "^a job occurs twice", 7: "destruction size", 8: "passes", 9: "rounds", 10: "seed",
-    11: "layout", 12: "block isn't from 1", 13: "makespan", 14: "room", 15: "prepared", 16: "held jobs", 20: "ends before the block",
-    21: "too few or too many", 22: "number of a size line is out", 23: "and a word", 24: "time of the file is greater",
-    25: "machine number", 26: "follows the last time", 27: "ends inside a block", 28: "doesn't end within",
-    30: "not an order file", 31: "0 or greater than the number of jobs", 32: "job of the order file occurs twice",
-    33: "order file of more than"}
+    11: "layout", 12: "block isn't from 1", 13: "makespan", 14: "room", 15: "prepared", 16: "held jobs",
+    20: "ends before the block", 21: "too few or too many", 22: "number of a size line is out", 23: "and a word",
+    24: "time of the file is greater", 25: "machine number", 26: "follows the last time", 27: "ends inside a block",
+    28: "doesn't end within", 30: "not an order file", 31: "0 or greater than the number of jobs",
+    32: "job of the order file occurs twice", 33: "order file of more than"}
 LIMITS_TOLD = {4: ["LONGEST_TIME"], 8: ["MOST_PASSES"], 9: ["MOST_ROUNDS"], 12: ["MOST_BLOCKS"], 24: ["LONGEST_TIME"],
                28: ["LONGEST_INPUT"], 33: ["LONGEST_ORDER_FILE"]}
 
