@@ -48,8 +48,7 @@ solved_is_valid layout file block options text some none solved outcome report =
     let shop = solved.problem.shop in
     let within = solved.holds.blocks.is_own.within.within in
     let file_is = is_file shop within options text solved.solution none in
-    let valid = is_valid shop within options text solved.solution in
-    (
+    let valid = is_valid shop within options text solved.solution in (
       λ checked.
           let problem = one_problem layout file block some checked.problem solved.problem checked.holds solved.holds in
           let states = one_file text checked.stated (stated shop within options text solved.solution) checked.states
