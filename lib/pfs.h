@@ -48,10 +48,10 @@ extern "C" {
 #endif
 
 /** @brief The version of this header. */
-#define PFS_VERSION "2.0.0"
+#define PFS_VERSION "2.1.0"
 
 /** @brief The same as a number for the preprocessor: 10000 * major + 100 * minor + patch. */
-#define PFS_VERSION_NUMBER 20000
+#define PFS_VERSION_NUMBER 20100
 
 /** @brief Compilers that support it warn if a program ignores the number that a function returns. */
 #ifdef __GNUC__

@@ -136,9 +136,11 @@ static int call_named(const char *name) {
     if (IS("prove"))
         return due.bound = 10, due.cells = 7,
                finds_best(pfs_prove(shop, in_place(BEST), 3, 7, &out.makespan, &out.bound, &out.cells));
-    if (IS("iterate"))
-        return memcpy(due.list + 3, BEST, sizeof BEST), due.bound = 10,
-                                                        finds_best(iterate(both(NUMBERED, NUMBERED), 3, 0, 1, 0, 1));
+    if (IS("iterate")) {
+        int number = iterate(both(NUMBERED, NUMBERED), 3, 0, 1, 0, 1);
+        memcpy(due.list + 3, BEST, sizeof BEST);
+        return due.bound = 10, finds_best(number);
+    }
     if (IS("insert"))
         return due.place = 2, due.makespan = 10, pfs_insert(shop, BEST, 2, 2, &out.place, &out.makespan);
     if (IS("insertions"))

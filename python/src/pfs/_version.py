@@ -1,2 +1,2 @@
 """The version of the package, which is that of the library."""
-VERSION = "2.0.0"
+VERSION = "2.1.0"
