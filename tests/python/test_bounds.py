@@ -44,6 +44,7 @@ static void touch(const volatile void *memory, size_t size, int is_output) {
 }
 
 const char *pfs_version(void) { return REAL(pfs_version)(); }
+int pfs_version_number(void) { return REAL(pfs_version_number)(); }
 const char *pfs_message(int number) { return REAL(pfs_message)(number); }
 void pfs_release(struct pfs_instance *instance) { REAL(pfs_release)(instance); }
 """
@@ -52,7 +53,7 @@ void pfs_release(struct pfs_instance *instance) { REAL(pfs_release)(instance); }
 def functions() -> Iterator[str]:
     """Each function that pfs.h declares, in C. A pointer without a length after it points to one value."""
     header = re.sub(r"/\*.*?\*/", "", (TOP / "lib" / "pfs.h").read_text(), flags=re.DOTALL)
-    for name, parameters in re.findall(r"^int (pfs_\w+)\((.*?)\) PFS_CHECKED;", header, re.MULTILINE | re.DOTALL):
+    for name, parameters in re.findall(r"^int (pfs_\w+)\(([^)]*)\) PFS_CHECKED;", header, re.MULTILINE):
         each = parameters.split(",")
         names = re.findall(r"\w+(?=,|$)", parameters)
         touched = []
