@@ -99,8 +99,9 @@ def test_the_numbers_limits_and_functions_are_those_of_the_header() -> None:
     assert version and version[1] == pfs.__version__
     types = {"size_t": "c_ulong", "uint32_t": "c_uint", "uint64_t": "c_ulong", "int": "c_int"}
     header = re.sub(r"/\*.*?\*/", "", (TOP / "lib" / "pfs.h").read_text(), flags=re.DOTALL)
-    declared = dict(re.findall(r"^(?:int|void) (pfs_\w+)\((?!void)([^)]*)\)(?: PFS_CHECKED)?;", header, re.MULTILINE))
-    assert declared.keys() == _library.PROTOTYPES.keys()
+    declared = dict(re.findall(r"^(?:int|void) (pfs_\w+)\((.*?)\)(?: PFS_CHECKED)?;", header,
+                               re.MULTILINE | re.DOTALL))
+    assert declared.keys() - {"pfs_version_number"} == _library.PROTOTYPES.keys()
     for name in _library.PROTOTYPES:
         parameters = declared[name]
         due = ["c_void_p" if "*" in each else types[each.split()[-2]] for each in parameters.split(",")]

@@ -160,7 +160,7 @@ def test_dates_increase_and_lead_back_to_the_times(drawn: Drawn, times: list[int
 
 
 @pytest.mark.parametrize(("words", "kind", "why"), [
-    ({"begin": "2026-11"}, ValueError, "'2026-11' is not a local date and time such as 2026-11-30T06:00"),
+    ({"begin": "2026-11-30T6"}, ValueError, "'2026-11-30T6' is not a local date and time such as 2026-11-30T06:00"),
     ({"begin": "2026-11-31T06:00"}, ValueError, "is not a local date and time"),
     ({"begin": "2026-11-30T24:00"}, ValueError, "is not a local date and time"),
     ({"begin": "2026-11-30T06:00+01:00"}, ValueError, "is not a local date and time"),
