@@ -899,10 +899,10 @@ def test_no_module_is_imported_from_the_current_folder(words: list[str], tmp_pat
      "2 jobs, 2 machines (saw, drill), times in min\n"),
     (["--nothing", "times.csv"], 3, "",
      "pfs: unrecognized arguments: --nothing (pfs-plan --help lists what there is)\n"),
-    (["--version"], 0, f"pfs {version()}\n", ""), (["times.csv", "--version"], 0, f"pfs {version()}\n", "")])
+    (["--version"], 0, "pfs VERSION\n", ""), (["times.csv", "--version"], 0, "pfs VERSION\n", "")])
 def test_what_the_program_prints(folder: pathlib.Path, words: list[str], status: int, out: str, got: str) -> None:
     done = pfs_plan(folder, *words)
-    assert (done.returncode, done.stdout, done.stderr) == (status, out, got)
+    assert (done.returncode, done.stdout, done.stderr) == (status, out.replace("VERSION", version()), got)
 
 
 @pytest.mark.parametrize("words", [["-m", "pfs", "plan", "times.csv", "--chart", "made.png"],
