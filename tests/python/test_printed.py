@@ -24,10 +24,10 @@ except one.Failed as failure:
     ("yes first | head -c 3000000 >&2; echo 3 1 2", "3 1 2\n"),
     ("yes 1 | head -c 1048577", "more than 1,048,576 bytes printed"),
     ("exec >&- 2>&-; sleep 0.2", ""), ("(sleep 9; echo late) & echo now", "now\n"), ("exit 4", "exit 4, ")])
-def test_the_last_errors_and_all_output_are_kept_without_a_file(command: str, said: str,
-                                                                tmp_path: pathlib.Path) -> None:
+def test_the_last_errors_and_all_output_are_kept_without_a_file(tmp_path: pathlib.Path, command: str,
+                                                                said: str) -> None:
     done = plainly.python("-c", RUN, command, cwd=tmp_path)
-    assert (done.stdout, done.stderr) == (f"{said}\n", ""), done.stdout[:200]
+    assert done.stdout == f"{said}\n", done.stdout[:200] + done.stderr
 
 
 def test_the_version_of_a_checkout_names_the_commit(tmp_path: pathlib.Path, monkeypatch: pytest.MonkeyPatch) -> None:
