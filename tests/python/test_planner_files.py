@@ -1,6 +1,11 @@
-"""Files of planners: options in a file, hints for cells, and what another plan says of its end."""
+"""Files of planners: options in a file or on a sheet, hidden rows, hints for cells, and what another plan says of its
+end."""
+import datetime
 import pathlib
+import warnings
+from collections.abc import Sequence
 
+import pfs
 import pytest
 from support.commands import ended
 from support.office import Office
@@ -72,3 +77,83 @@ def test_what_another_plan_says_of_its_end(tmp_path: pathlib.Path) -> None:
         assert got == f"{name}: says {said}\n{name}: {both}; the plan: {both}\n"
     (tmp_path / "names").write_text("table\nchair\n")
     assert "says" not in ended([*words, "--compare", "names"], tmp_path)[2]
+
+
+# Options on the sheet `pfs` of a workbook
+
+ROWS = (("job [min]", "saw", "drill"), ("table", 300, 200), ("chair", 250, 400))
+
+
+def with_options(path: pathlib.Path, *options: Sequence[object], name: str = "pfs", at: int = 1) -> pathlib.Path:
+    """A workbook with a table and a sheet of options, which is the active one if it is the first."""
+    book_of(path, *ROWS)
+    book = openpyxl.load_workbook(path)
+    sheet = book.create_sheet(name, at)
+    for row in options:
+        sheet.append(row)
+    book.active = 0
+    book.save(path)
+    return path
+
+
+@pytest.mark.parametrize(("name", "at"), [("pfs", 1), ("PFS", 0)])
+def test_options_on_a_sheet(tmp_path: pathlib.Path, name: str, at: int) -> None:
+    book_of(tmp_path / "plain.xlsx", *ROWS)
+    with_options(tmp_path / "times.xlsx", ["# each week"], ["begin", datetime.datetime(2026, 11, 30, 6)], [],
+                 ["--shift", "fri:06:00-12:00"], ["closed", datetime.datetime(2026, 12, 4)], ["take", 2], ["report"],
+                 name=name, at=at)
+    words = ["--begin", "2026-11-30T06:00", "--shift", "fri:06:00-12:00", "--closed", "2026-12-04", "--take", "2",
+             "--report"]
+    plain, printed, _ = ended(["plan", "plain.xlsx", *words], tmp_path)
+    told = (f"times.xlsx: options of the sheet 'pfs': --begin=2026-11-30 06:00:00, --shift=fri:06:00-12:00, "
+            "--closed=2026-12-04, --take=2, --report\n")
+    status, got, said = ended(["plan", "times.xlsx"], tmp_path)
+    assert (status, got) == (plain, printed) and said.startswith(told) and "not" not in said
+    later = ended(["plan", "times.xlsx", "--begin", "2026-12-01T07:00"], tmp_path)[1]
+    assert later == ended(["plan", "plain.xlsx", *words, "--begin", "2026-12-01T07:00"], tmp_path)[1] != got
+    assert pfs.read_csv(tmp_path / "times.xlsx").times.tolist() == [[300, 200], [250, 400]]
+
+
+@pytest.mark.parametrize(("row", "said"), [
+    (["schedule", "plan.csv"], "--schedule names a file, which only the command line may do"),
+    (["sched", "plan.csv"], "--schedule names a file, which only the command line may do"),
+    (["order", "times.xlsx"], "--order names a file, which only the command line may do"),
+    (["nothing", 3], "unrecognized arguments: --nothing=3"),
+    (["take", 0], "argument --take: '0' is not a whole number from 1 to 5,000"),
+    (["shift", "06:00-12:00", "13:00-17:00"], "shift has several values: write a row for each")])
+def test_a_sheet_of_options_names_no_file(tmp_path: pathlib.Path, row: list[object], said: str) -> None:
+    """A workbook may come from a stranger."""
+    with_options(tmp_path / "times.xlsx", row)
+    before = sorted(tmp_path.iterdir())
+    status, printed, got = ended(["plan", "times.xlsx"], tmp_path)
+    assert (status, printed) == (3, "") and got.startswith(f"pfs: times.xlsx, sheet pfs: {said}")
+    assert sorted(tmp_path.iterdir()) == before
+
+
+def test_a_workbook_that_has_only_the_sheet_pfs(tmp_path: pathlib.Path) -> None:
+    book_of(tmp_path / "times.xlsx", *ROWS)
+    book = openpyxl.load_workbook(tmp_path / "times.xlsx")
+    book.active.title = "pfs"
+    book.save(tmp_path / "times.xlsx")
+    assert ended(["plan", "times.xlsx"], tmp_path)[::2] == (0, "")
+
+
+# Rows and columns that are hidden
+
+@pytest.mark.parametrize(("rows", "columns", "said"), [
+    ([3], [], "1 hidden row is read too"), ([2, 3], ["C"], "2 hidden rows and 1 hidden column are read too"),
+    ([9], ["F", "XFD"], ""), ([], ["B", "C"], "2 hidden columns are read too")])
+def test_hidden_rows_and_columns(tmp_path: pathlib.Path, office: Office, rows: list[int], columns: list[str],
+                                 said: str) -> None:
+    path = book_of(tmp_path / "times.xlsx", *ROWS)
+    book = openpyxl.load_workbook(path)
+    for row in rows:
+        book.active.row_dimensions[row].hidden = True
+    for column in columns:
+        book.active.column_dimensions[column].hidden = True
+    book.save(path)
+    for made in (path, office(path, "xlsx")):
+        with warnings.catch_warnings(record=True) as caught:
+            warnings.simplefilter("always")
+            assert pfs.read_csv(made).times.tolist() == [[300, 200], [250, 400]]
+        assert [str(each.message) for each in caught] == ([f"{made}: {said}"] if said else [])

@@ -13,6 +13,7 @@ from typing import TYPE_CHECKING
 import numpy as np
 
 from pfs._names import seconds_in
+from pfs._words import ENGLISH, Say
 
 if TYPE_CHECKING:
     from pfs._validate import Order
@@ -129,7 +130,7 @@ class Calendar:
         """When this working time is over: after a shift its end, and not the start of the next one."""
         return self._within(worked, True)
 
-    def _breaks(self, end: int) -> Iterator[tuple[int, str]]:
+    def _breaks(self, end: int, say: Say) -> Iterator[tuple[int, str]]:
         """Return the working times before `end` at which a shift or a day begins, each with the day if it is the first
         of its date: `Mon 2026-11-30`."""
         worked, before = 0, ""
@@ -137,7 +138,7 @@ class Calendar:
             for moment in (start, *range((start // DAY + 1) * DAY, stop, DAY)):
                 if worked + moment - start >= end:
                     return
-                day = day_of(moment_at(moment))
+                day = day_of(moment_at(moment), say)
                 yield worked + moment - start, day if day != before else ""
                 before = day
             worked += stop - start
@@ -146,14 +147,14 @@ class Calendar:
 class Clock:
     """The moments of an instance's times. Raises a `ValueError` if its unit isn't one of time."""
 
-    def __init__(self, calendar: Calendar, shop: Instance) -> None:
+    def __init__(self, calendar: Calendar, shop: Instance, say: Say = ENGLISH) -> None:
         seconds = seconds_in(shop.unit)
         if seconds is None:
             what = f"{shop.unit!r} is not a unit of time" if shop.unit else "the times have no unit"
             raise ValueError(f"{what}, which dates need: {UNIT_NEEDED}")
         if seconds * SECOND == DAY and not calendar.is_always:
             raise ValueError("a day of work may be 24 hours or the shifts of a day: write the times in hours")
-        self.calendar = calendar
+        self.calendar, self.say = calendar, say
         self.scale: int = 10**shop.decimals
         self.tick = seconds * SECOND
 
@@ -185,7 +186,7 @@ class Clock:
     def breaks(self, end: int) -> list[tuple[float, str]]:
         """The times up to `end` at which a shift or a day begins, with the day; none if there are too many for a
         chart."""
-        found = list(islice(self.calendar._breaks(self.worked(end)), MOST_BREAKS + 1))
+        found = list(islice(self.calendar._breaks(self.worked(end), self.say), MOST_BREAKS + 1))
         return [] if len(found) > MOST_BREAKS else [(at * self.scale / self.tick, day) for at, day in found]
 
     def steps(self) -> list[float]:
@@ -201,7 +202,7 @@ class Clock:
         before = ""
         for at in range(int(end // step) + 1):
             moment = self.calendar.start(self.worked(round(at * step)))
-            clock, day = text_of(moment, digits).partition(" ")[2], day_of(moment)
+            clock, day = text_of(moment, digits).partition(" ")[2], day_of(moment, self.say)
             found.append((at * step, f"{clock}\n{day}" if day != before else clock))
             before = day
         return found
@@ -225,13 +226,13 @@ def text_of(moment: datetime, digits: int) -> str:
     return text[:20 + digits] if digits > 0 else text[:19 if digits == 0 else 16]
 
 
-def day_of(moment: datetime) -> str:
+def day_of(moment: datetime, say: Say = ENGLISH) -> str:
     """Return the day of the week and the date.
 
     >>> day_of(datetime(2026, 11, 30, 6))
     'Mon 2026-11-30'
     """
-    return f"{DAYS[moment.weekday()].title()} {moment.date()}"
+    return f"{say(DAYS[moment.weekday()].title())} {moment.date()}"
 
 
 def moment_at(microseconds: int) -> datetime:

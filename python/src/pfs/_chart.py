@@ -17,6 +17,7 @@ from pfs._drawing import DPI, IDLE, UNIT, Chart, draw, ink, picture_of
 from pfs._names import CLOCK, shown
 from pfs._optional import optional
 from pfs._validate import checked_int
+from pfs._words import Say, words_of
 
 if TYPE_CHECKING:
     from pfs._schedule import Schedule
@@ -24,6 +25,9 @@ if TYPE_CHECKING:
 ENDINGS = ("svg", "png", "pdf", "html")
 # The greatest numbers of operations that Jupyter shows, and that a page lists as text.
 MOST_SHOWN, MOST_LISTED = 2_000, 100_000
+# What the script of a page says.
+PAGE_WORDS = ("job", "machine", "start", "end", "place", "time", "idle", "Job", "a page a day", "1 job found", "jobs found",
+              "the first 20 are listed below", "Sun", "Mon", "Tue", "Wed", "Thu", "Fri", "Sat")
 # Minutes between the marks of a scale of hours and minutes.
 MINUTES = [1, 2, 5, 10, 15, 30, *(60 * 2**at for at in range(30))]
 
@@ -53,10 +57,11 @@ def svg_of(schedule: Schedule) -> str | None:
 
 def plot(schedule: Schedule, path: str | os.PathLike[str] | None = None, *, critical: bool, bound: bool,
          unit: str | None = None, width: float = 12.0, dpi: int = DPI, title: bool | str = True, ax: Any = None,
-         calendar: Calendar | None = None) -> Any:
+         calendar: Calendar | None = None, language: str | os.PathLike[str] = "en") -> Any:
     """The figure, or, where the path is that of a page, none."""
     shop = schedule.instance
-    clock = None if calendar is None else Clock(calendar, shop)
+    say = words_of(language)
+    clock = None if calendar is None else Clock(calendar, shop, say)
     ending = None if path is None else ending_of(path)
     check_frame(width, title, ax)
     if ending == "html" and ax is not None:
@@ -67,16 +72,16 @@ def plot(schedule: Schedule, path: str | os.PathLike[str] | None = None, *, crit
         [shown(shop.machine_name(machine)) for machine in range(shop.machines)],
         width, checked_int(dpi, "dpi", 20, 2_400), shown(title) if isinstance(title, str) else title, critical,
         shop.bound() if bound else None, shown(unit or shop.unit or UNIT), shop.decimals,
-        key=shop.job_names is not None and ax is None)
+        key=shop.job_names is not None and ax is None, say=say)
     most = max(1, int(chart.plot_width / 1.1))
     if clock is not None:
         end, digits = clock.span(0, chart.makespan)[1], clock.digits(schedule.starts, schedule.ends)
-        chart.scale = "date and time" if clock.calendar.is_always else "date and time, in shifts only"
+        chart.scale = say("date and time" if clock.calendar.is_always else "date and time, in shifts only")
         chart.marks, chart.breaks = clock.marks(chart.makespan, most), clock.breaks(chart.makespan)
-        chart.end = f"{day_of(end)} {text_of(end, digits).partition(' ')[2]}"
+        chart.end = f"{day_of(end, say)} {text_of(end, digits).partition(' ')[2]}"
     elif chart.unit == CLOCK:
         step = next((step for step in MINUTES if step * most >= chart.makespan), MINUTES[-1])
-        chart.scale = f"time ({CLOCK})"
+        chart.scale = f"{say('time')} ({CLOCK})"
         chart.marks = [(time, chart.formatted(time)) for time in range(0, chart.makespan + 1, step)]
     if ending != "html":
         return drawn(chart, path, ending, ax)
@@ -112,20 +117,22 @@ def lists_of(chart: Chart, clock: Clock | None) -> str:
     """A list of each machine as HTML: the jobs that it has work for, and below each day when they start and end."""
     if chart.starts.size > MOST_LISTED:
         return ""
-    digits = 0 if clock is None else clock.digits(chart.starts, chart.ends)
+    digits, say = 0 if clock is None else clock.digits(chart.starts, chart.ends), chart.say
+    heads = [html.escape(say(head)) for head in ("place", "job", "start", "end")]
 
     def times_of(start: int, end: int) -> tuple[str, str, str]:
         if clock is None:
             return "", chart.formatted(start), chart.formatted(end)
         first, last = clock.span(start, end)
         begun, done = (text_of(moment, digits).partition(" ")[2] for moment in (first, last))
-        return day_of(first), begun, done if day_of(first) == day_of(last) else f"{day_of(last)} {done}"
+        days = [day_of(moment, say) for moment in (first, last)]
+        return days[0], begun, done if days[0] == days[1] else f"{days[1]} {done}"
 
     lines: list[str] = []
     for name, starts, ends in zip(chart.machines, chart.starts.T.tolist(), chart.ends.T.tolist()):
-        lines.append(f"\n<table><caption>Machine {html.escape(name)}</caption><thead><tr>"
-                     "<th scope=col class=number>place<th scope=col>job"
-                     "<th scope=col class=number>start<th scope=col class=number>end</thead><tbody>")
+        lines.append(f"\n<table><caption>{html.escape(say('Machine'))} {html.escape(name)}</caption><thead><tr>"
+                     f"<th scope=col class=number>{heads[0]}<th scope=col>{heads[1]}"
+                     f"<th scope=col class=number>{heads[2]}<th scope=col class=number>{heads[3]}</thead><tbody>")
         before = ""
         for place, (job, start, end) in enumerate(zip(chart.jobs, starts, ends), 1):
             if start < end:
@@ -145,23 +152,26 @@ def page_of(chart: Chart, schedule: Schedule, clock: Clock | None) -> str:
     data = {
         "jobs": chart.jobs, "machines": chart.machines, "starts": chart.starts.T.tolist(),
         "ends": chart.ends.T.tolist(), "makespan": chart.makespan, "bound": chart.bound, "critical": chart.outlines(),
-        "shares": chart.shares(), "unit": chart.unit, "decimals": chart.decimals, "breaks": chart.breaks,
+        "shares": chart.shares(), "unit": chart.shown_unit, "decimals": chart.decimals, "breaks": chart.breaks,
         "fills": ["#" + "".join(f"{round(255 * part):02x}" for part in fill) for fill in chart.fills],
         "inks": [ink(fill) for fill in chart.fills], "idle": IDLE, "isNamed": chart.key, "sign": chart.sign,
+        "words": {text: chart.say(text) for text in PAGE_WORDS},
         "steps": MINUTES if chart.unit == CLOCK else [] if clock is None else clock.steps(),
         "dates": None if clock is None else {
             **dict(zip(("times", "microseconds"), clock.ratio())), "spans": clock.calendar.spans,
             "loop": clock.calendar.loop, "digits": clock.digits(chart.starts, chart.ends), "scale": chart.scale},
     }
     text = json.dumps(data, ensure_ascii=False, separators=(",", ":")).replace("<", "\\u003c")
-    return filled({"title": html.escape(title), "data": text, "lists": lists_of(chart, clock)})
+    return filled({"title": html.escape(title), "data": text, "lists": lists_of(chart, clock)}, chart.say)
 
 
-def filled(values: dict[str, str]) -> str:
-    """Return the template with its placeholders replaced. One pass: a value may look like a placeholder."""
+def filled(values: dict[str, str], say: Say) -> str:
+    """Return the template with its placeholders replaced: names by values, and `=` and a text by this text in the
+    page's language. One pass: a value may look like a placeholder."""
     template = importlib.resources.files("pfs").joinpath("chart.html").read_text("utf-8")
     values = values | {"policy": policy_of(template)}
-    return re.sub(r"\{\{(\w+)\}\}", lambda found: values[found[1]], template)
+    return re.sub(r"\{\{(=?)([^{}]+)\}\}", lambda found: html.escape(say(" ".join(found[2].split()))) if found[1] else
+                  values[found[2]], template)
 
 
 def policy_of(template: str) -> str:

@@ -6,15 +6,19 @@ import argparse
 import contextlib
 import csv
 import errno
+import io
 import os
 import re
 import shlex
 import signal
 import sys
 import time
+import zipfile
+import zlib
 from collections.abc import Callable, Iterable, Iterator, Sequence
 from difflib import SequenceMatcher
 from functools import partial
+from itertools import islice
 from types import SimpleNamespace
 
 from pfs import _library as c
@@ -22,7 +26,7 @@ from pfs._calendar import Calendar, Clock, begin_of, dates_of, days_of, shifts_o
 from pfs._chart import ending_of
 from pfs._cli import CommandLine, Misused, ShowVersion, number, report, run, written
 from pfs._faults import Fault
-from pfs._files import read, read_order
+from pfs._files import content_of, read, read_order
 from pfs._instance import Instance
 from pfs._names import CLOCK, amount, shown
 from pfs._now import Beginning, beginning
@@ -34,6 +38,8 @@ from pfs._search import HeldSearch, Search, by_total, insert_after, limit_of, so
 from pfs._solution import Solution
 from pfs._state import State
 from pfs._tables import Table, described, table_of, write_table
+from pfs._words import words_of
+from pfs._workbooks import OPTIONS_SHEET, Workbook
 
 SIGNALS = (signal.SIGINT, signal.SIGTERM)
 DECIMAL_SIGNS = {"point": ".", "comma": ","}
@@ -42,8 +48,10 @@ TABLES = ("", ".csv", ".tsv", ".txt", ".xlsx")
 # The options for the arguments that messages about tables name, and the beginnings of messages about other options.
 OPTIONS = {"decimal": "--decimal point or --decimal comma", "allow_totals": "--allow-totals", "unit": "--unit",
            "machines": "--machines", "sheet": "--sheet", "decimals": "--decimals"}
+# The options that name files.
+OF_FILES = ("order", "compare", "schedule", "rest", "chart")
 ARGUMENT = re.compile(f"`({'|'.join(OPTIONS)})`")
-NUMBER_OPTION = re.compile("^(?=(?:rounds|take|passes|seed) must |start has )")
+NUMBER_OPTION = re.compile("^(?=(?:rounds|take|passes|seed|language) must |start has )")
 
 
 @contextlib.contextmanager
@@ -149,6 +157,7 @@ def plan_command(given: argparse.Namespace) -> int:
     if calendar is None and any(path.lower().endswith(".ics") for path in given.schedule):
         raise ValueError("a schedule with the ending .ics needs --begin, which says when the work begins")
     check_outputs([given.table, given.order, given.compare], given.schedule, given.chart, given.rest)
+    words_of(given.language)
     # As a row of a table, so that a name with a comma may be in quotes.
     rows = csv.reader([] if given.machines is None else [given.machines], skipinitialspace=True)
     machines: list[str] | None = next(rows, None)
@@ -160,10 +169,10 @@ def plan_command(given: argparse.Namespace) -> int:
         Clock(calendar, table.shop)
     written(sys.stderr, f"{shown(described(table.shop))}\n")
     tell(given.table, table.rounded)
-    found = FoundOrder([], {}) if given.order is None else order_in(given.order, table.shop)
+    found = FoundOrder([], {}) if given.order is None else order_in(given.order, table.shop, given.language)
     shop, found, held, calendar = begin = beginning(given, table.shop, found, calendar)
     search = plan_search(given, begin)
-    other = FoundOrder([], {}) if given.compare is None else order_in(given.compare, shop)
+    other = FoundOrder([], {}) if given.compare is None else order_in(given.compare, shop, given.language)
     with signals() as caught:
         best, fault = searched(search, given.rounds, given.seconds, caught, lambda _: None)
         faults = [] if fault is None else [fault]
@@ -184,9 +193,9 @@ def outputs_of(given: argparse.Namespace, begin: Beginning, table: Table, other:
     style = table.delimiter, table.has_mark or table.delimiter == ";"
     return [
         lambda: printed(listed(shop, best, clock) + (reported(shop.schedule(best), calendar) if given.report else "")),
-        *(partial(write_schedule, shop, best, path, *style, calendar) for path in given.schedule),
+        *(partial(write_schedule, shop, best, path, *style, calendar, given.language) for path in given.schedule),
         *(partial(write_table, path, shop, *style) for path in given.rest),
-        *(partial(draw, shop, best, chart, calendar, given.title) for chart in given.chart),
+        *(partial(draw, shop, best, chart, calendar, given.title, given.language) for chart in given.chart),
         lambda: compare(given.compare, shop, other, best, clock)]
 
 
@@ -237,20 +246,22 @@ def tell(path: str, what: str, names: Iterable[str] | None = None) -> None:
 
 
 def write_schedule(shop: Instance, best: Solution, path: str, delimiter: str, mark: bool,
-                   calendar: Calendar | None) -> None:
+                   calendar: Calendar | None, language: str) -> None:
     """Write a schedule, as a workbook or as CSV."""
     if path.lower().endswith(".xlsx"):
-        shop.schedule(best).to_xlsx(path, calendar=calendar)
+        shop.schedule(best).to_xlsx(path, calendar=calendar, language=language)
     elif path.lower().endswith(".ics"):
         assert calendar is not None
         shop.schedule(best).to_ics(path, calendar)
     else:
-        shop.schedule(best).to_csv(path, delimiter, mark=mark, calendar=calendar)
+        shop.schedule(best).to_csv(path, delimiter, mark=mark, calendar=calendar, language=language)
 
 
-def draw(shop: Instance, best: Solution, chart: str, calendar: Calendar | None, title: bool | str) -> None:
+def draw(shop: Instance, best: Solution, chart: str, calendar: Calendar | None, title: bool | str,
+         language: str) -> None:
     """Write a chart of an order."""
-    shop.schedule(best).plot(chart, critical=True, bound=True, calendar=calendar, title=title)
+    shop.schedule(best).plot(chart, critical=True, bound=True, calendar=calendar, title=title,
+                             language=language)
 
 
 def calendar_of(given: argparse.Namespace) -> Calendar | None:
@@ -425,6 +436,9 @@ def add_plan_words(plan: argparse.ArgumentParser) -> None:
     add("--report", action="store_true",
         help="print after the order how busy each machine is, when each job is made, and the bottleneck")
     add("--title", default=True, metavar="TEXT", help="the title of charts, else what they show")
+    add("--language", default="en", metavar="LANGUAGE",
+        help="of schedules and charts: en, de, or a file with words, in UTF-8: each line has an English text, = and what "
+        "to write instead")
 
 
 def add_order_words(add: Callable[..., object]) -> None:
@@ -506,7 +520,7 @@ def main(line: list[str], parser: argparse.ArgumentParser | None = None) -> int:
 
 def command(line: list[str], parser: argparse.ArgumentParser) -> int:
     """Run the command of a command line, and return its exit status."""
-    given = parser.parse_args(line)
+    given = parsed(line, parser)
     set_limits(given)
     if sys.stdout is None:
         raise OSError("standard output is closed")
@@ -517,6 +531,52 @@ def command(line: list[str], parser: argparse.ArgumentParser) -> int:
         raise
     except ValueError as fault:
         raise Misused(str(fault)) from None
+
+
+def parsed(line: list[str], parser: argparse.ArgumentParser) -> argparse.Namespace:
+    """Parse a command line, before whose options come those of the sheet `pfs` of its workbook."""
+    given = parser.parse_args(line)
+    words = sheet_words(given.table) if given.run is plan_command else []
+    if not words:
+        return given
+    command = line[:1] if parser.prog != "pfs-plan" else []
+    try:
+        own = parser.parse_args([*command, *words, given.table])
+        option = next((option for option in OF_FILES if getattr(own, option)), None)
+        if option:
+            raise Misused(f"--{option} names a file, which only the command line may do")
+    except Misused as error:
+        raise Misused(f"{given.table}, sheet {OPTIONS_SHEET}: {error}") from None
+    tell(given.table, f"options of the sheet {OPTIONS_SHEET!r}", words)
+    return parser.parse_args([*command, *words, *line[len(command):]])
+
+
+def has_options(path: str) -> bool:
+    """Whether a file is a workbook that names a sheet `pfs`. Other faults are those of its table."""
+    try:
+        with zipfile.ZipFile(path if os.path.isfile(path) else os.devnull) as archive, \
+                archive.open("xl/workbook.xml") as part:
+            return f'name="{OPTIONS_SHEET}"'.encode() in part.read(1_000_000).lower()
+    except (OSError, KeyError, RuntimeError, zipfile.BadZipFile, zlib.error, NotImplementedError):
+        return False
+
+
+def sheet_words(path: str) -> list[str]:
+    """The options on the sheet `pfs` of a workbook, if it has one: each row has the name of an option, without the
+    dashes or with them, and perhaps its value. What begins with # is a comment."""
+    if not has_options(path):
+        return []
+    book = Workbook(content_of(path, "table"), path)
+    sheet = next((name for name in book.names if name.casefold() == OPTIONS_SHEET), book.first)
+    if sheet == book.first:
+        return []
+    words: list[str] = []
+    for row in islice(csv.reader(io.StringIO(book.csv_of(sheet))), 1, None):
+        name, *values = [re.sub(r"(?<=[0-9]) 00:00:00$", "", cell.strip()) for cell in row if cell.strip()] or ["#"]
+        if len(values) > 1 and not name.startswith("#"):
+            raise Misused(f"{path}, sheet {OPTIONS_SHEET}: {name} has several values: write a row for each")
+        words += ["=".join([f"--{name.lstrip('-')}", *values])] if not name.startswith("#") else []
+    return words
 
 
 def set_limits(given: argparse.Namespace) -> None:

@@ -14,6 +14,7 @@ from functools import cached_property
 from typing import Any
 
 from pfs._names import CLOCK, amount
+from pfs._words import ENGLISH, Say
 
 # Sizes are in inches, those of letters in points.
 WIDTH, DPI = 12.0, 110
@@ -61,7 +62,7 @@ class Chart:
     number of decimals of the times. The title is this text, or says what is drawn. A scale of dates has a title,
     `scale`, and marks, each a time and its text. With `key`, a bar that is too short for its job's name has the job's
     place in the order, and a key below the rows has the names. Shifts and days begin at `breaks`, each a time and the
-    day or an empty text. `end` is the date of the end."""
+    day or an empty text. `end` is the date of the end. `say` says words in the chart's language."""
     order: Sequence[int]
     starts: Array
     ends: Array
@@ -79,6 +80,7 @@ class Chart:
     key: bool = False
     breaks: Sequence[tuple[float, str]] = ()
     end: str = ""
+    say: Say = ENGLISH
 
     def __post_init__(self) -> None:
         self.makespan = int(self.ends[-1, -1])
@@ -111,6 +113,10 @@ class Chart:
         """The length of a time in the picture."""
         return self.plot_width / max(1, self.makespan) * time
 
+    @property
+    def shown_unit(self) -> str:
+        return self.say(UNIT) if self.unit == UNIT else self.unit
+
     def formatted(self, time: float) -> str:
         return amount(round(time), self.decimals, self.unit)
 
@@ -119,11 +125,12 @@ class Chart:
         if self.title and isinstance(self.title, str):
             return self.title
         unit = f" {self.unit}" if has_unit and self.unit not in (UNIT, CLOCK) else ""
-        title = f"{len(self.jobs)} jobs on {len(self.machines)} machines: "
-        title += f"makespan {self.formatted(self.makespan)}{unit}"
-        title += f", end {self.end}" if self.end else ""
-        title += f", bound {self.formatted(self.bound)} (dashed)" if self.bound is not None else ""
-        return title + (", critical path outlined" if self.critical else "")
+        say = self.say
+        title = f"{len(self.jobs)} {say('jobs')} {say('on')} {len(self.machines)} {say('machines')}: "
+        title += f"{say('makespan')} {self.formatted(self.makespan)}{unit}"
+        title += f", {say('end')} {self.end}" if self.end else ""
+        title += f", {say('bound')} {self.formatted(self.bound)} ({say('dashed')})" if self.bound is not None else ""
+        return title + (f", {say('critical path outlined')}" if self.critical else "")
 
     def shares(self) -> list[str]:
         """The share of idle time of each machine; empty if nothing takes time."""
@@ -348,8 +355,8 @@ def draw_scales(axis: Axis, chart: Chart) -> None:
     axis.set_yticks(shown, [chart.names[machine - 1] for machine in shown])
     for label in axis.get_yticklabels():  # not as formulas, even if they look like some
         label.set_parse_math(False)
-    axis.set_xlabel(chart.scale or f"time ({chart.unit})", parse_math=False)
-    axis.set_ylabel("machine")
+    axis.set_xlabel(chart.scale or f"{chart.say('time')} ({chart.shown_unit})", parse_math=False)
+    axis.set_ylabel(chart.say("machine"))
     if chart.marks:
         axis.set_xticks([time for time, _ in chart.marks], [text for _, text in chart.marks])
     else:
@@ -362,7 +369,7 @@ def draw_scales(axis: Axis, chart: Chart) -> None:
     right.tick_params(length=0)
     right.spines["right"].set_visible(False)
     box = {"facecolor": IDLE, "pad": 1.5, "linewidth": 0}
-    axis.text(1.005, 1, "idle", transform=axis.transAxes, va="bottom", bbox=box)
+    axis.text(1.005, 1, chart.say("idle"), transform=axis.transAxes, va="bottom", bbox=box)
 
 
 def picture_of(figure: Figure, extension: str, dpi: float) -> bytes:

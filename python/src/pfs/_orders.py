@@ -4,7 +4,7 @@ from __future__ import annotations
 import csv
 import os
 import re
-from collections.abc import Iterator
+from collections.abc import Collection, Iterator
 from itertools import chain, islice, takewhile
 from typing import NamedTuple
 
@@ -14,9 +14,10 @@ from pfs._files import content_of
 from pfs._instance import Instance
 from pfs._names import shown
 from pfs._order_text import numbers_in, words_in
+from pfs._report import OPERATIONS
 from pfs._tables import delimiter_of, is_above_names, lines_of, records, text_of
+from pfs._words import words_of
 
-SCHEDULE = re.compile(r"job([;,\t])machine\1start\1end")
 # The lines of a plan before its jobs, and a job after its place.
 HEAD = re.compile(r"(makespan|bound) \S.*")
 AFTER = (re.compile("optimal"), re.compile(r"end [0-9]{4}-[0-9]{2}-[0-9]{2} [0-9:.]+"))
@@ -33,10 +34,10 @@ class FoundOrder(NamedTuple):
     gone: dict[str, int]
 
 
-def order_in(path: str | os.PathLike[str], shop: Instance) -> FoundOrder:
+def order_in(path: str | os.PathLike[str], shop: Instance, language: str = "en") -> FoundOrder:
     """Return the order in a file.
 
-    The file is the output of `plan`, its schedule as a table, or a list of the names of the jobs, one per line, with or
+    The file is the output of `plan`, its schedule as a table, in English, German or the language, or a list of the names of the jobs, one per line, with or
     without a place before it, or all on one line. A `TableFault` says which name occurs twice, or that no name is one
     of the table's."""
     path = os.fspath(path)
@@ -44,7 +45,8 @@ def order_in(path: str | os.PathLike[str], shop: Instance) -> FoundOrder:
     numbers = numbers_by_name(shop)
     # The line of each job of the table, and of each other name.
     seen: dict[int | str, int] = {}
-    for line, name in named_jobs(text_of(content, path), path, numbers):
+    heads = {tuple(map(words_of(each), OPERATIONS)) for each in ("en", "de", language)}
+    for line, name in named_jobs(text_of(content, path), path, numbers, heads):
         job = numbers.get(name, name)
         if job in seen:
             raise TableFault(path, line, 0, f"the job {name!r} is in line {seen[job]} too")
@@ -77,15 +79,18 @@ def numbers_by_name(shop: Instance) -> dict[str, int]:
             for job, text in enumerate(texts)}
 
 
-def named_jobs(text: str, path: str, numbers: dict[str, int]) -> Iterator[tuple[int, str]]:
-    """Return the names of the jobs with their lines. A schedule has each job several times; the first is used."""
+def named_jobs(text: str, path: str, numbers: dict[str, int], heads: Collection[tuple[str, ...]]) -> Iterator[
+        tuple[int, str]]:
+    """Return the names of the jobs with their lines. A schedule has one of the rows of heads, and each job several times;
+    the first is used."""
     filled = ((line, cell) for line, row in enumerate(lines_of(text), 1)
               if (cell := row.strip()) and not re.fullmatch("sep=.", cell))
     lines = list(islice(filled, 4))
-    schedule = SCHEDULE.fullmatch(lines[0][1]) if lines else None
-    if schedule:
+    separator = next((sign for sign in ";,\t" for row in csv.reader([text for _, text in lines[:1]], delimiter=sign)
+                      if (*row,) in heads), None)
+    if separator is not None:
         seen: set[str] = set()
-        for line, row in islice(records(text, path, schedule[1]), 1, None):
+        for line, row in islice(records(text, path, separator), 1, None):
             if row[0] not in seen:
                 seen.add(row[0])
                 yield line, row[0]

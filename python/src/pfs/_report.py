@@ -6,6 +6,7 @@ from collections.abc import Callable
 from typing import TYPE_CHECKING, Any, NamedTuple
 
 from pfs._validate import Order
+from pfs._words import Say
 
 if TYPE_CHECKING:
     from pfs._schedule import Schedule
@@ -79,19 +80,21 @@ def rows_of(report: Report, cell: Callable[[int], Any]) -> list[tuple[Any, ...]]
 
 
 def sheets_of(schedule: Schedule, cell: Callable[[int], Any],
-              span: Callable[[int, int], tuple[Any, Any]]) -> list[tuple[str, list[tuple[Any, ...]]]]:
+              span: Callable[[int, int], tuple[Any, Any]], say: Say) -> list[tuple[str, list[tuple[Any, ...]]]]:
     """The names and the rows of the sheets of a schedule: its operations, its report, and those that take time of each
-    machine. `span` shows a start and an end."""
+    machine. `span` shows a start and an end, and `say` says names and heads in a language."""
     shop, report = schedule.instance, schedule.report()
-    operations: list[tuple[Any, ...]] = [OPERATIONS]
-    lists: list[list[tuple[Any, ...]]] = [[PLACES] for _ in range(shop.machines)]
+    operations: list[tuple[Any, ...]] = [(*map(say, OPERATIONS),)]
+    lists: list[list[tuple[Any, ...]]] = [[(*map(say, PLACES),)] for _ in range(shop.machines)]
     for job, machine, start, end in schedule._operations():
         name, times = shop.job_name(job), span(start, end)
         operations.append((name, shop.machine_name(machine), *times))
         if start < end:
             lists[machine].append((len(lists[machine]), name, *times))
-    jobs: list[tuple[Any, ...]] = [JOBS, *((each.name, *span(each.start, each.end)) for each in report.jobs)]
-    return [("schedule", operations), ("machines", rows_of(report, cell)), ("jobs", jobs),
+    jobs: list[tuple[Any, ...]] = [(*map(say, JOBS),)]
+    jobs += ((each.name, *span(each.start, each.end)) for each in report.jobs)
+    heads, *machines = rows_of(report, cell)
+    return [(say("schedule"), operations), (say("machines"), [(*map(say, heads),), *machines]), (say("jobs"), jobs),
             *((shop.machine_name(machine), rows) for machine, rows in enumerate(lists))]
 
 

@@ -15,9 +15,10 @@ from pfs._calendar import Calendar, Clock, text_of
 from pfs._drawing import critical_path
 from pfs._names import amount
 from pfs._optional import optional
-from pfs._report import Report, report_of, sheets_of
+from pfs._report import OPERATIONS, Report, report_of, sheets_of
 from pfs._rest import Rest, down_of, rest_of
 from pfs._validate import Order, checked_int
+from pfs._words import words_of
 from pfs._workbooks import cell_of, write_workbook
 
 if TYPE_CHECKING:
@@ -185,7 +186,8 @@ class Schedule:
         })
 
     def to_csv(self, path: str | os.PathLike[str] | None = None, delimiter: str = ",", *,
-               mark: bool = False, calendar: Calendar | None = None) -> str | None:
+               mark: bool = False, calendar: Calendar | None = None,
+               language: str | os.PathLike[str] = "en") -> str | None:
         """Write the operations as CSV, or return them as a text if there is no path. A name that a spreadsheet would
         interpret as a formula gets an apostrophe.
 
@@ -199,20 +201,23 @@ class Schedule:
             Begin the file with a byte order mark. Excel needs it to read letters such as ``ä`` correctly.
         calendar : Calendar, optional
             Write dates and times of day, such as ``2026-11-30 06:00``, instead of times.
+        language : str or os.PathLike
+            The language of the heads: ``"en"``, ``"de"``, or a file in UTF-8. Each of its lines has an English text,
+            ``=``, and what to write instead, such as ``job = commande``. Texts that it lacks stay English.
 
         Raises
         ------
         ValueError
             If there is a calendar, but the instance's unit is not a unit of time, or the schedule ends after the year
-            9999.
+            9999; if the language is unknown, or its file is invalid.
         """
-        shop = self.instance
+        shop, say = self.instance, words_of(language)
         times_of = self._texts(calendar)
         lines: list[str] = []
         # With this line terminator, cells that contain \r or \n are quoted. Each row is written at once.
         file = SimpleNamespace(write=lambda row: lines.append(row.removesuffix("\r\n") + "\n"))
         rows = csv.writer(file, delimiter=delimiter, lineterminator="\r\n")
-        rows.writerow(["job", "machine", "start", "end"])
+        rows.writerow([text_cell(say(head)) for head in OPERATIONS])
         for job, machine, start, end in self._operations():
             shown = (time.replace(".", ",") if delimiter == ";" else time for time in times_of(start, end))
             rows.writerow([text_cell(shop.job_name(job)), text_cell(shop.machine_name(machine)), *shown])
@@ -222,14 +227,15 @@ class Schedule:
         atomic_write(path, text.encode("utf-8-sig" if mark else "utf-8"))
         return None
 
-    def to_xlsx(self, path: str | os.PathLike[str], *, calendar: Calendar | None = None) -> None:
+    def to_xlsx(self, path: str | os.PathLike[str], *, calendar: Calendar | None = None,
+                language: str | os.PathLike[str] = "en") -> None:
         """Write the operations as a workbook, with numbers, or with dates and times of day. Other sheets have
         the :meth:`report`, and the jobs of each machine. This needs openpyxl.
 
         Parameters
         ----------
-        path, calendar : str or os.PathLike, Calendar
-            As for :meth:`to_csv`, which raises the same errors.
+        path, calendar, language : str or os.PathLike, Calendar, str or os.PathLike
+            As for :meth:`to_csv`, which raises the same errors. The names of sheets are in this language too.
         """
         shop = self.instance
         clock = None if calendar is None else Clock(calendar, shop)
@@ -240,7 +246,7 @@ class Schedule:
         def span(start: int, end: int) -> tuple[Any, Any]:
             return (cell(start), cell(end)) if clock is None else clock.span(start, end)
 
-        write_workbook(path, sheets_of(self, cell, span))
+        write_workbook(path, sheets_of(self, cell, span, words_of(language)))
 
     def to_ics(self, path: str | os.PathLike[str], calendar: Calendar) -> list[str]:
         """Write a calendar file for each machine, which Outlook and other calendars import, and return the paths.
@@ -268,7 +274,8 @@ class Schedule:
 
     def plot(self, path: str | os.PathLike[str] | None = None, *, critical: bool = False, bound: bool = False,
              unit: str | None = None, width: float = 12.0, dpi: int = 110, title: bool | str = True,
-             ax: Any = None, calendar: Calendar | None = None) -> Any:
+             ax: Any = None, calendar: Calendar | None = None,
+             language: str | os.PathLike[str] = "en") -> Any:
         """Draw a Gantt chart, with a row for each machine, a colour for each job, and idle time in grey.
 
         Parameters
@@ -293,6 +300,8 @@ class Schedule:
         calendar : Calendar, optional
             Show dates and times of day instead of times. The axis shows working time only: the next shift follows
             directly.
+        language : str or os.PathLike
+            As for :meth:`to_csv`.
 
         Returns
         -------
@@ -303,11 +312,12 @@ class Schedule:
         ------
         ImportError, TypeError, ValueError
             If matplotlib isn't installed, an argument is of the wrong type, the name has another ending, a number is
-            out of range, ``ax`` is given for a page, or a calendar for times whose unit is not a unit of time.
+            out of range, ``ax`` is given for a page, or a calendar for times whose unit is not a unit of time, or the
+            language is unknown.
         """
         from pfs._chart import plot
         return plot(self, path, critical=critical, bound=bound, unit=unit, width=width, dpi=dpi, title=title, ax=ax,
-                    calendar=calendar)
+                    calendar=calendar, language=language)
 
     def _repr_svg_(self) -> str | None:
         """Return the chart for Jupyter, or None without matplotlib or if the chart would be very large."""

@@ -20,7 +20,7 @@ from pfs._files import content_of
 from pfs._instance import Instance
 from pfs._names import CLOCK, amount, seconds_in
 from pfs._validate import Order, checked_int
-from pfs._workbooks import Workbook, cell_of, write_workbook
+from pfs._workbooks import OPTIONS_SHEET, Workbook, cell_of, write_workbook
 
 # The most cells of a row, as in spreadsheets, and the most rows, with titles.
 MOST_CELLS, MOST_ROWS = 16_384, 10_000
@@ -85,7 +85,7 @@ class Table(NamedTuple):
     delimiter: str
     # Whether the file begins with a byte order mark, as Excel's do.
     has_mark: bool
-    # Which sheet was read, if a workbook has several and none was named.
+    # Which sheet was read, if a workbook has several and none was named, and how many hidden rows and columns it has.
     note: str
     # What was rounded, or an empty text.
     rounded: str
@@ -195,7 +195,8 @@ def read_csv(source: str | os.PathLike[str], unit: str = "", *, decimal: str | N
         that has these names, are skipped. By default all columns but the first one.
     sheet : str, optional
         The sheet of a workbook. By default it is the one that the workbook opens with, and a warning names it if there
-        are others.
+        are others. The sheet ``pfs`` has options of `pfs-plan`, and isn't counted. Hidden rows and columns are read
+        too, and a warning says how many there are.
     decimals : int, optional
         Round times with more decimals than this, 0 to 9, to the nearest one, and halves up. By default no time is
         rounded, and one with more than 9 decimals is rejected. Numbers of workbooks have 9 decimals at most.
@@ -271,14 +272,19 @@ def table_of(source: str | os.PathLike[str], unit: str, decimal: str | None = No
 
 def sheet_of(content: bytes, path: str, sheet: str | None) -> tuple[str, str]:
     """Return a sheet of a workbook as CSV, of whose rows one more than a table may have is read. By default it is the
-    one with which the workbook opens, and the second text says so if there are others."""
+    one with which the workbook opens, and the second text says so if there are others. It also says if rows or columns
+    are hidden."""
     book = Workbook(content, path)
     own = book.first if sheet is None else sheet
     if own not in book.names:
         raise ValueError(f"{path} has no sheet {own!r}, but {', '.join(map(repr, book.names))}")
-    others = [repr(name) for name in book.names if name != own]
-    note = f"{path}: the sheet {own!r} is read, and not {', '.join(others)} (`sheet`)" if others else ""
-    return book.csv_of(own, MOST_ROWS + 2), note if sheet is None else ""
+    text = book.csv_of(own, MOST_ROWS + 2)
+    others = [repr(name) for name in book.names if name != own and name.casefold() != OPTIONS_SHEET]
+    note = f"the sheet {own!r} is read, and not {', '.join(others)} (`sheet`)" if others and sheet is None else ""
+    hidden = " and ".join(counted(number, f"hidden {what}") for number, what in zip(book.hidden, ("row", "column"))
+                          if number)
+    note += f"{'; ' if note and hidden else ''}{hidden}{' is' if sum(book.hidden) == 1 else ' are'} read too" if hidden else ""
+    return text, note and f"{path}: {note}"
 
 
 def text_of(content: bytes, path: str, faults: list[TableFault] | None = None) -> str:

@@ -29,26 +29,31 @@ MOST_ROWS = 1_048_576
 MOST_CELLS, MOST_IN_ROW, MOST_TAGS, MOST_STYLES = 3_000_000, 16_384, 500_000, 100_000
 TAG = re.compile(rb"<(?:\w+:)?(c|row)[\s/>]")
 FORMULA = re.compile(rb"<(?:\w+:)?f[\s/>]")
+# The sheet with options of `pfs-plan`, which is no table.
+OPTIONS_SHEET = "pfs"
 # How many rows decide how wide their columns are, and the widest one.
 MOST_MEASURED, WIDEST = 2_000, 40
 
 
 class Workbook:
-    """A workbook: the names of its sheets, and of the one with which it opens."""
+    """A workbook: the names of its sheets, and of the table with which it opens."""
 
     def __init__(self, content: bytes, path: str) -> None:
         openpyxl = optional("openpyxl", f"{path}: reading a workbook")
         self.path = path
         # How many cells may still be read.
         self.cells = MOST_CELLS
+        # How many hidden rows and columns the last sheet that was read has.
+        self.hidden = [0, 0]
         with self.faults():
             with zipfile.ZipFile(io.BytesIO(content)) as archive:
                 check_parts(archive)
             self.book = openpyxl.load_workbook(io.BytesIO(content), read_only=True, data_only=True)
             self.names: list[str] = [sheet.title for sheet in self.book.worksheets]
+            tables = [name for name in self.names if name.casefold() != OPTIONS_SHEET] or self.names
             # It may open with a chart.
             opened = self.book.active.title if self.book.active else ""
-            self.first = opened if opened in self.names else self.names[0]
+            self.first = opened if opened in tables else tables[0]
 
     @contextlib.contextmanager
     def faults(self) -> Iterator[None]:
@@ -69,8 +74,9 @@ class Workbook:
         read. A formula without a stored value is a fault."""
         with self.faults():
             sheet = self.book[name]
-            empty = [*formulas_without_values(self.book._archive.read(sheet._worksheet_path))]
-            text = self.text_of_rows(sheet, most_rows)
+            content = self.book._archive.read(sheet._worksheet_path)
+            empty = [*formulas_without_values(content)]
+            text = self.text_of_rows(sheet, most_rows, *hidden_in(content))
         if empty:
             path = f"{self.path}, sheet {name}" if len(self.names) > 1 else self.path
             line, column = optional("openpyxl", "").utils.cell.coordinate_to_tuple(empty[0])
@@ -79,22 +85,27 @@ class Workbook:
                                                  "spreadsheet and save it")
         return text
 
-    def text_of_rows(self, sheet: Any, most_rows: int) -> str:
-        """Return the rows of a sheet as CSV."""
+    def text_of_rows(self, sheet: Any, most_rows: int, rows_hidden: Collection[int],
+                     columns_hidden: Collection[int]) -> str:
+        """Return the rows of a sheet as CSV, and count the hidden rows and columns among them."""
         text = io.StringIO("sep=,\n")
         text.seek(0, os.SEEK_END)
         rows = csv.writer(text, lineterminator="\n")
         # The sizes that a workbook states may be wrong.
         sheet.reset_dimensions()
+        self.hidden, widest = [0, 0], 0
         for number, row in enumerate(sheet.iter_rows(values_only=True)):
             self.cells -= len(row)
             if number == MOST_ROWS or self.cells < 0:
                 raise ValueError("it has too many cells")
             last = next((at for at in range(len(row), 0, -1) if row[at - 1] is not None), 0)
             rows.writerow(["" if value is None else text_in(value) for value in row[:last]])
+            self.hidden[0] += last > 0 and number + 1 in rows_hidden
+            widest = max(widest, last)
             most_rows -= last > 0
             if not most_rows:
                 break
+        self.hidden[1] = sum(column <= widest for column in columns_hidden)
         return text.getvalue()
 
 
@@ -127,6 +138,21 @@ def formulas_without_values(sheet: bytes) -> Iterator[str]:
             yield from (cell.get("r", "A1") for cell in row if cell.find("{*}f") is not None
                         and not cell.findtext("{*}v") and cell.get("t") != "str")
             row.clear()
+
+
+def hidden_in(sheet: bytes) -> tuple[set[int], set[int]]:
+    """Return the numbers of the rows and of the columns that are hidden."""
+    rows: set[int] = set()
+    columns: set[int] = set()
+    for _, tag in ElementTree.iterparse(io.BytesIO(sheet)) if b"hidden=" in sheet else ():
+        if tag.get("hidden") in ("1", "true"):
+            if tag.tag.endswith("}row"):
+                rows.add(int(tag.get("r", 0)))
+            elif tag.tag.endswith("}col"):
+                columns.update(range(int(tag.get("min", 1)), min(int(tag.get("max", 0)), MOST_IN_ROW) + 1))
+        if tag.tag.endswith("}row"):
+            tag.clear()
+    return rows, columns
 
 
 def text_in(value: Any) -> str:

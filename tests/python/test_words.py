@@ -1,0 +1,100 @@
+"""Schedules and charts in other languages."""
+import importlib.resources
+import pathlib
+import re
+
+import pfs
+import pytest
+from pfs import _words
+from pfs._chart import PAGE_WORDS
+from support.browser import PEN, looked_at
+from support.commands import ended
+
+openpyxl = pytest.importorskip("openpyxl")
+TABLE = "job [min];saw;drill\ntable;300;200\nchair;250;400\n"
+DATES = ["--begin", "2026-11-30T06:00", "--shift", "06:00-14:00"]
+
+
+def german() -> dict[str, str]:
+    return _words.texts_in((importlib.resources.files("pfs") / _words.GERMAN).read_bytes(), "", None)
+
+
+def test_each_text_is_in_the_table_and_each_of_the_table_is_said() -> None:
+    sources = {path.name: path.read_text("utf-8") for path in pathlib.Path(pfs.__file__).parent.iterdir()
+               if path.suffix in (".py", ".html")}
+    said = set(re.findall(r"say\([\"']([^\"']+)[\"']\)", "".join(sources.values())))
+    said |= {" ".join(text.split()) for text in re.findall("{{=([^}]+)}}", sources["chart.html"])}
+    said |= {*pfs._report.OPERATIONS, *pfs._report.JOBS, *pfs._report.PLACES, *pfs._report.MACHINES, *PAGE_WORDS,
+             "units of the instance", "date and time", "date and time, in shifts only"}
+    assert said == german().keys()
+
+
+@pytest.fixture
+def folder(tmp_path: pathlib.Path) -> pathlib.Path:
+    (tmp_path / "times.csv").write_text(TABLE)
+    return tmp_path
+
+
+@pytest.mark.parametrize("name", ["plan.csv", "plan.xlsx"])
+def test_a_german_schedule_is_an_order(folder: pathlib.Path, name: str) -> None:
+    plan = ended(["plan", "times.csv", *DATES, "--schedule", name, "--language", "de"], folder)
+    assert plan[0] == 0
+    words = ["plan", "times.csv", *DATES, "--order", name, "--compare", name]
+    status, printed, said = ended(words, folder)
+    assert (status, printed) == plan[:2] and f"{name}: makespan" in said and "moved" not in said
+    if name.endswith(".csv"):
+        assert (folder / name).read_text().startswith("Auftrag;Maschine;Beginn;Ende\n")
+    else:
+        book = openpyxl.load_workbook(folder / name)
+        assert book.sheetnames == ["Plan", "Maschinen", "Aufträge", "saw", "drill"]
+        assert [cell.value for cell in book["saw"][1]] == ["Platz", "Auftrag", "Beginn", "Ende"]
+        assert book["Maschinen"]["C1"].value == "Auslastung %"
+
+
+def test_a_language_of_a_file(folder: pathlib.Path) -> None:
+    """With a head that has the separator. What the file lacks stays English."""
+    (folder / "fr.txt").write_text("\ufeff# français\njob = commande; n°\n\nend=fin = arrêt\n", "utf-8")
+    words = ["plan", "times.csv", "--language", "fr.txt"]
+    assert ended([*words, "--schedule", "plan.csv"], folder)[0] == 0
+    assert (folder / "plan.csv").read_text("utf-8").startswith('"commande; n°";machine;start;fin = arrêt\n')
+    assert ended([*words, "--order", "plan.csv"], folder)[0] == 0
+    assert ended(["plan", "times.csv", "--order", "plan.csv"], folder)[0] == 2, "in none of the languages"
+
+
+def test_all_faults_of_a_language(folder: pathlib.Path) -> None:
+    (folder / "fr.txt").write_bytes("job\njob = a\njob = b\nend =\nwort = mot\nstart = d\xe9but\n".encode("latin-1"))
+    status, printed, said = ended(["plan", "times.csv", "--language", "fr.txt", "--schedule", "plan.csv"], folder)
+    assert (status, printed, len(said.splitlines())) == (2, "", 5)
+    for line, text in enumerate(("'job'", "'job' again", "'end ='", "'wort', which no schedule", "in UTF-8")):
+        assert said.splitlines()[line].startswith(f"pfs: fr.txt: line {(1, 3, 4, 5, 6)[line]}, ") and text in said
+    assert not (folder / "plan.csv").exists()
+    got = ended(["plan", "times.csv", "--language", "none"], folder)
+    assert got == (3, "", "pfs: --language must be 'en', 'de' or a file with words, not 'none'\n")
+
+
+def test_charts_in_german(folder: pathlib.Path) -> None:
+    pytest.importorskip("matplotlib")
+    assert ended(["plan", "times.csv", *DATES, "--language", "de", "--chart", "plan.svg", "--chart", "plan.html"],
+                 folder)[0] == 0
+    drawn, page = ((folder / name).read_text("utf-8") for name in ("plan.svg", "plan.html"))
+    title = "2 Aufträge auf 2 Maschinen: Gesamtdauer 850 min, Ende Di 2026-12-01 12:10, Schranke 850 (gestrichelt)"
+    for text in (title, "Mo 2026-11-30", "Datum und Uhrzeit, nur Schichten", ">frei<", ">Maschine<"):
+        assert text in drawn
+    for text in (title, '<html lang="de">', "<caption>Maschine saw<", ">Platz<", "Auftrag suchen:", '"a page a day":'):
+        assert text in page
+    assert "&lt;b&gt;" in pfs._chart.filled(dict.fromkeys(("title", "data", "lists"), ""), lambda text: "<b>" + text)
+
+
+def test_a_german_page(chromium: str, folder: pathlib.Path) -> None:
+    assert ended(["plan", "times.csv", *DATES, "--language", "de", "--chart", "plan.html"], folder)[0] == 0
+    seen = looked_at(chromium, folder / "plan.html", folder, PEN + """
+const box = canvas.getBoundingClientRect();
+point({clientX: box.left + left + 5, clientY: box.top + TOP + 5});
+field.value = "a"; field.dispatchEvent(new Event("input"));
+tell({tip: tip.textContent, found: byId("found").textContent,
+        list: document.querySelector("#jobs caption").textContent, head: document.querySelector("#jobs th").textContent,
+        days: [...print.options].map(option => option.textContent), weekdays: WEEKDAYS[0]});
+""")
+    assert seen["tip"].split("\n")[0].startswith("Auftrag ") and seen["tip"].split("\n")[3].startswith("Ende 2026-")
+    assert (seen["found"], seen["head"], seen["weekdays"]) == ("2 Aufträge gefunden", "Maschine", "So")
+    assert seen["list"].startswith("Auftrag ") and "eine Seite je Tag" in seen["days"]
