@@ -109,8 +109,8 @@ def test_options_on_a_sheet(tmp_path: pathlib.Path, name: str, at: int) -> None:
             "--closed=2026-12-04, --take=2, --report\n")
     status, got, said = ended(["plan", "times.xlsx"], tmp_path)
     assert (status, got) == (plain, printed) and said.startswith(told) and "not" not in said
-    later = ended(["plan", "times.xlsx", "--begin", "2026-12-01T07:00"], tmp_path)[1]
-    assert later == ended(["plan", "plain.xlsx", *words, "--begin", "2026-12-01T07:00"], tmp_path)[1] != got
+    later = ended(["plan", "times.xlsx", "--begin", "2026-12-12T07:00"], tmp_path)[1]
+    assert later == ended(["plan", "plain.xlsx", *words, "--begin", "2026-12-12T07:00"], tmp_path)[1] != got
     assert pfs.read_csv(tmp_path / "times.xlsx").times.tolist() == [[300, 200], [250, 400]]
 
 

@@ -43,7 +43,7 @@ def test_a_german_schedule_is_an_order(folder: pathlib.Path, name: str) -> None:
     status, printed, said = ended(words, folder)
     assert (status, printed) == plan[:2] and f"{name}: makespan" in said and "moved" not in said
     if name.endswith(".csv"):
-        assert (folder / name).read_text().startswith("Auftrag;Maschine;Beginn;Ende\n")
+        assert (folder / name).read_text("utf-8-sig").startswith("Auftrag;Maschine;Beginn;Ende\n")
     else:
         book = openpyxl.load_workbook(folder / name)
         assert book.sheetnames == ["Plan", "Maschinen", "Aufträge", "saw", "drill"]
@@ -56,7 +56,7 @@ def test_a_language_of_a_file(folder: pathlib.Path) -> None:
     (folder / "fr.txt").write_text("\ufeff# français\njob = commande; n°\n\nend=fin = arrêt\n", "utf-8")
     words = ["plan", "times.csv", "--language", "fr.txt"]
     assert ended([*words, "--schedule", "plan.csv"], folder)[0] == 0
-    assert (folder / "plan.csv").read_text("utf-8").startswith('"commande; n°";machine;start;fin = arrêt\n')
+    assert (folder / "plan.csv").read_text("utf-8-sig").startswith('"commande; n°";machine;start;fin = arrêt\n')
     assert ended([*words, "--order", "plan.csv"], folder)[0] == 0
     assert ended(["plan", "times.csv", "--order", "plan.csv"], folder)[0] == 2, "in none of the languages"
 

@@ -44,9 +44,10 @@ def texts_in(content: bytes, path: str, known: dict[str, str] | None) -> dict[st
                  f"has {english!r} again" if english in texts else
                  f"has {english!r}, which no schedule or chart says" if known is not None and english not in known
                  else "")
-        texts[english] = text
         if fault:
             faults.append(TableFault(path, number, 0, fault))
+        else:
+            texts[english] = text
     if faults:
         first, *rest = faults
         raise TableFault(path, first.line, 0, first.text, "", tuple(rest))
