@@ -16,13 +16,13 @@
  * Each function validates its arguments, and returns PFS_OK or the number of a fault; of several faults, the one that
  * its description lists first. Each list is a pointer and a length. A length that follows from other arguments is
  * validated too, so that no list of another instance is read or written (PFS_LENGTH). If a function does not return
- * PFS_OK, every output is unchanged, except the sizes that it sets with PFS_ROOM and the place of a file's fault. Only
+ * PFS_OK, every output is unchanged, except the sizes that it sets with PFS_ROOM and the place of a fault. Only
  * pfs_release returns nothing, as it cannot fail.
  *
- * A pointer may be NULL only if the length that belongs to it is 0, as that of an empty std::vector is. No output may
- * overlap another argument, and no list may change during a call. One thread at a time may use a struct pfs_instance;
- * several instances may be used at once. The other functions may be called at any time. No function may be called from
- * a signal handler.
+ * A pointer may be NULL only if the length that belongs to it is 0, as that of an empty std::vector is, or if its
+ * description says so. No output may overlap another argument, and no list may change during a call. One thread at a
+ * time may use a struct pfs_instance; several instances may be used at once. The other functions may be called at any
+ * time. No function may be called from a signal handler.
  *
  * Where a description says that a function allocates, the memory comes from malloc and is freed before the function
  * returns, and if an allocation fails, it returns PFS_MEMORY. Other functions allocate nothing. Times are for n jobs, m
@@ -185,6 +185,28 @@ void pfs_release(struct pfs_instance *instance);
  * @{
  */
 
+/** @brief Says how many jobs and machines an instance has. Since version 2.1.0.
+ *
+ * @param[in,out] instance the instance
+ * @param[out] jobs number of jobs
+ * @param[out] machines number of machines
+ * @return PFS_OK, or PFS_NOT_PREPARED (instance)
+ */
+int pfs_sizes(struct pfs_instance *instance, size_t *jobs, size_t *machines) PFS_CHECKED;
+
+/** @brief Finds the first job of a list that is out of range or occurs before. Time O(k²). Since version 2.1.0.
+ *
+ * Calls that return PFS_JOB or PFS_REPEATED do not say which job it is; this one does.
+ *
+ * @param[in,out] instance the instance
+ * @param[in] sequence jobs
+ * @param[in] sequence_length number of jobs in the list
+ * @param[out] place place of that job, from 0; the length of the list if each of its jobs is valid
+ * @return PFS_OK, or the first of PFS_NOT_PREPARED (instance), PFS_JOB or PFS_REPEATED (the job at this place)
+ */
+int pfs_faulty_job(struct pfs_instance *instance, const uint32_t *sequence, size_t sequence_length,
+                   size_t *place) PFS_CHECKED;
+
 /** @brief Computes the makespan of a sequence of distinct jobs. Time O(km).
  *
  * The sequence need not contain all jobs. The makespan of no jobs is 0.
@@ -254,7 +276,7 @@ int pfs_table(struct pfs_instance *instance, const uint32_t *order, size_t order
  * @param[out] order NEH's order
  * @param[in] order_length length of the order, which is the number of jobs
  * @param[out] makespan makespan of the order
- * @param[out] cells number of table cells that were computed, which is 2 * machines * jobs * jobs
+ * @param[out] cells number of table cells that were computed, 2 * machines * jobs * jobs; or NULL
  * @return PFS_OK, or the first of PFS_NOT_PREPARED (instance), PFS_LENGTH (order_length)
  */
 int pfs_neh(struct pfs_instance *instance, uint32_t *order, size_t order_length, uint64_t *makespan,
@@ -287,7 +309,7 @@ struct pfs_rounds_options {
  * @param[in,out] order all jobs; the order to start from, then the order after the rounds
  * @param[in] order_length length of the order, which is the number of jobs
  * @param[out] makespan makespan of the order after the rounds
- * @param[out] cells number of table cells that these rounds computed
+ * @param[out] cells number of table cells that these rounds computed, or NULL
  * @return PFS_OK, or the first of PFS_NOT_PREPARED (instance), PFS_LENGTH (order_length), PFS_JOB or PFS_REPEATED (the
  *     jobs from the left), PFS_TAKE (take), PFS_PASSES (passes), PFS_ROUNDS (first + count)
  */

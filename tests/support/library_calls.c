@@ -118,6 +118,10 @@ static int prepare_large(void) {
 
 /* Makes a valid call of the function of this name, and says what is due. */
 static int call_named(const char *name) {
+    if (IS("sizes"))
+        return due.jobs = 3, due.machines = 2, pfs_sizes(shop, &out.jobs, &out.machines);
+    if (IS("faulty_job"))
+        return due.place = 3, pfs_faulty_job(shop, BEST, 3, &out.place);
     if (IS("makespan"))
         return due.makespan = 10, pfs_makespan(shop, BEST, 3, &out.makespan);
     if (IS("makespans"))
@@ -177,14 +181,16 @@ static int call_named(const char *name) {
     return PFS_OK;
 }
 
-static const char *const NAMES[] = {"makespan",    "makespans", "bound",        "table",      "neh",
-                                    "rounds",      "iterate",   "prove",        "insert",     "insertions",
-                                    "heads_tails", "construct", "local_search", "write",      "generate",
-                                    "random",      "read",      "read_order",   "write_order"};
-enum { ON_SHOP = 14 };
+static const char *const NAMES[] = {"sizes", "faulty_job", "makespan",    "makespans",  "bound",        "table", "neh",
+                                    "rounds", "iterate",   "prove",       "insert",     "insertions",   "heads_tails",
+                                    "construct", "local_search", "write", "generate",   "random",       "read",
+                                    "read_order", "write_order"};
+enum { ON_SHOP = 16 };
 
 /* What is wrong in a call on an instance, after the instance itself. */
 static void wrong_calls(void) {
+    CALL(PFS_JOB, (due.place = 0, pfs_faulty_job(shop, OUTSIDE, 3, &out.place)));
+    CALL(PFS_REPEATED, (due.place = 1, pfs_faulty_job(shop, TWICE, 3, &out.place)));
     CALL(PFS_JOB, pfs_makespan(shop, OUTSIDE, 3, &out.makespan));
     CALL(PFS_REPEATED, pfs_makespan(shop, TWICE, 3, &out.makespan));
     CALL(PFS_LENGTH, pfs_makespans(shop, OUTSIDE, 1, SIZE_MAX, out.makespans, 3));
@@ -244,8 +250,13 @@ static void wrong_files(void) {
     CALL(PFS_ROOM, (due.length = 29, pfs_write_order(BEST, 3, 2, 10, out.text, 28, &out.length)));
 }
 
-/* A list of length 0 may be NULL. */
+/* A list of length 0 may be NULL, and so may the cells. */
 static void no_lists(void) {
+    struct pfs_rounds_options options = {.seed = 7, .take = 1, .count = 1, .passes = 1};
+    CALL(PFS_OK, finds_best(pfs_neh(shop, out.list, 3, &out.makespan, NULL)));
+    CALL(PFS_OK, finds_best(pfs_rounds(shop, &options, in_place(NUMBERED), 3, &out.makespan, NULL)));
+    CALL(PFS_LENGTH, pfs_neh(shop, out.list, 2, &out.makespan, NULL));
+    CALL(PFS_OK, (due.place = 0, pfs_faulty_job(shop, NULL, 0, &out.place)));
     CALL(PFS_OK, (due.makespan = 0, pfs_makespan(shop, NULL, 0, &out.makespan)));
     CALL(PFS_OK, pfs_makespans(shop, NULL, 0, 3, NULL, 0));
     CALL(PFS_OK, pfs_heads_tails(shop, NULL, 0, NULL, 0, NULL, 0));

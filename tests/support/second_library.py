@@ -115,6 +115,17 @@ def faults_of_a_file(place: bytearray) -> Iterator[None]:
 
 # The functions on an instance
 
+def pfs_sizes(shop: Instance, jobs: bytearray, machines: bytearray) -> None:
+    put64(jobs, shop.jobs)
+    put64(machines, shop.machines)
+
+
+def pfs_faulty_job(shop: Instance, sequence: bytearray, length: int, place: bytearray) -> None:
+    jobs = read32(sequence)[:length]
+    put64(place, next((at for at, job in enumerate(jobs) if job >= shop.jobs or job in jobs[:at]), length))
+    distinct(shop.jobs, jobs)
+
+
 def pfs_makespan(shop: Instance, sequence: bytearray, length: int, span: bytearray) -> None:
     put64(span, makespan(shop, distinct(shop.jobs, read32(sequence)[:length])))
 

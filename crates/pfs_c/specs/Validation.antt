@@ -1,12 +1,13 @@
 -- The faults that functions find in their arguments. Each function makes its checks in a fixed order, and reports the
 -- first fault that they find.
-use Rattle.std.specs.Prelude.{ℕ, ◌*◌, ◌&&◌, Bool, not, List, [], ◌∷◌, length, map, take, slice_index}
+use Rattle.std.specs.Prelude.{ℕ, ◌+◌, ◌*◌, ◌<◌, ◌≤◌, ◌&&◌, Bool, not, List, [], ◌∷◌, length, map, take, slice_index}
 use Rattle.std.specs.Prelude.{nat_eq, nat_lt, nat_le, Option, Some, None, if◌then◌else◌}
 use Rattle.std.specs.List.{list_all, list_any}
 use Rattle.pfs_base.specs.FlowShop.{FlowShop}
 use Rattle.pfs_base.specs.Lists.{below, first_some}
 use Rattle.pfs_base.specs.declared.limits.TheConstants.{MOST_JOBS, MOST_MACHINES, LONGEST_TIME}
 use Rattle.pfs_layout.specs.Generator.{prime}
+use Rattle.pfs_order.specs.Sequence.{IsSequence}
 use Rattle.pfs_c.specs.declared.numbers.CallFault.{CallFault}
 use Rattle.pfs_c.specs.declared.numbers.CallFault.TheVariants.{Size, Length, Time, Job, Repeated, Seed, NotPrepared}
 
@@ -51,6 +52,12 @@ place_fault size jobs place = job_fault size (take place jobs) (slice_index jobs
 -- the first fault in a list of jobs, from the left
 abbrev pub jobs_fault : ℕ → List ℕ → Option CallFault
 jobs_fault size jobs = first_some (map (place_fault size jobs) (below (length jobs)))
+
+-- the place of the first job with which the jobs from the left are no sequence, or the length if there is none
+pub record IsFaultyPlace (size : ℕ) (jobs : List ℕ) (place : ℕ) : Type 0 where
+  pub inside : place ≤ length jobs
+  pub before : IsSequence size (take place jobs)
+  pub faulty : place < length jobs → IsSequence size (take (place + 1) jobs) → ⊥
 
 -- ---- the arguments of calls, in the order of their checks
 

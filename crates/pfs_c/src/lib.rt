@@ -4,6 +4,7 @@
 //! machines and places count from 0.
 #![tactic(auto)]
 
+mod asking;
 mod given;
 mod handle;
 mod iterating;
