@@ -51,11 +51,15 @@ def svg_of(schedule: Schedule) -> str | None:
     return picture_of(figure, "svg", DPI).decode("utf-8")
 
 
-def plot(schedule: Schedule, path: str | os.PathLike[str] | None = None, *, critical: bool, bound: bool,
-         unit: str | None = None, width: float = 12.0, dpi: int = DPI, title: bool | str = True, ax: Any = None,
-         calendar: Calendar | None = None) -> Any:
+def plot(schedule: Schedule, path: str | os.PathLike[str] | None = None, *, critical: bool,
+         bound: bool | int, unit: str | None = None, width: float = 12.0, dpi: int = DPI, title: bool | str = True,
+         ax: Any = None, calendar: Calendar | None = None) -> Any:
     """The figure, or, where the path is that of a page, none."""
     shop = schedule.instance
+    if type(bound) in BOOLS:
+        line = shop.bound() if bound else None
+    else:
+        line = checked_int(bound, "bound", 0, 2**64 - 1)
     clock = None if calendar is None else Clock(calendar, shop)
     ending = None if path is None else ending_of(path)
     check_frame(width, title, ax)
@@ -66,7 +70,7 @@ def plot(schedule: Schedule, path: str | os.PathLike[str] | None = None, *, crit
         [shown(shop.job_name(job)) for job in schedule.order.tolist()],
         [shown(shop.machine_name(machine)) for machine in range(shop.machines)],
         width, checked_int(dpi, "dpi", 20, 2_400), shown(title) if isinstance(title, str) else title, critical,
-        shop.bound() if bound else None, shown(unit or shop.unit or UNIT), shop.decimals,
+        line, shown(unit or shop.unit or UNIT), shop.decimals,
         key=shop.job_names is not None and ax is None)
     most = max(1, int(chart.plot_width / 1.1))
     if clock is not None:
