@@ -16,7 +16,7 @@ from pfs._calendar import Calendar, Clock, day_of, text_of
 from pfs._drawing import DPI, IDLE, UNIT, Chart, draw, ink, picture_of
 from pfs._names import CLOCK, shown
 from pfs._optional import optional
-from pfs._validate import checked_int
+from pfs._validate import BOOLS, checked_int
 
 if TYPE_CHECKING:
     from pfs._schedule import Schedule

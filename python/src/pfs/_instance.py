@@ -559,8 +559,8 @@ class Instance:
         Returns
         -------
         Solution
-            The best order. Its ``rounds`` is the number of the next round, and ``cells`` counts the cells of this call;
-            it is 0 with ``"iterated-greedy"``, ``hold`` and ``move``.
+            The best order. Its ``rounds`` is the number of the next round, and ``cells`` counts the cells of this call,
+            but for those of rounds with ``"iterated-greedy"``, ``hold`` or ``move``.
 
         Raises
         ------

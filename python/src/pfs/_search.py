@@ -145,8 +145,8 @@ class Search(Rounds):
             found = Solution(np.frombuffer(part.order, dtype=np.uint32), part.makespan.value, part.all_cells(),
                              self.shop.machines, part.rounds, part.seed)
             found.bound = self.bound
-            if part.current is not None:
-                found.current = np.array(part.current, dtype=np.int64)
+            if self.more is not None:
+                found.current = np.array(part.current or part.order, dtype=np.int64)
                 found.current.setflags(write=False)
             part.solution = found
         if len(found.history) < len(self.history):
