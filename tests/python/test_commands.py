@@ -403,7 +403,8 @@ def test_the_methods_of_a_plan(folder: pathlib.Path, monkeypatch: pytest.MonkeyP
         "": ("iterated-greedy", 2, 100, 1, 1), "--rounds 9": ("iterated-greedy", 2, 100, None, 0),
         "--method solve": ("solve", 4, 1, 1, 1), "--method solve --rounds 9": ("solve", 4, 0, None, 0),
         "--method iterated-greedy --passes 3 --take 1": ("iterated-greedy", 1, 3, 1, 1),
-        "--order order": ("iterated-greedy", 2, 100, 0, 0), "--order order --prove 9": ("iterated-greedy", 2, 100, 0, 0),
+        "--order order": ("iterated-greedy", 2, 100, 0, 0),
+        "--order order --prove 9": ("iterated-greedy", 2, 100, 0, 0),
         "--order order --keep": ("solve", 4, 1, 1, 0), "--order order --keep --method solve": ("solve", 4, 1, 1, 0),
         "--order order --hold 2": ("iterated-greedy", 2, 100, 1, 0), "--seconds 0": ("iterated-greedy", 2, 100, 0, 0),
         "--rounds 9 --prove 3": ("iterated-greedy", 2, 100, None, 3)}
@@ -448,7 +449,8 @@ def test_the_defaults_that_the_help_states(folder: pathlib.Path, monkeypatch: py
         got["block"] = "1"
     if command == "plan":
         assert "without one of rounds a second" in text and "else iterated-greedy, and solve with --keep" in text
-        got |= {"seconds": "1", "method": "iterated-greedy", "prove": re.findall(r"else (\d), and 0 with --rounds", text)[0]}
+        got |= {"seconds": "1", "method": "iterated-greedy"}
+        got["prove"] = re.findall(r"else (\d), and 0 with --rounds", text)[0]
     others = {"block", "rounds"} if command == "plan" else {"seconds", "method", "prove"}
     assert got.keys() == OTHERS.keys() - others, f"defaults in the help: {got}"
     usual = asked(folder, monkeypatch, line)

@@ -83,8 +83,7 @@ def neh(times: Table) -> list[int]:
 
 def placed(times: Table, order: list[int], held: int, job: int, ties: str) -> list[int]:
     """The order with a job at its best place behind the held ones. Of those that are equally good it is the first or, by
-    idle time, the first of those at which the job, or the one that follows it, ends the earliest, compared with before
-    and summed over the machines."""
+    idle time, the first of those that delay the next job least, or at the end the end, summed over the machines."""
     def delay(place: int) -> int:
         fronts = [order[:place] + [job] + order[place:place + 1], order[:place + 1]]
         after, before = (sum(end for _, end in schedule(times, front)[-1]) if front else 0 for front in fronts)
@@ -100,7 +99,8 @@ def iterated(times: Table, orders: tuple[list[int], list[int]], rounds: range, *
              passes: int, ties: str, temperature: float, seed: int) -> tuple[list[int], list[int]]:
     """The current and the best order after some rounds of the search that also accepts longer orders."""
     current, best = orders
-    jobs, heat = len(times), temperature * sum(map(sum, times)) / (10 * len(times) * len(times[0]))
+    jobs, total = len(times), sum(sum(row) for row in times)
+    heat = temperature * total / (10 * jobs * len(times[0]))
 
     def improved(order: list[int], visits: list[int], most: int) -> list[int]:
         for _ in range(most):

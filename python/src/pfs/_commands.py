@@ -391,6 +391,21 @@ def add_search_words(add: Callable[..., object], rounds: str, seconds: str, take
     add("--seed", type=number(0, c.MOST_SEED), default=0, metavar="S", help="of 64 bits, else 0")
 
 
+def add_method_words(add: Callable[..., object]) -> None:
+    """Add the options that say how a plan is searched."""
+    add_search_words(
+        add, "no limit", "; without one of rounds a second, and it ends before if the order is optimal",
+        "2, and 4 with --method solve",
+        "100, which are the most in each round; with --method solve 0, and 1 without --rounds")
+    add("--method", choices=tuple(USUAL),
+        help="how the order is searched: iterated-greedy, which also accepts longer orders, or solve, as `pfs solve` "
+        "does it; else iterated-greedy, and solve with --keep")
+    add("--prove", type=seconds_of, metavar="S",
+        help="for how many seconds to try to prove after the search that its order is optimal, else 1, and 0 with "
+        "--rounds; it isn't tried for an order that is only evaluated, while jobs are held or kept, and beyond 256 "
+        "jobs or 64 machines")
+
+
 def words_of_line(plan: argparse.ArgumentParser, line: str) -> list[str]:
     """The words of a line of a file with options, in which # begins a comment."""
     try:
@@ -405,16 +420,7 @@ def words_of_line(plan: argparse.ArgumentParser, line: str) -> list[str]:
 def add_plan_words(plan: argparse.ArgumentParser) -> None:
     """Add the arguments of `plan`."""
     plan.set_defaults(run=plan_command)
-    add_search_words(
-        plan.add_argument, "no limit", "; without one of rounds a second, and it ends before if the order is optimal",
-        "2, and 4 with --method solve",
-        "100, which are the most in each round; with --method solve 0, and 1 without --rounds")
-    plan.add_argument("--method", choices=tuple(USUAL), help="how the order is searched: iterated-greedy, which also "
-                      "accepts longer orders, or solve, as `pfs solve` does it; else iterated-greedy, and solve with "
-                      "--keep")
-    plan.add_argument("--prove", type=seconds_of, metavar="S", help="for how many seconds to try to prove after the "
-                      "search that its order is optimal, else 1, and 0 with --rounds; it isn't tried for an order "
-                      "that is only evaluated, while jobs are held or kept, and beyond 256 jobs or 64 machines")
+    add_method_words(plan.add_argument)
     # Options may be in a file, as in a shell: @week.txt.
     plan.fromfile_prefix_chars = "@"
     setattr(plan, "convert_arg_line_to_args", partial(words_of_line, plan))

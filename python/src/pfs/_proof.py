@@ -1,5 +1,5 @@
-"""Proofs that an order is optimal, by the library's branch and bound. It is called with more and more nodes, in a thread
-that is left behind at an interruption."""
+"""Proofs that an order is optimal, by the library's branch and bound. Each call of it has more nodes, and is made in a
+thread that an interruption leaves running."""
 from __future__ import annotations
 
 import copy
@@ -91,8 +91,8 @@ class Proof:
 
 
 def proved(shop: Instance, best: Solution, seconds: float, is_stopped: Callable[[], bool]) -> Solution:
-    """Return the order, or a shorter one, with the bound that could be proved. Every exception has the best order so far
-    in its attribute `solution`."""
+    """Return the order, or a shorter one, with the bound that could be proved. Every exception has the best order so
+    far in its attribute `solution`."""
     proof = Proof(shop, best)
     try:
         proof.run(seconds, is_stopped)

@@ -6,7 +6,6 @@ import ctypes
 import time
 from collections.abc import Callable
 from ctypes import byref, c_size_t, c_uint32, c_uint64
-from decimal import Decimal, localcontext
 from typing import Any, Final, NamedTuple
 
 MOST_ROUNDS: Final = 1_000_000
@@ -53,6 +52,8 @@ def accept_of(temperature: float, total: int, operations: int) -> ctypes.Array[c
     >>> accept_of(10, 2, 2)[:3]
     [4294967295, 1580030168, 581260615]
     """
+    # Only these searches need it, and short runs of experiments are shorter than its import.
+    from decimal import Decimal, localcontext
     with localcontext() as context:
         context.prec = 60
         heat = Decimal(temperature) * total / (10 * operations)

@@ -74,8 +74,8 @@ def iterating_of(shop: Instance, held: int, method: str = "solve", ties: str | N
 
 
 class Search(Rounds):
-    """Iterated greedy on an instance, by a method and its options `more`. `solution` returns the best order so far, also
-    after an interruption. The jobs `hold` keep the first places."""
+    """Iterated greedy on an instance, by a method and its options `more`. The jobs `hold` keep the first places.
+    `solution` returns the best order so far, also after an interruption."""
 
     def __init__(self, shop: Instance, start: Jobs | None, first: int, take: int | None, passes: int | None, seed: int,
                  hold: Jobs = (), **more: Any) -> None:

@@ -103,7 +103,8 @@ class Solution:
         return hash((self.order.tobytes(), self.makespan))
 
     def __reduce__(self) -> tuple[Any, ...]:
-        return type(self), self._fields(), (None, {name: getattr(self, name) for name in ("history", "bound", "current")})
+        return type(self), self._fields(), (None, {"history": self.history, "bound": self.bound,
+                                                  "current": self.current})
 
     def to_text(self) -> str:
         """Return the text of an order file, as ``pfs solve`` prints it: of version 2, or of version 1 if ``machines``
