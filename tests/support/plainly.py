@@ -82,8 +82,8 @@ def neh(times: Table) -> list[int]:
 
 
 def placed(times: Table, order: list[int], held: int, job: int, ties: str) -> list[int]:
-    """The order with a job at its best place behind the held ones. Of those that are equally good it is the first or, by
-    idle time, the first of those that delay the next job least, or at the end the end, summed over the machines."""
+    """The order with a job at its best place behind the held ones. Of those that are equally good it is the first or,
+    by idle time, the first of those that delay the next job least, or at the end the end, summed over the machines."""
     def delay(place: int) -> int:
         fronts = [order[:place] + [job] + order[place:place + 1], order[:place + 1]]
         after, before = (sum(end for _, end in schedule(times, front)[-1]) if front else 0 for front in fronts)

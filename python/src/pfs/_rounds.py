@@ -70,6 +70,12 @@ def accept_of(temperature: float, total: int, operations: int) -> ctypes.Array[c
     return (c_uint32 * len(found))(*[2**32 - 1][:len(found)], *found[1:])
 
 
+def iterating(total: int, operations: int, partial: int = 100, ties: str = "idle", temperature: float = 0.5,
+              held: int = 0) -> Iterating:
+    """Return the options for an instance by the sum and the number of its times."""
+    return Iterating(partial, TIES[ties], accept_of(temperature, total, operations), held)
+
+
 class Part:
     """The results of one call of the library. The code around the call may be interrupted at any point; `is_done` then
     says whether the call was made."""

@@ -11,7 +11,7 @@ import numpy as np
 
 from pfs import _library as c
 from pfs._faults import Interrupted
-from pfs._rounds import TIES, Iterating, Pace, Part, Rounds, accept_of
+from pfs._rounds import TIES, Iterating, Pace, Part, Rounds, iterating
 from pfs._solution import Improvement, Solution, as_order
 from pfs._validate import BOOLS, Jobs, as_uint32_bytes, checked_int, checked_order, jobs_error
 
@@ -61,16 +61,19 @@ def iterating_of(shop: Instance, held: int, method: str = "solve", ties: str | N
                  temperature: float | None = None, partial: int | None = None) -> Iterating | None:
     """Return the options of rounds that may accept longer orders, or None for rounds of `pfs solve`. While jobs are
     held, these are made with the same options, and accept no longer orders."""
-    given = {"ties": ties, "temperature": temperature, "partial": partial}
+    given = {name: value for name, value in (("ties", ties), ("partial", partial), ("temperature", temperature))
+             if value is not None}
     if method == "solve":
-        name = next((name for name, value in given.items() if value is not None), None)
-        if name is not None:
-            raise ValueError(f"{name} needs method='iterated-greedy'")
-        return Iterating(0, TIES["first"], accept_of(0, 0, 1), held) if held else None
-    rule = one_of("idle" if ties is None else ties, TIES, "ties")
-    heat = 0.5 if temperature is None else number_of(temperature, "temperature", 0, MOST_TEMPERATURE)
-    return Iterating(checked_int(c.MOST_PASSES if partial is None else partial, "partial", 0, c.MOST_PASSES),
-                     TIES[rule], accept_of(heat, int(shop.times.sum()), shop.times.size), held)
+        if given:
+            raise ValueError(f"{next(iter(given))} needs method='iterated-greedy'")
+        return iterating(0, 1, 0, "first", 0, held) if held else None
+    if ties is not None:
+        one_of(ties, TIES, "ties")
+    if partial is not None:
+        given["partial"] = checked_int(partial, "partial", 0, c.MOST_PASSES)
+    if temperature is not None:
+        given["temperature"] = number_of(temperature, "temperature", 0, MOST_TEMPERATURE)
+    return iterating(int(shop.times.sum()), shop.times.size, held=held, **given)
 
 
 class Search(Rounds):
