@@ -355,6 +355,32 @@ def test_the_search_that_accepts_longer_orders(experiment: Experiment, with_libr
     assert "new.csv was started with another command" in experiment.plan(other).run("new.csv", env=with_library).stderr
 
 
+def test_bounds_are_proved_and_optima_counted(experiment: Experiment, with_library: dict[str, str]) -> None:
+    """From the best order of each instance. A later call keeps what is proved, and a makespan below it is rejected."""
+    text = 'instances = ["shops/*"]\nseeds = [1, 2]\nrounds = [0, 200]\nmethod = "m"\n'
+    assert experiment.plan(text).run().status == 0
+    before = csv_rows(experiment.folder / "out.csv")
+    got = experiment.script("prove", "out.csv", "--seconds", "60", env=with_library)
+    assert got.status == 0 and "out.csv: 2 of 2 best orders are optimal\n" in got.stderr
+    assert got.stdout == "shops/a: 1278, optimal\n" + f"shops/b: {before[-1]['makespan']}, optimal\n"
+    after = csv_rows(experiment.folder / "out.csv")
+    bounds = {"shops/a": "1278", "shops/b": before[-1]["makespan"]}
+    assert after == [row | {"proved_bound": bounds[row["instance"]]} for row in before]
+    assert experiment.script("check", "out.csv").status == 0
+    assert experiment.script("report", "out.csv", "report").status == 0
+    tables = csv_rows(experiment.folder / "report" / "table.csv")
+    for row in tables:
+        runs = [each for each in after if (each["jobs"], each["rounds"]) == (row["jobs"], row["rounds"])]
+        assert row["optimal"] == str(sum(each["makespan"] == each["proved_bound"] for each in runs))
+    assert {row["optimal"] for row in tables} > {"0"}
+    assert experiment.script("status", "out.csv").status == 0
+    assert csv_rows(experiment.folder / "out.csv") == after
+    (experiment.folder / "out.csv").write_text((experiment.folder / "out.csv").read_text().replace(",1278,", ",1277,"))
+    assert "is below the bound 1278" in experiment.script("report", "out.csv", "report").stderr
+    assert "out.csv was not started" not in experiment.script("prove", "out.csv", env=with_library).stderr
+    assert experiment.script("prove", "none.csv", env=with_library).status == 4
+
+
 def test_readmes_plans_by_time(experiment: Experiment, with_library: dict[str, str]) -> None:
     """For files in OR-Library's layout, and for several methods."""
     for_vfr, of_mine, methods = re.findall(r"```\n([^`]*time_factors[^`]*)```", README)
