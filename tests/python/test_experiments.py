@@ -344,7 +344,7 @@ def test_the_search_that_accepts_longer_orders(experiment: Experiment, with_libr
         ("ig", "2", "100", "", "ok"), ("own", "1", "0", "", "ok"), ("own", "1", "3", "", "ok")}
     assert {row["time_factor"] for row in rows if row["method"] == "ig"} == {"", "1"}
     for row in rows:
-        words = {name: int(row[name]) for name in ("rounds", "take", "passes", "seed")}
+        words: dict[str, Any] = {name: int(row[name]) for name in ("rounds", "take", "passes", "seed")}
         found = pfs.read(experiment.folder / row["instance"], "taillard").solve(method="iterated-greedy", **words)
         assert (experiment.folder / row["order"]).read_text() == found.to_text(), row
     assert experiment.script("check", "out.csv").status == 0

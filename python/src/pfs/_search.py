@@ -61,8 +61,8 @@ def iterating_of(shop: Instance, held: int, method: str = "solve", ties: str | N
                  temperature: float | None = None, partial: int | None = None) -> Iterating | None:
     """Return the options of rounds that may accept longer orders, or None for rounds of `pfs solve`. While jobs are
     held, these are made with the same options, and accept no longer orders."""
-    given = {name: value for name, value in (("ties", ties), ("partial", partial), ("temperature", temperature))
-             if value is not None}
+    options = {"ties": ties, "temperature": temperature, "partial": partial}
+    given: dict[str, Any] = {name: value for name, value in options.items() if value is not None}
     if method == "solve":
         if given:
             raise ValueError(f"{next(iter(given))} needs method='iterated-greedy'")
