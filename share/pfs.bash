@@ -18,7 +18,7 @@ _pfs() {
     case $prev in
         --layout | --from | --to) offered='taillard orlib' ;;
         --*[!a-z-]*) ;;
-        --*) offered=$(sed -n "s/.*$prev {\([a-z,]*\)}.*/\1/p" <<< "$usage" | tr , ' ') ;;
+        --*) offered=$(sed -n "s/.*$prev {\([a-z,-]*\)}.*/\1/p" <<< "$usage" | tr , ' ') ;;
     esac
     if [ -n "$offered" ]; then
         :

@@ -342,10 +342,15 @@ def asked(folder: pathlib.Path, monkeypatch: pytest.MonkeyPatch, words: list[str
 
     def searched(search: Any, rounds: int | None, seconds: float | None, *_: Any) -> tuple[pfs.Solution, None]:
         found.update(take=search.take, passes=search.passes, seed=search.seed, rounds=rounds, seconds=seconds,
-                     block=search.shop.to_text())
+                     block=search.shop.to_text(), method="iterated-greedy" if search.more else "solve", prove=0)
         return search.solution(), None
 
+    def proved_for(seconds: float, _: Any, best: pfs.Solution, __: Any) -> tuple[pfs.Solution, None]:
+        found.update(prove=seconds)
+        return best, None
+
     monkeypatch.setattr(_commands, "searched", searched)
+    monkeypatch.setattr(_commands, "proved_for", proved_for)
     monkeypatch.chdir(folder)
     assert _commands.main(words) == 0
     return found
@@ -367,12 +372,68 @@ def test_a_plan_is_searched_for_its_seconds(folder: pathlib.Path, monkeypatch: p
     monkeypatch.setattr(_search.Search, "run_part", noted)
     monkeypatch.setattr(_rounds, "MOST_ROUNDS", 7)
     begun = time.monotonic()
-    assert "optimal" not in run(["plan", "times.csv", "--seconds", "0.5"], folder)
+    assert "optimal" not in run(["plan", "times.csv", "--seconds", "0.5", "--prove", "0"], folder)
     assert time.monotonic() - begun >= 0.5 and len(seeds) > 1
 
 
+def test_a_plan_is_proved_optimal(folder: pathlib.Path) -> None:
+    """What is printed and drawn is the bound that is proved, of all orders alone."""
+    (folder / "times.csv").write_text(ABOVE_BOUND)
+    times = [[1, 4, 0], [2, 0, 3], [3, 3, 5], [3, 1, 0]]
+    least, bound = plainly.shortest(times), plainly.bound(times)
+    words = ["plan", "times.csv", "--seconds", "0.1"]
+    proved = run([*words, "--chart", "out.svg"], folder).splitlines()
+    assert proved[:3] == [f"makespan {least}", f"bound {least}", "optimal"] and least > bound
+    assert f"makespan {least}, bound {least} (dashed)" in (folder / "out.svg").read_text()
+    alone = [f"makespan {least}", f"bound {bound}"]
+    (folder / "order").write_text("\n".join(line[2:] for line in proved[3:]))
+    for others in (["--prove", "0"], ["--rounds", "100"], ["--order", "order", "--rounds", "100"],
+                   ["--order", "order", "--prove", "5"], ["--first", proved[3][2:], "--prove", "5"],
+                   ["--order", "order", "--hold", "1", "--prove", "5"], ["--order", "order", "--keep", "--prove", "5"]):
+        assert run([*(words if others == ["--prove", "0"] else words[:2]), *others], folder).splitlines()[:3] == [
+            *alone, proved[3]], others
+    for others in (["--rounds", "0", "--prove", "5"], ["--order", "order", "--seconds", "0", "--prove", "5"]):
+        assert run([*words[:2], *others], folder).splitlines()[:3] == proved[:3], others
+
+
+def test_the_methods_of_a_plan(folder: pathlib.Path, monkeypatch: pytest.MonkeyPatch) -> None:
+    (folder / "times.csv").write_text(TABLE)
+    (folder / "order").write_text("table\nchair\n")
+    cases: dict[str, tuple[Any, ...]] = {
+        "": ("iterated-greedy", 2, 100, 1, 1), "--rounds 9": ("iterated-greedy", 2, 100, None, 0),
+        "--method solve": ("solve", 4, 1, 1, 1), "--method solve --rounds 9": ("solve", 4, 0, None, 0),
+        "--method iterated-greedy --passes 3 --take 1": ("iterated-greedy", 1, 3, 1, 1),
+        "--order order": ("iterated-greedy", 2, 100, 0, 0),
+        "--order order --prove 9": ("iterated-greedy", 2, 100, 0, 0),
+        "--order order --keep": ("solve", 4, 1, 1, 0), "--order order --keep --method solve": ("solve", 4, 1, 1, 0),
+        "--order order --hold 2": ("iterated-greedy", 2, 100, 1, 0), "--seconds 0": ("iterated-greedy", 2, 100, 0, 0),
+        "--rounds 9 --prove 3": ("iterated-greedy", 2, 100, None, 3)}
+    for words, due in cases.items():
+        found = asked(folder, monkeypatch, ["plan", "times.csv", *words.split()])
+        assert tuple(found[name] for name in ("method", "take", "passes", "seconds", "prove")) == due, words
+
+
+def test_a_proof_that_is_interrupted_or_fails_loses_no_order(folder: pathlib.Path,
+                                                            monkeypatch: pytest.MonkeyPatch) -> None:
+    shop = pfs.taillard(51)
+    names = "".join(f",m{machine}" for machine in range(shop.machines))
+    rows = (f"j{job}," + ",".join(map(str, row)) for job, row in enumerate(shop.times.tolist()))
+    (folder / "hard.csv").write_text("\n".join([f"job{names}", *rows]))
+    process = start(["plan", "hard.csv", "--seconds", "0.1", "--prove", "60"], folder)
+    time.sleep(3)
+    process.send_signal(signal.SIGINT)
+    begun = time.monotonic()
+    out, _ = process.communicate(timeout=30)
+    assert process.returncode == 130 and time.monotonic() - begun < 10
+    assert out.startswith(b"makespan ") and b"optimal" not in out and len(out.splitlines()) == 52
+    monkeypatch.setattr(_library.library, "pfs_prove", lambda *_: _library.MEMORY)
+    monkeypatch.chdir(folder)
+    assert _commands.main(["plan", "hard.csv", "--seconds", "0.1"]) == 4
+
+
 # Another value of each option that has a default.
-OTHERS = {"rounds": "7", "seconds": "9", "take": "5", "passes": "2", "seed": "3", "block": "2"}
+OTHERS = {"rounds": "7", "seconds": "9", "take": "5", "passes": "2", "seed": "3", "block": "2",
+          "method": "solve", "prove": "9"}
 
 
 @pytest.mark.parametrize("command", ["search", "plan"])
@@ -387,9 +448,10 @@ def test_the_defaults_that_the_help_states(folder: pathlib.Path, monkeypatch: py
         assert "--block K counted from 1" in text
         got["block"] = "1"
     if command == "plan":
-        assert "a plan without a limit of rounds has a second" in text and got.pop("rounds") == "1,000,000"
-        got |= {"seconds": "1", "passes": re.findall(r"and (\d) in a plan without a limit of rounds", text)[0]}
-    others = {"block", "rounds"} if command == "plan" else {"seconds"}
+        assert "without one of rounds a second" in text and "else iterated-greedy, and solve with --keep" in text
+        got |= {"seconds": "1", "method": "iterated-greedy"}
+        got["prove"] = re.findall(r"else (\d), and 0 with --rounds", text)[0]
+    others = {"block", "rounds"} if command == "plan" else {"seconds", "method", "prove"}
     assert got.keys() == OTHERS.keys() - others, f"defaults in the help: {got}"
     usual = asked(folder, monkeypatch, line)
     for name, value in got.items():
@@ -397,7 +459,7 @@ def test_the_defaults_that_the_help_states(folder: pathlib.Path, monkeypatch: py
         assert given == usual, f"the help of {command} tells {value} as the default of --{name}"
         assert asked(folder, monkeypatch, [*line, f"--{name}", OTHERS[name]])[name] != usual[name]
     limited, in_rounds = (asked(folder, monkeypatch, [*line, option, "5"]) for option in ("--seconds", "--rounds"))
-    assert limited["seconds"] == 5 and (in_rounds["seconds"], in_rounds["passes"]) == (None, 0)
+    assert limited["seconds"] == 5 and in_rounds["seconds"] is None
     assert limited["rounds"] == (1_000_000 if command == "search" else None)
 
 

@@ -12,6 +12,7 @@ import subprocess
 import time
 from typing import Any
 
+import pfs
 import pytest
 from pfs import _rounds
 from pfs._rounds import Rounds
@@ -48,6 +49,7 @@ MINE = ALL + 'method = "m"\n'
 INVALID = {
     "seed": ALL + "seed = [1]\n", "rounds must": ALL + "rounds = 3\n", "rounds must be": ALL + "rounds = []\n",
     "seeds": ALL + "seeds = [1.5]\n", "seeds must": ALL + "seeds = [true]\n", "passes": ALL + "passes = [101]\n",
+    "search must": ALL + 'search = "neh"\n', "search": ALL + "search = 1\n",
     "repetitions": ALL + "repetitions = 0\n", "layout": ALL + 'layout = "csv"\n', "plan.toml": ALL + "rounds = [1\n",
     "instances": "", "none*": 'instances = ["none*"]', "shops is not a file": 'instances = ["sh*"]',
     "from 0 to 1,000,000": ALL + "rounds = [1000001]\n", "shops/b has only 3 jobs": ALL + "takes = [2, 4]\n",
@@ -330,6 +332,55 @@ def test_runs_by_time_take_their_time(experiment: Experiment, with_library: dict
     assert sums["libpfs.so.1"] == hashlib.sha256(pathlib.Path(with_library["PFS_LIBRARY"]).read_bytes()).hexdigest()
 
 
+def test_the_search_that_accepts_longer_orders(experiment: Experiment, with_library: dict[str, str]) -> None:
+    """By rounds and by time, beside that of pfs. Its orders are those of the package, and are audited."""
+    text = ('instances = ["shops/*"]\nseeds = [1, 2]\nrounds = [0, 20]\n[[methods]]\nmethod = "pfs"\n'
+            '[[methods]]\nmethod = "ig"\nsearch = "iterated-greedy"\n{}'
+            '[[methods]]\nmethod = "own"\nsearch = "iterated-greedy"\ntakes = [1]\npasses = [0, 3]\n')
+    for more in ("", "time_factors = [1]\n"):
+        assert experiment.plan(text.format(more)).run(env=with_library).status == 0
+    rows = [row for row in csv_rows(experiment.folder / "out.csv") if row["method"] != "pfs"]
+    assert {(row["method"], row["take"], row["passes"], row["cells"], row["status"]) for row in rows} == {
+        ("ig", "2", "100", "", "ok"), ("own", "1", "0", "", "ok"), ("own", "1", "3", "", "ok")}
+    assert {row["time_factor"] for row in rows if row["method"] == "ig"} == {"", "1"}
+    for row in rows:
+        words: dict[str, Any] = {name: int(row[name]) for name in ("rounds", "take", "passes", "seed")}
+        found = pfs.read(experiment.folder / row["instance"], "taillard").solve(method="iterated-greedy", **words)
+        assert (experiment.folder / row["order"]).read_text() == found.to_text(), row
+    assert experiment.script("check", "out.csv").status == 0
+    assert experiment.plan(text.format('command = "./mine {instance}"\n')).run("new.csv").stderr == (
+        "pfs-experiments run: plan.toml: search is for pfs, not for a command\n")
+    assert experiment.plan(text.format("")).run("new.csv", env=with_library).status == 0
+    other = text.format("").replace('search = "iterated-greedy"\n[[', "[[")
+    assert "new.csv was started with another command" in experiment.plan(other).run("new.csv", env=with_library).stderr
+
+
+def test_bounds_are_proved_and_optima_counted(experiment: Experiment, with_library: dict[str, str]) -> None:
+    """From the best order of each instance. A later call keeps what is proved, and a makespan below it is rejected."""
+    text = 'instances = ["shops/*"]\nseeds = [1, 2]\nrounds = [0, 200]\nmethod = "m"\n'
+    assert experiment.plan(text).run().status == 0
+    before = csv_rows(experiment.folder / "out.csv")
+    got = experiment.script("prove", "out.csv", "--seconds", "60", env=with_library)
+    assert got.status == 0 and "out.csv: 2 of 2 best orders are optimal\n" in got.stderr
+    assert got.stdout == "shops/a: 1278, optimal\n" + f"shops/b: {before[-1]['makespan']}, optimal\n"
+    after = csv_rows(experiment.folder / "out.csv")
+    bounds = {"shops/a": "1278", "shops/b": before[-1]["makespan"]}
+    assert after == [row | {"proved_bound": bounds[row["instance"]]} for row in before]
+    assert experiment.script("check", "out.csv").status == 0
+    assert experiment.script("report", "out.csv", "report").status == 0
+    tables = csv_rows(experiment.folder / "report" / "table.csv")
+    for row in tables:
+        runs = [each for each in after if (each["jobs"], each["rounds"]) == (row["jobs"], row["rounds"])]
+        assert row["optimal"] == str(sum(each["makespan"] == each["proved_bound"] for each in runs))
+    assert {row["optimal"] for row in tables} > {"0"}
+    assert experiment.script("status", "out.csv").status == 0
+    assert csv_rows(experiment.folder / "out.csv") == after
+    (experiment.folder / "out.csv").write_text((experiment.folder / "out.csv").read_text().replace(",1278,", ",1277,"))
+    assert "is below the bound 1278" in experiment.script("report", "out.csv", "report").stderr
+    assert "out.csv was not started" not in experiment.script("prove", "out.csv", env=with_library).stderr
+    assert experiment.script("prove", "none.csv", env=with_library).status == 4
+
+
 def test_readmes_plans_by_time(experiment: Experiment, with_library: dict[str, str]) -> None:
     """For files in OR-Library's layout, and for several methods."""
     for_vfr, of_mine, methods = re.findall(r"```\n([^`]*time_factors[^`]*)```", README)
@@ -339,7 +390,7 @@ def test_readmes_plans_by_time(experiment: Experiment, with_library: dict[str, s
     assert experiment.plan(for_vfr).run(env=with_library).status == 0
     assert experiment.columns("instance", "time_factor", "reference") == [("VFR10_5_1_Gap.txt", "30", "20")]
     write_script(experiment.folder / "mine", "#!/bin/sh\necho 1 2 3\n")
-    for text, found in ((of_mine, {("mine", "")}), (methods, {("mine", ""), ("pfs", "1")})):
+    for text, found in ((of_mine, {("mine", "")}), (methods, {("mine", ""), ("pfs", "1"), ("longer", "100")})):
         experiment.plan(re.sub("out/taillard/[^\"]*", "shops/b", text))
         assert experiment.run("methods.csv", env=with_library).status == 0
         assert {*experiment.columns("method", "passes", csv_name="methods.csv")} == found

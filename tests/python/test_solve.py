@@ -1,8 +1,10 @@
 """Searches: the same end however they are cut into parts, progress, limits, interruptions, threads."""
 import io
 import itertools
+import math
 import os
 import pathlib
+import pickle
 import signal
 import sys
 import threading
@@ -413,6 +415,20 @@ def test_a_call_frees_the_lock() -> None:
     ({"hold": ["d"]}, ValueError, "hold: 'd' at place 0 isn't the name of a job"),
     ({"hold": 1}, ValueError, r"hold must be a list of jobs, not of the shape \(\)"),
     ({"move": [0.5]}, ValueError, "move: 0.5 at place 0 isn't a whole number"),
+    ({"method": "iterated"}, ValueError, "method must be 'solve' or 'iterated-greedy', not 'iterated'$"),
+    ({"method": None}, TypeError, "method must be 'solve' or 'iterated-greedy', not None$"),
+    ({"ties": "idle"}, ValueError, "ties needs method='iterated-greedy'$"),
+    ({"partial": 0}, ValueError, "partial needs method='iterated-greedy'$"),
+    ({"temperature": 0}, ValueError, "temperature needs method='iterated-greedy'$"),
+    ({"method": "iterated-greedy", "ties": "last"}, ValueError, "ties must be 'first' or 'idle', not 'last'$"),
+    ({"method": "iterated-greedy", "ties": 1}, TypeError, "ties must be 'first' or 'idle', not 1$"),
+    ({"method": "iterated-greedy", "partial": 101}, ValueError, "partial must be from 0 to 100, not 101$"),
+    ({"method": "iterated-greedy", "passes": 101}, ValueError, "passes must be from 0 to 100, not 101$"),
+    ({"method": "iterated-greedy", "temperature": -0.1}, ValueError, "temperature must be from 0 to 1,000, not -0.1$"),
+    ({"method": "iterated-greedy", "temperature": 1000.1}, ValueError, "temperature must be from 0 to 1,000, not "),
+    ({"method": "iterated-greedy", "temperature": float("nan")}, ValueError, "temperature must be .*, not nan$"),
+    ({"method": "iterated-greedy", "temperature": "1"}, TypeError, "temperature must be a number, not '1'$"),
+    ({"method": "iterated-greedy", "move": [1]}, ValueError, "move needs method='solve'$"),
 ])
 def test_options_that_are_rejected(words: dict[str, Any], kind: type[Exception], why: str) -> None:
     shop = pfs.Instance(pfs.taillard(1).times, job_names=map(str, range(20)))
@@ -543,7 +559,106 @@ def test_a_solution_of_another_instance_is_rejected() -> None:
     assert other.solve(0, start=pfs.Solution(best.order, 1)).order.tolist() == best.order.tolist()
 
 
-# Searches that hold jobs
+# Searches that accept longer orders, and those that hold jobs
+
+LONGER: dict[str, Any] = {"method": "iterated-greedy"}
+TIES = ["first", "idle"]
+
+
+@given(case=plainly.shops_and_orders(5), counts=st.lists(st.integers(1, 5), min_size=1, max_size=3),
+       rounds=st.integers(0, 8), seed=st.integers(0, 2**64 - 1), held=st.integers(0, 5), partial=st.integers(0, 2),
+       passes=st.integers(0, 2), ties=st.sampled_from(TIES), temperature=st.sampled_from([0, 0.5, 3, 40]),
+       chance=st.randoms(use_true_random=False))
+def test_rounds_that_accept_longer_orders(
+        cut: Callable[[list[int]], None], case: tuple[plainly.Table, list[int]], counts: list[int], rounds: int,
+        seed: int, held: int, partial: int, passes: int, ties: str, temperature: float, chance: Any) -> None:
+    """Both orders are those of the definition, however the rounds are cut into parts and calls."""
+    times, order = case
+    jobs = len(times)
+    words: dict[str, Any] = {"partial": partial, "passes": passes, "ties": ties, "temperature": temperature,
+                             "take": chance.randint(1, jobs), "seed": seed}
+    held, shop = min(held, jobs), pfs.Instance(times)
+    hold, start = order[:held], chance.sample(order, jobs)
+    begun = hold + [job for job in start if job not in hold]
+    free = max(1, jobs - held)
+    due = plainly.iterated(times, (begun, begun), range(rounds), **words | {"held": jobs - free,
+                                                                            "take": min(words["take"], free)})
+    cut(counts)
+    words |= {**LONGER, "hold": hold}
+    whole = shop.solve(rounds, start=start, **words)
+    assert whole.current is not None and (whole.current.tolist(), whole.order.tolist()) == due
+    assert whole.makespan == plainly.makespan(times, due[1]) and whole.rounds == rounds
+    half = shop.solve(chance.randint(0, rounds), start=start, **words)
+    half = pickle.loads(pickle.dumps(half))
+    rest = shop.solve(rounds - half.rounds, start=half, first=half.rounds, **words)
+    assert rest.current is not None and (rest.current.tolist(), rest.order.tolist()) == due
+    target = whole.makespan
+    first = next(count for count in range(rounds + 1)
+                 if shop.solve(count, start=start, **words).makespan <= target)
+    assert shop.solve(rounds, start=start, target=target, history=True, **words).rounds == first
+
+
+def test_the_defaults_of_the_method() -> None:
+    shop = pfs.taillard(11)
+    usual = shop.solve(30, **LONGER)
+    others = {"take": 2, "passes": 100, "partial": 100, "ties": "idle", "temperature": 0.5, "hold": (), "first": 0}
+    assert shop.solve(30, **LONGER, **others) == usual  # type: ignore[arg-type]
+    assert usual.current is not None and shop.makespan(usual.current) >= usual.makespan < shop.neh().makespan
+    assert shop.solve(30).current is None and shop.solve(30, method="solve") == shop.solve(30)
+    different: list[dict[str, Any]] = [{"take": 3}, {"passes": 0}, {"partial": 0}, {"temperature": 5}, {"seed": 1}]
+    for other in different:
+        found = shop.solve(30, **LONGER, **other)
+        assert found.current is not None and found.current.tolist() != usual.current.tolist(), f"{other} is ignored"
+    one = pfs.Instance([[1, 2]])
+    assert one.solve(3, **LONGER).order.tolist() == one.solve(3, **LONGER, hold=[0], take=1).order.tolist() == [0]
+    assert pfs.Instance([[0], [0]]).solve(3, **LONGER).makespan == 0, "no time, and so no temperature"
+    assert pfs.Instance([[10**9] * 2] * 3).solve(3, **LONGER).makespan == 4 * 10**9
+
+
+@given(st.floats(0, 1000), st.integers(0, 10**7), st.integers(1, 10**4))
+def test_the_chances_of_longer_orders(temperature: float, total: int, operations: int) -> None:
+    chances = list(_rounds.accept_of(temperature, total, operations))
+    heat = temperature * total / (10 * operations)
+    assert len(chances) <= _rounds.MOST_ACCEPTED and 0 not in chances and chances == sorted(chances, reverse=True)
+    for longer in {1, 2, 999, 1000, 1001, len(chances) - 1, len(chances)} & {*range(1, _rounds.MOST_ACCEPTED)}:
+        due = 2**32 * math.exp(-longer / heat) if heat > 1e-300 else 0
+        chance = chances[longer] if longer < len(chances) else 0
+        assert abs(chance - math.floor(due)) <= 1e-6 * due + (abs(due - round(due)) < 1e-3), longer
+
+
+@pytest.mark.parametrize("hold", [[], [3, 1]])
+def test_a_search_that_accepts_longer_orders_loses_nothing(hold: list[int]) -> None:
+    """By Ctrl-C, and in threads."""
+    shop = pfs.generate(30, 8, 4)
+
+    def interrupt(rounds: int, makespan: int) -> None:
+        if rounds >= 5:
+            raise KeyboardInterrupt
+
+    whole = shop.solve(60, **LONGER, hold=hold)
+    with pytest.raises(pfs.Interrupted) as stop:
+        shop.solve(60, **LONGER, hold=hold, progress=interrupt)
+    half = stop.value.solution
+    assert 5 <= half.rounds < 60
+    rest = shop.solve(60 - half.rounds, **LONGER, hold=hold, start=half, first=half.rounds)
+    assert (rest.order.tolist(), rest.rounds, rest.seed) == (whole.order.tolist(), 60, 0)
+    if not hold:
+        assert pfs.solve_all([shop], [0], 60, **LONGER) == {(0, 0): whole}
+        found = {(0, 0): shop.solve(20, **LONGER)}
+        assert pfs.solve_all([shop], [0], 60, **LONGER, found=found) == {(0, 0): whole}
+    assert whole.makespan < shop.solve(0, hold=hold).makespan
+
+
+def test_an_order_of_ones_own_changes_no_solution() -> None:
+    shop, own = pfs.taillard(11), np.arange(20)
+    found = shop.solve(5, **LONGER, start=own, hold=own[:2])
+    due = found.order.tolist()
+    own[:] = own[::-1].copy()
+    assert found.order.tolist() == due and found.current is not None
+    for array in (found.order, found.current):
+        with pytest.raises(ValueError, match="read-only"):
+            array[0] = 3
+
 
 @st.composite
 def held_searches(draw: st.DrawFn) -> tuple[plainly.Table, list[int], list[int], list[int]]:

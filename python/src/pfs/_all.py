@@ -1,6 +1,7 @@
 """Searches of many instances with many seeds, in threads."""
 from __future__ import annotations
 
+import copy
 import os
 import signal
 import threading
@@ -11,7 +12,8 @@ from typing import Any, TypeAlias
 from pfs import _library as c
 from pfs._faults import InterruptedAll
 from pfs._instance import Instance
-from pfs._search import Limits, Search, is_true, solve
+from pfs._proof import proved
+from pfs._search import Limits, Search, is_true, limit_of, solve
 from pfs._solution import Solution, as_order
 from pfs._validate import checked_int, checked_order
 
@@ -29,7 +31,7 @@ class Task:
         self.key, self.rounds, self.options, self.found = key, rounds, options, found
         self.before = found.get(key)
         first = self.before.rounds if self.before else 0
-        self.search = Search(shop, self.before, first, options["take"], options["passes"], key[1])
+        self.search = search_of(shop, self.before, first, key[1], options)
 
     def is_done(self) -> bool:
         """Whether no rounds are left. A search by time isn't continued, so it is done as soon as it has a solution."""
@@ -48,18 +50,27 @@ class Task:
               self.options["target"], stop)
         if left is not None or not stop.is_set():
             self.keep()
+            if seconds := self.options["prove"]:
+                self.found[self.key] = proved(self.search.shop, self.found[self.key], seconds, stop.is_set)
 
     def keep(self, *_: int) -> None:
         """Keep the best solution so far, with the cells of all calls."""
-        now = self.search.solution()
-        cells = now.cells + (self.before.cells if self.before else 0)
-        self.found[self.key] = Solution(now.order, now.makespan, cells, now.machines, now.rounds, now.seed)
+        best = copy.copy(self.search.solution())
+        best.cells += self.before.cells if self.before else 0
+        self.found[self.key] = best
+
+
+def search_of(shop: Instance, before: Solution | None, first: int, seed: int, options: dict[str, Any]) -> Search:
+    """Return a search with these options."""
+    more = {name: options[name] for name in ("method", "partial", "ties", "temperature")}
+    return Search(shop, before, first, options["take"], options["passes"], seed, **more)
 
 
 def solve_all(instances: Iterable[Instance], seeds: Iterable[int] = (0,), rounds: int | None = None, *,
-              take: int | None = None, passes: int = 0, time_limit: float | None = None, target: int | None = None,
-              workers: int | None = None, found: Mapping[Key, Solution] | None = None,
-              progress: Callable[[int, int], Any] | None = None) -> Found:
+              method: str = "solve", take: int | None = None, passes: int | None = None, partial: int | None = None,
+              ties: str | None = None, temperature: float | None = None, time_limit: float | None = None,
+              target: int | None = None, prove: float | None = None, workers: int | None = None,
+              found: Mapping[Key, Solution] | None = None, progress: Callable[[int, int], Any] | None = None) -> Found:
     """Run a search for each instance and seed, in parallel threads.
 
     Parameters
@@ -68,8 +79,8 @@ def solve_all(instances: Iterable[Instance], seeds: Iterable[int] = (0,), rounds
         The instances, at least one.
     seeds : iterable of int
         The seeds, at least one. They are distinct and have 64 bits.
-    rounds, take, passes, time_limit, target : optional
-        The options of each search, as for :meth:`pfs.Instance.solve`.
+    rounds, method, take, passes, partial, ties, temperature, time_limit, target, prove : optional
+        The options of each search, as for :meth:`pfs.Instance.solve`. A proof that was interrupted isn't continued.
     workers : int, optional
         The number of threads, 1 to 1,000 (default: one for each processor).
     found : dict, optional
@@ -102,7 +113,9 @@ def solve_all(instances: Iterable[Instance], seeds: Iterable[int] = (0,), rounds
     >>> {key: best.makespan for key, best in found.items()}
     {(0, 1): 1278, (0, 2): 1286, (1, 1): 1365, (1, 2): 1365}
     """
-    options = {"take": take, "passes": passes, "time_limit": time_limit, "target": target}
+    options = {"method": method, "take": take, "passes": passes, "partial": partial, "ties": ties,
+               "temperature": temperature, "time_limit": time_limit, "target": target,
+               "prove": limit_of(prove, "prove")}
     best = dict(found or {})
     stop = threading.Event()
     try:
@@ -138,8 +151,7 @@ def tasks_of(instances: Iterable[Instance], seeds: Iterable[int], rounds: int | 
         raise ValueError(f"seeds: {next(seed for seed in own if own.count(seed) > 1)} occurs twice")
     tasks: list[Task] = []
     for place, shop in enumerate(shops):
-        limits = Limits(Search(shop, None, 0, options["take"], options["passes"], 0), rounds, options["time_limit"],
-                        options["target"], None)
+        limits = Limits(search_of(shop, None, 0, 0, options), rounds, options["time_limit"], options["target"], None)
         for seed in own:
             check_solution(shop, found.get((place, seed)), limits.rounds, seed)
             tasks.append(Task(shop, (place, seed), limits.rounds, options, found))

@@ -16,7 +16,7 @@ from pfs._calendar import Calendar, Clock, day_of, text_of
 from pfs._drawing import DPI, IDLE, UNIT, Chart, draw, ink, picture_of
 from pfs._names import CLOCK, shown
 from pfs._optional import optional
-from pfs._validate import checked_int
+from pfs._validate import BOOLS, checked_int
 from pfs._words import Say, words_of
 
 if TYPE_CHECKING:
@@ -55,12 +55,16 @@ def svg_of(schedule: Schedule) -> str | None:
     return picture_of(figure, "svg", DPI).decode("utf-8")
 
 
-def plot(schedule: Schedule, path: str | os.PathLike[str] | None = None, *, critical: bool, bound: bool,
-         unit: str | None = None, width: float = 12.0, dpi: int = DPI, title: bool | str = True, ax: Any = None,
-         calendar: Calendar | None = None, language: str | os.PathLike[str] = "en") -> Any:
+def plot(schedule: Schedule, path: str | os.PathLike[str] | None = None, *, critical: bool,
+         bound: bool | int, unit: str | None = None, width: float = 12.0, dpi: int = DPI, title: bool | str = True,
+         ax: Any = None, calendar: Calendar | None = None, language: str | os.PathLike[str] = "en") -> Any:
     """The figure, or, where the path is that of a page, none."""
     shop = schedule.instance
     say = words_of(language)
+    if type(bound) in BOOLS:
+        line = shop.bound() if bound else None
+    else:
+        line = checked_int(bound, "bound", 0, 2**64 - 1)
     clock = None if calendar is None else Clock(calendar, shop, say)
     ending = None if path is None else ending_of(path)
     check_frame(width, title, ax)
@@ -71,7 +75,7 @@ def plot(schedule: Schedule, path: str | os.PathLike[str] | None = None, *, crit
         [shown(shop.job_name(job)) for job in schedule.order.tolist()],
         [shown(shop.machine_name(machine)) for machine in range(shop.machines)],
         width, checked_int(dpi, "dpi", 20, 2_400), shown(title) if isinstance(title, str) else title, critical,
-        shop.bound() if bound else None, shown(unit or shop.unit or UNIT), shop.decimals,
+        line, shown(unit or shop.unit or UNIT), shop.decimals,
         key=shop.job_names is not None and ax is None, say=say)
     most = max(1, int(chart.plot_width / 1.1))
     if clock is not None:

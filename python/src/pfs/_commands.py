@@ -34,7 +34,8 @@ from pfs._optional import optional
 from pfs._orders import AFTER_ORDER, FoundOrder, numbers_by_name, order_in, stated_end
 from pfs._report import JOBS, rows_of, text_table
 from pfs._schedule import Schedule
-from pfs._search import HeldSearch, Search, by_total, insert_after, limit_of, solve
+from pfs._proof import proved
+from pfs._search import USUAL, MovedSearch, Search, by_total, insert_after, limit_of, solve
 from pfs._solution import Solution
 from pfs._state import State
 from pfs._tables import Table, described, table_of, write_table
@@ -132,6 +133,23 @@ def searched(search: Search, rounds: int | None, seconds: float | None, caught: 
         progress.show("")
 
 
+def proved_for(seconds: float, search: Search, best: Solution, caught: list[int]) -> tuple[Solution, Exception | None]:
+    """Try to prove for some seconds that an order is optimal. Return it, or a shorter one, with the bound that is
+    proved, and the error that ended the proof early."""
+    progress, end = ProgressLine(search, None, None), time.monotonic() + seconds
+
+    def is_stopped() -> bool:
+        progress.show(f"proving that no order is shorter, {clock(end - time.monotonic())} left")
+        return bool(caught)
+
+    try:
+        return proved(search.shop, best, seconds, is_stopped), None
+    except (OSError, MemoryError) as fault:
+        return getattr(fault, "solution", best), fault
+    finally:
+        progress.show("")
+
+
 def search_command(given: argparse.Namespace) -> int:
     """Search an instance file, and print an order file."""
     shop = read(given.file, given.layout, given.block)
@@ -175,6 +193,8 @@ def plan_command(given: argparse.Namespace) -> int:
     other = FoundOrder([], {}) if given.compare is None else order_in(given.compare, shop, given.language)
     with signals() as caught:
         best, fault = searched(search, given.rounds, given.seconds, caught, lambda _: None)
+        if fault is None and given.prove and not search.held and not given.keep:
+            best, fault = proved_for(given.prove, search, best, caught)
         faults = [] if fault is None else [fault]
         for output in outputs_of(given, begin, table, other, best):
             try:
@@ -215,8 +235,8 @@ def plan_search(given: argparse.Namespace, begin: Beginning) -> Search:
         tell(given.order, "left out, as the table has no such jobs", found.gone)
         tell(given.order, "new, and inserted at their best places", [shop.job_name(job) for job in new])
         insert_after(shop, order, len(held), new)
-    options = shop, order if given.order is not None else None, 0, given.take, given.passes, given.seed
-    return HeldSearch(*options, held, new if given.keep else None) if held or given.keep else Search(*options)
+    options = shop, order if given.order is not None else None, 0, given.take, given.passes, given.seed, held
+    return MovedSearch(*options, new) if given.keep else Search(*options, method=given.method)
 
 
 def compare(path: str | None, shop: Instance, other: FoundOrder, best: Solution, clock: Clock | None) -> None:
@@ -260,7 +280,7 @@ def write_schedule(shop: Instance, best: Solution, path: str, delimiter: str, ma
 def draw(shop: Instance, best: Solution, chart: str, calendar: Calendar | None, title: bool | str,
          language: str) -> None:
     """Write a chart of an order."""
-    shop.schedule(best).plot(chart, critical=True, bound=True, calendar=calendar, title=title,
+    shop.schedule(best).plot(chart, critical=True, bound=best.bound, calendar=calendar, title=title,
                              language=language)
 
 
@@ -299,9 +319,8 @@ def check_outputs(inputs: Sequence[str | None], schedules: Sequence[str], charts
 
 def listed(shop: Instance, best: Solution, clock: Clock | None = None) -> str:
     """The text of a plan."""
-    bound = shop.bound()
     makespan, *end = ended_at(shop, best, clock)
-    lines = [makespan, f"bound {span_text(shop, bound)}", *(["optimal"] if best.makespan == bound else []), *end]
+    lines = [makespan, f"bound {span_text(shop, best.bound)}", *(["optimal"] if best.optimal else []), *end]
     lines += [f"{place} {shown(shop.job_name(job))}" for place, job in enumerate(best.order.tolist(), 1)]
     return "\n".join(lines) + "\n"
 
@@ -374,19 +393,28 @@ def until_of(text: str) -> tuple[str, str]:
     return machine, checked(begin_of)(moment)
 
 
-def search_words() -> CommandLine:
-    """Return the options of all searches."""
-    options = CommandLine(add_help=False)
-    add = options.add_argument
-    add("--rounds", type=number(0, c.MOST_ROUNDS), metavar="R",
-        help="up to which round, else 1,000,000 in a search and none in a plan")
-    add("--seconds", type=seconds_of, metavar="S",
-        help="a time limit; a plan without a limit of rounds has a second, and ends before if it is optimal")
-    add("--take", type=number(1, c.MOST_JOBS), metavar="D", help="the destruction size, else 4")
-    add("--passes", type=number(0, c.MOST_PASSES), metavar="P",
-        help="0 to 100, else 0, and 1 in a plan without a limit of rounds")
+def add_search_words(add: Callable[..., object], rounds: str, seconds: str, take: str, passes: str) -> None:
+    """Add the options of all searches, with what is said of some of them."""
+    add("--rounds", type=number(0, c.MOST_ROUNDS), metavar="R", help=f"up to which round, else {rounds}")
+    add("--seconds", type=seconds_of, metavar="S", help=f"a time limit{seconds}")
+    add("--take", type=number(1, c.MOST_JOBS), metavar="D", help=f"the destruction size, else {take}")
+    add("--passes", type=number(0, c.MOST_PASSES), metavar="P", help=f"0 to 100, else {passes}")
     add("--seed", type=number(0, c.MOST_SEED), default=0, metavar="S", help="of 64 bits, else 0")
-    return options
+
+
+def add_method_words(add: Callable[..., object]) -> None:
+    """Add the options that say how a plan is searched."""
+    add_search_words(
+        add, "no limit", "; without one of rounds a second, and it ends before if the order is optimal",
+        "2, and 4 with --method solve",
+        "100, which are the most in each round; with --method solve 0, and 1 without --rounds")
+    add("--method", choices=tuple(USUAL),
+        help="how the order is searched: iterated-greedy, which also accepts longer orders, or solve, as `pfs solve` "
+        "does it; else iterated-greedy, and solve with --keep")
+    add("--prove", type=seconds_of, metavar="S",
+        help="for how many seconds to try to prove after the search that its order is optimal, else 1, and 0 with "
+        "--rounds; it isn't tried for an order that is only evaluated, while jobs are held or kept, and beyond 256 "
+        "jobs or 64 machines")
 
 
 def words_of_line(plan: argparse.ArgumentParser, line: str) -> list[str]:
@@ -403,6 +431,7 @@ def words_of_line(plan: argparse.ArgumentParser, line: str) -> list[str]:
 def add_plan_words(plan: argparse.ArgumentParser) -> None:
     """Add the arguments of `plan`."""
     plan.set_defaults(run=plan_command)
+    add_method_words(plan.add_argument)
     # Options may be in a file, as in a shell: @week.txt.
     plan.fromfile_prefix_chars = "@"
     setattr(plan, "convert_arg_line_to_args", partial(words_of_line, plan))
@@ -482,9 +511,8 @@ def add_date_words(add: Callable[..., object]) -> None:
 
 def plan_words() -> CommandLine:
     """Return the command line of the program pfs-plan."""
-    parser = CommandLine(prog="pfs-plan", parents=[search_words()],
-                         description="An order and a schedule for a table of times, which has a row for each job and "
-                         "a column for each machine, with names.")
+    parser = CommandLine(prog="pfs-plan", description="An order and a schedule for a table of times, which has a row "
+                         "for each job and a column for each machine, with names.")
     add_plan_words(parser)
     return parser
 
@@ -495,15 +523,15 @@ def words() -> argparse.ArgumentParser:
                          description="Searches of permutation flow shops that can be interrupted.")
     parser.add_argument("--version", action=ShowVersion)
     commands = parser.add_subparsers(required=True, metavar="COMMAND")
-    options = search_words()
-    search = commands.add_parser("search", parents=[options], help="searches an instance file, prints an order file")
+    search = commands.add_parser("search", help="searches an instance file, prints an order file")
+    add_search_words(search.add_argument, "1,000,000", "", "4", "0")
     search.add_argument("file", metavar="FILE")
     search.add_argument("--layout", choices=tuple(c.LAYOUTS), required=True)
     search.add_argument("--block", type=number(1, c.MOST_BLOCKS), default=1, metavar="K", help="counted from 1")
     search.add_argument("--start", metavar="ORDER", help="an order file to begin with, else NEH's order")
     search.add_argument("--state", metavar="STATE", help="a file that keeps what is needed to go on")
     search.set_defaults(run=search_command)
-    plan = commands.add_parser("plan", parents=[options], help="an order and a schedule for a table with names")
+    plan = commands.add_parser("plan", help="an order and a schedule for a table with names")
     add_plan_words(plan)
     return parser
 
@@ -580,16 +608,23 @@ def sheet_words(path: str) -> list[str]:
 
 
 def set_limits(given: argparse.Namespace) -> None:
-    """Set the limits of a search that its command line leaves out. A plan is searched for a second, with a pass in each
-    round, unless it has just the order of a file."""
-    is_by_time = given.run is plan_command and given.rounds is None
+    """Set the limits of a search that its command line leaves out. A plan is searched for a second, and then a proof is
+    tried for a second, unless it has just the order of a file."""
+    if given.run is not plan_command:
+        given.rounds = c.MOST_ROUNDS if given.rounds is None else given.rounds
+        return
+    if given.keep and given.method not in (None, "solve"):
+        raise Misused("--keep needs --method solve")
+    given.method = given.method or ("solve" if given.keep else "iterated-greedy")
+    is_by_time = given.rounds is None
+    is_changed = given.first or given.hold or given.keep or given.now or given.down
+    is_given = given.order is not None and is_by_time and given.seconds is None and not is_changed
     if is_by_time and given.seconds is None:
-        is_changed = given.first or given.hold or given.keep or given.now or given.down
-        given.seconds = 1.0 if given.order is None or is_changed else 0.0
-    if given.passes is None:
+        given.seconds = float(not is_given)
+    if given.prove is None or is_given:
+        given.prove = float(is_by_time and given.seconds > 0)
+    if given.passes is None and given.method == "solve":
         given.passes = int(is_by_time)
-    if given.rounds is None and not is_by_time:
-        given.rounds = c.MOST_ROUNDS
 
 
 def as_options(text: str) -> str:

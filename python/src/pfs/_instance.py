@@ -17,8 +17,9 @@ from pfs._bounds import bound_by_pairs
 from pfs._faults import Interrupted
 from pfs._library import LENGTHS, SHORT, Prepared, quick_insert, quick_insertions, quick_makespan
 from pfs._names import frame_names, is_frame, names_of
+from pfs._proof import proved
 from pfs._schedule import Schedule
-from pfs._search import Event, HeldSearch, Progress, Search
+from pfs._search import Event, MovedSearch, Progress, Search
 from pfs._solution import Solution, as_order
 from pfs._validate import (BOOLS, MOST_UINT32, Jobs, Order, array_copy, as_uint32, as_uint32_bytes, checked_int,
                            checked_jobs, checked_order, checked_times, jobs_error, layout_number, wrong_job)
@@ -481,17 +482,22 @@ class Instance:
         c.done(number)
         return spans
 
-    def solve(self, rounds: int | None = None, *, take: int | None = None, passes: int = 0, seed: int = 0,
-              start: Jobs | None = None, first: int = 0, progress: Progress | None = None,
-              time_limit: float | None = None, target: int | None = None, stop: Event | None = None,
-              history: bool = False, hold: Jobs = (), move: Jobs | None = None) -> Solution:
+    def solve(self, rounds: int | None = None, *, method: str = "solve", take: int | None = None,
+              passes: int | None = None, partial: int | None = None, ties: str | None = None,
+              temperature: float | None = None, seed: int = 0, start: Jobs | None = None, first: int = 0,
+              progress: Progress | None = None, time_limit: float | None = None, target: int | None = None,
+              stop: Event | None = None, history: bool = False, hold: Jobs = (), move: Jobs | None = None,
+              prove: float | None = None) -> Solution:
         """Improve an order by iterated greedy (Ruiz and Stützle 2007).
 
         A round removes ``take`` jobs, inserts each at its best place, and makes ``passes`` passes. In a pass each job
-        in turn is removed and inserted at its best place. The new order is kept unless its makespan is greater. The
-        same options give the same order on every machine, which is also the order that ``pfs solve`` prints. Of the
-        solution that is returned, ``cells`` counts the cells of this call, and ``rounds`` is the number of the next
-        round.
+        in turn is removed and inserted at its best place. The same options give the same order on every machine.
+
+        With the method ``"solve"`` the new order is kept unless its makespan is greater. The order that is found is the
+        one that ``pfs solve`` prints. The method ``"iterated-greedy"`` finds shorter orders in the same time. It may
+        continue from a longer order, with a probability that falls with its makespan, and keeps the best one. A round
+        also makes passes over the jobs that are left when others are removed (Dubois-Lacoste, Pagnozzi and Stützle
+        2017). Each pass has a random order, and passes end after one that gains nothing.
 
         Parameters
         ----------
@@ -500,10 +506,24 @@ class Instance:
             search runs until its end. Without ``rounds``, the search continues after round 1,000,000 of a seed with
             round 0 of a seed that is greater by 11400714819323198485 (modulo 2^64), which is then the ``seed`` of the
             solution.
+        method : str
+            ``"solve"`` or ``"iterated-greedy"``.
         take : int, optional
-            The destruction size, 1 to the number of jobs. The default is 4, or the number of jobs if that is less.
-        passes : int
-            The number of passes per round, 0 to 100.
+            The destruction size, 1 to the number of jobs. The default is 4, or 2 with ``"iterated-greedy"``. Never
+            more jobs are removed than may move.
+        passes : int, optional
+            The number of passes per round, 0 to 100. The default is 0. With ``"iterated-greedy"`` it is the greatest
+            number, and the default is 100.
+        partial : int, optional
+            Of ``"iterated-greedy"``, the greatest number of passes over the jobs that are left, 0 to 100 (default).
+        ties : str, optional
+            Of ``"iterated-greedy"``, which of equally good places is the best one: ``"idle"`` (default), the first of
+            those that delay the following job least, summed over the machines (Fernandez-Viagas and Framinan 2014), or
+            ``"first"``.
+        temperature : float, optional
+            Of ``"iterated-greedy"``, 0 to 1,000 (default: 0.5), in tenths of the mean processing time. At temperature
+            *t*, an order that is longer by *d* is accepted with the probability exp(-d/t). One that is longer by
+            200,000 or more never is.
         seed : int
             The seed of the random numbers, of 64 bits.
         start : array_like or Solution, optional
@@ -527,10 +547,20 @@ class Instance:
             to twice as long while it improves often. The seconds are interpolated.
         hold : array_like
             Jobs, by numbers or names, that have the first places in this order. The search moves none of them. The
-            other jobs begin in the order of ``start``, or where they are best.
+            other jobs begin in the order of ``start``, or where they are best. With ``"solve"``, passes are then made
+            as with ``"iterated-greedy"``, and its random numbers are used.
         move : array_like, optional
-            The only jobs, by numbers or names, that rounds and passes move. The others keep their order. With ``hold``
-            or ``move`` the rounds are run in Python, and take ten times as long or more; ``cells`` is then 0.
+            With ``"solve"``, the only jobs, by numbers or names, that rounds and passes move. The others keep their
+            order. The rounds are run in Python, and take ten times as long or more.
+        prove : float, optional
+            After the search, try for this time in seconds to prove that its order is optimal, as :meth:`optimum` does.
+            It needs a search without ``hold`` and ``move``.
+
+        Returns
+        -------
+        Solution
+            The best order. Its ``rounds`` is the number of the next round, and ``cells`` counts the cells of this call,
+            but for those of rounds with ``"iterated-greedy"``, ``hold`` or ``move``.
 
         Raises
         ------
@@ -556,19 +586,71 @@ class Instance:
         (True, 1278)
         >>> shop.solve(100, hold=[7, 3]).order[:2]
         array([7, 3])
+        >>> shop.solve(100, method="iterated-greedy", prove=10).optimal
+        True
         """
-        options = self, start, first, take, passes, seed
-        is_held = move is not None or not isinstance(hold, tuple) or hold
-        search = HeldSearch(*options, hold, move) if is_held else Search(*options)
+        if move is None:
+            search = Search(self, start, first, take, passes, seed, hold, method=method, partial=partial, ties=ties,
+                            temperature=temperature)
+        elif (method, partial, ties, temperature) != ("solve", None, None, None):
+            raise ValueError("move needs method='solve'")
+        else:
+            search = MovedSearch(self, start, first, take, passes, seed, hold, move)
+        seconds = _search.limit_of(prove, "prove")
+        if seconds is not None and (search.held or move is not None):
+            raise ValueError("prove needs a search without hold and move")
         if type(history) not in BOOLS:
             raise TypeError(f"history must be True or False, not {history!r}")
         try:
-            return _search.solve(search, rounds, progress, time_limit, target, stop, bool(history))
+            best = _search.solve(search, rounds, progress, time_limit, target, stop, bool(history))
+            return proved(self, best, seconds, _search.stop_of(stop)) if seconds else best
         except Interrupted:
             raise
         except KeyboardInterrupt:
             # A second interruption while the first one was being handled.
             raise Interrupted(search.solution()) from None
+
+    def optimum(self, seconds: float = 1.0, *, start: Jobs | None = None, stop: Event | None = None) -> Solution:
+        """Search for the shortest order, and for a proof that no order is shorter.
+
+        A short search by :meth:`solve` is followed by the library's branch and bound from both ends of the order
+        (Ladhari and Haouari 2005; Gmys, Mezmaz, Melab and Tuyttens 2020), in calls with more and more nodes. Its bounds
+        are proved. Instances of 20 jobs on 5 machines take a few milliseconds, many of 20 jobs on 10 machines a second.
+
+        Parameters
+        ----------
+        seconds : float
+            For how long the proof is tried. Beyond 256 jobs or 64 machines it isn't.
+        start : array_like or Solution, optional
+            An order, by numbers or names of jobs, from which the proof begins in place of a search.
+        stop : threading.Event, optional
+            The search ends when the event is set.
+
+        Returns
+        -------
+        Solution
+            The best order. It has the makespan of its ``bound`` if it is ``optimal``. Otherwise time was too short, and
+            no order has a makespan below its ``bound``.
+
+        Raises
+        ------
+        TypeError, ValueError
+            As for :meth:`solve`.
+        Interrupted
+            After Ctrl-C. Its ``solution`` is the best so far.
+
+        Examples
+        --------
+        >>> shop = pfs.taillard(1)
+        >>> best = shop.optimum(10)
+        >>> best.makespan, best.bound, best.optimal, shop.bound()
+        (1278, 1278, True, 1232)
+        """
+        limit = _search.limit_of(seconds, "seconds")
+        if limit is None:
+            raise TypeError("seconds must be a number of seconds, not None")
+        return self.solve(0 if start is not None else 100, method="iterated-greedy", start=start, stop=stop,
+                          time_limit=limit, target=self.bound(), prove=limit)
 
     def schedule(self, order: Jobs) -> Schedule:
         """Return the schedule of an order of all jobs, by number from 0 or by name. Each operation starts as early as

@@ -6,7 +6,7 @@ import ctypes
 import time
 from collections.abc import Callable
 from ctypes import byref, c_size_t, c_uint32, c_uint64
-from typing import Any, Final
+from typing import Any, Final, NamedTuple
 
 MOST_ROUNDS: Final = 1_000_000
 # A search that has made all rounds of a seed continues with a seed that is greater by this number, modulo 2^64, so that
@@ -18,6 +18,9 @@ PART = 0.1
 MOST_INCREASE = 4
 # The makespan of a part that hasn't been run. No order has this makespan.
 UNWRITTEN = 2**64 - 1
+# The most chances of `accept_of`.
+MOST_ACCEPTED = 200_000
+TIES: Final = {"first": 0, "idle": 1}
 
 
 class RoundsOptions(ctypes.Structure):
@@ -25,12 +28,63 @@ class RoundsOptions(ctypes.Structure):
     _fields_ = [("seed", c_uint64), ("take", c_size_t), ("first", c_uint32), ("count", c_uint32), ("passes", c_uint32)]
 
 
+class IterateOptions(ctypes.Structure):
+    """Which rounds `pfs_iterate` makes."""
+    _fields_ = [("seed", c_uint64), ("take", c_size_t), ("held", c_size_t), ("first", c_uint32), ("count", c_uint32),
+                ("partial", c_uint32), ("passes", c_uint32), ("ties", c_uint32)]
+
+
+class Iterating(NamedTuple):
+    """The options of `pfs_iterate` that `pfs_rounds` doesn't have."""
+
+    partial: int
+    ties: int
+    accept: ctypes.Array[c_uint32]
+    held: int = 0
+
+
+def accept_of(temperature: float, total: int, operations: int) -> ctypes.Array[c_uint32]:
+    """Return the chances of longer orders, in units of 2^-32, up to the last one above 0: exp(-d / t), rounded down, of
+    an order that is longer by d, where t is this number of tenths of the mean time.
+
+    They are products of whole numbers of 96 bits, so they are the same on every machine.
+
+    >>> accept_of(10, 2, 2)[:3]
+    [4294967295, 1580030168, 581260615]
+    """
+    # Only these searches need it, and short runs of experiments are shorter than its import.
+    from decimal import Decimal, localcontext
+    with localcontext() as context:
+        context.prec = 60
+        heat = Decimal(temperature) * total / (10 * operations)
+        factor = int((-1 / heat).exp() * 2**96) if heat else 0
+    lows = [2**96]
+    while len(lows) < 1000:
+        lows.append(lows[-1] * factor >> 96)
+    found, high = list[int](), 2**96
+    while factor and high >> 64 and len(found) < MOST_ACCEPTED:
+        found += [high * low >> 160 for low in lows]
+        high = high * (lows[-1] * factor >> 96) >> 96
+    while found and not found[-1]:
+        found.pop()
+    return (c_uint32 * len(found))(*[2**32 - 1][:len(found)], *found[1:])
+
+
+def iterating(total: int, operations: int, partial: int = 100, ties: str = "idle", temperature: float = 0.5,
+              held: int = 0) -> Iterating:
+    """Return the options for an instance by the sum and the number of its times."""
+    return Iterating(partial, TIES[ties], accept_of(temperature, total, operations), held)
+
+
 class Part:
     """The results of one call of the library. The code around the call may be interrupted at any point; `is_done` then
     says whether the call was made."""
 
-    def __init__(self, order: bytes, rounds: int, cells_before: int, seed: int, total: int) -> None:
+    def __init__(self, order: bytes, rounds: int, cells_before: int, seed: int, total: int,
+                 current: bytes | None = None) -> None:
+        # The best order, and the one from which the search continues, where that may be longer.
         self.order = (c_uint32 * (len(order) // 4)).from_buffer_copy(order)
+        self.current = None if current is None else (c_uint32 * (len(order) // 4)).from_buffer_copy(current)
         self.makespan, self.cells = c_uint64(UNWRITTEN), c_uint64()
         # The number of the next round with this seed, and the number of rounds so far with all seeds.
         self.rounds, self.total = rounds, total
@@ -47,11 +101,12 @@ class Part:
 
 
 class Rounds:
-    """Iterated greedy from NEH's order. `call` calls a function of the library on the instance, or raises an error."""
+    """Iterated greedy from NEH's order, by `pfs_iterate` if it has the options `more`. `call` calls a function of the
+    library on the instance, or raises an error."""
 
-    def __init__(self, call: Callable[..., object], jobs: int, take: int, passes: int, seed: int,
-                 first: int = 0) -> None:
-        self.call, self.jobs = call, jobs
+    def __init__(self, call: Callable[..., object], jobs: int, take: int, passes: int, seed: int, first: int = 0,
+                 more: Iterating | None = None) -> None:
+        self.call, self.jobs, self.more = call, jobs, more
         self.take, self.passes, self.seed, self.first = take, passes, seed, first
         self.last: Part | None = None
         self.running: Part | None = None
@@ -73,13 +128,20 @@ class Rounds:
         rounds, seed = before.rounds, before.seed
         if rounds == MOST_ROUNDS and count:
             rounds, seed = 0, (seed + SEED_STEP) % 2**64
-        return Part(bytes(before.order), rounds + count, before.all_cells(), seed, before.total + count)
+        current = None if self.more is None else bytes(before.current or before.order)
+        return Part(bytes(before.order), rounds + count, before.all_cells(), seed, before.total + count, current)
 
     def run_part(self, part: Part, count: int) -> None:
         """Run the `count` rounds of a part."""
-        options = RoundsOptions(part.seed, self.take, part.rounds - count, count, self.passes)
-        self.call("pfs_rounds", byref(options), part.order, c_size_t(self.jobs), byref(part.makespan),
-                  byref(part.cells))
+        first, length = part.rounds - count, c_size_t(self.jobs)
+        if self.more is None:
+            options = RoundsOptions(part.seed, self.take, first, count, self.passes)
+            self.call("pfs_rounds", byref(options), part.order, length, byref(part.makespan), byref(part.cells))
+            return
+        partial, ties, accept, held = self.more
+        longer = IterateOptions(part.seed, self.take, held, first, count, partial, self.passes, ties)
+        self.call("pfs_iterate", byref(longer), accept, c_size_t(len(accept)), part.current, length, byref(c_uint64()),
+                  part.order, length, byref(part.makespan))
 
     def keep(self, part: Part) -> None:
         """Make this part the last one."""

@@ -272,9 +272,9 @@ class Schedule:
         digits = clock.digits(self.starts, self.ends)
         return lambda start, end: [text_of(moment, digits) for moment in clock.span(start, end)]
 
-    def plot(self, path: str | os.PathLike[str] | None = None, *, critical: bool = False, bound: bool = False,
-             unit: str | None = None, width: float = 12.0, dpi: int = 110, title: bool | str = True,
-             ax: Any = None, calendar: Calendar | None = None,
+    def plot(self, path: str | os.PathLike[str] | None = None, *, critical: bool = False,
+             bound: bool | int = False, unit: str | None = None, width: float = 12.0, dpi: int = 110,
+             title: bool | str = True, ax: Any = None, calendar: Calendar | None = None,
              language: str | os.PathLike[str] = "en") -> Any:
         """Draw a Gantt chart, with a row for each machine, a colour for each job, and idle time in grey.
 
@@ -285,8 +285,8 @@ class Schedule:
             shows the job, machine, start and end of the operation under the pointer, and the wheel zooms.
         critical : bool
             Outline a critical path.
-        bound : bool
-            Draw the instance's bound as a dashed line.
+        bound : bool or int
+            Draw the instance's bound as a dashed line, or a bound of your own, such as that of a solution.
         unit : str, optional
             The unit of the times (default: the instance's).
         width : float

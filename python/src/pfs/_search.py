@@ -3,15 +3,15 @@ from __future__ import annotations
 
 import random
 import time
-from collections.abc import Callable, Sequence
+from collections.abc import Callable, Collection, Sequence
 from ctypes import byref, c_uint64
-from typing import TYPE_CHECKING, Any, Protocol, TypeAlias
+from typing import TYPE_CHECKING, Any, NamedTuple, Protocol, TypeAlias
 
 import numpy as np
 
 from pfs import _library as c
 from pfs._faults import Interrupted
-from pfs._rounds import Pace, Part, Rounds
+from pfs._rounds import TIES, Iterating, Pace, Part, Rounds, iterating
 from pfs._solution import Improvement, Solution, as_order
 from pfs._validate import BOOLS, Jobs, as_uint32_bytes, checked_int, checked_order, jobs_error
 
@@ -19,6 +19,18 @@ if TYPE_CHECKING:
     from pfs._instance import Instance
 
 ROUNDS = 1_000
+
+
+class Usual(NamedTuple):
+    """The defaults of a method."""
+
+    take: int
+    passes: int
+
+
+MOST_TEMPERATURE = 1_000
+# The methods: the profile of `pfs solve`, and the search that also accepts longer orders.
+USUAL = {"solve": Usual(4, 0), "iterated-greedy": Usual(2, c.MOST_PASSES)}
 
 
 class Bar(Protocol):
@@ -37,31 +49,79 @@ class Event(Protocol):
 Progress: TypeAlias = "Callable[[int, int], Any] | Bar | type[Any]"
 
 
-class Search(Rounds):
-    """Iterated greedy on an instance. `solution` returns the best order so far, also after an interruption."""
+def one_of(value: Any, names: Collection[str], what: str) -> str:
+    """Return a text that is one of some names."""
+    if not isinstance(value, str) or value not in names:
+        kind = ValueError if isinstance(value, str) else TypeError
+        raise kind(f"{what} must be {' or '.join(map(repr, names))}, not {value!r}")
+    return value
 
-    def __init__(self, shop: Instance, start: Jobs | None, first: int, take: int | None, passes: int,
-                 seed: int) -> None:
+
+def iterating_of(shop: Instance, held: int, method: str = "solve", ties: str | None = None,
+                 temperature: float | None = None, partial: int | None = None) -> Iterating | None:
+    """Return the options of rounds that may accept longer orders, or None for rounds of `pfs solve`. While jobs are
+    held, these are made with the same options, and accept no longer orders."""
+    options = {"ties": ties, "temperature": temperature, "partial": partial}
+    given: dict[str, Any] = {name: value for name, value in options.items() if value is not None}
+    if method == "solve":
+        if given:
+            raise ValueError(f"{next(iter(given))} needs method='iterated-greedy'")
+        return iterating(0, 1, 0, "first", 0, held) if held else None
+    if ties is not None:
+        one_of(ties, TIES, "ties")
+    if partial is not None:
+        given["partial"] = checked_int(partial, "partial", 0, c.MOST_PASSES)
+    if temperature is not None:
+        given["temperature"] = number_of(temperature, "temperature", 0, MOST_TEMPERATURE)
+    return iterating(int(shop.times.sum()), shop.times.size, held=held, **given)
+
+
+class Search(Rounds):
+    """Iterated greedy on an instance, by a method and its options `more`. The jobs `hold` keep the first places.
+    `solution` returns the best order so far, also after an interruption."""
+
+    def __init__(self, shop: Instance, start: Jobs | None, first: int, take: int | None, passes: int | None, seed: int,
+                 hold: Jobs = (), **more: Any) -> None:
         self.shop = shop
+        self.held = [] if isinstance(hold, tuple) and not hold else numbers_of(hold, shop, "hold")
+        # Where all jobs but one are held, that one has one place.
+        held = min(len(self.held), shop.jobs - 1)
+        usual = USUAL[one_of(more.get("method", "solve"), USUAL, "method")]
+        taken = checked_int(min(usual.take, shop.jobs) if take is None else take, "take", 1, shop.jobs)
         super().__init__(
-            lambda *call: c.done(shop._call(*call)), shop.jobs,
-            checked_int(min(4, shop.jobs) if take is None else take, "take", 1, shop.jobs),
-            checked_int(passes, "passes", 0, c.MOST_PASSES), checked_int(seed, "seed", 0, c.MOST_SEED),
-            checked_int(first, "first", 0, c.MOST_ROUNDS))
+            lambda *call: c.done(shop._call(*call)), shop.jobs, min(taken, shop.jobs - held),
+            checked_int(usual.passes if passes is None else passes, "passes", 0, c.MOST_PASSES),
+            checked_int(seed, "seed", 0, c.MOST_SEED), checked_int(first, "first", 0, c.MOST_ROUNDS),
+            iterating_of(shop, held, **more))
         self.start = None if start is None else checked_order(as_order(start, shop, "start"), shop.jobs, "start",
                                                               shop.job_names)
+        current = getattr(start, "current", None) if self.more else None
+        self.current = None if current is None else current.astype(np.uint32).tobytes()
         # The improvements so far, if they are recorded.
         self.history: list[Improvement] = []
 
     def begin(self) -> None:
-        """Compute the start order by NEH, or the makespan of the given one."""
+        """Compute the start order by NEH, or the makespan of the given one. The held jobs come first."""
+        if self.held:
+            self.start, self.current = self.after_held(self.start), self.current and self.after_held(self.current)
+        self.bound = self.shop.bound()
         if self.start is None:
             super().begin()
             return
-        part = self.running = Part(self.start, self.first, 0, self.seed, self.first)
+        part = self.running = Part(self.start, self.first, 0, self.seed, self.first, self.current)
         if number := self.shop._call("pfs_makespan", self.start, self.jobs, byref(part.makespan)):
             raise jobs_error(number, self.jobs, self.start, "start")
         self.keep(part)
+
+    def after_held(self, order: bytes | None) -> bytes:
+        """Return an order with the held jobs at its front. Without one, the others are inserted as NEH does."""
+        jobs = list(self.held)
+        if order is None:
+            others = set(range(self.jobs)) - set(jobs)
+            insert_after(self.shop, jobs, len(jobs), by_total(self.shop, sorted(others)))
+        else:
+            jobs = list(dict.fromkeys([*jobs, *np.frombuffer(order, dtype=np.uint32).tolist()]))
+        return np.array(jobs, dtype=np.uint32).tobytes()
 
     def first_within(self, before: Part, after: Part, makespan: int) -> Part:
         """Return the part up to the first round with at most this makespan.
@@ -85,8 +145,13 @@ class Search(Rounds):
         part = self.finished()
         found: Solution = part.solution
         if found is None:
-            found = part.solution = Solution(np.frombuffer(part.order, dtype=np.uint32), part.makespan.value,
-                                             part.all_cells(), self.shop.machines, part.rounds, part.seed)
+            found = Solution(np.frombuffer(part.order, dtype=np.uint32), part.makespan.value, part.all_cells(),
+                             self.shop.machines, part.rounds, part.seed)
+            found.bound = self.bound
+            if self.more is not None:
+                found.current = np.array(part.current or part.order, dtype=np.int64)
+                found.current.setflags(write=False)
+            part.solution = found
         if len(found.history) < len(self.history):
             found.history = tuple(self.history)
         return found
@@ -118,21 +183,25 @@ def do_nothing(*_: Any, **__: Any) -> None:
     """Report nothing."""
 
 
-def limit_of(time_limit: Any) -> float | None:
-    """Return a time limit in seconds."""
-    if time_limit is None:
-        return None
+def number_of(value: Any, name: str, least: float, most: float, unit: str = "") -> float:
+    """Return the value as a float, from `least` to `most`."""
     try:
-        if isinstance(time_limit, (str, bytes)) or type(time_limit) in BOOLS:
+        if isinstance(value, (str, bytes)) or type(value) in BOOLS:
             raise TypeError
-        seconds = float(time_limit)
+        number = float(value)
     except (TypeError, ValueError):
-        raise TypeError(f"time_limit must be a number of seconds, not {time_limit!r}") from None
+        raise TypeError(f"{name} must be a number{' of' * bool(unit)}{unit}, not {value!r}") from None
     except OverflowError:
-        seconds = float("inf") if time_limit > 0 else float("-inf")
-    if not seconds >= 0:
-        raise ValueError(f"time_limit must be 0 or more seconds, not {seconds}")
-    return seconds
+        number = float("inf") if value > 0 else float("-inf")
+    if not least <= number <= most:
+        limits = f"{least:g} or more{unit}" if most == float("inf") else f"from {least:g} to {most:,}"
+        raise ValueError(f"{name} must be {limits}, not {number}")
+    return number
+
+
+def limit_of(time_limit: Any, name: str = "time_limit") -> float | None:
+    """Return a time limit in seconds."""
+    return None if time_limit is None else number_of(time_limit, name, 0, float("inf"), " seconds")
 
 
 def stop_of(stop: Any) -> Callable[[], bool]:
@@ -222,7 +291,7 @@ def record_improvements(search: Search, before: Part, target: int, begun: float,
     search.solution()
 
 
-# Searches in which some jobs stay where they are
+# Searches in which some jobs stay where they are, or in their order
 
 def numbers_of(given: Jobs, shop: Instance, what: str) -> list[int]:
     """Return the numbers of distinct jobs, given by number or by name."""
@@ -252,27 +321,15 @@ def by_total(shop: Instance, jobs: Sequence[int]) -> list[int]:
     return sorted(jobs, key=lambda job: -int(totals[job]))
 
 
-class HeldSearch(Search):
-    """Iterated greedy in which the jobs `hold` keep the first places, and of the others only the jobs `move` change
-    their places among the rest. The library computes the makespan of each place; a round is chosen here."""
+class MovedSearch(Search):
+    """Iterated greedy in which only the jobs `move` change their places among the others. The library computes the
+    makespan of each place; a round is chosen here."""
 
-    def __init__(self, shop: Instance, start: Jobs | None, first: int, take: int | None, passes: int, seed: int,
-                 hold: Jobs, move: Jobs | None) -> None:
-        super().__init__(shop, start, first, take, passes, seed)
-        self.held = numbers_of(hold, shop, "hold")
-        moved = range(shop.jobs) if move is None else numbers_of(move, shop, "move")
-        self.moved = sorted(set(moved) - set(self.held))
-
-    def begin(self) -> None:
-        """Put the held jobs before those of the start order, or insert the others as NEH does."""
-        if self.start is None:
-            order = list(self.held)
-            others = set(range(self.shop.jobs)) - set(order)
-            insert_after(self.shop, order, len(order), by_total(self.shop, sorted(others)))
-        else:
-            order = list(dict.fromkeys([*self.held, *np.frombuffer(self.start, dtype=np.uint32).tolist()]))
-        self.start = np.array(order, dtype=np.uint32).tobytes()
-        super().begin()
+    def __init__(self, shop: Instance, start: Jobs | None, first: int, take: int | None, passes: int | None, seed: int,
+                 hold: Jobs, move: Jobs) -> None:
+        super().__init__(shop, start, first, take, passes, seed, hold)
+        self.more = None
+        self.moved = sorted(set(numbers_of(move, shop, "move")) - set(self.held))
 
     def run_part(self, part: Part, count: int) -> None:
         """Run the `count` rounds of a part. A round's order is kept unless its makespan is greater."""

@@ -43,9 +43,15 @@ class Solution:
         ``solve(.., start=solution, first=solution.rounds, seed=solution.seed)``.
     seed : int
         The seed of that round. A search that has only a time limit uses another seed after 1,000,000 rounds.
+    bound : int
+        No order of the instance has a makespan below it, as the library has proved, or 0 if nothing is known.
+    optimal : bool
+        Whether the makespan is the bound, so that no order is shorter. If it is False, this isn't known.
+    current : numpy.ndarray or None
+        The order from which a search with the method ``"iterated-greedy"`` continues, which may be a longer one.
     history : tuple of Improvement
         The round, the seconds and the makespan of each improvement, if ``solve`` was called with ``history=True``, else
-        empty. Comparisons ignore it.
+        empty. Comparisons ignore it, the bound and the current order.
 
     Examples
     --------
@@ -58,7 +64,8 @@ class Solution:
     makespan 10
     """
 
-    __slots__ = ("order", "makespan", "cells", "machines", "rounds", "seed", "history")
+    __slots__ = ("order", "makespan", "cells", "machines", "rounds", "seed", "history", "bound",
+                 "current")
 
     def __init__(self, order: npt.ArrayLike, makespan: int, cells: int = 0, machines: int = 0, rounds: int = 0,
                  seed: int = 0) -> None:
@@ -71,6 +78,13 @@ class Solution:
         self.rounds = checked_int(rounds, "rounds", 0, c.MOST_ROUNDS)
         self.seed = checked_int(seed, "seed", 0, c.MOST_SEED)
         self.history: tuple[Improvement, ...] = ()
+        self.bound = 0
+        self.current: Order | None = None
+
+    @property
+    def optimal(self) -> bool:
+        """Whether the makespan is the bound, so that no order is shorter."""
+        return self.makespan == self.bound
 
     def __repr__(self) -> str:
         jobs = self.order.tolist()
@@ -89,7 +103,8 @@ class Solution:
         return hash((self.order.tobytes(), self.makespan))
 
     def __reduce__(self) -> tuple[Any, ...]:
-        return type(self), self._fields(), (None, {"history": self.history})
+        return type(self), self._fields(), (None, {"history": self.history, "bound": self.bound,
+                                                  "current": self.current})
 
     def to_text(self) -> str:
         """Return the text of an order file, as ``pfs solve`` prints it: of version 2, or of version 1 if ``machines``

@@ -23,6 +23,7 @@ COMMANDS = {
     "slurm": ("run", "Makes the runs of a plan on a Slurm cluster, as one array; sbatch gets the further options."),
     "status": ("run", "Writes the CSV of the runs that have ended so far, while the others continue."),
     "check": ("run", "Audits the orders of a CSV again."),
+    "prove": ("prove", "Proves bounds of the instances of a CSV, from its best orders, and adds them to it."),
     "audit": ("audit", "Audits a table of published orders."),
     "report": ("report", "Writes tables and plots of CSVs into a folder. Each CSV is a method.")}
 # Arguments, each with the commands that have it.
@@ -31,7 +32,9 @@ ARGUMENTS: list[tuple[str, str, dict[str, Any]]] = [
                                            "help": "the program pfs"}),
     ("run slurm", "--retry", {"action": "store_true", "help": "repeat the runs that failed"}),
     ("run slurm", "plan", {"metavar": "PLAN"}),
-    ("run slurm status check", "csv", {"metavar": "CSV"}),
+    ("run slurm status check prove", "csv", {"metavar": "CSV"}),
+    ("prove", "--seconds", {"metavar": "S", "type": number(1, 10 ** 6), "default": 1,
+                            "help": "for each instance; 1 by default"}),
     ("run", "--sshloginfile", {"metavar": "FILE", "help": "a file with the machines for GNU parallel"}),
     ("slurm", "--tasks", {"metavar": "N", "type": number(1, 10 ** 9), "help": "the most tasks of the array"}),
     ("slurm", "--dry-run", {"action": "store_true", "help": "print the call of sbatch"}),

@@ -4,7 +4,8 @@ the program `pfs`, audits the order, and prints the order file, and then one lin
 bound, cells, processor seconds of the search, `ok` or an error, the rounds of a search by time, and how many processes
 a command has left. Without an order it prints only this line. The exit status is 0 even if the search or the audit
 fails. A search by time, which is made with the library, has a limit and no rounds; what a run doesn't have is a hyphen.
-A method that the file `commands.json` has is a command, which is the search. The arguments are those of `Run`."""
+A method that the file `commands.json` has is a command, which is the search, or the name of a search that only the
+library makes. The arguments are those of `Run`."""
 from __future__ import annotations
 
 import contextlib
@@ -31,11 +32,11 @@ from typing import TYPE_CHECKING, NamedTuple
 
 if TYPE_CHECKING or __package__:
     from pfs._order_text import numbers_in
-    from pfs._rounds import Pace, Rounds
+    from pfs._rounds import Pace, Rounds, iterating
 else:  # among the copies, where nothing else is left
     sys.dont_write_bytecode = True
     from order_text import numbers_in
-    from rounds import Pace, Rounds
+    from rounds import Pace, Rounds, iterating
 
 HERE = os.path.dirname(os.path.abspath(__file__))
 LIBRARY = "libpfs.so.1"
@@ -115,7 +116,7 @@ def audit(run: Run, order: str) -> tuple[str, str]:
     return found[1], found[2]
 
 
-# Searches by time, in parts of rounds
+# Searches with the library, in parts of rounds
 
 def caller(times: list[int], jobs: int, machines: int) -> Callable[..., None]:
     """Returns a function that calls a function of the library for C, which has to succeed, on the instance. The
@@ -132,28 +133,32 @@ def caller(times: list[int], jobs: int, machines: int) -> Callable[..., None]:
     return lambda function, *arguments: check(function, instance, *arguments)
 
 
-def search(running: Rounds, seconds: float) -> float:
-    """Searches for this processor time, and returns the time spent. A part is only started if it is expected to end in
-    time, as estimated from the part before it."""
+def search(running: Rounds, seconds: float | None, rounds: int | None = None) -> float:
+    """Searches for this processor time or up to this round, and returns the time spent. A part is only started if it is
+    expected to end in time, as estimated from the part before it."""
     start, pace = time.process_time(), Pace(seconds, time.process_time, least=0)
     running.begin()
-    while count := pace.next(running.left_of_seed()):
+    while count := pace.next(running.left_of_seed() if rounds is None else rounds - running.finished().total):
         before = time.process_time()
         running.run_rounds(count)
         pace.took(count, time.process_time() - before)
     return time.process_time() - start
 
 
-def by_time(run: Run) -> Found:
+def by_library(run: Run, is_iterated: bool) -> Found:
+    """Searches by time, or also accepts longer orders, whose rounds count no cells."""
     jobs, machines, *pairs = map(int, pfs(run, "convert", "--to", "orlib").split()[3:])
+    times = pairs[1::2]
+    more = iterating(sum(times), len(times)) if is_iterated else None
+    is_by_time = run.limit != "-"
     try:
-        running = Rounds(caller(pairs[1::2], jobs, machines), jobs, int(run.take), int(run.passes), int(run.seed))
-        spent = search(running, float(run.limit))
+        running = Rounds(caller(times, jobs, machines), jobs, int(run.take), int(run.passes), int(run.seed), more=more)
+        spent = search(running, float(run.limit)) if is_by_time else search(running, None, int(run.rounds))
     except (OSError, AttributeError) as error:
         raise Failed(f"libpfs: {error}") from None
     best = running.finished()
     order = order_file(f"order2 {jobs} {machines}", [job + 1 for job in best.order], best.makespan.value)
-    return Found(order, str(best.all_cells()), spent, str(best.total))
+    return Found(order, "" if is_iterated else str(best.all_cells()), spent, str(best.total) if is_by_time else "")
 
 
 # Other programs
@@ -302,7 +307,11 @@ def main() -> None:
     try:
         with open(os.path.join(HERE, "commands.json"), encoding="utf-8") as file:
             command = json.load(file).get(run.method)
-        made = by_command(command, run) if command else by_rounds(run) if run.limit == "-" else by_time(run)
+        is_iterated = isinstance(command, str)
+        if command and not is_iterated:
+            made = by_command(command, run)
+        else:
+            made = by_library(run, is_iterated) if is_iterated or run.limit != "-" else by_rounds(run)
         order = made.order
         row = [run.number, *audit(run, order), made.cells, f"{made.seconds:.6f}", "ok"]
         row += [made.rounds, str(made.left)] if made.rounds or made.left else []

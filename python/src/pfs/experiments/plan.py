@@ -33,16 +33,18 @@ VALUES: dict[str, tuple[str, Callable[[Any], bool]]] = {
     "repetitions": ("a whole number from 1", lambda given: type(given) is int and 1 <= given <= MOST_MAKESPAN),
     "layout": ('"taillard" or "orlib"', lambda given: given in ("taillard", "orlib")),
     "reference": ("the path of a CSV", lambda given: isinstance(given, str) and "\0" not in given),
+    "search": ('"solve" or "iterated-greedy"', lambda given: given in ("solve", "iterated-greedy")),
     "command": ("a command", lambda given: isinstance(given, str) and "\0" not in given),
     "method": ("a name without control characters",
                lambda given: isinstance(given, str) and given != "" and given.isprintable())}
 # The defaults of lists of numbers.
 NUMBERS = {"blocks": [1], "rounds": [0], "takes": None, "passes": [0], "seeds": [0]}
 # What a method may have that a plan lists in `methods`, and what is for the whole plan.
-OF_METHOD = {"rounds", "takes", "passes", "seeds", "repetitions", "time_factors", "command", "method", "files"}
+OF_METHOD = {"rounds", "takes", "passes", "seeds", "repetitions", "time_factors", "search", "command", "method",
+             "files"}
 KEYS = {*VALUES, "files", "instances", "methods"}
 # Keys that a command can't have, and what it may have in braces.
-OF_PFS = ("rounds", "takes", "passes")
+OF_PFS = ("rounds", "takes", "passes", "search")
 OF_COMMAND = {"instance", "name", "jobs", "machines", "block", "seed", "seconds"}
 
 Row = dict[str, str]
@@ -91,11 +93,18 @@ def method_of(path: str, plan: dict[str, Any]) -> dict[str, Any]:
     for key, (what, is_right) in VALUES.items():
         require(key not in plan or is_right(plan[key]), path, f"{key} must be {what}")
     full: dict[str, Any] = {"repetitions": 1, "method": "", **NUMBERS, **plan}
+    if is_iterated(plan) and "passes" not in plan:
+        full["passes"] = [100]
     if "time_factors" in plan:
         full["rounds"] = plan.get("rounds", [])
     if "command" in plan or "files" in plan:
         full |= command_of(path, plan)
     return {key: full[key] for key in full.keys() & OF_METHOD}
+
+
+def is_iterated(method: dict[str, Any]) -> bool:
+    """Whether a method is the search of the library that also accepts longer orders."""
+    return method.get("search") == "iterated-greedy"
 
 
 def command_of(path: str, plan: dict[str, Any]) -> dict[str, Any]:

@@ -28,9 +28,9 @@ from pfs.experiments.statistics import SETTING, SIZE, setting_names
 GROUP = ["method", *SIZE, "rounds", "take", "passes", "time_factor"]
 # The greatest value of each column of numbers, and the least of those that may be below 0. The first ones are whole.
 GREATEST = {"jobs": 10 ** 6, "machines": 10 ** 6, "rounds": 10 ** 9, "take": 10 ** 6, "passes": 10 ** 6,
-            "bound": MOST_MAKESPAN, "reference": MOST_MAKESPAN, "cells": 2 ** 64 - 1, "makespan": MOST_MAKESPAN,
+            "bound": MOST_MAKESPAN, "proved_bound": MOST_MAKESPAN, "reference": MOST_MAKESPAN, "cells": 2 ** 64 - 1, "makespan": MOST_MAKESPAN,
             "seconds": 1e12, "time_factor": 1e12, "gap_percent": 1e20, "rpd": 1e20}
-LEAST, WHOLE = {"gap_percent": -100, "rpd": -100}, list(GREATEST)[:8]
+LEAST, WHOLE = {"gap_percent": -100, "rpd": -100}, list(GREATEST)[:9]
 NUMBER = r" *-?[0-9]+(?:\.[0-9]*)?(?:[eE][+-]?[0-9]{1,3})? *"
 # The decimals of the columns of tables.
 DECIMALS = {"mean_seconds": "{:.4f}", "mean_rank": "{:.2f}", "time_factor": "{:g}", "p": "{:.4g}", "p_holm": "{:.4g}",
@@ -104,6 +104,7 @@ def read(paths: list[str], reference_path: str | None) -> tuple[pd.DataFrame, st
     taillards = taillards_of(runs)
     runs[SIZE] = runs[SIZE].fillna(taillards[SIZE])
     check_bounds(runs, taillards["bound"])
+    runs["optimal"] = runs["makespan"] == runs[["bound", "proved_bound"]].max(axis=1)
     runs["reference"], basis = references(runs, taillards["best"], reference_path)
     rpds = 100 * (runs["makespan"] - runs["reference"]) / runs["reference"]
     runs["rpd"] = rpds.mask(runs["makespan"] == runs["reference"], 0).replace(float("inf"), float("nan"))
@@ -160,7 +161,7 @@ def taillards_of(runs: pd.DataFrame) -> pd.DataFrame:
 
 def check_bounds(runs: pd.DataFrame, taillards: pd.Series) -> None:
     """Rejects a makespan below the bound that a CSV has for its instance, or that of Taillard's instance."""
-    stated = runs.groupby("instance")["bound"].transform("max")
+    stated = runs[["bound", "proved_bound"]].max(axis=1).groupby(runs["instance"]).transform("max")
     bounds = pd.concat([stated, taillards], axis=1).max(axis=1)
     for _, run in runs[runs["makespan"] < bounds][:1].iterrows():
         raise ExperimentError(f"{run['method']}: the makespan {run['makespan']:.0f} of {run['instance']} is below the "
@@ -202,8 +203,8 @@ def table_of(runs: pd.DataFrame) -> pd.DataFrame:
     table = runs.groupby(GROUP).agg(
         runs=("makespan", "count"), failed=("makespan", lambda spans: spans.isna().sum()), audited=("audited", "sum"),
         mean_rpd_percent=("rpd", "mean"), greatest_rpd_percent=("rpd", "max"), mean_gap_percent=("gap_percent", "mean"),
-        greatest_gap_percent=("gap_percent", "max"), mean_seconds=("seconds", "mean"))
-    return table.reset_index()
+        greatest_gap_percent=("gap_percent", "max"), mean_seconds=("seconds", "mean"), optimal=("optimal", "sum"))
+    return table.drop(columns=[] if runs["proved_bound"].notna().any() else "optimal").reset_index()
 
 
 def by_instance(done: pd.DataFrame) -> pd.DataFrame:

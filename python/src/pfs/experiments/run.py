@@ -6,6 +6,7 @@ import contextlib
 import csv
 import fcntl
 import io
+import json
 import math
 import os
 import pathlib
@@ -25,6 +26,8 @@ COLUMNS = ["instance", "jobs", "machines", "rounds", "take", "passes", "seed", "
            "makespan", "bound", "gap_percent", "cells", "seconds", "status", "order", "reference", "source"]
 # The last line that `one` prints of a run, or its first six. Only a run by time has rounds there.
 RESULT = ["number", "makespan", "bound", "cells", "seconds", "status", "rounds", "left"]
+# The file of an experiment's folder with the bounds that `prove` has proved.
+PROOFS = "proofs.json"
 # The end of a run whose program was killed, or whose allocation failed: the next start repeats it.
 KILLED = re.compile("(?:solve|check): (?:signal [0-9]+|exit 4, pfs: no memory)|lost: .*")
 # The end of a line of GNU parallel's log: the exit status, the signal, and the number of the run in the command.
@@ -193,6 +196,7 @@ def write_csv(experiment: Experiment, csv_path: str) -> tuple[int, int]:
     """Writes the order files and the CSV of the runs that have ended. Reports and returns the numbers of runs that
     failed and that are missing."""
     folder, ended, rows, killed = experiment.folder, endings(experiment.folder), [], 0
+    proofs = proofs_of(folder)
     orders = folder / "orders"
     orders.mkdir(exist_ok=True)
     for run in experiment.runs:
@@ -210,10 +214,11 @@ def write_csv(experiment: Experiment, csv_path: str) -> tuple[int, int]:
             row["gap_percent"] = f"{100 * (makespan - bound) / bound:.4f}" if bound else "0.0000"
         known = reference_for(experiment.reference, run["instance"])
         row |= {"reference": str(known[0]), "source": text_cell(known[1])} if known else {}
+        row |= {"proved_bound": str(proofs[run["instance"]])} if run["instance"] in proofs else {}
         rows.append(row | {"method": text_cell(run["method"])})
         killed += int(result.get("left") or 0)
     more = [column for column in ("time_factor", "method") if any(run[column] for run in experiment.runs)]
-    columns = [*COLUMNS, *more]
+    columns = [*COLUMNS, *more, *(["proved_bound"] if proofs else [])]
     write_text(csv_path, csv_text([columns, *([row.get(column, "") for column in columns] for row in rows)]))
     failed, left = sum(row["status"] != "ok" for row in rows), len(experiment.runs) - len(rows)
     report_errors(rows)
@@ -221,6 +226,12 @@ def write_csv(experiment: Experiment, csv_path: str) -> tuple[int, int]:
         print(f"processes that commands left when they ended, and that were killed: {killed}", file=sys.stderr)
     print(f"{csv_path}: {len(rows)} runs, {failed} of them failed, {left} still to run", file=sys.stderr)
     return failed, left
+
+
+def proofs_of(folder: pathlib.Path) -> dict[str, int]:
+    """Returns the bounds that `prove` has proved, by the names of the instances."""
+    path = folder / PROOFS
+    return {**json.loads(path.read_bytes())} if path.exists() else {}
 
 
 def report_errors(rows: list[Row]) -> None:

@@ -26,7 +26,7 @@ from pfs._atomic import atomic_write
 from pfs._benchmarks import taillard_rows
 from pfs._cli import version
 from pfs.experiments import ExperimentError, listed, one, plain
-from pfs.experiments.plan import Reference, Row, read_plan, reference_for, reference_of
+from pfs.experiments.plan import Reference, Row, is_iterated, read_plan, reference_for, reference_of
 
 # What plan.json has of a run: columns of the CSV, its number, the copy of its instance, and the seconds of a search by
 # time. Unknown values are empty, and hyphens in runs.tsv, which is made of it: a line for each number.
@@ -187,10 +187,10 @@ def is_copy(copy: pathlib.Path, source: str) -> bool:
 
 
 def copied_inputs(plan: dict[str, Any], places: dict[str, int], top: str, stage: pathlib.Path) -> dict[str, str]:
-    """Copies what the runs need: a command with its files, or the library for searches by time, and the instances.
-    Returns the names of the files and the instances, by their copies."""
+    """Copies what the runs need: a command with its files, or the library for searches that the program doesn't make,
+    and the instances. Returns the names of the files and the instances, by their copies."""
     (stage / "files").mkdir(exist_ok=True)
-    if any("time_factors" in each and "command" not in each for each in plan["methods"]):
+    if any("command" not in each and ("time_factors" in each or is_iterated(each)) for each in plan["methods"]):
         copy(library(), stage / one.LIBRARY)
     inputs = {f"files/{name}": name for each in plan["methods"] for name in each.get("files", [])}
     inputs |= {f"instances/{places.setdefault(name, len(places) + 1)}": name for name in plan["instances"]}
@@ -226,9 +226,10 @@ def note_start(stage: pathlib.Path, plan: dict[str, Any], inputs: dict[str, str]
 
 # The runs
 
-def commands_of(plan: dict[str, Any]) -> dict[str, list[str] | None]:
-    """Returns the command line of each method, None for pfs."""
-    return {each["method"]: each.get("command") for each in plan["methods"]}
+def commands_of(plan: dict[str, Any]) -> dict[str, list[str] | str | None]:
+    """Returns the command line of each method, the name of a search that the program doesn't make, or None for pfs."""
+    return {each["method"]: each.get("command") or (each["search"] if is_iterated(each) else None)
+            for each in plan["methods"]}
 
 
 def add_runs(plan: dict[str, Any], stored: dict[str, Any], references: Reference, stage: pathlib.Path,
@@ -288,7 +289,7 @@ def settings_of(method: dict[str, Any], jobs: str, machines: str, label: str) ->
     """Yields the rounds, seconds, take, passes, seed, repetition and time factor of each run of a method on an
     instance, whose size is unknown if pfs rejects it."""
     is_pfs = "command" not in method
-    usual = str(min(4, int(jobs))) if jobs and is_pfs else ""
+    usual = str(min(2 if is_iterated(method) else 4, int(jobs))) if jobs and is_pfs else ""
     # the milliseconds of a time factor are jobs times half the machines times the factor
     unit = int(jobs) * int(machines) / 2000 if jobs else 0
     budgets = [(str(rounds), "", "") for rounds in method["rounds"]]

@@ -1,0 +1,183 @@
+"""Proofs that an order is optimal: against all orders of small instances, at the limits of size and time, and when they
+are interrupted."""
+import copy
+import os
+import pickle
+import signal
+import threading
+import time
+from typing import Any
+
+import numpy as np
+import pfs
+import pytest
+from hypothesis import given
+from hypothesis import strategies as st
+from pfs import _library, _proof
+from support import plainly
+
+# No proof of it ends within minutes.
+HARD = 51
+
+
+@given(plainly.shops_and_orders(), st.integers(1, 30))
+def test_no_order_is_shorter(case: tuple[plainly.Table, list[int]], nodes: int) -> None:
+    """From NEH's order and from any other one, in few calls and in many."""
+    times, order = case
+    shop, least = pfs.Instance(times), plainly.shortest(times)
+    with pytest.MonkeyPatch.context() as patch:
+        patch.setattr(_proof, "NODES", nodes)
+        for best in (shop.optimum(60), shop.optimum(60, start=order), shop.solve(0, start=order, prove=60),
+                     pfs.solve_all([shop], [1], 0, prove=60)[0, 1]):
+            assert (best.makespan, best.bound, best.optimal) == (least, least, True)
+            assert plainly.makespan(times, best.order.tolist()) == least and best.rounds in (0, 100)
+
+
+def test_published_optima() -> None:
+    for number in (1, 2, 11):
+        shop = pfs.taillard(number)
+        best = shop.optimum(60)
+        assert (best.makespan, best.bound) == (shop.upper, shop.upper) and shop.makespan(best) == shop.upper
+
+
+def test_without_a_proof_nothing_is_optimal_but_at_the_bound() -> None:
+    shop = pfs.Instance([[1, 4, 0], [2, 0, 3], [3, 3, 5], [3, 1, 0]])
+    least = shop.optimum().makespan
+    found = shop.solve(100, target=least)
+    assert found.makespan == least > shop.bound() == found.bound and not found.optimal
+    at_bound = pfs.Instance([[3, 2], [2, 5], [4, 1]]).solve(10)
+    assert (at_bound.optimal, at_bound.bound) == (True, at_bound.makespan)
+    assert not pfs.Solution([0, 1], 7).optimal and pfs.Solution([0, 1], 0).optimal, "no makespan is below 0"
+
+
+def test_what_is_proved_stays_with_the_solution() -> None:
+    """It is no part of comparisons, as time decides how far a proof comes."""
+    shop = pfs.taillard(1)
+    best, other = shop.solve(200, prove=60), shop.solve(200)
+    assert best.optimal and not other.optimal and best == other
+    for same in (pickle.loads(pickle.dumps(best)), copy.copy(best)):
+        assert (same, same.bound, same.optimal) == (best, best.bound, True)
+    with pytest.raises(ValueError, match="read-only"):
+        shop.solve(0, start=range(20), prove=60).order[0] = 1
+
+
+def nodes_asked(monkeypatch: pytest.MonkeyPatch) -> list[int]:
+    """The nodes of each call of the library from now on."""
+    asked, real = list[int](), _library.library.pfs_prove
+
+    def noting(*given: Any) -> int:
+        asked.append(given[3])
+        return int(real(*given))
+
+    monkeypatch.setattr(_library.library, "pfs_prove", noting)
+    return asked
+
+
+@pytest.mark.parametrize(("jobs", "machines", "is_tried"), [
+    (256, 2, True), (257, 2, False), (2, 64, True), (2, 65, False)])
+def test_the_limits_of_size(monkeypatch: pytest.MonkeyPatch, jobs: int, machines: int, is_tried: bool) -> None:
+    """Beyond them the bound stays that of the instance."""
+    asked = nodes_asked(monkeypatch)
+    shop = pfs.generate(jobs, machines, 1)
+    worst = max((shop.solve(0, start=order) for order in (range(jobs), range(jobs)[::-1])), key=lambda at: at.makespan)
+    assert worst.makespan > shop.bound()
+    best = shop.optimum(5, start=worst)
+    assert (len(asked) > 0) == is_tried
+    assert best.bound >= shop.bound() and (is_tried or (best.bound, best.makespan) == (shop.bound(), worst.makespan))
+
+
+def test_it_ends_by_its_limit(monkeypatch: pytest.MonkeyPatch) -> None:
+    """After calls with twice as many nodes each, and a last one with all that there is time for."""
+    asked = nodes_asked(monkeypatch)
+    shop = pfs.taillard(HARD)
+    begun = time.monotonic()
+    best = shop.optimum(1)
+    assert time.monotonic() - begun < 4 and not best.optimal
+    assert shop.bound() <= best.bound < best.makespan == shop.makespan(best)
+    assert len(asked) > 2 and asked == sorted(set(asked)) and asked[1] == 2 * asked[0]
+    asked.clear()
+    assert shop.solve(5, prove=0).bound == shop.solve(5, prove=None).bound == shop.bound() and not asked
+    assert shop.optimum(0).bound == shop.bound() and not asked
+
+
+@pytest.mark.parametrize(("took", "left", "due"), [
+    (1, 6.1, 20), (1, 5.9, 59), (1, 1.5, 15), (1, 0.9, 0), (1, -1, 0), (0, 1, 20)])
+def test_the_nodes_of_the_next_call(took: float, left: float, due: int) -> None:
+    assert _proof.Proof.next(10, took, left) == due
+
+
+def test_an_event_ends_it_and_one_that_is_set_before_it_begins() -> None:
+    shop, stop = pfs.taillard(HARD), threading.Event()
+    timer = threading.Timer(0.5, stop.set)
+    timer.start()
+    begun = time.monotonic()
+    best = shop.optimum(120, stop=stop)
+    assert 0.4 < time.monotonic() - begun < 10 and best.bound >= shop.bound() and not best.optimal
+    assert shop.optimum(120, stop=stop).makespan == shop.neh().makespan
+    timer.join()
+
+
+def test_an_interruption_has_the_best_order_so_far() -> None:
+    shop = pfs.taillard(HARD)
+    timer = threading.Timer(1, os.kill, (os.getpid(), signal.SIGINT))
+    timer.start()
+    begun = time.monotonic()
+    with pytest.raises(pfs.Interrupted) as stop:
+        shop.solve(5, prove=120)
+    assert time.monotonic() - begun < 10
+    best = stop.value.solution
+    assert best.makespan == shop.makespan(best) <= shop.solve(5).makespan and best.rounds == 5
+    timer.join()
+
+
+@pytest.mark.parametrize("call", [1, 3])
+def test_memory_that_runs_out_loses_nothing(monkeypatch: pytest.MonkeyPatch, call: int) -> None:
+    calls, real = list[int](), _library.library.pfs_prove
+
+    def refusing(*given: Any) -> int:
+        calls.append(1)
+        return _library.MEMORY if len(calls) == call else int(real(*given))
+
+    monkeypatch.setattr(_library.library, "pfs_prove", refusing)
+    shop = pfs.taillard(HARD)
+    with pytest.raises(MemoryError, match="memory allocation failed") as stop:
+        shop.solve(5, prove=60)
+    best = getattr(stop.value, "solution", None)
+    assert best is not None and best.makespan == shop.makespan(best) <= shop.solve(5).makespan
+
+
+def test_without_a_thread_nothing_is_proved(monkeypatch: pytest.MonkeyPatch) -> None:
+    def refuse(_: threading.Thread) -> None:
+        raise RuntimeError("can't start new thread")
+
+    monkeypatch.setattr(_proof.Call, "start", refuse)
+    shop = pfs.taillard(1)
+    best = shop.solve(1000, prove=60)
+    assert (best, best.bound, best.optimal) == (shop.solve(1000), shop.bound(), False)
+
+
+def test_a_call_that_is_left_behind_keeps_no_program_from_ending(tmp_path: Any) -> None:
+    begun = time.monotonic()
+    done = plainly.python("-c", f"import pfs, threading; from pfs import _proof; _proof.NODES = 10**9\n"
+                          f"print(pfs.taillard({HARD}).solve(1, prove=0.3).optimal)", cwd=tmp_path)
+    assert (done.stdout, done.stderr, done.returncode) == ("False\n", "", 0) and time.monotonic() - begun < 20
+
+
+@pytest.mark.parametrize(("words", "kind", "why"), [
+    ({"prove": -1}, ValueError, "prove must be 0 or more seconds, not -1.0"),
+    ({"prove": float("nan")}, ValueError, "prove must be 0 or more seconds, not nan"),
+    ({"prove": "1"}, TypeError, "prove must be a number of seconds, not '1'"),
+    ({"prove": True}, TypeError, "prove must be a number of seconds, not True"),
+    ({"prove": 1, "hold": [0]}, ValueError, "prove needs a search without hold and move"),
+    ({"prove": 1, "move": [0]}, ValueError, "prove needs a search without hold and move")])
+def test_what_is_rejected(words: dict[str, Any], kind: type[Exception], why: str) -> None:
+    with pytest.raises(kind, match=f"^{why}$"):
+        pfs.taillard(1).solve(1, **words)
+
+
+def test_seconds_that_are_rejected() -> None:
+    seconds: Any
+    for seconds, why in ((-1, "seconds must be 0 or more seconds, not -1.0"), (None, "seconds must be a number of"),
+                         (np.bool_(True), "seconds must be a number of seconds, not True")):
+        with pytest.raises((TypeError, ValueError), match=f"^{why}"):
+            pfs.taillard(1).optimum(seconds)
