@@ -1,7 +1,8 @@
 //! The search of a user.
-ghost use Rattle.std.specs.Prelude.{◌≡◌, ℕ, ◌<◌, ◌≤◌, [], length, IfOk, OnErr};
+ghost use Rattle.std.specs.Prelude.{◌≡◌, ℕ, ◌+◌, ◌<◌, ◌≤◌, [], length, IfOk, OnErr};
 ghost use Rattle.pfs_base.specs.Paths.{makespan};
 ghost use Rattle.pfs_audit.specs.Bound.{bound_of, IsLowerBound};
+ghost use Rattle.pfs_exact.specs.MostNodes.{most_nodes};
 ghost use Rattle.pfs_exact.specs.Private.Nodes.{IsWork};
 
 use crate::branch::{Work, branch, span_of};
@@ -49,6 +50,7 @@ pub fn prove_order(
     ensures raised { IfOk result (λ proved. bound_of instance.now.shop ≤ proved.bound) }
     ensures ended { IfOk result (λ proved. proved.bound < proved.makespan → proved.left ≡ 0) }
     ensures budget { IfOk result (λ proved. proved.left ≤ nodes) }
+    ensures few { IfOk result (λ proved. nodes ≤ proved.left + most_nodes instance.now.shop.jobs) }
     ensures kept { OnErr result (order.new ≡ order.old) }
 {
     let floor = bound(instance);
