@@ -32,8 +32,9 @@ pub struct Proved {
 
 /// Searches for a shorter order, and for a proof that there is none (branch and bound from both ends: Ladhari and Haouari
 /// 2005; Gmys, Mezmaz, Melab and Tuyttens 2020). A node is a set of orders that begin with some jobs and end with some; at
-/// most `nodes` of them are searched. Unless all of these are used, the order that was found is optimal. The only error is
-/// that memory for four sequences could not be allocated, before the search begins; then the order is as it was.
+/// most `nodes` of them are searched. Unless all of these are used, the order that was found is optimal. A search has at
+/// most as many nodes as there are sequences of distinct jobs, of any length: 9,864,101 for 10 jobs. The only error is that
+/// memory for four sequences could not be allocated, before the search begins; then the order is as it was.
 pub fn prove_order(
     alloc: Global,
     instance: &Instance,
