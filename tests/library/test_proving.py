@@ -3,6 +3,7 @@ budgets that end anywhere, and at its limits."""
 import csv
 import ctypes
 import itertools
+import math
 import pathlib
 import threading
 from array import array
@@ -61,7 +62,8 @@ def test_no_order_is_shorter(libpfs: Library) -> None:
     for _ in range(SHOPS):
         times = random_times(random)
         start = random.sample(range(len(times)), len(times))
-        found = prove(libpfs, times, start, 10**9)
+        most = sum(math.perm(len(times), length) for length in range(len(times) + 1))
+        found = prove(libpfs, times, start, most + 1)
         least = min(makespan(times, list(order)) for order in itertools.permutations(range(len(times))))
         assert sorted(found.order) == list(range(len(times))), times
         assert (found.number, found.makespan, found.bound) == (OK, least, least), (times, start)

@@ -1,5 +1,6 @@
 mod Arrays
 mod Bounds
+mod Entered
 mod Heads
 mod Machines
 mod Sides

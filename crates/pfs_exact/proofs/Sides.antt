@@ -199,7 +199,7 @@ between : (front back : List ℕ) (job : ℕ) → insert (front ++ back) (length
 between [] back job = refl
 between (first ∷ front) back job = ap (λ l. first ∷ l) (between front back job)
 
-absent : (front back : List ℕ) (job : ℕ) → IsOpen front back job → Contains (front ++ back) job → ⊥
+pub absent : (front back : List ℕ) (job : ℕ) → IsOpen front back job → Contains (front ++ back) job → ⊥
 absent [] back job outside among = outside.1 among
 absent (first ∷ front) back job outside (zero, within, found) = outside.0 (zero, omega arith, found)
 absent (first ∷ front) back job outside (suc at, within, found) =

@@ -1,6 +1,7 @@
 //! The recursion.
-ghost use Rattle.std.specs.Prelude.{◌≡◌, ℕ, ◌+◌, ◌<◌, ◌≤◌, ◌++◌, length, slice_index};
+ghost use Rattle.std.specs.Prelude.{◌≡◌, ℕ, ◌+◌, ◌-◌, ◌<◌, ◌≤◌, ◌++◌, length, slice_index};
 ghost use Rattle.pfs_base.specs.Paths.{makespan};
+ghost use Rattle.pfs_exact.specs.MostNodes.{most_nodes};
 ghost use Rattle.pfs_exact.specs.Private.Nodes.{AreEnds, AreHeads, IsNode, IsWork, NoneShorter};
 
 use crate::children::{CLOSED, Children, children_of};
@@ -34,6 +35,8 @@ pub(crate) fn branch(instance: &Instance, work: &mut Work, node: &mut Node) -> u
     ensures ends { work.new.ends ≡ work.old.ends }
     ensures no_longer { work.new.makespan ≤ work.old.makespan }
     ensures left { work.new.left < work.old.left }
+    ensures few { work.old.left ≤ work.new.left + most_nodes (instance.now.shop.jobs
+        - (length work.old.ends.front.jobs + length work.old.ends.back.jobs)) }
     ensures low { NoneShorter instance.now.shop work.old.ends.front.jobs work.old.ends.back.jobs result }
     ensures ended { result < work.new.makespan → work.new.left ≡ 0 }
 {

@@ -1,7 +1,8 @@
 //! The search of a user.
-ghost use Rattle.std.specs.Prelude.{◌≡◌, ℕ, ◌<◌, ◌≤◌, [], length, IfOk, OnErr};
+ghost use Rattle.std.specs.Prelude.{◌≡◌, ℕ, ◌+◌, ◌<◌, ◌≤◌, [], length, IfOk, OnErr};
 ghost use Rattle.pfs_base.specs.Paths.{makespan};
 ghost use Rattle.pfs_audit.specs.Bound.{bound_of, IsLowerBound};
+ghost use Rattle.pfs_exact.specs.MostNodes.{most_nodes};
 ghost use Rattle.pfs_exact.specs.Private.Nodes.{IsWork};
 
 use crate::branch::{Work, branch, span_of};
@@ -31,8 +32,9 @@ pub struct Proved {
 
 /// Searches for a shorter order, and for a proof that there is none (branch and bound from both ends: Ladhari and Haouari
 /// 2005; Gmys, Mezmaz, Melab and Tuyttens 2020). A node is a set of orders that begin with some jobs and end with some; at
-/// most `nodes` of them are searched. Unless all of these are used, the order that was found is optimal. The only error is
-/// that memory for four sequences could not be allocated, before the search begins; then the order is as it was.
+/// most `nodes` of them are searched. Unless all of these are used, the order that was found is optimal. A search has at
+/// most as many nodes as there are sequences of distinct jobs, of any length: 9,864,101 for 10 jobs. The only error is that
+/// memory for four sequences could not be allocated, before the search begins; then the order is as it was.
 pub fn prove_order(
     alloc: Global,
     instance: &Instance,
@@ -49,6 +51,7 @@ pub fn prove_order(
     ensures raised { IfOk result (λ proved. bound_of instance.now.shop ≤ proved.bound) }
     ensures ended { IfOk result (λ proved. proved.bound < proved.makespan → proved.left ≡ 0) }
     ensures budget { IfOk result (λ proved. proved.left ≤ nodes) }
+    ensures few { IfOk result (λ proved. nodes ≤ proved.left + most_nodes instance.now.shop.jobs) }
     ensures kept { OnErr result (order.new ≡ order.old) }
 {
     let floor = bound(instance);

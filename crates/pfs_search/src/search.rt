@@ -96,6 +96,7 @@ impl Search {
         requires room { ⟦<Metered<'static> as Bench>⟧.counted bench.old < 2 ^ 63 }
         ensures order { self.new.kept.order ≡ jobs.now }
         ensures span { self.new.kept.span ≡ span }
+        ensures cells { self.new.cells ≡ self.old.cells }
         ensures counted { ⟦<Metered<'static> as Bench>⟧.counted bench.new ≡ ⟦<Metered<'static> as Bench>⟧.counted bench.old
             + (⟦<Metered<'static> as Bench>⟧.shop bench.old).jobs * (⟦<Metered<'static> as Bench>⟧.shop bench.old).machines }
         ensures shop { ⟦<Metered<'static> as Bench>⟧.shop bench.new ≡ ⟦<Metered<'static> as Bench>⟧.shop bench.old }
@@ -162,6 +163,7 @@ impl Search {
         requires room { ⟦<Metered<'static> as Bench>⟧.counted bench.old < 2 ^ 63 }
         ensures best { IsBestPlace (⟦<Metered<'static> as Bench>⟧.shop bench.old) jobs.now job result.place result.span }
         ensures kept { self.new.kept ≡ self.old.kept }
+        ensures cells { self.new.cells ≡ self.old.cells }
         ensures counted { ⟦<Metered<'static> as Bench>⟧.counted bench.new ≡ ⟦<Metered<'static> as Bench>⟧.counted bench.old
             + heads_tails_cost (length jobs.now + 1) (⟦<Metered<'static> as Bench>⟧.shop bench.old).machines }
         ensures shop { ⟦<Metered<'static> as Bench>⟧.shop bench.new ≡ ⟦<Metered<'static> as Bench>⟧.shop bench.old }
@@ -185,6 +187,7 @@ impl Search {
         ensures spans { (place : ℕ) → place ≤ length jobs.now
             → slice_index spans.new place ≡ makespan_with (⟦<Metered<'static> as Bench>⟧.shop bench.old) jobs.now job place }
         ensures kept { self.new.kept ≡ self.old.kept }
+        ensures cells { self.new.cells ≡ self.old.cells }
         ensures counted { ⟦<Metered<'static> as Bench>⟧.counted bench.new ≡ ⟦<Metered<'static> as Bench>⟧.counted bench.old
             + heads_tails_cost (length jobs.now + 1) (⟦<Metered<'static> as Bench>⟧.shop bench.old).machines }
         ensures shop { ⟦<Metered<'static> as Bench>⟧.shop bench.new ≡ ⟦<Metered<'static> as Bench>⟧.shop bench.old }

@@ -1,7 +1,10 @@
-use Rattle.std.proofs.Common.{◌≡◌, ℕ, ◌+◌, ◌<◌, length, get_or, ap, sym, ◌∙◌, subst, arith}
+use Rattle.std.proofs.Common.{◌≡◌, ℕ, ◌+◌, ◌-◌, ◌<◌, ◌∷◌, length, get_or, inl, inr, ap, sym, ◌∙◌, subst, arith}
+use Rattle.std.proofs.lemmas.Bool.{cases_lt}
 use Rattle.pfs_exact.specs.declared.ends.Ends.{Ends}
 use Rattle.pfs_exact.specs.Private.Nodes.{AreEnds, IsNode, IsOpen, NoneShorter, put_of, taken_of}
+use Rattle.pfs_exact.specs.MostNodes.{most_nodes}
 use Rattle.pfs_exact.proofs.Bounds.{bounds_set}
+use Rattle.pfs_exact.proofs.Entered.{few_nodes, one_more}
 use Rattle.pfs_exact.proofs.Sides.{by_children, none_shorter-le, put_ends, put_length, taken_again}
 use Rattle.pfs_exact.proofs.branch.+branch.Goals as goal
 
@@ -26,6 +29,20 @@ returns-then-work-eq0-clause-low t c =
     none_shorter-le c.args.instance.now.shop (put_of forward ends job).front.jobs (put_of forward ends job).back.jobs
     (get_or c.each.children.bounds job 0) (get_or c.each.children.bounds c.least_of-job.result 0) (omega arith)
     (c.each.invariant.bounds.low job small outside))
+
+pub returns-then-number-work-clause-few : goal.returns-then-number-work-clause-few
+returns-then-number-work-clause-few t c =
+    let ends = c.args.work.now.ends in
+    let (entered, are) = c.each.invariant.entered in
+    few_nodes c.args.instance.now.shop.jobs ends.front.jobs ends.back.jobs c.each.children.bounds entered
+    c.each.work.makespan c.args.work.now.left c.each.work.left are
+
+pub returns-then-work-eq0-clause-few : goal.returns-then-work-eq0-clause-few
+returns-then-work-eq0-clause-few t c =
+    let ends = c.args.work.now.ends in
+    let (entered, are) = c.each.invariant.entered in
+    few_nodes c.args.instance.now.shop.jobs ends.front.jobs ends.back.jobs c.each.children.bounds entered
+    c.each.work.makespan c.args.work.now.left c.each.work.left are
 
 pub branch-children-requires : goal.branch-children-requires
 branch-children-requires t c =
@@ -96,4 +113,22 @@ each-preserved t c =
           (λ k small other. small) (invariant.bounds.closed job inside (omega arith))
           (subst (λ (e : Ends). NoneShorter shop e.front.jobs e.back.jobs c.branch-children.result)
           (c.put.ensures ∙ ap (λ (e : Ends). put_of forward e job) invariant.ends) searched.low) invariant.bounds;
+      entered =
+          let (entered, are) = invariant.entered in
+          let many = shop.jobs - (length ends.front.jobs + length ends.back.jobs) in
+          let nodes : Ends → ℕ = λ e. most_nodes (shop.jobs - (length e.front.jobs + length e.back.jobs)) in
+          let put = ap nodes (c.put.ensures ∙ ap (λ (e : Ends). put_of forward e job) invariant.ends) in
+          let one = put_length forward ends job in
+          let less : nodes (put_of forward ends job) ≡ most_nodes (many - 1) = ap most_nodes (omega arith) in
+          let few = searched.few in (
+            job ∷ entered,
+            one_more shop.jobs many ends.front.jobs ends.back.jobs c.each.children.bounds entered c.each.work.makespan
+                c.args.work.now.left c.each.work.left job are c.branch-children.new.work.makespan
+                c.branch-children.new.work.left c.branch-children.result inside (omega (arith, invariant.bounds.every))
+                (omega arith) (invariant.bounds.closed job inside (omega arith)) (omega arith) searched.no_longer
+                (λ some. elim (cases_lt c.branch-children.result c.branch-children.new.work.makespan) [
+                  | inl below ↦ let none = searched.ended below in absurd (omega arith)
+                  | inr above ↦ above
+                ]) searched.left (omega arith),
+          );
     }

@@ -1,5 +1,6 @@
-use Rattle.std.proofs.Common.{◌≡◌, ◌+◌, ◌-◌, ◌<◌, ◌≤◌, length}
+use Rattle.std.proofs.Common.{◌≡◌, ℕ, ◌+◌, ◌-◌, ◌<◌, ◌≤◌, List, ◌++◌, length}
 use Rattle.pfs_exact.specs.Private.Nodes.{AreBounds, IsWork}
+use Rattle.pfs_exact.proofs.Entered.{AreEntered}
 use Rattle.pfs_exact.proofs.branch.+branch.Given as goal
 
 abbrev pub decreases-branch : goal.decreases-branch
@@ -13,6 +14,10 @@ invariant-each l = record {
   no_longer : l.work.makespan ≤ l.fn.work.makespan;
   left : l.work.left < l.fn.work.left;
   bounds : AreBounds l.instance.shop l.fn.work.ends l.children.forward l.instance.shop.jobs l.children.bounds;
+  entered : (entered : List ℕ) × AreEntered l.instance.shop.jobs
+      (l.instance.shop.jobs - (length l.fn.work.ends.front.jobs + length l.fn.work.ends.back.jobs))
+      (l.fn.work.ends.front.jobs ++ l.fn.work.ends.back.jobs) l.children.bounds l.work.makespan l.fn.work.left l.work.left
+      entered;
 }
 
 abbrev pub decreases-each : goal.decreases-each
