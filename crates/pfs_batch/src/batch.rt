@@ -99,7 +99,7 @@ impl Batch {
     /// What computes makespans of an instance, or `None` if a time is above 65,535. It returns `AllocError` where
     /// allocation fails.
     pub fn new(alloc: Global, instance: &Instance) -> Result<Option<Batch>, AllocError>
-        ensures { IfOk result (λ made. MatchOption made
+        ensures made { IfOk result (λ made. MatchOption made
             (All (λ time. time ≤ 65535) instance.now.shop.times → ⊥) (λ batch. batch ≡ instance.now.shop)) }
     {
         if !all_fit(instance.times()) {
