@@ -4,8 +4,8 @@
  *                                           `pfs solve --cells` does
  *        library insert COUNT FILE          makes COUNT insertions, of each job in turn into the others in the order
  *                                           of their numbers; prints the sum of the places and the makespans
- *        library makespans COUNT FILE FORM  computes the makespans of the same 1,000 orders COUNT times, by `one` call
- *                                           of pfs_makespans or by `many` calls of pfs_makespan; prints their sum
+ *        library makespans COUNT FILE PART  computes the makespans of the same 1,000 orders COUNT times, in calls of
+ *                                           PART orders, or with PART 0 by pfs_makespan; prints their sum
  *        library own ROUNDS FILE FORM       NEH and ROUNDS rounds with seed 1, made of other functions. Each round
  *                                           inserts its jobs by calls of pfs_insert (`insert`) or by one call of
  *                                           pfs_construct (`construct`); with `local` a call of pfs_local_search
@@ -89,17 +89,18 @@ static void draw_orders(uint32_t *orders) {
     }
 }
 
-static void makespans(uint64_t count, int in_one_call) {
+static void makespans(uint64_t count, size_t part) {
     static uint32_t orders[ORDERS * PFS_MOST_JOBS];
     static uint64_t found[ORDERS];
     uint64_t sum = 0;
     draw_orders(orders);
     for (uint64_t made = 0; made < count; ++made) {
-        if (in_one_call)
-            check(pfs_makespans(&instance, orders, ORDERS * jobs, jobs, found, ORDERS));
-        else
-            for (size_t index = 0; index < ORDERS; ++index)
-                check(pfs_makespan(&instance, orders + index * jobs, jobs, found + index));
+        for (size_t first = 0; first < ORDERS; first += part ? part : 1) {
+            size_t some = ORDERS - first < part ? ORDERS - first : part;
+            const uint32_t *list = orders + first * jobs;
+            check(part ? pfs_makespans(&instance, list, some * jobs, jobs, found + first, some)
+                       : pfs_makespan(&instance, list, jobs, found + first));
+        }
         for (size_t index = 0; index < ORDERS; ++index)
             sum += found[index];
     }
@@ -180,7 +181,7 @@ int main(int count, char **words) {
         insert(strtoull(words[2], NULL, 10));
     } else if (count == 5 && strcmp(words[1], "makespans") == 0) {
         read_shop(words[3]);
-        makespans(strtoull(words[2], NULL, 10), strcmp(words[4], "one") == 0);
+        makespans(strtoull(words[2], NULL, 10), strtoul(words[4], NULL, 10));
     } else if (count == 5 && strcmp(words[1], "own") == 0) {
         read_shop(words[3]);
         own(words[4], (uint32_t)strtoul(words[2], NULL, 10));

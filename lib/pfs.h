@@ -160,8 +160,9 @@ struct pfs_instance {
 
 /** @brief Prepares an instance for the calls below. Time O(nm).
  *
- * The struct holds a copy of the times, and the memory of insertions and searches. If it held another instance, the
- * function releases that one, unless it fails. It allocates what the struct holds, which pfs_release frees.
+ * The struct holds a copy of the times, another one in 16 bits if none is above 65,535, and the memory of insertions
+ * and searches. If it held another instance, the function releases that one, unless it fails. It allocates what the
+ * struct holds, which pfs_release frees.
  *
  * @param[in] times processing times, job by job: times[job * machines + machine]
  * @param[in] times_length number of times, which is jobs * machines

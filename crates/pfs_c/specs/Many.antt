@@ -1,14 +1,11 @@
 -- Many sequences of equal length, one after the other in a list, and their makespans.
-use Rattle.std.specs.Prelude.{◌≡◌, ℕ, ◌*◌, ◌<◌, List, [], ◌∷◌, length, map, take, drop, slice_index, Option}
+use Rattle.std.specs.Prelude.{◌≡◌, ℕ, ◌*◌, ◌<◌, List, [], ◌∷◌, length, map, slice_index, Option}
 use Rattle.pfs_base.specs.FlowShop.{FlowShop}
 use Rattle.pfs_base.specs.Lists.{below, first_some}
 use Rattle.pfs_base.specs.Paths.{makespan}
+use Rattle.pfs_batch.specs.Many.{sequence_at}
 use Rattle.pfs_c.specs.declared.numbers.CallFault.{CallFault}
 use Rattle.pfs_c.specs.Validation.{length_fault, jobs_fault}
-
--- the sequence with this index, counted from 0, if each has `long` jobs
-abbrev pub sequence_at : ℕ → List ℕ → ℕ → List ℕ
-sequence_at long sequences index = take long (drop (index * long) sequences)
 
 -- the first fault in the sequences, one after the other, each from the left
 abbrev pub sequences_fault : ℕ → ℕ → ℕ → List ℕ → Option CallFault

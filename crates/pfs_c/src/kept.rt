@@ -11,15 +11,18 @@ ghost use Rattle.pfs_search.specs.Search.{IsSearchOf};
 ghost use Rattle.pfs_search.specs.Solution.{IsImproved, IsNeh};
 ghost use Rattle.pfs_search.specs.Greedy.{pass_over, passes_over};
 ghost use Rattle.pfs_c.specs.Inserting.{AreInsertions, insertions_fault};
+ghost use Rattle.pfs_c.specs.Many.{AreMakespans, makespans_fault};
 ghost use Rattle.pfs_c.specs.Searching.{rounds_fault};
 ghost use Rattle.pfs_c.specs.Validation.{insertion_fault};
 ghost use Rattle.pfs_c.specs.Private.Outcomes.{Validates};
 
 use crate::given::{copy_sequence, validate, validate_insertion, validate_jobs};
+use crate::many::{fill_makespans, validate_many};
 use crate::numbers::CallFault;
 use crate::rows::span_of;
 use crate::searching::RoundsOptions;
 use pfs_base::{Bench, Instance, MOST_JOBS, MOST_PASSES, MOST_ROUNDS};
+use pfs_batch::Batch;
 use pfs_iterate::{Iterated, Makespans, Options};
 use pfs_order::Seq;
 use pfs_search::{Rounds, Search};
@@ -35,10 +38,12 @@ pub(crate) struct Kept {
     is_span_known: bool,
     sequence: Seq,
     iterated: Iterated,
+    // None if a time is above 65,535.
+    batch: Option<Batch>,
 }
 
 impl Model for Kept {
-    ghost use Rattle.std.specs.Prelude.{◌≡◌, IsTrue};
+    ghost use Rattle.std.specs.Prelude.{◌≡◌, IfSome, IsTrue};
     ghost use Rattle.pfs_base.specs.FlowShop.{FlowShop, IsWithin};
     ghost use Rattle.pfs_base.specs.Limits.{limits};
     ghost use Rattle.pfs_base.specs.Paths.{makespan};
@@ -54,6 +59,7 @@ impl Model for Kept {
       span : IsTrue a.is_span_known → a.search.kept.span ≡ makespan a.instance.shop a.search.kept.order;
       size : a.sequence.size ≡ a.instance.shop.jobs;
       iterated : a.iterated ≡ a.instance.shop.jobs;
+      batch : IfSome a.batch (λ batch. batch ≡ a.instance.shop);
     } };
 }
 
@@ -72,12 +78,16 @@ impl Kept {
         let Ok(iterated) = Iterated::new(alloc, &instance) else {
             return Err(CallFault::Memory);
         };
+        let Ok(batch) = Batch::new(alloc, &instance) else {
+            return Err(CallFault::Memory);
+        };
         Ok(Kept {
             instance,
             search,
             is_span_known: false,
             sequence,
             iterated,
+            batch,
         })
     }
 
@@ -238,6 +248,24 @@ impl Kept {
         let mut bench = self.instance.metered();
         self.search
             .insertions(&mut bench, sequence, job as usize, makespans);
+        Ok(())
+    }
+
+    /// Writes the makespan of each of many sequences of `long` jobs.
+    pub(crate) fn makespans(
+        &mut self,
+        sequences: &[u32],
+        long: usize,
+        makespans: &mut [u64],
+    ) -> Result<(), CallFault>
+        ensures validated { Validates result
+            (makespans_fault self.old sequences.now long (length makespans.old)) }
+        ensures done { IfOk result (λ _. AreMakespans self.old sequences.now long makespans.new) }
+        ensures shop { self.new ≡ self.old }
+        ensures kept { IfErr result (λ _. makespans.new ≡ makespans.old) }
+    {
+        validate_many(self.instance.jobs(), sequences, long, makespans.len())?;
+        fill_makespans(&self.instance, &mut self.batch, sequences, long, makespans);
         Ok(())
     }
 

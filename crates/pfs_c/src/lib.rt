@@ -10,6 +10,7 @@ mod handle;
 mod iterating;
 mod kept;
 pub mod laws;
+mod many;
 mod numbers;
 mod proving;
 mod random;

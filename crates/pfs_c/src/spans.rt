@@ -3,16 +3,14 @@ ghost use Rattle.std.specs.Prelude.{◌≡◌, ◌≢◌, ℕ, ◌+◌, ◌*◌,
 ghost use Rattle.std.specs.declared.option.Option.TheVariants.{None};
 ghost use Rattle.pfs_audit.specs.Bound.{bound_of};
 ghost use Rattle.pfs_audit.specs.Schedule.{IsLeastSchedule};
-ghost use Rattle.pfs_base.specs.Lists.{first_some};
 ghost use Rattle.pfs_base.specs.Paths.{makespan};
 ghost use Rattle.pfs_insert.specs.Inserter.{IsBestPlace};
-ghost use Rattle.pfs_order.specs.Sequence.{IsSequence};
 ghost use Rattle.pfs_c.specs.HeadsTails.{AreRowHeads, AreRowTails, heads_tails_fault};
 ghost use Rattle.pfs_c.specs.Inserting.{AreInsertions, insertions_fault};
-ghost use Rattle.pfs_c.specs.Many.{AreMakespans, makespans_fault, sequence_at, sequences_fault};
+ghost use Rattle.pfs_c.specs.Many.{AreMakespans, makespans_fault};
 ghost use Rattle.pfs_c.specs.Numbers.{Returns, number_returned};
 ghost use Rattle.pfs_c.specs.Tables.{EndAfterTimes, table_entry, table_fault};
-ghost use Rattle.pfs_c.specs.Validation.{insertion_fault, jobs_fault, length_fault, on_shop};
+ghost use Rattle.pfs_c.specs.Validation.{insertion_fault, jobs_fault, on_shop};
 ghost use Rattle.pfs_c.specs.Private.Outcomes.{Rejects, Validates};
 
 use crate::given::{order_of, validate, validate_jobs, validate_product};
@@ -20,7 +18,7 @@ use crate::handle::Prepared;
 use crate::numbers::{CallFault, PFS_OK, number_of};
 use crate::rows::{fill_rows, span_of};
 use pfs_audit::{TimeTable, bound, table};
-use pfs_base::{Instance, MOST_JOBS};
+use pfs_base::Instance;
 use std::alloc::Global;
 
 /// Computes the makespan of a sequence of distinct jobs, which need not be all jobs. That of no jobs is 0.
@@ -81,45 +79,12 @@ pub extern "C" fn pfs_makespans(
     ensures shop { instance.new.shop ≡ instance.old.shop }
     ensures kept { result ≢ PFS_OK → makespans.new ≡ makespans.old }
 {
-    let Some(kept) = instance.take(alloc) else {
+    let Some(mut kept) = instance.take(alloc) else {
         return CallFault::NotPrepared.number();
     };
-    let valid = validate_many(kept.jobs(), sequences, len, makespans.len());
-    if valid.is_ok() {
-        fill_makespans(kept.instance(), sequences, len, makespans);
-    }
+    let done = kept.makespans(sequences, len, makespans);
     instance.put(kept);
-    number_of(valid)
-}
-
-// Validates the length of a list of sequences, and then the sequences one after the other, each from the left.
-fn validate_many(jobs: usize, sequences: &[u32], long: usize, count: usize) -> Result<(), CallFault>
-    requires { jobs ≤ MOST_JOBS }
-    ensures validated { Validates result (first_some
-        (length_fault (length sequences.now) (count * long) ∷ sequences_fault jobs count long sequences.now ∷ [])) }
-    ensures room { IfOk result (λ done. length sequences.now ≡ count * long) }
-    ensures each { IfOk result (λ done. (index : ℕ) → index < count
-        → IsSequence jobs (sequence_at long sequences.now index)) }
-{
-    validate_product(sequences.len(), count, long)?;
-    for index in 0..count {
-        let first = index * long;
-        validate_jobs(jobs, &sequences[first..first + long])?;
-    }
-    Ok(())
-}
-
-// Writes the makespan of each sequence.
-fn fill_makespans(instance: &Instance, sequences: &[u32], long: usize, makespans: &mut [u64])
-    requires room { length sequences.now ≡ length makespans.old * long }
-    requires each { (index : ℕ) → index < length makespans.old
-        → IsSequence instance.now.shop.jobs (sequence_at long sequences.now index) }
-    ensures { AreMakespans instance.now.shop sequences.now long makespans.new }
-{
-    for index in 0..makespans.len() {
-        let first = index * long;
-        makespans[index] = span_of(instance, &sequences[first..first + long]);
-    }
+    number_of(done)
 }
 
 /// Finds the best place of a job in a sequence of others, of equal ones the first, and the makespan with the job there.

@@ -8,4 +8,5 @@ invariant_of-result c = record {
   span = λ known. absurd cc;
   size = search rules;
   iterated = search rules;
+  batch = search rules;
 }

@@ -1,10 +1,10 @@
 use Rattle.std.proofs.Common.{◌≡◌, refl, arith, rules, Err}
-use Rattle.pfs_c.specs.Many.{sequence_at}
+use Rattle.pfs_batch.specs.Many.{sequence_at}
 use Rattle.pfs_c.specs.Validation.{jobs_fault}
 use Rattle.pfs_c.proofs.Jobs.{jobs_right, none_below}
 use Rattle.pfs_c.proofs.ManyLemmas.{one_wrong}
 use Rattle.pfs_c.proofs.Returning.{passed}
-use Rattle.pfs_c.proofs.spans.validate_many.Goals as goal
+use Rattle.pfs_c.proofs.many.validate_many.Goals as goal
 
 pub returns-in_err-validate_jobs-clause-validated : goal.returns-in_err-validate_jobs-clause-validated
 returns-in_err-validate_jobs-clause-validated c =

@@ -1,7 +1,7 @@
 use Rattle.std.proofs.Common.{◌≡◌, ℕ, ◌<◌, None}
 use Rattle.pfs_c.specs.Validation.{jobs_fault}
-use Rattle.pfs_c.specs.Many.{sequence_at}
-use Rattle.pfs_c.proofs.spans.validate_many.Given as goal
+use Rattle.pfs_batch.specs.Many.{sequence_at}
+use Rattle.pfs_c.proofs.many.validate_many.Given as goal
 
 abbrev pub invariant-loop-index : goal.invariant-loop-index
 invariant-loop-index l =

@@ -1,0 +1,6 @@
+mod Eight
+mod Filled
+mod Heads
+mod RowSteps
+mod Sequences
+mod VectorSteps

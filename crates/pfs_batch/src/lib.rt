@@ -1,0 +1,11 @@
+//! Makespans of sixteen sequences at once, one in each lane of a vector.
+#![tactic(auto)]
+
+mod batch;
+mod gather;
+mod lanes;
+mod rows;
+mod spans;
+mod transpose;
+
+pub use batch::{Batch, WIDTH};
