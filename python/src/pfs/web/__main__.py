@@ -32,8 +32,8 @@ def words() -> argparse.ArgumentParser:
     add("--name", action="append", default=[], metavar="NAME",
         help="a name of this machine in the addresses that planners open; may be given more than once")
     add("--token-file", metavar="FILE",
-        help="a file with the token, which other users can't read: 20 to 200 letters, digits, - and _; else a new token "
-        "at each start")
+        help="a file with the token, which other users can't read: 20 to 200 letters, digits, - and _; else a new "
+        "one at each start")
     add("--proxy", action="store_true",
         help="requests come from a proxy on this machine, which names the planner's address (X-Forwarded-For)")
     add("--searches", type=number(1, 256), default=max(1, len(os.sched_getaffinity(0)) - 1), metavar="N",

@@ -54,7 +54,8 @@ class Apart:
         process.start()
         there.close()
         try:
-            return here.recv() if here.poll(MOST_SECONDS) else (False, None)
+            is_good, found = here.recv() if here.poll(MOST_SECONDS) else (False, None)
+            return is_good, found
         except EOFError:
             return False, None
         finally:

@@ -41,14 +41,16 @@ const GERMAN = {
   "no unit": "keiner Einheit", "is a machine": "ist eine Maschine", "leave this row out": "diese Zeile weglassen",
   "new": "neu", "pasted": "eingefügt",
   "waits for a processor, place {place}": "wartet auf einen Prozessor, Platz {place}",
-  "{makespan} so far, no order is below {bound}; {left} s left": "bisher {makespan}, unter {bound} geht es nicht; noch {left} s",
+  "{makespan} so far, no order is below {bound}; {left} s left":
+    "bisher {makespan}, unter {bound} geht es nicht; noch {left} s",
   "finished": "fertig", "optimal: no order is shorter": "optimal: keine Reihenfolge ist kürzer",
   "at most {above} % above the shortest: no order is below {bound}":
     "höchstens {above} % über der kürzesten: unter {bound} geht es nicht",
   "left out, as the table lacks them:": "weggelassen, da nicht in der Tabelle:",
   "new, and inserted where they are best:": "neu und dort eingefügt, wo sie am besten sind:",
-  "machine": "Maschine", "work": "Arbeit", "used %": "genutzt %", "waits before": "wartet davor", "between": "dazwischen",
-  "after": "danach", "critical %": "kritisch %", "down until": "steht bis", "hold up to here": "bis hier halten",
+  "machine": "Maschine", "work": "Arbeit", "used %": "genutzt %", "waits before": "wartet davor",
+  "between": "dazwischen", "after": "danach", "critical %": "kritisch %", "down until": "steht bis",
+  "hold up to here": "bis hier halten",
   "place": "Platz", "earlier": "früher", "later": "später",
   "first after what is held, and hold it": "vorziehen, direkt nach dem Gehaltenen, und halten",
   "Say in “Dates and shifts” when the work begins.": "Bitte bei „Termine und Schichten“ den Arbeitsbeginn eintragen.",
@@ -59,15 +61,15 @@ const GERMAN = {
 const FAULTS = [
   [/^the time is missing: .*/, "die Zeit fehlt: 0, wo ein Auftrag eine Maschine auslässt"],
   [/^the row has no times: .*/, "die Zeile hat keine Zeiten: weglassen, oder 0 eintragen"],
-  [/^'(.*)' isn't a time: leave the column out.*/, "'$1' ist keine Zeit: ist die Spalte keine Maschine, den Haken entfernen"],
+  [/^'(.*)' isn't a time: leave the column out.*/, "'$1' ist keine Zeit: Haken entfernen, wenn es keine Maschine ist"],
   [/^'(.*)' isn't a time: the formula has an error/, "'$1' ist keine Zeit: die Formel hat einen Fehler"],
   [/^'(.*)' isn't a time.*/, "'$1' ist keine Zeit"],
-  [/^the (row|column) '(.*)' looks like a (?:sum|mean).*/, "'$2' sieht nach einer Summe aus: weglassen, oder Haken bei Summen"],
+  [/^the (row|column) '(.*)' looks like a (?:sum|mean).*/, "'$2' sieht nach einer Summe aus: weglassen"],
   [/^the (?:job|machine) '(.*)' is in (\w+) too/, "'$1' steht auch in $2"],
   [/^the (?:job|machine) has no name.*/, "der Name fehlt"],
   [/^'(.*)' may be (\d+), or have decimals.*/, "'$1' kann $2 sein oder Nachkommastellen haben: Dezimalzeichen wählen"],
   [/^the server is busy.*|^too many searches.*/, "der Server ist ausgelastet: bitte in einer Minute noch einmal"],
-  [/^The token is missing or wrong.*/, "Das Kennwort in der Adresse fehlt oder ist falsch: die Adresse des Servers öffnen."],
+  [/^The token is missing or wrong.*/, "In der Adresse fehlt das Kennwort: die Adresse öffnen, die der Server nennt."],
 ];
 const language = localStorage.getItem("language") || (navigator.language.startsWith("de") ? "de" : "en");
 // A text of the page in its language, with values in place of {names}.

@@ -6,10 +6,17 @@ function made(kind, text, parent, properties) {
   if (parent) parent.append(element);
   return element;
 }
-// A row of a table.
-function rowOf(cells, parent, kind = "td") {
+// A control, with a label for those who don't see it, and a key by which it gets the focus again.
+function control(kind, key, label, parent, properties) {
+  const element = made(kind, null, parent, {title: label, ...properties});
+  element.dataset.key = key;
+  element.setAttribute("aria-label", label);
+  return element;
+}
+// A row of a table. The cells after the first one have this class.
+function rowOf(cells, parent, kind = "td", className = "") {
   const row = made("tr", null, parent);
-  for (const cell of cells) made(kind, cell, row);
+  cells.forEach((cell, at) => made(kind, cell, row, {className: at ? className : ""}));
   return row;
 }
 const HIGH = 32, MORE = 12;
@@ -50,8 +57,8 @@ function listIn(box, draw, head) {
     },
     // Scrolls to a row, and gives the focus to what has this key.
     reach(at, key) {
-      const y = at * HIGH;
-      if (y < box.scrollTop || y > box.scrollTop + box.clientHeight - 3 * HIGH) box.scrollTop = y - box.clientHeight / 3;
+      const y = at * HIGH, last = box.scrollTop + box.clientHeight - 3 * HIGH;
+      if (y < box.scrollTop || y > last) box.scrollTop = y - box.clientHeight / 3;
       update(false);
       return focusOn(key);
     },

@@ -193,7 +193,8 @@ def file(given: dict[str, Any], folder: str) -> bytes:
     schedule, calendar, _ = plan_from(given)
     kind, path = given["kind"], pathlib.Path(folder, f"plan.{given['kind']}")
     if kind == "txt":
-        path.write_text("".join(f"{name}\n" for name in map(schedule.instance.job_name, schedule.order.tolist())), "utf-8")
+        names = map(schedule.instance.job_name, schedule.order.tolist())
+        path.write_text("".join(f"{name}\n" for name in names), "utf-8")
     elif kind == "csv":
         schedule.to_csv(path, ";", mark=True, calendar=calendar)
     elif kind == "xlsx":
