@@ -1,4 +1,4 @@
-"""The server of the page for planners, by Flask's client: who may ask, what is answered to what, limits, and searches.
+"""The server of the page for planners, by Flask's client: who may send requests, the responses, limits, and searches.
 tests/python/test_web_server.py starts it, and test_web_page.py looks at the page."""
 import base64
 import copy
@@ -29,8 +29,8 @@ from werkzeug.test import TestResponse
 
 TOKEN, HOST = "A-token_of_24_characters", "127.0.0.1:8470"
 TABLE = "job [h];saw;drill;paint\ntable;3;2,5;4\nchair;2;5;1,5\nshelf;4;1;2\nbox;1;1;6\n"
-SHOP: dict[str, Any] = {"jobs": ["table", "chair", "shelf", "box"], "machines": ["saw", "drill", "paint"], "unit": "h", "decimals": 1,
-        "times": [[30, 25, 40], [20, 50, 15], [40, 10, 20], [10, 10, 60]]}
+SHOP: dict[str, Any] = {"jobs": ["table", "chair", "shelf", "box"], "machines": ["saw", "drill", "paint"],
+        "unit": "h", "decimals": 1, "times": [[30, 25, 40], [20, 50, 15], [40, 10, 20], [10, 10, 60]]}
 ORDER = ["box", "table", "chair", "shelf"]
 DATES = {"begin": "2026-11-30T06:00", "shifts": "06:00-14:00\nfri:06:00-12:00", "days": "mon-fri", "closed": ""}
 PLAN: dict[str, Any] = {"shop": SHOP, "order": ORDER, "held": 0, "calendar": DATES, "title": "Week 49"}
@@ -48,7 +48,8 @@ def client() -> FlaskClient:
 
 def asked(client: FlaskClient, path: str, body: Any = None, method: str = "POST", **headers: str) -> TestResponse:
     sent = {"Host": HOST, "X-Pfs-Token": TOKEN, **{name.replace("_", "-"): text for name, text in headers.items()}}
-    return client.open(path, method=method, headers=sent, **({} if body is None else {"json": body}))
+    more: dict[str, Any] = {"data": json.dumps(body), "content_type": "application/json"} if method == "POST" else {}
+    return client.open(path, method=method, headers=sent, **more)
 
 
 def answer(client: FlaskClient, path: str, body: Any = None, method: str = "POST") -> Any:
@@ -173,9 +174,7 @@ WRONG: dict[str, tuple[str, Any]] = {
 @pytest.mark.parametrize("what", WRONG)
 def test_another_form_is_refused(client: FlaskClient, what: str) -> None:
     path, body = WRONG[what]
-    got = client.post(path, data=json.dumps(body), content_type="application/json",
-                      headers={"Host": HOST, "X-Pfs-Token": TOKEN})
-    assert (got.status_code, (got.json or {}).get("error")) == (400, plans.OTHER_FORM.text)
+    assert refused(client, path, body) == (400, plans.OTHER_FORM.text)
 
 
 REST = {**PLAN, "at": "2026-12-01T10:00"}
@@ -264,7 +263,7 @@ def test_a_file_is_read_with_its_rows(client: FlaskClient) -> None:
 
 
 def test_faults_name_their_cells_and_controls(client: FlaskClient) -> None:
-    got = read(client, "Plan 49;;;\n\nOrder;Qty;saw;drill\nA;4;1.000;2,5\nB;5;;n/a\nB;6;1,5;3\n")
+    got = read(client, "Plan 49;;;\n\nOrder;Qty;saw;drill\nA;4;1.000;2\nB;5;;n/a\nB;6;1;3\n")
     places = {(each["line"], each["column"]): each["text"] for each in got["faults"]}
     assert set(places) == {(3, 2), (4, 3), (5, 3), (5, 4), (6, 1)}
     assert "the tick for sums, above the table" in places[3, 2] and "Decimal sign, above the table" in places[4, 3]
@@ -273,7 +272,7 @@ def test_faults_name_their_cells_and_controls(client: FlaskClient) -> None:
     rows[2][1][2] = "1"
     options = {"delimiter": ";", "machines": ["saw", "drill"]}
     mended = answer(client, "/api/read", {"rows": rows[:3], "options": options})
-    assert mended["faults"] == [] and mended["shop"]["times"] == [[10, 25]], "rows that are left out keep other lines"
+    assert mended["faults"] == [] and mended["shop"]["times"] == [[1, 2]], "rows that are left out keep other lines"
 
 
 def workbook(sheets: dict[str, list[list[Any]]]) -> bytes:
@@ -358,7 +357,7 @@ def sleeps(given: dict[str, Any], folder: str) -> str:
 @pytest.mark.parametrize("call", [endless, greedy, dies, sleeps])
 def test_a_call_that_takes_too_much_is_ended(call: apart.Call, monkeypatch: pytest.MonkeyPatch,
                                              tmp_path: pathlib.Path) -> None:
-    """And leaves no file, and others are answered."""
+    """It leaves no file, and other calls work."""
     monkeypatch.setattr(apart, "MOST_SECONDS", 3.0)
     monkeypatch.setattr(tempfile, "tempdir", str(tmp_path))
     found = apart.Apart()

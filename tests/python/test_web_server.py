@@ -1,4 +1,4 @@
-"""The program pfs-web: its command line, its limits as a server, its end, and its place behind a proxy."""
+"""The program pfs-web: its command line, its limits as a server, its end, and its use with a proxy."""
 import base64
 import contextlib
 import http.client
@@ -35,7 +35,7 @@ LONG: dict[str, Any] = {"shop": SHOP, "seconds": 600}
 
 
 class Server:
-    """A server that runs, and what it answers."""
+    """A server that runs, and its responses."""
 
     def __init__(self, process: "subprocess.Popen[str]", port: int, printed: str) -> None:
         self.process, self.port, self.printed = process, port, printed
@@ -127,7 +127,7 @@ def test_the_address_has_a_new_token_unless_there_is_a_file(server: Server, toke
 # Its limits
 
 def sent(port: int, head: str, body: bytes = b"") -> bytes:
-    """The first line that is answered to these bytes."""
+    """The first line of the response to these bytes."""
     with socket.create_connection(("127.0.0.1", port), timeout=10) as line:
         line.sendall(head.replace("\n", "\r\n").encode() + body)
         return line.recv(200).split(b"\r\n")[0]
@@ -156,7 +156,7 @@ def test_requests_that_are_half_sent_stop_nobody(server: Server) -> None:
 @pytest.mark.seconds(25)
 @pytest.mark.xdist_group("load")
 def test_eight_planners_share_two_slots(server: Server) -> None:
-    """Each searches for 2 s, asks all the while, and is answered at once. All have an order in the end."""
+    """Each searches for 2 s, asks all the while, and gets a response at once. All have an order in the end."""
     seconds, delays, orders = 2, list[float](), list[list[str]]()
 
     def plan() -> None:
@@ -205,7 +205,7 @@ def test_after_it_was_killed_a_new_one_answers_the_same_page(token_file: pathlib
         assert second.answer("/api/plan", {"shop": shop, "order": ["chair", "table"]})["makespan"] == "10 h"
 
 
-# Behind a proxy
+# With a proxy
 
 def recipe() -> str:
     """The settings of nginx on the page on installing."""

@@ -1,4 +1,4 @@
-"""Calls in a process of their own, which has little time and memory: what people send is read there, and files are made
+"""Calls in separate processes, which have little time and memory: what people send is read there, and files are made
 there. A process serves one request and ends, so nothing of a request is left for another one."""
 from __future__ import annotations
 
@@ -18,7 +18,7 @@ Call = Callable[[dict[str, Any], str], Any]
 
 
 class Wrong(Exception):
-    """A request that isn't answered: what the planner is told, and the status of HTTP."""
+    """A request that is rejected: the message for the planner, and the status of HTTP."""
 
     def __init__(self, text: str, status: int = 422) -> None:
         super().__init__(text, status)

@@ -1,5 +1,5 @@
-"""The server: who may ask, and what is answered. It stores nothing: the browser sends its document with each request,
-and a search is forgotten when nobody asks for it."""
+"""The server: who may send requests, and the responses. It stores nothing: the browser sends its document with each
+request, and a search is forgotten when nobody asks for it."""
 from __future__ import annotations
 
 import base64
@@ -39,9 +39,11 @@ def policy() -> str:
 
 
 def refusal(names: set[str], token: str) -> tuple[str, int] | None:
-    """Why a request isn't answered. Pages of other sites can send requests too, also under a name that leads here."""
+    """Why a request is rejected. Pages of other sites can send requests too, also under a name that leads here."""
     if request.host.lower() not in names:
         return "The server has another name: see --name.\n", 421
+    if (request.content_length or 0) > MOST_BODY:
+        return "The request is too large.\n", 413
     if not request.path.startswith("/api/"):
         return None
     origin = request.headers.get("Origin")
@@ -67,7 +69,7 @@ def given() -> dict[str, Any]:
 
 
 def failed(error: Exception) -> Response:
-    """The answer to a request that failed. A ValueError of the package says what the planner has to change."""
+    """The response to a request that failed. A ValueError of the package says what the planner has to change."""
     if isinstance(error, HTTPException):
         return Response(f"{error.name}\n", error.code, mimetype="text/plain")
     if isinstance(error, UnicodeError):
@@ -84,7 +86,6 @@ def failed(error: Exception) -> Response:
 def made(names: set[str], token: str, searches: Searches) -> Flask:
     """The application, for requests to these names with this token."""
     app, apart, own_policy = Flask(__name__, static_folder=None), Apart(), policy()
-    app.config["MAX_CONTENT_LENGTH"] = MOST_BODY
     app.register_error_handler(Exception, failed)
     static = {name: importlib.resources.files("pfs.web").joinpath(name).read_bytes() for name in STATIC}
 

@@ -51,7 +51,7 @@ class Run:
         self.rounds, self.makespan = rounds, makespan
 
     def search(self) -> None:
-        """Run in a thread. What goes wrong is told when somebody asks."""
+        """Run in a thread. An error is kept until somebody asks."""
         self.begun = time.monotonic()
         try:
             self.best = solve(self.shop, self, None if self.names is None else
