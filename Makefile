@@ -36,7 +36,7 @@ define PROGRAM_FILES
 $(PROGRAM) bin/pfs
 share/pfs.1 share/man/man1/pfs.1
 share/pfs.bash $(ZSH)/_pfs
-$(foreach name,pfs pfs-plan pfs-gantt pfs-experiments,\
+$(foreach name,pfs pfs-plan pfs-gantt pfs-experiments pfs-web,\
     share/pfs.bash share/bash-completion/completions/$(name)$(newline))
 $(foreach name,$(PAGES),$(name) share/doc/pfs/$(name)$(newline))
 endef
@@ -91,7 +91,7 @@ $(LIBRARY): crates.txt $(wildcard lib/*.*) $(shell find crates \( -name out -o -
 install: $(PROGRAM) $(BUILT_LIBRARY)
 	printf '%s\n' "$$PROGRAM_FILES" $(if $(BUILT_LIBRARY),"$$LIBRARY_FILES") | \
 	    tools/install put "$(DESTDIR)" "$(PREFIX)" "$(LIB)"
-	@$(if $(DESTDIR),,echo "pfs-plan, pfs-gantt and pfs-experiments are in the package for Python:" \
+	@$(if $(DESTDIR),,echo "pfs-plan, pfs-web, pfs-gantt and pfs-experiments are in the package for Python:" \
 	    "\`make wheel\`, and then python/README.md says how pip installs it")
 
 .PHONY: install-lib

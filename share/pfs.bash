@@ -1,4 +1,4 @@
-#compdef pfs pfs-plan pfs-gantt pfs-experiments
+#compdef pfs pfs-plan pfs-gantt pfs-experiments pfs-web
 # Completion for bash and zsh of pfs and of the programs of the package for Python: the commands, the options and their
 # values that a program's usage text has, and files. `=` after an option is a word of its own in bash, but not in zsh.
 # shellcheck shell=bash
@@ -34,7 +34,7 @@ _pfs() {
 if [ -n "${ZSH_VERSION-}" ]; then
     autoload -Uz bashcompinit && bashcompinit
 fi
-complete -o default -F _pfs pfs pfs-plan pfs-gantt pfs-experiments
+complete -o default -F _pfs pfs pfs-plan pfs-gantt pfs-experiments pfs-web
 if [ -n "${ZSH_VERSION-}" ]; then
     _bash_complete -o default -F _pfs
 fi

@@ -25,7 +25,7 @@ PLACES = {
     "share/man/man1/pfs.1": "share/pfs.1",
     "share/zsh/site-functions/_pfs": "share/pfs.bash",
     **{f"share/bash-completion/completions/pfs{name}": "share/pfs.bash"
-       for name in ("", "-experiments", "-gantt", "-plan")},
+       for name in ("", "-experiments", "-gantt", "-plan", "-web")},
     **{f"share/doc/pfs/{page}": page for pattern in PAGES
        for page in sorted(str(path.relative_to(TOP)) for path in TOP.glob(pattern) if path.is_file())},
 }
@@ -138,7 +138,7 @@ def assert_completions_are_found(root: pathlib.Path, prefix: pathlib.Path, folde
     loader = pathlib.Path("/usr/share/bash-completion/bash_completion")
     if not loader.exists():
         missing(f"there is no {loader} (Debian: bash-completion)")
-    for name in ("pfs", "pfs-plan", "pfs-gantt", "pfs-experiments"):
+    for name in ("pfs", "pfs-plan", "pfs-gantt", "pfs-experiments", "pfs-web"):
         line = f"source {loader}; __load_completion {name}; complete -p {name}"
         got = output_of(["bash", "--norc", "-c", line], folder,
                         env=dict(os.environ, XDG_DATA_DIRS=f"{prefix}/share", HOME=str(folder)))

@@ -122,7 +122,8 @@ LAUNCHER = """#!/usr/bin/python3 -B
 import sys
 sys.path.insert(0, "{sources}")
 from {module} import {function}
-sys.exit({function}())
+if __name__ == "__main__":
+    sys.exit({function}())
 """
 
 

@@ -29,6 +29,8 @@ OFFERED = {
     "pfs-experiments run th": {"three"},
     "pfs-gantt --": {"--help", "--critical", "--bound", "--unit", "--width", "--dpi", "--title"},
     "pfs-gantt th": {"three"},
+    "pfs-web --": {"--help", "--version", "--port", "--host", "--name", "--token-file", "--proxy", "--searches",
+                   "--no-browser"},
     "pfs-plan --s": {"--seconds", "--seed", "--sheet", "--shift", "--schedule"},
     "pfs-plan --decimal=": {"point", "comma"},
 }

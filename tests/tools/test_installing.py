@@ -174,7 +174,7 @@ def test_the_pages_name_the_c_library_that_is_needed(top: pathlib.Path, pfs: Pro
 STATED = {"CHANGELOG.md": r"^## \[(\d.*?)\]", "CITATION.cff": r"^version: (.*)$",
           "lib/pfs.h": r'^#define PFS_VERSION "(.*)"$', "python/src/pfs/_version.py": r'^VERSION\b.* = "(.*)"$'}
 STATED |= dict.fromkeys(("share/pfs.1", "share/pfs.3", "python/pfs-experiments.1", "python/pfs-gantt.1",
-                         "python/pfs-plan.1"), r"^\.Os pfs (.*)$")
+                         "python/pfs-plan.1", "python/pfs-web.1"), r"^\.Os pfs (.*)$")
 
 
 def test_all_that_states_the_version_or_the_date_states_the_same(top: pathlib.Path) -> None:

@@ -28,7 +28,7 @@ PACKAGES = ["pfs", LIBPFS, "libpfs-dev", "python3-pfs"]
 DEBIAN_PAGES = {"copyright", "changelog.gz", "changelog.Debian.gz"}
 LIBRARIES = "usr/lib/x86_64-linux-gnu"
 MODULES = "usr/lib/python3/dist-packages"
-PROGRAMS = ["pfs-experiments", "pfs-gantt", "pfs-plan"]
+PROGRAMS = ["pfs-experiments", "pfs-gantt", "pfs-plan", "pfs-web"]
 INSTALL = (TOP / "docs" / "INSTALL.md").read_text()
 SYMBOLS = (TOP / "debian" / f"{LIBPFS}.symbols").read_text()
 
@@ -234,7 +234,7 @@ def test_the_packages_have_their_files_where_debian_looks(extracted: pathlib.Pat
               for path, file in places.items()}
     pages = "usr/share/doc/python3-pfs"
     places |= {f"usr/share/man/man1/{name}.1": f"python/{name}.1" for name in PROGRAMS} \
-        | {f"{pages}/README.md": "python/README.md"} \
+        | {f"{pages}/README.md": "python/README.md", "lib/systemd/system/pfs-web.service": "debian/pfs-web.service"} \
         | {f"usr/share/lintian/overrides/{name}": f"debian/{name}.lintian-overrides" for name in ("pfs", LIBPFS)}
     for folder, to in (("python/src/pfs", f"{MODULES}/pfs"), ("python/examples", f"{pages}/examples")):
         places |= {f"{to}/{name}": f"{folder}/{name}" for name in contents_of(made.copy.top / folder)}

@@ -21,7 +21,7 @@ from functools import partial
 from itertools import islice
 from types import SimpleNamespace
 
-from pfs import _library as c
+from pfs import _library as c, _wording
 from pfs._calendar import Calendar, Clock, begin_of, dates_of, days_of, shifts_of, text_of as date_text
 from pfs._chart import ending_of
 from pfs._cli import CommandLine, Misused, ShowVersion, number, report, run, written
@@ -46,12 +46,8 @@ SIGNALS = (signal.SIGINT, signal.SIGTERM)
 DECIMAL_SIGNS = {"point": ".", "comma": ","}
 # The endings of tables, and of schedules besides.
 TABLES = ("", ".csv", ".tsv", ".txt", ".xlsx")
-# The options for the arguments that messages about tables name, and the beginnings of messages about other options.
-OPTIONS = {"decimal": "--decimal point or --decimal comma", "allow_totals": "--allow-totals", "unit": "--unit",
-           "machines": "--machines", "sheet": "--sheet", "decimals": "--decimals"}
-# The options that name files.
+# The options that name files, and the beginnings of messages about options of searches.
 OF_FILES = ("order", "compare", "schedule", "rest", "chart")
-ARGUMENT = re.compile(f"`({'|'.join(OPTIONS)})`")
 NUMBER_OPTION = re.compile("^(?=(?:rounds|take|passes|seed|language) must |start has )")
 
 
@@ -629,4 +625,4 @@ def set_limits(given: argparse.Namespace) -> None:
 
 def as_options(text: str) -> str:
     """Return a message with the options in place of the arguments of the package for Python."""
-    return NUMBER_OPTION.sub("--", ARGUMENT.sub(lambda found: OPTIONS[found[1]], text))
+    return NUMBER_OPTION.sub("--", _wording.as_options(text))

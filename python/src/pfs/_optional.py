@@ -8,5 +8,5 @@ def optional(module: str, what: str) -> Any:
     try:
         return importlib.import_module(module)
     except ImportError:
-        extra = "workbooks" if module == "openpyxl" else "charts"
+        extra = {"openpyxl": "workbooks", "flask": "web", "waitress": "web"}.get(module, "charts")
         raise ImportError(f"{what} needs {module} (Debian: python3-{module}; pip install 'pfs[{extra}]')") from None

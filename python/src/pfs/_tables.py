@@ -64,9 +64,9 @@ QUANTITIES = (r"|menge|anzahl|st(?:\u00fc|ue)ck(?:zahl)?|stk|quantity|qty|pieces
 NO_JOB = re.compile(rf"(?:{TOTALS})(?!\w)", re.IGNORECASE)
 NO_TIMES = re.compile(rf"(?:{TOTALS}{QUANTITIES})(?!\w)", re.IGNORECASE)
 # The first cell of a table in which the names may be numbers.
-SAYS_JOB = re.compile(r"(?:(?:jobs?|(?:work)?orders?|wo(?:rk)?|(?:fertigungs)?auftr(?:ag|\u00e4ge)s?|fa|of|ordres?"
-                      r"|commandes?|pedidos?|ordin[ei]|parts?|lots?|los|teile?|artikel|items?|pos(?:ition)?|id|nr|no"
-                      r"|n(?=\u00b0)|number|nummer|num\u00e9ro)"
+SAYS_JOB = re.compile(r"(?:(?:jobs?|(?:work)?orders?|wo(?:rk(?!order))?|(?:fertigungs)?auftr(?:ag|\u00e4ge)s?|fa|of"
+                      r"|ordres?|commandes?|pedidos?|ordin[ei]|parts?|lots?|los|teile?|artikel|items?|pos(?:ition)?|id"
+                      r"|nr|no|n(?=\u00b0)|number|nummer|num\u00e9ro)"
                       r"[\s.#\u00b0_:-]*)*\Z", re.IGNORECASE)
 # The first cell of a table whose rows are machines.
 SAYS_MACHINE = re.compile(r"(?:machines?|maschinen?|m\u00e1quinas?|macchin[ae])\b", re.IGNORECASE)
@@ -243,11 +243,16 @@ def table_of(source: str | os.PathLike[str], unit: str, decimal: str | None = No
              machines: Iterable[str] | None = None, sheet: str | None = None,
              most_decimals: int | None = None) -> Table:
     """Read a table. The parameters are those of `read_csv`."""
+    path = os.fspath(source)
+    return table_in(content_of(path, "table"), path, unit, decimal, allow_totals, machines, sheet, most_decimals)
+
+
+def table_in(content: bytes, path: str, unit: str, decimal: str | None, allow_totals: bool,
+             machines: Iterable[str] | None, sheet: str | None, most_decimals: int | None) -> Table:
+    """Read a table from the content of a file."""
     most_decimals = None if most_decimals is None else checked_int(most_decimals, "decimals", 0, 9)
     if decimal not in (None, ".", ","):
         raise ValueError(f"decimal must be '.' or ',', not {decimal!r}")
-    path = os.fspath(source)
-    content = content_of(path, "table")
     faults: list[TableFault] = []
     text, note = sheet_of(content, path, sheet) if content.startswith(ARCHIVE) else (text_of(content, path, faults), "")
     if sheet is not None and not content.startswith(ARCHIVE):
@@ -487,6 +492,21 @@ def without_units(table: Rows, unit: str) -> tuple[list[Cell], str]:
 def without_unit(text: str) -> str:
     """A name without what is in brackets at its end."""
     return UNIT.sub("", text).rstrip()
+
+
+def likely_machines(rows: Iterable[tuple[int, Sequence[str]]]) -> list[str]:
+    """The names of the columns that have mostly times, and not the name of a sum. Of the rows with several names the
+    one that has most of them counts."""
+    texts, best = [cells for _, cells in rows], list[str]()
+    heads = (at for at, cells in enumerate(texts) if sum(bool(cell) and not is_time(cell) for cell in cells[1:]) > 1)
+    for at in islice(heads, 5):
+        found = []
+        for column, name in enumerate(texts[at][1:], 1):
+            below = [cells[column] for cells in texts[at + 1:] if column < len(cells) and cells[column]]
+            if name and not is_time(name) and not NO_TIMES.match(name) and 2 * sum(map(is_time, below)) > len(below):
+                found.append(name)
+        best = max(best, found, key=len)
+    return best
 
 
 def is_above_names(first: str) -> bool:

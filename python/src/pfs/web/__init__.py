@@ -1,0 +1,1 @@
+"""The page for planners, which `pfs-web` serves."""

@@ -1,0 +1,88 @@
+"use strict";
+// An element with a text, and its properties.
+function made(kind, text, parent, properties) {
+  const element = Object.assign(document.createElement(kind), properties);
+  if (text !== null) element.textContent = text;
+  if (parent) parent.append(element);
+  return element;
+}
+// A control, with a label for those who don't see it, and a key by which it gets the focus again.
+function control(kind, key, label, parent, properties) {
+  const element = made(kind, null, parent, {title: label, ...properties});
+  element.dataset.key = key;
+  element.setAttribute("aria-label", label);
+  return element;
+}
+// A row of a table. The cells after the first one have this class.
+function rowOf(cells, parent, kind = "td", className = "") {
+  const row = made("tr", null, parent);
+  cells.forEach((cell, at) => made(kind, cell, row, {className: at ? className : ""}));
+  return row;
+}
+const HIGH = 32, MORE = 12;
+// A list of many rows in a box, of which only those that are seen are drawn: `draw` makes a row. `head` makes the head.
+function listIn(box, draw, head) {
+  const table = made("table", null, box), top = made("thead", null, table), body = made("tbody", null, table);
+  let count = 0, from = -1, to = -1;
+  const space = rows => {
+    const row = made("tr", null, null, {className: "space"});
+    row.style.height = `${rows * HIGH}px`;
+    return row;
+  };
+  function update(isNew) {
+    const first = Math.max(0, Math.floor(box.scrollTop / HIGH) - MORE);
+    const last = Math.min(count, first + Math.ceil((box.clientHeight || 400) / HIGH) + 2 * MORE);
+    if (!isNew && first === from && last === to) return;
+    const own = document.activeElement, key = box.contains(own) ? own.dataset.key : undefined;
+    // A field that loses the focus tells its change.
+    if (key !== undefined && !isNew) own.blur();
+    [from, to] = [first, last];
+    const rows = Array.from({length: last - first}, (_, at) => draw(first + at));
+    body.replaceChildren(space(first), ...rows, space(count - last));
+    if (key !== undefined) focusOn(key);
+  }
+  function focusOn(key) {
+    const found = [...box.querySelectorAll("[data-key]")].find(each => each.dataset.key === key);
+    if (found) found.focus({preventScroll: true});
+    return found;
+  }
+  box.addEventListener("scroll", () => update(false));
+  return {
+    show(rows) {
+      box.hidden = !rows;
+      count = rows;
+      table.setAttribute("aria-rowcount", rows);
+      top.replaceChildren(...head ? [head()] : []);
+      update(true);
+    },
+    // Scrolls to a row, and gives the focus to what has this key.
+    reach(at, key) {
+      const y = at * HIGH, last = box.scrollTop + box.clientHeight - 3 * HIGH;
+      if (y < box.scrollTop || y > last) box.scrollTop = y - box.clientHeight / 3;
+      update(false);
+      return focusOn(key);
+    },
+  };
+}
+// The jobs of two orders that stay: the longest sequence that both have. All others have moved.
+function stayed(one, two) {
+  const places = new Map(two.map((job, at) => [job, at])), ends = [], before = new Map();
+  for (const job of one.filter(each => places.has(each))) {
+    let low = 0, high = ends.length;
+    while (low < high) {
+      const middle = (low + high) >> 1;
+      if (places.get(ends[middle]) < places.get(job)) low = middle + 1; else high = middle;
+    }
+    before.set(job, ends[low - 1]);
+    ends[low] = job;
+  }
+  const found = new Set();
+  for (let job = ends.at(-1); job !== undefined; job = before.get(job)) found.add(job);
+  return found;
+}
+// The name of a cell, as spreadsheets have it.
+function letters(column) {
+  let text = "";
+  for (; column; column = Math.floor((column - 1) / 26)) text = String.fromCharCode(65 + (column - 1) % 26) + text;
+  return text;
+}

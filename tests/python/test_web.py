@@ -1,0 +1,545 @@
+"""The server of the page for planners, by Flask's client: who may send requests, the responses, limits, and searches.
+tests/python/test_web_server.py starts it, and test_web_page.py looks at the page."""
+import base64
+import copy
+import io
+import json
+import os
+import pathlib
+import random
+import re
+import tempfile
+import time
+import zipfile
+from collections.abc import Callable, Iterator
+from typing import Any
+
+import pfs
+import pytest
+from hypothesis import given
+from hypothesis import strategies as st
+from support.needs import require_module
+
+for module in ("flask", "waitress", "openpyxl"):
+    require_module(module)
+from flask.testing import FlaskClient
+from pfs import _tables
+from pfs.web import app, apart, plans, searches
+from werkzeug.test import TestResponse
+
+TOKEN, HOST = "A-token_of_24_characters", "127.0.0.1:8470"
+TABLE = "job [h];saw;drill;paint\ntable;3;2,5;4\nchair;2;5;1,5\nshelf;4;1;2\nbox;1;1;6\n"
+SHOP: dict[str, Any] = {"jobs": ["table", "chair", "shelf", "box"], "machines": ["saw", "drill", "paint"],
+        "unit": "h", "decimals": 1, "times": [[30, 25, 40], [20, 50, 15], [40, 10, 20], [10, 10, 60]]}
+ORDER = ["box", "table", "chair", "shelf"]
+DATES = {"begin": "2026-11-30T06:00", "shifts": "06:00-14:00\nfri:06:00-12:00", "days": "mon-fri", "closed": ""}
+PLAN: dict[str, Any] = {"shop": SHOP, "order": ORDER, "held": 0, "calendar": DATES, "title": "Week 49"}
+SCRIPT = "<img src=x onerror=alert(1)>"
+
+
+def client_of(found: searches.Searches) -> FlaskClient:
+    return app.made({HOST, "planning.example"}, TOKEN, found).test_client()
+
+
+@pytest.fixture(scope="module")
+def client() -> FlaskClient:
+    return client_of(searches.Searches(2))
+
+
+def asked(client: FlaskClient, path: str, body: Any = None, method: str = "POST", **headers: str) -> TestResponse:
+    sent = {"Host": HOST, "X-Pfs-Token": TOKEN, **{name.replace("_", "-"): text for name, text in headers.items()}}
+    more: dict[str, Any] = {"data": json.dumps(body), "content_type": "application/json"} if method == "POST" else {}
+    return client.open(path, method=method, headers=sent, **more)
+
+
+def answer(client: FlaskClient, path: str, body: Any = None, method: str = "POST") -> Any:
+    got = asked(client, path, body, method)
+    assert got.status_code == 200, got.text
+    return got.json
+
+
+def refused(client: FlaskClient, path: str, body: Any) -> tuple[int, str]:
+    got = asked(client, path, body)
+    return got.status_code, (got.json or {}).get("error", "")
+
+
+def content(data: bytes | str) -> str:
+    return base64.b64encode(data.encode() if isinstance(data, str) else data).decode()
+
+
+def read(client: FlaskClient, data: bytes | str, **options: Any) -> Any:
+    return answer(client, "/api/read", {"content": content(data), "name": "times.csv", "options": options})
+
+
+# Who may ask
+
+CALLS = [("POST", "/api/read", {"rows": []}), ("POST", "/api/plan", PLAN), ("POST", "/api/rest", PLAN),
+         ("POST", "/api/file", PLAN), ("POST", "/api/search", PLAN), ("GET", "/api/search/a", None),
+         ("DELETE", "/api/search/a", None)]
+STRANGERS = {
+    "no token": ({"X_Pfs_Token": ""}, 403), "another token": ({"X_Pfs_Token": TOKEN[:-1]}, 403),
+    "a letter of another script": ({"X_Pfs_Token": "\u00e4"}, 403),
+    "another name, which leads here": ({"Host": "evil.example:8470"}, 421),
+    "another port": ({"Host": "127.0.0.1:80"}, 421),
+    "a page of another site": ({"Origin": "http://evil.example"}, 403),
+    "a page at another port": ({"Origin": "http://127.0.0.1:9000"}, 403), "a file": ({"Origin": "null"}, 403),
+    "a frame of another site": ({"Sec_Fetch_Site": "cross-site"}, 403),
+    "another host of this site": ({"Sec_Fetch_Site": "same-site"}, 403),
+}
+
+
+@pytest.mark.parametrize("who", STRANGERS)
+@pytest.mark.parametrize("call", CALLS, ids=lambda call: " ".join(call[:2]))
+def test_a_stranger_computes_reads_and_ends_nothing(who: str, call: tuple[str, str, Any],
+                                                    monkeypatch: pytest.MonkeyPatch) -> None:
+    def never(*_: Any) -> None:
+        pytest.fail("the request was answered")
+
+    for kind, names in ((searches.Searches, ("add", "told", "end")), (apart.Apart, ("__call__",))):
+        for name in names:
+            monkeypatch.setattr(kind, name, never)
+    (headers, status), (method, path, body) = STRANGERS[who], call
+    assert asked(client_of(searches.Searches(1)), path, body, method, **headers).status_code == status
+
+
+def test_the_own_page_may_ask(client: FlaskClient) -> None:
+    """Also where a proxy for TLS passes the name on."""
+    for host, origin in ((HOST, f"http://{HOST}"), (HOST.upper(), f"http://{HOST}"),
+                         ("planning.example", "https://planning.example")):
+        got = asked(client, "/api/read", {"rows": []}, Host=host, Origin=origin, Sec_Fetch_Site="same-origin")
+        assert got.status_code == 200
+    assert asked(client, "/", method="GET", Sec_Fetch_Site="cross-site", X_Pfs_Token="").status_code == 200
+
+
+@pytest.mark.parametrize("path", ["/", "/page.js", "/lists.js", "/german.js", "/page.css", "/api/search/a", "/nothing"])
+def test_each_answer_forbids_what_the_page_does_not_need(client: FlaskClient, path: str) -> None:
+    headers = asked(client, path, method="GET").headers
+    policy = dict(part.strip().split(" ", 1) for part in headers["Content-Security-Policy"].split(";"))
+    due = {**dict.fromkeys(("default-src", "frame-ancestors", "form-action", "base-uri"), "'none'"),
+           "connect-src": "'self'"}
+    assert {name: policy[name] for name in due} == due
+    for name in ("script-src", "style-src"):
+        assert re.fullmatch("'sha256-[A-Za-z0-9+/]{43}=' 'self'", policy[name])
+    assert (headers["X-Content-Type-Options"], headers["Referrer-Policy"], headers["Cache-Control"]) \
+        == ("nosniff", "no-referrer", "no-store")
+    assert "Access-Control-Allow-Origin" not in headers and "Set-Cookie" not in headers
+
+
+@pytest.mark.parametrize("path", ["/../app.py", "/app.py", "/__init__.py", "/%2e%2e/_cli.py", "//etc/passwd"])
+def test_only_the_files_of_the_page_are_served(client: FlaskClient, path: str) -> None:
+    assert asked(client, path, method="GET").status_code in (308, 404)
+
+
+def test_the_page_asks_for_nothing_from_elsewhere_and_makes_no_html_of_texts() -> None:
+    for name in app.STATIC:
+        text = pathlib.Path(app.__file__).with_name(name).read_text("utf-8")
+        assert re.findall(r"(?:https?:)?//(?!/)[\w.-]+\.\w", re.sub(r"^\s*// .*$", "", text, flags=re.MULTILINE)) == []
+        never = r"innerHTML|outerHTML|insertAdjacent|document\.write|\beval\b|new Function|\bon\w+=[\"']"
+        assert re.findall(never, text) == []
+        assert re.findall(r"srcdoc = (.*);", text) == ["now.chart"] * (name == "page.js"), "the chart has a policy"
+
+
+# What isn't a request
+
+OPTIONS: dict[str, Any] = {"unit": "", "decimal": None, "totals": False, "machines": None, "delimiter": ";"}
+WRONG: dict[str, tuple[str, Any]] = {
+    "no object": ("/api/read", []), "a text": ("/api/plan", "shop"), "null": ("/api/search", None),
+    "no rows": ("/api/read", {}), "rows of another form": ("/api/read", {"rows": [["1", ["a"]]]}),
+    "a row twice": ("/api/read", {"rows": [[1, ["a"]], [1, ["b"]]]}),
+    "a line beyond spreadsheets": ("/api/read", {"rows": [[2**20 + 1, ["a"]]]}),
+    "a truth as a line": ("/api/read", {"rows": [[True, ["a"]]]}),
+    "cells that are numbers": ("/api/read", {"rows": [[1, ["a", 1]]]}),
+    "half a letter": ("/api/read", {"rows": [[1, ["\ud800"]]]}),
+    "no base64": ("/api/read", {"content": "%%%"}), "content that is a list": ("/api/read", {"content": []}),
+    "another delimiter": ("/api/read", {"rows": [], "options": {"delimiter": "|"}}),
+    "machines that are a text": ("/api/read", {"rows": [], "options": {"machines": "saw"}}),
+    "no shop": ("/api/plan", {}), "a shop that is a list": ("/api/plan", {**PLAN, "shop": []}),
+    "times that are texts": ("/api/plan", {**PLAN, "shop": {**SHOP, "times": [["1", 2, 3]] * 4}}),
+    "times that are broken": ("/api/plan", {**PLAN, "shop": {**SHOP, "times": [[1.5, 2, 3]] * 4}}),
+    "truths as times": ("/api/plan", {**PLAN, "shop": {**SHOP, "times": [[True, 2, 3]] * 4}}),
+    "decimals below 0": ("/api/plan", {**PLAN, "shop": {**SHOP, "decimals": -1}}),
+    "names that are numbers": ("/api/plan", {**PLAN, "shop": {**SHOP, "jobs": [1, 2, 3, 4]}}),
+    "an order that is a text": ("/api/plan", {**PLAN, "order": "box"}),
+    "more held than there are": ("/api/plan", {**PLAN, "held": 5}),
+    "a title that is a list": ("/api/plan", {**PLAN, "title": []}),
+    "dates that are numbers": ("/api/plan", {**PLAN, "calendar": {"begin": 1}}),
+    "no kind": ("/api/file", PLAN), "a kind that is a path": ("/api/file", {**PLAN, "kind": "../../etc/cron.d/x"}),
+    "a kind that is a list": ("/api/file", {**PLAN, "kind": []}),
+    "seconds below 0": ("/api/search", {**PLAN, "seconds": -1}),
+    "a broken seed": ("/api/search", {**PLAN, "seed": 0.5}),
+    "machines down as a list": ("/api/rest", {**PLAN, "at": "2026-12-01T10:00", "down": ["saw"]}),
+}
+
+
+@pytest.mark.parametrize("what", WRONG)
+def test_another_form_is_refused(client: FlaskClient, what: str) -> None:
+    path, body = WRONG[what]
+    assert refused(client, path, body) == (400, plans.OTHER_FORM.text)
+
+
+REST = {**PLAN, "at": "2026-12-01T10:00"}
+TELLS: dict[str, tuple[str, Any, str]] = {
+    "ragged": ("/api/plan", {**PLAN, "shop": {**SHOP, "times": [[1, 2, 3], [1, 2], [1, 2, 3], [1, 2, 3]]}}, "times"),
+    "a time below 0": ("/api/plan", {**PLAN, "shop": {**SHOP, "times": [[-1, 2, 3]] * 4}}, "times"),
+    "a job twice": ("/api/plan", {**PLAN, "shop": {**SHOP, "jobs": ["a", "a", "b", "c"]}}, "'a' occurs twice"),
+    "no such day": ("/api/plan", {**PLAN, "calendar": {**DATES, "begin": "2026-02-30T06:00"}}, "2026-02-30"),
+    "another shift": ("/api/plan", {**PLAN, "calendar": {**DATES, "shifts": "6 to 14"}}, "is not a shift"),
+    "shifts alone": ("/api/plan", {**PLAN, "calendar": {**DATES, "begin": ""}}, "shifts need a date"),
+    "no unit": ("/api/plan", {**PLAN, "shop": {**SHOP, "unit": ""}}, "the times have no unit"),
+    "long dates": ("/api/plan", {**PLAN, "calendar": {**DATES, "closed": "2026-12-24," * 2_000}}, "too long"),
+    "calendars without dates": ("/api/file", {**PLAN, "calendar": {}, "kind": "zip"}, "needs a date"),
+    "a rest without dates": ("/api/rest", {**PLAN, "calendar": {}, "at": "2026-12-01T10:00"}, "needs a date"),
+    "before the beginning": ("/api/rest", {**PLAN, "at": "2026-11-29T10:00"}, "before the work begins"),
+    "all is finished": ("/api/rest", {**PLAN, "at": "2027-11-29T10:00"}, "finished"),
+    "no such machine": ("/api/rest", {**REST, "down": {"x": "2026-12-02T10:00"}}, "'x' isn't"),
+    "up again": ("/api/rest", {**REST, "down": {"saw": "2026-12-01T09:00"}}, "'saw' is up"),
+    "another decimal sign": ("/api/read", {"rows": [], "options": {**OPTIONS, "decimal": "x"}}, "decimal must"),
+}
+
+
+@pytest.mark.parametrize("what", TELLS)
+def test_what_a_planner_can_change_is_told(client: FlaskClient, what: str) -> None:
+    path, body, said = TELLS[what]
+    status, error = refused(client, path, body)
+    assert status == 422 and said in error
+
+
+def test_other_kinds_of_requests_are_refused(client: FlaskClient) -> None:
+    own = {"Host": HOST, "X-Pfs-Token": TOKEN}
+    for sent, kind, status in ((b"rows=1", "application/x-www-form-urlencoded", 415), (b"{}", "text/plain", 415),
+                               (b"{", "application/json", 400), (b"[" * 100_000, "application/json", 400),
+                               (b"\xff", "application/json", 400),
+                               (b'{"held":' + b"9" * 5_000 + b"}", "application/json", 400),
+                               (b" " * (app.MOST_BODY + 1), "application/json", 413)):
+        assert client.post("/api/plan", data=sent, content_type=kind, headers=own).status_code == status
+    assert client.get("/api/plan", headers=own).status_code == 405
+
+
+def leaves(value: Any, path: tuple[Any, ...] = ()) -> Iterator[tuple[Any, ...]]:
+    """Where the values of a request are."""
+    yield path
+    items = value.items() if isinstance(value, dict) else enumerate(value) if isinstance(value, list) else ()
+    for key, each in items:
+        yield from leaves(each, (*path, key))
+
+
+VALUES: list[Any] = [None, True, -1, 0, 2**70, 1e400, 0.5, "", "\ud800", "a" * 300, [], [[]], {}, [None],
+                     {"a": 1}]
+REQUESTS: list[tuple[str, dict[str, Any]]] = [
+    ("/api/read", {"rows": [[1, ["job", "saw"]], [2, ["a", "1"]]], "options": {**OPTIONS, "decimals": 1}}),
+    ("/api/read", {"content": content(TABLE), "name": "x", "options": {"sheet": None}}), ("/api/plan", PLAN),
+    ("/api/file", {**PLAN, "kind": "csv"}), ("/api/search", {**PLAN, "seconds": 0, "seed": 1}),
+    ("/api/rest", {**PLAN, "at": "2026-12-01T10:00", "down": {"saw": "2026-12-01T12:00"}})]
+
+
+@pytest.mark.seconds(5)
+@given(st.data())
+def test_no_value_at_any_place_is_a_fault_of_the_server(data: st.DataObject) -> None:
+    """What is apart is called here, so that it is quick."""
+    found = searches.Searches(1)
+    with pytest.MonkeyPatch.context() as patch:
+        patch.setattr(apart.Apart, "result", lambda _, call, body, folder: (True, call(body, folder)))
+        client = client_of(found)
+        for path, body in REQUESTS:
+            place = data.draw(st.sampled_from([*leaves(body)]))
+            changed = copy.deepcopy({"": body})
+            at: Any = changed
+            for key in ("", *place)[:-1]:
+                at = at[key]
+            at[("", *place)[-1]] = data.draw(st.sampled_from(VALUES))
+            status, error = refused(client, path, changed[""])
+            assert status in (200, 400, 422, 429, 503), f"{path} with {changed['']}: {error}"
+    found.end_all()
+
+
+# Tables
+
+def test_a_file_is_read_with_its_rows(client: FlaskClient) -> None:
+    got = read(client, TABLE)
+    assert got["shop"] == SHOP and got["faults"] == [] and got["delimiter"] == ";"
+    assert got["rows"][1] == [2, ["table", "3", "2,5", "4"]]
+    again = answer(client, "/api/read", {"rows": got["rows"], "options": {"delimiter": ";"}})
+    assert again["shop"] == SHOP
+
+
+def test_faults_name_their_cells_and_controls(client: FlaskClient) -> None:
+    got = read(client, "Plan 49;;;\n\nOrder;Qty;saw;drill\nA;4;1.000;2\nB;5;;n/a\nB;6;1;3\n")
+    places = {(each["line"], each["column"]): each["text"] for each in got["faults"]}
+    assert set(places) == {(3, 2), (4, 3), (5, 3), (5, 4), (6, 1)}
+    assert "the tick for sums, above the table" in places[3, 2] and "Decimal sign, above the table" in places[4, 3]
+    assert "`" not in "".join(places.values()) and got["suggested"] == ["saw", "drill"] and "shop" not in got
+    rows = [row for row in got["rows"] if row[0] != 5]
+    rows[2][1][2] = "1"
+    options = {"delimiter": ";", "machines": ["saw", "drill"]}
+    mended = answer(client, "/api/read", {"rows": rows[:3], "options": options})
+    assert mended["faults"] == [] and mended["shop"]["times"] == [[1, 2]], "rows that are left out keep other lines"
+
+
+def workbook(sheets: dict[str, list[list[Any]]]) -> bytes:
+    import openpyxl
+    book, out = openpyxl.Workbook(), io.BytesIO()
+    book.remove(book.active)
+    for name, rows in sheets.items():
+        for row in rows:
+            book[name].append(row) if name in book.sheetnames else book.create_sheet(name).append(row)
+    book.save(out)
+    return out.getvalue()
+
+
+def test_a_sheet_is_chosen_and_decimals_are_rounded(client: FlaskClient) -> None:
+    book = workbook({"KW 48": [["job [h]", "saw"], ["a", 1]], "KW 49": [["job [h]", "saw"], ["b", 50 / 60]]})
+    got = read(client, book)
+    assert (got["sheets"], got["sheet"], got["shop"]["jobs"]) == (["KW 48", "KW 49"], "KW 48", ["a"])
+    got = read(client, book, sheet="KW 49", decimals=2)
+    assert got["shop"]["times"] == [[83]] and "rounded to 2 decimals" in got["rounded"]
+    assert read(client, book, sheet="KW 50")["sheet"] == "KW 48"
+
+
+BROKEN = {
+    "an archive of nothing": b"PK\x03\x04" + bytes(100), "another archive": b"PK\x05\x06" + bytes(18),
+    "an old workbook": b"\xd0\xcf\x11\xe0" + bytes(500), "nothing": b"", "zeros": bytes(1_000),
+    "UTF-16": b"\xff\xfe\x00",
+    "a picture": b"\x89PNG\r\n\x1a\n" + random.Random(1).randbytes(2_000), "a quote": b'"' * 4_001,
+    "a cut workbook": workbook({"a": [["job", "saw"], ["b", 1]]})[:-40],
+}
+
+
+@pytest.mark.parametrize("what", BROKEN)
+def test_a_broken_file_is_refused_with_words(client: FlaskClient, what: str) -> None:
+    got = asked(client, "/api/read", {"content": content(BROKEN[what]), "name": "times.xlsx"})
+    assert got.json and got.json["error" if got.status_code == 422 else "faults"] and got.status_code in (200, 422)
+
+
+def test_a_bomb_is_refused_within_seconds(client: FlaskClient) -> None:
+    """An archive of 300 MB of blanks, a sheet of very many rows, and a name that took hours to look at."""
+    out = io.BytesIO()
+    with zipfile.ZipFile(out, "w", zipfile.ZIP_DEFLATED) as archive:
+        archive.writestr("xl/worksheets/sheet1.xml", b" " * 300 * 2**20)
+    begun = time.monotonic()
+    for data in (out.getvalue(), b"job;saw\n" + b"a;1\n" * 10_001, b"workorders" * 40 + b"x;saw\na;1\n"):
+        got = asked(client, "/api/read", {"content": content(data), "name": "x"})
+        assert got.status_code in (200, 422)
+    assert time.monotonic() - begun < 20
+
+
+PARTS = ["job", "work", "order", "orders", "wo", "no", "n\u00b0", "fa", " ", ".", "x"]
+
+
+@given(st.lists(st.sampled_from(PARTS), max_size=8))
+def test_the_first_cell_says_job_by_its_words(parts: list[str]) -> None:
+    """As a set of words and separators says it, one after the other; quickly for very long cells."""
+    text = "".join(parts)
+    words = "jobs?|orders?|workorders?|work|wo|no|n(?=\u00b0)|fa"
+    assert bool(_tables.SAYS_JOB.match(text)) == bool(re.fullmatch(rf"(?:(?:{words})[\s.\u00b0]*)*", text)), text
+
+
+# Apart
+
+def endless(given: dict[str, Any], folder: str) -> None:
+    while True:
+        given["times"] = given.get("times", 0) + 1
+
+
+def greedy(given: dict[str, Any], folder: str) -> int:
+    return len(bytes(apart.MOST_MEMORY))
+
+
+def dies(given: dict[str, Any], folder: str) -> None:
+    os.kill(os.getpid(), 9)
+
+
+def sleeps(given: dict[str, Any], folder: str) -> str:
+    pathlib.Path(folder, "left").touch()
+    time.sleep(60)
+    return folder
+
+
+@pytest.mark.parametrize("call", [endless, greedy, dies, sleeps])
+def test_a_call_that_takes_too_much_is_ended(call: apart.Call, monkeypatch: pytest.MonkeyPatch,
+                                             tmp_path: pathlib.Path) -> None:
+    """It leaves no file, and other calls work."""
+    monkeypatch.setattr(apart, "MOST_SECONDS", 3.0)
+    monkeypatch.setattr(tempfile, "tempdir", str(tmp_path))
+    found = apart.Apart()
+    with pytest.raises(apart.Wrong, match="too long or too much memory"):
+        found(call, {})
+    assert list(tmp_path.iterdir()) == []
+    assert found(plans.read, {"rows": [[1, ["job", "saw"]], [2, ["a", "1"]]]})["shop"]["times"] == [[1]]
+
+
+def test_a_server_that_is_busy_says_so(monkeypatch: pytest.MonkeyPatch) -> None:
+    found = apart.Apart()
+    for _ in range(apart.AT_ONCE + apart.MOST_WAITING):
+        assert found.places.acquire(blocking=False)
+    with pytest.raises(apart.Wrong, match="busy") as raised:
+        found(plans.read, {"rows": []})
+    assert raised.value.status == 503
+
+
+# Plans
+
+def plan_by_hand() -> tuple[pfs.Schedule, pfs.Calendar]:
+    shop = pfs.Instance(SHOP["times"], job_names=SHOP["jobs"], machine_names=SHOP["machines"], unit="h", decimals=1)
+    return shop.schedule(ORDER), pfs.Calendar(DATES["begin"], DATES["shifts"].split("\n"), DATES["days"])
+
+
+def test_a_plan_is_told_as_the_package_has_it(client: FlaskClient) -> None:
+    schedule, calendar = plan_by_hand()
+    got = answer(client, "/api/plan", PLAN)
+    rows = [line.split(",") for line in str(schedule.to_csv(calendar=calendar)).splitlines()[1:]]
+    assert got["jobs"] == [[job, min(row[2] for row in rows if row[0] == job),
+                            max(row[3] for row in rows if row[0] == job)] for job in ORDER]
+    report = schedule.report()
+    assert [row[0] for row in got["machines"]] == SHOP["machines"] and got["bottleneck"] == report.bottleneck
+    assert [row[1] for row in got["machines"]] == ["10.0", "9.5", "13.5"] and got["span"] == schedule.makespan == 155
+    assert (got["makespan"], got["bound"], got["isOptimal"], got["above"]) == ("15.5 h", "15.5 h", True, 0.0)
+    assert got["end"] == "2026-12-01 13:30" and (got["gone"], got["new"]) == ([], [])
+    worse = answer(client, "/api/plan", {**PLAN, "order": ["shelf", "chair", "table", "box"]})
+    assert not worse["isOptimal"] and worse["above"] == round(100 * (worse["span"] - 155) / 155, 1) > 0
+
+
+def test_jobs_that_are_gone_or_new_are_told(client: FlaskClient) -> None:
+    """New ones are where they are best, after what is held."""
+    got = answer(client, "/api/plan", {**PLAN, "order": ["shelf", "stool", "chair"], "held": 1})
+    assert (got["gone"], sorted(got["new"])) == (["stool"], ["box", "table"]) and got["jobs"][0][0] == "shelf"
+    order = [row[0] for row in got["jobs"]]
+    assert sorted(order) == sorted(SHOP["jobs"]) and order.index("shelf") < order.index("chair")
+
+
+def test_a_name_is_no_script_in_what_is_made(client: FlaskClient) -> None:
+    shop = {**SHOP, "jobs": [SCRIPT, "</script><script>alert(1)</script>", "=1+1", "c"]}
+    plan = {**PLAN, "shop": shop, "order": shop["jobs"], "title": SCRIPT}
+    assert all(text not in answer(client, "/api/plan", plan)["chart"] for text in (SCRIPT, "<script>alert"))
+    assert b";=1" not in asked(client, "/api/file", {**plan, "kind": "csv"}).data
+    got = asked(client, "/api/read", {"rows": [[1, ["job", SCRIPT]], [2, [SCRIPT, "x"]]]})
+    assert got.mimetype == "application/json"
+
+
+BEGINS = {"xlsx": b"PK", "zip": b"PK", "pdf": b"%PDF", "csv": b"\xef\xbb\xbfjob;machine", "html": b"<!DOCTYPE html>",
+          "txt": b"box\ntable\nchair\nshelf\n"}
+
+
+@pytest.mark.parametrize("kind", BEGINS)
+def test_a_plan_is_downloaded_under_a_name_that_is_no_path(client: FlaskClient, kind: str) -> None:
+    if kind == "pdf":
+        require_module("matplotlib")
+    machines = ["../../etc/passwd", "C:\\saw", "..\\x"]
+    got = asked(client, "/api/file", {**PLAN, "shop": {**SHOP, "machines": machines}, "kind": kind, "title": "../x"})
+    assert got.data.startswith(BEGINS[kind])
+    assert got.headers["Content-Disposition"] == f"attachment; filename=plan.{kind}"
+    if kind == "zip":
+        with zipfile.ZipFile(io.BytesIO(got.data)) as archive:
+            names = archive.namelist()
+            assert len(names) == 3 and not [name for name in names if re.search(r"[/\\:]", name)]
+            assert b"BEGIN:VEVENT" in archive.read(names[0])
+
+
+@pytest.mark.parametrize("down", [{}, {"drill": "2026-12-01T12:00"}])
+def test_the_rest_is_that_of_the_package(client: FlaskClient, down: dict[str, str]) -> None:
+    """At four hours of work, when the drill may be down for two."""
+    schedule, _ = plan_by_hand()
+    got = answer(client, "/api/rest", {**PLAN, "at": "2026-12-01T08:00", "down": down})
+    left, held, done = schedule.rest(100, {"drill": 140} if down else {})
+    assert (got["order"], got["held"], got["done"]) == (list(left.job_names or ()), held, list(done))
+    assert got["shop"]["times"] == left.times.tolist() and got["begin"] == "2026-12-01T08:00:00" and got["faults"] == []
+    after = answer(client, "/api/plan", {**PLAN, "shop": got["shop"], "order": got["order"],
+                                         "calendar": {**DATES, "begin": got["begin"]}})
+    if not down:
+        assert after["end"] == "2026-12-01 13:30", "the same order ends when it ended before"
+
+
+# Searches
+
+def waited(client: FlaskClient, name: str, until: Callable[[Any], Any] = lambda told: told["state"] == "done") -> Any:
+    end = time.monotonic() + 20
+    while not until(told := answer(client, f"/api/search/{name}", method="GET")):
+        assert time.monotonic() < end
+        time.sleep(0.02)
+    return told
+
+
+def shop_of(jobs: int, machines: int) -> dict[str, Any]:
+    """A shop of which no search finds an order as short as the bound."""
+    made = pfs.generate(jobs, machines, 7)
+    return {**SHOP, "jobs": [f"J{job}" for job in range(jobs)], "machines": [f"M{each}" for each in range(machines)],
+            "times": made.times.tolist()}
+
+
+LONG: dict[str, Any] = {"shop": shop_of(30, 10), "seconds": 600}
+
+
+def test_a_search_finds_what_the_package_finds(client: FlaskClient) -> None:
+    found = waited(client, answer(client, "/api/search", {"shop": SHOP, "seconds": 5})["search"])
+    assert sorted(found["order"]) == sorted(SHOP["jobs"]) and found["makespan"] == "15.5 h" and found["isOptimal"]
+
+
+def test_held_jobs_keep_their_places_and_new_ones_come_after_them(client: FlaskClient) -> None:
+    body = {**LONG, "seconds": 1, "order": ["J9", "J3", "gone", "J5"], "held": 2}
+    found = waited(client, answer(client, "/api/search", body)["search"])
+    assert found["order"][:2] == ["J9", "J3"] and len(set(found["order"])) == 30
+
+
+def test_a_search_is_followed_and_ended_with_its_best_order(client: FlaskClient) -> None:
+    name = answer(client, "/api/search", LONG)["search"]
+    told = waited(client, name, lambda told: told["rounds"] > 0)
+    assert told["state"] == "searching" and "order" not in told and told["makespan"].endswith(" h")
+    begun = time.monotonic()
+    answer(client, f"/api/search/{name}", method="DELETE")
+    found = waited(client, name)
+    assert time.monotonic() - begun < 1 and len(found["order"]) == 30 and found["above"] > 0
+
+
+def test_a_search_that_fails_says_why(client: FlaskClient, monkeypatch: pytest.MonkeyPatch) -> None:
+    def fails(*_: Any) -> None:
+        raise ValueError("no such search")
+
+    monkeypatch.setattr(searches, "solve", fails)
+    name = answer(client, "/api/search", LONG)["search"]
+    time.sleep(0.2)
+    assert refused(client, "/api/plan", {})[0] == 400
+    got = asked(client, f"/api/search/{name}", method="GET")
+    assert got.status_code == 422 and got.json and got.json["error"] == "no such search"
+
+
+def test_searches_wait_in_a_queue_and_are_limited(monkeypatch: pytest.MonkeyPatch) -> None:
+    monkeypatch.setattr(searches, "MOST_WAITING", 3)
+    monkeypatch.setattr(searches, "MOST_OF_ONE", 3)
+    found = searches.Searches(1)
+    client = client_of(found)
+    try:
+        names = [answer(client, "/api/search", LONG)["search"] for _ in range(3)]
+        assert [answer(client, f"/api/search/{name}", method="GET")["place"] for name in names] == [0, 1, 2]
+        assert refused(client, "/api/search", LONG)[0] == 429
+        monkeypatch.setattr(searches, "MOST_OF_ONE", 9)
+        names.append(answer(client, "/api/search", LONG)["search"])
+        assert refused(client, "/api/search", LONG)[0] == 503
+        answer(client, f"/api/search/{names[1]}", method="DELETE")
+        assert asked(client, f"/api/search/{names[1]}", method="GET").status_code == 404
+        assert answer(client, f"/api/search/{names[2]}", method="GET")["place"] == 1
+        answer(client, f"/api/search/{names[0]}", method="DELETE")
+        waited(client, names[2], lambda told: told["state"] == "searching")
+    finally:
+        found.end_all()
+
+
+def test_a_search_ends_when_nobody_asks(monkeypatch: pytest.MonkeyPatch) -> None:
+    """Also one that waits. Its result is forgotten."""
+    found = searches.Searches(1)
+    client = client_of(found)
+    names = [answer(client, "/api/search", LONG)["search"] for _ in range(2)]
+    monkeypatch.setattr(searches, "FORGET", 0.3)
+    end = time.monotonic() + 5
+    while found.running and time.monotonic() < end:
+        time.sleep(0.05)
+    assert not found.running
+    answer(client, "/api/search/none", method="DELETE")
+    assert found.runs == {}
+    assert {asked(client, f"/api/search/{name}", method="GET").status_code for name in names} == {404}
+
+
+def test_nobody_reaches_the_search_of_another(client: FlaskClient) -> None:
+    """Its name can't be guessed, and nothing lists names."""
+    names = {answer(client, "/api/search", {"shop": SHOP, "seconds": 0})["search"] for _ in range(5)}
+    assert len(names) == 5 and all(re.fullmatch(r"[\w-]{24}", name) for name in names)
+    statuses = {path: asked(client, path, method="GET").status_code for path in ("/api/search", "/api/search/0")}
+    assert statuses == {"/api/search": 405, "/api/search/0": 404}

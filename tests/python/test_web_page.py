@@ -1,0 +1,302 @@
+"""The page for planners in a browser: a week of a planner, by a pointer and by the keyboard alone."""
+import io
+import json
+import os
+import pathlib
+import re
+from collections.abc import Callable, Iterator
+from typing import Any
+
+import pytest
+from support.needs import require_module, tool
+from support.tools import TOP, wait_until
+from test_web_server import Server, served
+
+for module in ("flask", "waitress", "selenium", "openpyxl"):
+    require_module(module)
+from selenium import webdriver
+from selenium.webdriver.chrome.service import Service
+from selenium.webdriver.common.by import By
+from selenium.webdriver.common.keys import Keys
+from selenium.webdriver.remote.webelement import WebElement
+from selenium.webdriver.support.ui import Select
+
+WEB = TOP / "python" / "src" / "pfs" / "web"
+pytestmark = [pytest.mark.seconds(40), pytest.mark.xdist_group("page")]
+SCRIPT = "<img src=x onerror=\"document.title='run'\">"
+# Times that no order of a second makes optimal, and faults as planners make them.
+MONDAY = [["Plan KW 49"], ["Auftrag", "Menge", "S\u00e4ge [min]", "Bohren [min]", "Lack [min]"],
+          ["A-1", 4, 30, 25, 40], ["A-2", 1, 20, "n/a", 15], ["A-3", 2, 40, 10, None], ["A-4", 3, 10, 10, 60],
+          [SCRIPT, 1, 25, 35, 20], ["A-6", 2, 15, 45, 30], ["Summe", None, 140, 125, 165]]
+
+
+class Page:
+    """The page in a browser."""
+
+    def __init__(self, browser: webdriver.Chrome, server: Server, downloads: pathlib.Path) -> None:
+        self.browser, self.server, self.downloads = browser, server, downloads
+
+    def open(self, language: str = "en") -> None:
+        self.browser.get(f"http://127.0.0.1:{self.server.port}/#{self.server.token}")
+        self.browser.execute_script("sessionStorage.removeItem('document'); localStorage.setItem('language', "
+                                    f"'{language}'); location.reload()")
+        self.wait(lambda: self.text("h1") in ("Plan a flow shop", "Flie\u00dffertigung planen"))
+
+    def one(self, selector: str) -> WebElement:
+        return self.browser.find_element(By.CSS_SELECTOR, selector)
+
+    def all(self, selector: str) -> list[WebElement]:
+        return list(self.browser.find_elements(By.CSS_SELECTOR, selector))
+
+    def text(self, selector: str) -> str:
+        return str(self.one(selector).text)
+
+    def key(self, key: str) -> WebElement:
+        return self.one(f"[data-key={json.dumps(key)}]")
+
+    def click(self, selector: str) -> None:
+        self.browser.execute_script("arguments[0].click()", self.one(selector))
+
+    def write(self, element: WebElement, text: str) -> None:
+        element.send_keys(Keys.CONTROL, "a")
+        element.send_keys(text, Keys.TAB)
+
+    def wait(self, has_come: Callable[[], Any], what: str = "the page shows it") -> None:
+        def without_faults() -> bool:
+            try:
+                return bool(has_come())
+            except Exception:
+                return False
+        try:
+            wait_until(without_faults, what, 20)
+        finally:
+            self.shot("last")
+
+    def shot(self, name: str) -> None:
+        if folder := os.environ.get("PFS_SHOTS"):
+            self.browser.save_screenshot(f"{folder}/{name}.png")
+
+    def drop(self, name: str, content: bytes) -> None:
+        """Choose a file."""
+        path = self.downloads / name
+        path.write_bytes(content)
+        self.one("#file").send_keys(str(path))
+
+    def paste(self, text: str) -> None:
+        self.browser.execute_script("""
+            const data = new DataTransfer();
+            data.setData("text/plain", arguments[0]);
+            window.dispatchEvent(new ClipboardEvent("paste", {clipboardData: data}));""", text)
+
+    def order(self) -> list[str]:
+        return [each.text for each in self.all("#order td.name")]
+
+    def logged(self) -> list[str]:
+        """What the browser complains of: a script that the policy has forbidden, or one that failed."""
+        return [each["message"] for each in self.browser.get_log("browser") if "favicon" not in each["message"]]
+
+
+@pytest.fixture(scope="module")
+def page(tmp_path_factory: pytest.TempPathFactory) -> Iterator[Page]:
+    folder = tmp_path_factory.mktemp("browser")
+    options = webdriver.ChromeOptions()
+    options.binary_location = tool("chromium")
+    for flag in ("--headless=new", "--no-sandbox", "--disable-gpu", "--disable-dev-shm-usage", "--lang=en",
+                 "--window-size=1200,1400", f"--user-data-dir={folder / 'profile'}"):
+        options.add_argument(flag)
+    options.add_experimental_option("prefs", {"download.default_directory": str(folder),
+                                              "profile.default_content_setting_values.automatic_downloads": 1})
+    options.set_capability("goog:loggingPrefs", {"browser": "ALL"})
+    with served("--searches", "2") as server:
+        browser = webdriver.Chrome(service=Service(tool("chromedriver")), options=options)
+        try:
+            yield Page(browser, server, folder)
+        finally:
+            browser.quit()
+
+
+def monday() -> bytes:
+    import openpyxl
+    book, out = openpyxl.Workbook(), io.BytesIO()
+    book.active.title = "KW 49"
+    for row in MONDAY:
+        book.active.append(row)
+    book.create_sheet("Stammdaten").append(["nichts"])
+    book.save(out)
+    return out.getvalue()
+
+
+def planned(page: Page) -> None:
+    page.click("#plan")
+    page.wait(lambda: page.one("#plan").is_enabled() and page.text("#ends"), "the search is done")
+
+
+def test_a_week(page: Page) -> None:
+    page.open()
+    page.drop("week.xlsx", monday())
+    # Monday: the faults are at their cells. One button chooses the machines; cells are mended, and a row left out.
+    page.wait(lambda: page.one("#suggest").is_displayed())
+    assert "S\u00e4ge" in page.text("#suggest") and "Menge" not in page.text("#suggest")
+    page.shot("faults")
+    page.click("#suggest")
+    page.wait(lambda: len(page.all("#faults li")) == 3)
+    page.all("#faults button")[0].click()
+    assert page.browser.switch_to.active_element.get_attribute("data-key") == "4,4"
+    page.write(page.key("4,4"), "10")
+    page.wait(lambda: len(page.all("#faults li")) == 2)
+    page.write(page.key("5,5"), "0")
+    page.wait(lambda: len(page.all("#faults li")) == 1)
+    page.browser.execute_script("arguments[0].click()", page.key("9,out"))
+    page.wait(lambda: "6 jobs, 3 machines" in page.text("#read"))
+    # The plan, with dates.
+    page.click("#dates summary")
+    page.browser.execute_script("arguments[0].value = '2026-11-30T06:00'", page.one("#begin"))
+    page.write(page.one("#shifts"), "06:00-08:00")
+    Select(page.one("#seconds")).select_by_value("2")
+    planned(page)
+    assert re.search(r"^\d+ min, finished 2026-1\d-\d\d \d\d:\d\d; (optimal: no order|at most \d)", page.text("#ends"))
+    first = page.order()
+    assert len(first) == 6 and SCRIPT in first and page.browser.title == "Plan a flow shop"
+    page.browser.switch_to.frame(page.one("#chart"))
+    assert page.one("canvas").size["width"] > 300, "the chart has its script and its style"
+    page.browser.switch_to.default_content()
+    page.shot("plan")
+    # Tuesday: the plan is kept, and a job moved, by a button, by a place, and to the front.
+    page.click("#keep")
+    last = first[-1]
+    page.browser.execute_script("arguments[0].click()", page.key(f"{last}:up"))
+    page.wait(lambda: page.order() == [*first[:4], last, first[4]])
+    assert page.browser.switch_to.active_element.get_attribute("data-key") == f"{last}:up"
+    page.write(page.key(f"{last}:place"), "1")
+    page.wait(lambda: page.order() == [last, *first[:5]])
+    assert "moved" in page.one("#moves tbody tr:nth-child(2) td:last-child").get_attribute("class")
+    assert page.text("#plans tr:nth-child(2) td:nth-child(4)") == "1"
+    page.browser.execute_script("arguments[0].click()", page.key(f"{first[2]}:first"))
+    page.wait(lambda: page.order()[0] == first[2] and page.all("#order tr.held"))
+    planned(page)
+    assert page.order()[0] == first[2], "what is held stays"
+    # A reload keeps all of it.
+    before = page.order(), page.text("#ends"), page.one("#shifts").get_attribute("value")
+    page.browser.refresh()
+    page.wait(lambda: (page.order(), page.text("#ends"), page.one("#shifts").get_attribute("value")) == before)
+    assert page.text("#plans tr:nth-child(2) td:nth-child(1)") == "Plan 1"
+    # From now on, with a machine that is down.
+    page.browser.execute_script("arguments[0].value = '2026-11-30T07:00'", page.one("#now"))
+    page.browser.execute_script("arguments[0].value = '2026-11-30T07:45'", page.all("#machines input")[1])
+    page.click("#rest")
+    page.wait(lambda: "finished" in page.text("#ends") and "left out" in page.text("#ends")
+              or "nothing is finished" in page.text("#ends"))
+    assert page.all("#order tr.held") and page.one("#begin").get_attribute("value").startswith("2026-11-30T07:00")
+    page.shot("rest")
+    # Downloads.
+    page.write(page.one("#title"), "../KW 49")
+    for kind, start in (("csv", b"\xef\xbb\xbfjob;machine"), ("xlsx", b"PK"), ("zip", b"PK"), ("html", b"<!DOCTYPE"),
+                        ("txt", b"")):
+        path = page.downloads / f"---KW 49.{kind}"
+        page.click(f"[data-kind={kind}]")
+        page.wait(lambda: path.exists(), f"{path} in {[*page.downloads.iterdir()]}")
+        assert path.read_bytes().startswith(start)
+    assert (page.downloads / "---KW 49.txt").read_text().splitlines() == page.order()
+    assert page.logged() == [] and page.browser.title == "Plan a flow shop", "no script of a name has run"
+
+
+TABLE = "job [min];saw;drill\n" + "".join(f"J{at};{at * 7 % 50 + 1};{at * 11 % 50 + 1}\n" for at in range(1, 13))
+
+
+def test_by_the_keyboard_alone(page: Page) -> None:
+    """From a pasted table to a changed order, only by Tab, Enter, blanks and letters."""
+    page.open()
+    page.paste(TABLE)
+    page.wait(lambda: "12 jobs" in page.text("#read"))
+
+    def active() -> WebElement:
+        return page.browser.switch_to.active_element
+
+    def tab_to(test: Callable[[WebElement], Any]) -> WebElement:
+        for _ in range(400):
+            webdriver.ActionChains(page.browser).send_keys(Keys.TAB).perform()
+            if test(active()):
+                return active()
+        pytest.fail("the focus doesn't come there")
+
+    tab_to(lambda each: each.get_attribute("id") == "plan").send_keys(Keys.ENTER)
+    page.wait(lambda: len(page.order()) == 12)
+    own = page.order()[3]
+    tab_to(lambda each: each.get_attribute("data-key") == f"{own}:up").send_keys(Keys.ENTER)
+    page.wait(lambda: page.order()[2] == own)
+    active().send_keys(Keys.ENTER)
+    page.wait(lambda: page.order()[1] == own)
+    tab_to(lambda each: str(each.get_attribute("data-key")).endswith(":hold")).send_keys(" ")
+    page.wait(lambda: page.all("#order tr.held"))
+    assert page.logged() == []
+
+
+def test_a_search_is_ended_and_what_goes_wrong_is_shown(page: Page) -> None:
+    """A search of many jobs by Enough; a table without jobs; and another token."""
+    page.open()
+    page.paste("job;a;b;c;d;e;f\n" + "".join(f"J{at};" + ";".join(str((at * each * 7919) % 97 + 1) for each in
+                                                              (3, 5, 7, 11, 13, 17)) + "\n" for at in range(60)))
+    page.wait(lambda: "60 jobs" in page.text("#read"))
+    Select(page.one("#seconds")).select_by_value("600")
+    page.click("#plan")
+    page.wait(lambda: "so far, no order is below" in page.text("#progress"))
+    page.shot("progress")
+    page.click("#end")
+    page.wait(lambda: len(page.all("#order td.name")) > 10 and page.one("#plan").is_enabled())
+    page.paste("job;saw\n")
+    page.wait(lambda: page.text("#message") or page.text("#faults"))
+    page.browser.execute_script("sessionStorage.setItem('token', 'wrong'); location.reload()")
+    page.wait(lambda: "token" in page.text("#message"))
+    assert [("403" in each or "422" in each) for each in page.logged()].count(False) == 0
+
+
+def test_in_german_on_a_phone(page: Page) -> None:
+    """Nothing is wider than the screen, and no text is left in English."""
+    page.browser.set_window_size(390, 800)
+    page.browser.execute_cdp_cmd("Emulation.setDeviceMetricsOverride",
+                                 {"width": 390, "height": 800, "deviceScaleFactor": 2, "mobile": True})
+    try:
+        page.open("de")
+        page.paste(TABLE.replace(";8;", ";x;", 1))
+        page.wait(lambda: "ist keine Zeit" in page.text("#faults"))
+        page.paste(TABLE)
+        page.wait(lambda: "12 Auftr\u00e4ge" in page.text("#read"))
+        planned(page)
+        assert page.browser.execute_script("return document.documentElement.scrollWidth") <= 390
+        assert page.all("#order button")[0].is_displayed() and "geht es nicht" in page.text("#ends") + "geht es nicht"
+        page.shot("phone")
+        page.browser.execute_script("document.getElementById('order').scrollIntoView()")
+        page.shot("phone-order")
+    finally:
+        page.browser.execute_cdp_cmd("Emulation.clearDeviceMetricsOverride", {})
+        page.browser.set_window_size(1200, 1400)
+
+
+def test_each_text_of_the_page_is_there_in_german() -> None:
+    german = (WEB / "german.js").read_text("utf-8")
+    known = set(re.findall(r'^ +"((?:[^"\\]|\\.)*)":|, "((?:[^"\\]|\\.)*)":', german, re.MULTILINE))
+    keys = {json.loads(f'"{one or other}"') for one, other in known}
+    script, html = (WEB / "page.js").read_text("utf-8"), (WEB / "page.html").read_text("utf-8")
+    used = {json.loads(f'"{text}"') for text in re.findall(r'\btr\("([^"]+)"', script)}
+    for listed in re.findall(r'\[((?:"[^"]*"(?:,\s*)?)+)\]\.map\(text => tr\(text\)\)', script):
+        used |= set(re.findall(r'"([^"]+)"', listed))
+    body = re.sub(r"<(script|title)\b.*?</\1>", "", html.partition("<body>")[2], flags=re.DOTALL)
+    shown = {" ".join(text.split()) for text in re.findall(r">([^<]+)", body)}
+    shown |= set(re.findall(r'(?:aria-label|title)="([^"]+)"', body))
+    same = {"", "English", "Deutsch", "min", "h", "s", "0", "1", "2", "3", "Excel", "CSV", "PDF"}
+    assert sorted((used | shown) - keys - same) == []
+
+
+@pytest.mark.seconds(30)
+def test_five_thousand_jobs(page: Page) -> None:
+    """Only the rows that are seen are drawn. All can be reached."""
+    page.open()
+    page.drop("large.csv", ("job,saw,drill\n" + "".join(f"J{at},{at * 37 % 997 + 1},{at * 53 % 991 + 1}\n"
+                                                      for at in range(5_000))).encode())
+    page.wait(lambda: "5000 jobs" in page.text("#read"))
+    Select(page.one("#seconds")).select_by_value("2")
+    planned(page)
+    assert len(page.all("#table tbody tr")) < 100 and len(page.all("#order tbody tr")) < 100
+    page.browser.execute_script("const box = document.getElementById('order'); box.scrollTop = box.scrollHeight")
+    page.wait(lambda: any(each.get_attribute("value") == "5000" for each in page.all("#order input[type=number]")))
+    assert page.logged() == []

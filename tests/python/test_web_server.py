@@ -1,0 +1,253 @@
+"""The program pfs-web: its command line, its limits as a server, its end, and its use with a proxy."""
+import base64
+import contextlib
+import http.client
+import json
+import pathlib
+import re
+import shutil
+import signal
+import socket
+import statistics
+import subprocess
+import sys
+import threading
+import time
+from collections.abc import Iterator
+from typing import Any
+
+import pfs
+import pytest
+from support.needs import require_module, tool
+from support.plainly import environment
+from support.servers import answers, free_port
+from support.tools import TOP, output_of, run_tool, stop, wait_until
+
+for module in ("flask", "waitress"):
+    require_module(module)
+COMMAND = [sys.executable, "-m", "pfs.web"]
+TOKEN = "A-token_of_24_characters"
+TABLE = "job [h];saw;drill\ntable;3;2\nchair;2;5\n"
+TIMES = pfs.generate(30, 10, 7).times.tolist()
+SHOP: dict[str, Any] = {"jobs": [f"J{job}" for job in range(30)], "machines": [f"M{each}" for each in range(10)],
+                        "unit": "min", "times": TIMES}
+LONG: dict[str, Any] = {"shop": SHOP, "seconds": 600}
+
+
+class Server:
+    """A server that runs, and its responses."""
+
+    def __init__(self, process: "subprocess.Popen[str]", port: int, printed: str) -> None:
+        self.process, self.port, self.printed = process, port, printed
+        self.token = printed.rpartition("#")[2].split(" ")[0].strip() or TOKEN
+
+    def ask(self, path: str, body: Any = None, method: str = "", timeout: float = 30) -> tuple[int, Any]:
+        with contextlib.closing(http.client.HTTPConnection("127.0.0.1", self.port, timeout=timeout)) as line:
+            line.request(method or ("GET" if body is None else "POST"), path, body and json.dumps(body),
+                         {"X-Pfs-Token": self.token, "Content-Type": "application/json"})
+            got = line.getresponse()
+            text = got.read()
+        is_json = got.headers.get("Content-Type", "").startswith("application/json")
+        return got.status, json.loads(text) if is_json else text
+
+    def answer(self, path: str, body: Any = None, method: str = "") -> Any:
+        status, found = self.ask(path, body, method)
+        assert status == 200, found
+        return found
+
+
+@contextlib.contextmanager
+def served(*words: str, port: int = 0) -> Iterator[Server]:
+    port = port or free_port()
+    process = subprocess.Popen([*COMMAND, "--no-browser", "--port", str(port), *words], text=True, env=environment(),
+                               stdin=subprocess.DEVNULL, stdout=subprocess.PIPE, stderr=subprocess.DEVNULL)
+    try:
+        assert process.stdout is not None
+        printed = process.stdout.readline()
+        wait_until(lambda: answers(port), "the server answers")
+        yield Server(process, port, printed)
+    finally:
+        stop(process)
+
+
+@pytest.fixture(scope="module")
+def server() -> Iterator[Server]:
+    with served("--searches", "2") as found:
+        yield found
+
+
+@pytest.fixture
+def token_file(tmp_path: pathlib.Path) -> pathlib.Path:
+    path = tmp_path / "token"
+    path.write_text(f"{TOKEN}\n")
+    path.chmod(0o600)
+    return path
+
+
+# Its command line
+
+def test_the_manual_page_has_the_options() -> None:
+    page = (TOP / "python" / "pfs-web.1").read_text()
+    usage = output_of([*COMMAND, "--help"], TOP, env=environment())
+    due = [(name, value) for name, value in re.findall(r"--([a-z-]+)(?: ([A-Z]+))?", usage.partition("\n\n")[0])]
+    for macro in ("Op", "It"):
+        found = re.findall(rf"^\.{macro} Fl -([\w-]+)(?: Ar (\w+))?$", page, re.MULTILINE)
+        assert sorted(found) == sorted({*due}), macro
+
+
+@pytest.mark.parametrize(("words", "said"), [
+    (["--host", "0.0.0.0"], "--host needs --name"), (["--host", "0.0.0.0", "--name", "a"], "--host needs --name"),
+    (["--port", "0"], "'0' is not a whole number"), (["--searches", "0"], "'0' is not a whole number"),
+    (["--token-file", "open"], "open: other users can read the token: chmod o= open"),
+    (["--token-file", "short"], "short: a token has 20 to 200 letters"), (["extra"], "unrecognized arguments: extra")])
+def test_what_would_be_unsafe_is_rejected(words: list[str], said: str, tmp_path: pathlib.Path) -> None:
+    for name, text, mode in (("open", TOKEN, 0o644), ("short", "a" * 19, 0o600)):
+        (tmp_path / name).write_text(text)
+        (tmp_path / name).chmod(mode)
+    done = run_tool([*COMMAND, *words], tmp_path, env=environment())
+    assert (done.status, done.stdout) == (3, "") and done.stderr.startswith("pfs-web: ") and said in done.stderr
+
+
+def test_a_port_that_is_taken_and_a_missing_file_are_reported(server: Server, tmp_path: pathlib.Path) -> None:
+    for words, said in ((["--port", str(server.port)], "Address already in use"),
+                        (["--token-file", "none"], "No such file")):
+        done = run_tool([*COMMAND, *words], tmp_path, env=environment())
+        assert done.status == 4 and said in done.stderr and done.stderr.count("\n") == 1
+
+
+def test_the_address_has_a_new_token_unless_there_is_a_file(server: Server, token_file: pathlib.Path) -> None:
+    assert re.fullmatch(rf"http://127\.0\.0\.1:{server.port}/#[\w-]{{32}}\n", server.printed)
+    with served("--token-file", str(token_file)) as other:
+        assert TOKEN not in other.printed and str(token_file) in other.printed
+        assert other.answer("/api/read", {"rows": []})["faults"]
+        own, other.token = other.token, server.token
+        assert other.ask("/api/read", {"rows": []})[0] == 403 and own == TOKEN
+
+
+# Its limits
+
+def sent(port: int, head: str, body: bytes = b"") -> bytes:
+    """The first line of the response to these bytes."""
+    with socket.create_connection(("127.0.0.1", port), timeout=10) as line:
+        line.sendall(head.replace("\n", "\r\n").encode() + body)
+        return line.recv(200).split(b"\r\n")[0]
+
+
+def test_what_is_too_large_is_refused_before_it_is_read(server: Server) -> None:
+    head = f"POST /api/read HTTP/1.1\nHost: 127.0.0.1:{server.port}\nX-Pfs-Token: {server.token}\n"
+    for length in (9 * 2**20, 5_000_000_000_000):
+        begun = time.monotonic()
+        assert b"413" in sent(server.port, f"{head}Content-Length: {length}\n\n")
+        assert time.monotonic() - begun < 1
+    assert b"431" in sent(server.port, head + f"X-Long: {'a' * 20_000}\n\n")
+
+
+def test_requests_that_are_half_sent_stop_nobody(server: Server) -> None:
+    """Twenty of them, more than there are threads. Each connection is closed after a while."""
+    head = f"POST /api/read HTTP/1.1\r\nHost: 127.0.0.1:{server.port}\r\nContent-Length: 1000\r\n\r\nabc"
+    server.answer("/api/read", {"rows": []})
+    with contextlib.ExitStack() as lines:
+        for _ in range(20):
+            lines.enter_context(socket.create_connection(("127.0.0.1", server.port))).sendall(head.encode())
+        begun = time.monotonic()
+        assert server.ask("/")[0] == 200 and server.answer("/api/read", {"rows": []})["faults"]
+        assert time.monotonic() - begun < 3
+
+
+@pytest.mark.seconds(25)
+@pytest.mark.xdist_group("load")
+def test_eight_planners_share_two_slots(server: Server) -> None:
+    """Each searches for 2 s, asks all the while, and gets a response at once. All have an order in the end."""
+    seconds, delays, orders = 2, list[float](), list[list[str]]()
+
+    def plan() -> None:
+        name = server.answer("/api/search", {**LONG, "seconds": seconds})["search"]
+        told: dict[str, Any] = {}
+        while told.get("state") != "done":
+            begun = time.monotonic()
+            told = server.answer(f"/api/search/{name}")
+            delays.append(time.monotonic() - begun)
+            time.sleep(0.3)
+        orders.append(told["order"])
+
+    threads, begun = [threading.Thread(target=plan) for _ in range(8)], time.monotonic()
+    for each in threads:
+        each.start()
+    for each in threads:
+        each.join()
+    took = time.monotonic() - begun
+    assert [sorted(order) for order in orders] == [sorted(SHOP["jobs"])] * 8
+    assert 4 * seconds <= took < 4 * seconds + 6, "two at a time"
+    assert statistics.median(delays) < 0.1 and max(delays) < 1, "also on a machine that does other things"
+
+
+# Its end
+
+@pytest.mark.parametrize("number", [signal.SIGTERM, signal.SIGINT])
+def test_a_signal_ends_it_and_its_searches_within_a_second(number: signal.Signals) -> None:
+    with served() as found:
+        name = found.answer("/api/search", LONG)["search"]
+        wait_until(lambda: bool(found.answer(f"/api/search/{name}")["rounds"]), "the search runs")
+        found.process.send_signal(number)
+        begun = time.monotonic()
+        assert found.process.wait(10) == 0 and time.monotonic() - begun < 1.5
+
+
+def test_after_it_was_killed_a_new_one_answers_the_same_page(token_file: pathlib.Path) -> None:
+    """The document is in the browser: its table and order are asked again, and the search is over."""
+    words, port = ("--token-file", str(token_file)), free_port()
+    with served(*words, port=port) as first:
+        shop = first.answer("/api/read", {"content": base64.b64encode(TABLE.encode()).decode()})["shop"]
+        name = first.answer("/api/search", LONG)["search"]
+        first.process.kill()
+        first.process.wait()
+    with served(*words, port=port) as second:
+        assert second.ask(f"/api/search/{name}")[0] == 404
+        assert second.answer("/api/plan", {"shop": shop, "order": ["chair", "table"]})["makespan"] == "9 h"
+
+
+# With a proxy
+
+def recipe() -> str:
+    """The settings of nginx on the page on installing."""
+    return str(re.findall(r"```nginx\n(.*?)```", (TOP / "docs" / "INSTALL.md").read_text(), re.DOTALL)[0])
+
+
+def test_the_recipe_for_nginx_serves_the_page_by_tls(token_file: pathlib.Path, tmp_path: pathlib.Path) -> None:
+    """The page names a machine and files, which are others here."""
+    nginx, port = tool("nginx"), free_port()
+    output_of([tool("openssl"), "req", "-x509", "-newkey", "rsa:2048", "-nodes", "-keyout", "key.pem", "-out",
+               "cert.pem", "-days", "2", "-subj", "/CN=planning.example", "-addext",
+               "subjectAltName=DNS:planning.example"], tmp_path)
+    with served("--name", "planning.example", "--proxy", "--token-file", str(token_file)) as found:
+        text = recipe().replace("8470", str(found.port)).replace("listen 443", f"listen 127.0.0.1:{port}")
+        text = re.sub(r"/etc/\S+/(cert|key)\.pem", rf"{tmp_path}/\1.pem", text)
+        temporary = "".join(f"{kind}_temp_path {tmp_path}/{kind}; "
+                            for kind in ("client_body", "proxy", "fastcgi", "uwsgi", "scgi"))
+        (tmp_path / "conf").write_text(f"daemon off; pid {tmp_path}/pid; error_log {tmp_path}/error; events {{}}\n"
+                                       f"http {{ access_log off; {temporary}\n{text}}}\n")
+        proxy = subprocess.Popen([nginx, "-c", str(tmp_path / "conf"), "-e", str(tmp_path / "error")])
+        try:
+            wait_until(lambda: answers(port), "the proxy answers")
+            curl = ["curl", "-s", "-w", "\n%{http_code}", "--cacert", "cert.pem", "--resolve",
+                    f"planning.example:{port}:127.0.0.1"]
+            address = f"https://planning.example:{port}"
+            own = ["-H", f"X-Pfs-Token: {TOKEN}", "-H", "Content-Type: application/json",
+                   "-H", "Origin: https://planning.example"]
+            assert output_of([*curl, address], tmp_path).endswith("\n200")
+            assert output_of([*curl, *own[2:], "-d", '{"rows":[]}', f"{address}/api/read"], tmp_path).endswith("\n403")
+            assert output_of([*curl, *own, "-d", '{"rows":[]}', f"{address}/api/read"], tmp_path).endswith("\n200")
+            (tmp_path / "large").write_bytes(b" " * 9 * 2**20)
+            assert output_of([*curl, *own, "-d", "@large", f"{address}/api/read"], tmp_path).endswith("\n413")
+        finally:
+            stop(proxy)
+
+
+def test_the_unit_is_one_that_systemd_reads(tmp_path: pathlib.Path) -> None:
+    analyze = shutil.which("systemd-analyze")
+    if analyze is None:
+        pytest.skip("systemd isn't installed")
+    unit = tmp_path / "pfs-web.service"
+    unit.write_text((TOP / "debian" / "pfs-web.service").read_text().replace("/usr/bin/pfs-web", "/bin/true"))
+    done = run_tool([analyze, "verify", "--man=no", unit], tmp_path)
+    assert "pfs-web" not in done.stderr, done.stderr
