@@ -65,9 +65,9 @@ def test_the_numbers_are_those_of_the_crate(top: pathlib.Path) -> None:
         macro = "PFS" + re.sub("([A-Z])", r"_\1", name).upper()
         assert numbers.setdefault(macro, int(value)) == int(value), macro
     answered = {name: value for name, value in defined().items()
-                if not re.match("PFS_(MOST|LONGEST)_|PFS_(TAILLARD|ORLIB|VERSION_NUMBER)$", name)}
+                if not re.match("PFS_(MOST|LONGEST)_|PFS_(TAILLARD|ORLIB|TIES_FIRST|TIES_IDLE|VERSION_NUMBER)$", name)}
     assert answered == numbers
-    assert sorted(answered.values()) == [*range(17), *range(20, 29), *range(30, 34)]
+    assert sorted(answered.values()) == [*range(18), *range(20, 29), *range(30, 34)]
 
 
 def test_the_header_names_the_parameters_as_the_functions_do(top: pathlib.Path) -> None:
@@ -113,6 +113,7 @@ MEANT = {
     0: "done", 1: "memory", 2: "number of jobs or of machines", 3: "list", 4: "^a time is greater",
     5: "^a job isn't below", 6: "^a job occurs twice", 7: "destruction size", 8: "passes", 9: "rounds", 10: "seed",
     11: "layout", 12: "block isn't from 1", 13: "makespan", 14: "room", 15: "prepared", 16: "held jobs",
+    17: "rule",
     20: "ends before the block", 21: "too few or too many", 22: "number of a size line is out", 23: "and a word",
     24: "time of the file is greater", 25: "machine number", 26: "follows the last time", 27: "ends inside a block",
     28: "doesn't end within", 30: "not an order file", 31: "0 or greater than the number of jobs",
@@ -166,7 +167,7 @@ def test_the_manual_page_has_each_number_and_function() -> None:
     text = MANUAL.read_text().partition(".Sh DESCRIPTION")[2]
     numbers = {name: int(value) for name, value in re.findall(r"^\.It Dv (PFS_\w+) Pq (\d+)$", text, re.MULTILINE)}
     assert numbers == {name: value for name, value in defined().items() if value in MEANT.keys() - {0}
-                       and not re.match("PFS_(MOST|LONGEST|TAILLARD|ORLIB)", name)}
+                       and not re.match("PFS_(MOST|LONGEST|TAILLARD|ORLIB|TIES_)", name)}
     assert set(re.findall(r"^\.Fn (\w+)", text, re.MULTILINE)) == NAMES
 
 
@@ -330,7 +331,7 @@ def searches(random: Random, shop: Instance) -> list[Call]:
         ("pfs_prove", [*given(shop), *list32(jobs), Number(0), out64(), out64(), out64()]),
         ("pfs_iterate", [*given(shop), Memory(ITERATE_OPTIONS.pack(
             random.choice(fuzz.SEEDS[:-1]), random.randint(1, shop.jobs - held), held, first, random.randint(0, 4),
-            random.choice([0, 1, 2, 100]), random.choice([0, 1, 2, 100]))),
+            random.choice([0, 1, 2, 100]), random.choice([0, 1, 2, 100]), random.randint(0, 1))),
                          *list32([random.getrandbits(32) for _ in range(random.choice([0, 1, 2, 9]))]),
                          *list32(jobs), out64(), *list32(jobs[:held] + jobs[held:][::-1]), out64()]),
         ("pfs_insert", [*given(shop), *list32(some), Number(jobs[-1], 32), out64(), out64()]),
@@ -403,7 +404,7 @@ def is_quick(name: str, arguments: Arguments) -> bool:
         _, take, first, count, passes = OPTIONS.unpack(options)
     elif name == "pfs_iterate":
         options = [argument.content for argument in arguments if isinstance(argument, Memory)][1]
-        _, take, _, first, count, *each = ITERATE_OPTIONS.unpack(options)
+        _, take, _, first, count, *each, _ = ITERATE_OPTIONS.unpack(options)
         take, passes = take + numbers[1], sum(each)
     elif name == "pfs_local_search":
         take, first, count, passes = 1, 0, 1, numbers[4]

@@ -6,6 +6,7 @@ use Rattle.pfs_base.specs.Paths.{makespan}
 use Rattle.pfs_order.specs.Sequence.{IsSequence, all_jobs}
 use Rattle.pfs_iterate.specs.Iterated.{after_rounds}
 use Rattle.pfs_iterate.specs.declared.options.Options.{Options}
+use Rattle.pfs_iterate.specs.declared.options.TheConstants.{TIES_IDLE}
 use Rattle.pfs_iterate.specs.declared.work.Work.{Work}
 
 -- memory for the rounds of shops of `size` jobs
@@ -16,11 +17,13 @@ pub record IsWorkFor (size : ℕ) (work : Work) : Type 0 where
   pub list : size ≤ vec_capacity work.list
   pub spans : length work.spans.items ≡ size + 1
 
--- rounds with these options can be made: they remove at least one job, and only jobs behind the held ones
+-- rounds with these options can be made: they remove at least one job, and only jobs behind the held ones, and
+-- there is such a rule for equally good places
 pub record CanIterate (shop : FlowShop) (options : Options) : Type 0 where
   pub some : 1 ≤ options.take
   pub few : options.held + options.take ≤ shop.jobs
   pub last : options.first + options.count ≤ MOST_ROUNDS
+  pub ties : options.ties ≤ TIES_IDLE
 
 -- an order of all jobs, each once, that begins with the first `held` jobs of another one
 pub record IsOrderFrom (shop : FlowShop) (held : ℕ) (old new : List ℕ) : Type 0 where

@@ -12,4 +12,4 @@ mod rounds;
 mod work;
 
 pub use iterated::{Iterated, Makespans};
-pub use options::Options;
+pub use options::{Options, TIES_FIRST, TIES_IDLE};
