@@ -3,6 +3,7 @@
 
 mod destroy;
 mod found;
+mod heads;
 mod improve;
 mod iterated;
 pub mod laws;
