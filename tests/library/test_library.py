@@ -36,6 +36,7 @@ ALL_CALLS = Ran(b"172 calls, 0 failures\n", b"", 0)
 MOST_GROWTHS = 200
 SHOPS = 200
 FILES = 1_000
+TIED = 60
 # The greatest work of rounds that the second library does in a test, roughly in table cells.
 MOST_WORK = 500_000
 PATTERN = 0xA5A5A5A5
@@ -440,6 +441,28 @@ def test_two_libraries_agree_on_random_instances(libpfs: Library) -> None:
                 if is_quick(name, wrong):
                     numbers.add(assert_same(libpfs, name, wrong))
     assert numbers == {0, 2, 3, 4, 5, 6, 7, 8, 9}
+
+
+@pytest.mark.seconds(10)
+def test_two_libraries_break_ties_alike(libpfs: Library) -> None:
+    """By both rules, on small instances with many equal sums, of which the rules leave different orders."""
+    random = Random(3)
+    differ = 0
+    for _ in range(TIED):
+        shop = Instance(random.choice([1, 2, 5, 9, 12]), random.choice([1, 2, 5]), [0, 0, 0])
+        shop.times = [[random.randint(0, random.choice([0, 1, 3, 3])) for _ in range(shop.jobs)] for _ in shop.times]
+        jobs = list(range(shop.jobs))
+        random.shuffle(jobs)
+        seed, take = random.choice(fuzz.SEEDS[:-1]), random.randint(1, shop.jobs)
+        held = random.choice([0, shop.jobs - take])
+        kept = list[Answer]()
+        for ties in (0, 1):
+            options = Memory(ITERATE_OPTIONS.pack(seed, take, held, 0, 3, 1, 2, ties))
+            arguments = [*given(shop), options, *list32([2**31, 2**30]), *list32(jobs), out64(), *list32(jobs), out64()]
+            assert assert_same(libpfs, "pfs_iterate", arguments) == 0
+            kept.append(libpfs.call("pfs_iterate", *arguments))
+        differ += kept[0].memory[3:] != kept[1].memory[3:]
+    assert differ > TIED // 4
 
 
 @pytest.mark.seconds(10)

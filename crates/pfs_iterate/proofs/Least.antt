@@ -135,10 +135,20 @@ best_same value tie other also held count place same tie_same is =
       from = is.from;
       within = within;
       least = λ k behind small. omega (arith, here, same k small, is.least k behind small);
-      tied = λ k behind small equal. omega (arith, tie_here, tie_same k small, is.tied k behind small
-          (omega (arith, here, same k small)));
-      first = λ k behind before equal. omega (arith, tie_here, tie_same k (omega arith), is.first k behind before
-          (omega (arith, here, same k (omega arith))));
+      tied = λ k behind small equal. omega (
+        arith,
+        tie_here,
+        tie_same k small,
+        is.tied k behind small
+            (omega (arith, here, same k small)),
+      );
+      first = λ k behind before equal. omega (
+        arith,
+        tie_here,
+        tie_same k (omega arith),
+        is.first k behind before
+            (omega (arith, here, same k (omega arith))),
+      );
     }
 
 -- ---- without a tie break

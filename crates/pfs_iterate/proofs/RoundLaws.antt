@@ -48,7 +48,7 @@ module _ (shop : FlowShop) (options : Options) (held : options.held ≡ 0) (ties
       → found shop options order (removing ++ others)
       ≡ with_jobs shop (jobs_left order removing) (jobs_taken order removing)
   found_is order removing others partial passes all =
-      rw (all, held, partial, passes) (all_put (jobs_left order removing) (jobs_taken order removing))
+      rw (all, held, partial, passes) (rw held at (all_put (jobs_left order removing) (jobs_taken order removing)))
 
 pub greedy_law : GreedyLaw
 greedy_law shop options state word removing others held partial passes ties long =

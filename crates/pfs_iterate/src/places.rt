@@ -150,12 +150,13 @@ fn evaluate(instance: &Instance, search: &mut Search, seq: &Seq, job: usize, spa
     requires size { seq.now.size ≡ instance.now.shop.jobs }
     requires job { job < instance.now.shop.jobs }
     requires absent { Contains seq.now.jobs job → ⊥ }
-    requires room { length spans.old ≡ length seq.now.jobs + 1 }
+    requires room { length seq.now.jobs + 1 ≤ length spans.old }
     ensures spans { (place : ℕ) → place ≤ length seq.now.jobs
         → slice_index spans.new place ≡ makespan_with instance.now.shop seq.now.jobs job place }
     ensures long { length spans.new ≡ length spans.old }
     ensures search { IsSearchOf instance.now.shop search.new }
 {
+    let spans = &mut spans[..seq.len() + 1];
     search.insertions(&mut instance.metered(), seq.as_slice(), job, spans);
 }
 
@@ -184,8 +185,8 @@ pub(crate) fn put(
     ensures places { IsPlacesFor instance.now.shop places.new }
 {
     let len = seq.len();
-    let spans = &mut places.spans.as_mut_slice()[..len + 1];
-    evaluate(instance, search, seq, job, spans);
+    evaluate(instance, search, seq, job, &mut places.spans);
+    let spans = &places.spans[..len + 1];
     let best = choose(instance, &mut places.heads, spans, seq, job, options);
     seq.insert_at(best.place, job);
     best
@@ -212,8 +213,7 @@ pub(crate) fn span_of(
     }
     let last = len - 1;
     let job = seq.remove_at(last);
-    let spans = &mut places.spans.as_mut_slice()[..len];
-    evaluate(instance, search, seq, job, spans);
+    evaluate(instance, search, seq, job, &mut places.spans);
     seq.insert_at(last, job);
-    spans[last]
+    places.spans[last]
 }

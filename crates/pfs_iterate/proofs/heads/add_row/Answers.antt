@@ -50,8 +50,15 @@ loop-machine-preserved c =
     let at = next + machine in
     let new = c.max.result + c.from.result in
     let below = row_index (suc (length jobs)) shop.jobs machine shop.machines c.requires.few lt in
-    let inside : at < length rows = omega (arith, below, suc-mul (length jobs) shop.machines, suc-mul shop.jobs shop.machines,
-        invariant.long, c.requires.rows.long, add-one shop.jobs) in
+    let inside : at < length rows = omega (
+      arith,
+      below,
+      suc-mul (length jobs) shop.machines,
+      suc-mul shop.jobs shop.machines,
+      invariant.long,
+      c.requires.rows.long,
+      add-one shop.jobs,
+    ) in
     rw machines (record {
       kept = λ index before. get_or-set_other rows at index new 0 (λ same. absurd (omega arith)) ∙ invariant.kept index before;
       done = λ k before. elim (cases_eq k machine) [

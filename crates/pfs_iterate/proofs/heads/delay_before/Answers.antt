@@ -36,8 +36,14 @@ module _ (c : goal.After-from-in-loop-machine) where
   within = omega (arith, c.requires.place)
 
   few : length more ≤ shop.jobs + 1
-  few = omega (arith, c.requires.rows.few, length-take-le place jobs within, c.requires.place,
-      length-append (take place jobs) (c.args.job ∷ []), length-append with_job (next ∷ []))
+  few = omega (
+    arith,
+    c.requires.rows.few,
+    length-take-le place jobs within,
+    c.requires.place,
+    length-append (take place jobs) (c.args.job ∷ []),
+    length-append with_job (next ∷ []),
+  )
 
   few_before : length (take (place + 1) jobs) ≤ shop.jobs + 1
   few_before = omega (arith, length-take-le (place + 1) jobs (omega (arith, c.requires.place)), c.requires.place, c.requires.rows.few)

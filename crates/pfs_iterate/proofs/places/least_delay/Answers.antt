@@ -16,8 +16,16 @@ loop-place-preserved c =
     let invariant = c.loop-place.invariant in
     let best = invariant.best in
     let least = c.requires.least in
-    let no_less : value found ≤ value place = omega (arith, best.from, best.within, invariant.span, c.requires.span,
-        c.loop-place-test.true, least.last_within, least.least place) in
+    let no_less : value found ≤ value place = omega (
+      arith,
+      best.from,
+      best.within,
+      invariant.span,
+      c.requires.span,
+      c.loop-place-test.true,
+      least.last_within,
+      least.least place,
+    ) in
     elim c.if-spans-place.branch [
       | then-spans-place+then-delay-least w ↦
           let same : value place ≡ value found = omega (arith, w.if-spans-place.true, invariant.span) in
