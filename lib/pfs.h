@@ -81,6 +81,13 @@ extern "C" {
 #define PFS_ORLIB 1    /**< the layout of the OR-Library */
 /** @} */
 
+/** @name Rules for equally good places.
+ * @{
+ */
+#define PFS_TIES_FIRST 0 /**< the first of these places */
+#define PFS_TIES_IDLE 1  /**< the first of those with the least total delay (Fernandez-Viagas and Framinan 2014) */
+/** @} */
+
 /** @name Numbers that functions return.
  * @{
  */
@@ -101,6 +108,7 @@ extern "C" {
 #define PFS_ROOM 14         /**< too little room for the result; the outputs say how much it needs */
 #define PFS_NOT_PREPARED 15 /**< the struct holds no prepared instance */
 #define PFS_HELD 16         /**< the best order does not begin with the held jobs of the current one */
+#define PFS_TIES 17         /**< neither PFS_TIES_FIRST nor PFS_TIES_IDLE */
 /** @} */
 
 /** @name Faults of instance files, and what place is then.
@@ -349,6 +357,7 @@ struct pfs_iterate_options {
     uint32_t count;   /**< number of rounds; first + count is at most PFS_MOST_ROUNDS */
     uint32_t partial; /**< most passes over the jobs that are left after the removal, at most PFS_MOST_PASSES */
     uint32_t passes;  /**< most passes over all jobs, at most PFS_MOST_PASSES */
+    uint32_t ties;    /**< rule for equally good places, PFS_TIES_FIRST or PFS_TIES_IDLE */
 };
 
 /** @brief Makes rounds of an iterated greedy search that also accepts longer orders.
@@ -357,8 +366,13 @@ struct pfs_iterate_options {
  * and Stützle (2017). It has a current order, which may become longer, and the best one so far. Each round removes
  * `take` jobs of the current order, makes passes over the jobs that are left, inserts the removed jobs at their best
  * places and makes passes over all jobs. In a pass each job, in the random order of the round, leaves its place for
- * its best one. Passes end early after one that makes the sequence no shorter. Best places are the first ones from
- * place `held` on.
+ * its best one. Passes end early after one that makes the sequence no shorter. A best place is one of the places from
+ * place `held` on that give the least makespan.
+ *
+ * If there are several such places, PFS_TIES_FIRST takes the first. PFS_TIES_IDLE takes the first of those with the
+ * least total delay, the rule of Fernandez-Viagas and Framinan (2014) for idle times. The total delay of a place is the
+ * sum over the machines of how much later the job that is now at the place would end; after the last job, of how much
+ * later the sequence would end.
  *
  * The order that a round finds becomes the best one if it is shorter than that. It becomes the current one if it is no
  * longer, or if it is longer by d and the first random word of the round is less than accept[d]; an order that is
@@ -382,7 +396,7 @@ struct pfs_iterate_options {
  * @param[out] best_makespan makespan of the best order after the rounds
  * @return PFS_OK, or the first of PFS_NOT_PREPARED (instance), PFS_LENGTH (current_length, best_length), PFS_JOB or
  *     PFS_REPEATED (the jobs of the current and then of the best order, from the left), PFS_TAKE (take, held), PFS_HELD
- *     (best), PFS_PASSES (partial, passes), PFS_ROUNDS (first + count)
+ *     (best), PFS_PASSES (partial, passes), PFS_TIES (ties), PFS_ROUNDS (first + count)
  */
 int pfs_iterate(struct pfs_instance *instance, const struct pfs_iterate_options *options, const uint32_t *accept,
                 size_t accept_length, uint32_t *current, size_t current_length, uint64_t *current_makespan,

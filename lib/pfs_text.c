@@ -47,6 +47,7 @@ const char *pfs_message(int number) {
     case PFS_ROOM: return "too little room for the result";
     case PFS_NOT_PREPARED: return "no instance is prepared";
     case PFS_HELD: return "the best order doesn't begin with the held jobs of the current one";
+    case PFS_TIES: return "no such rule for equally good places";
     case PFS_NO_BLOCK: return "the file ends before the block";
     case PFS_SIZE_COUNT: return "a size line has too few or too many numbers";
     case PFS_SIZE_RANGE: return "a number of a size line is out of range";

@@ -36,6 +36,7 @@ ALL_CALLS = Ran(b"172 calls, 0 failures\n", b"", 0)
 MOST_GROWTHS = 200
 SHOPS = 200
 FILES = 1_000
+TIED = 60
 # The greatest work of rounds that the second library does in a test, roughly in table cells.
 MOST_WORK = 500_000
 PATTERN = 0xA5A5A5A5
@@ -65,9 +66,9 @@ def test_the_numbers_are_those_of_the_crate(top: pathlib.Path) -> None:
         macro = "PFS" + re.sub("([A-Z])", r"_\1", name).upper()
         assert numbers.setdefault(macro, int(value)) == int(value), macro
     answered = {name: value for name, value in defined().items()
-                if not re.match("PFS_(MOST|LONGEST)_|PFS_(TAILLARD|ORLIB|VERSION_NUMBER)$", name)}
+                if not re.match("PFS_(MOST|LONGEST)_|PFS_(TAILLARD|ORLIB|TIES_FIRST|TIES_IDLE|VERSION_NUMBER)$", name)}
     assert answered == numbers
-    assert sorted(answered.values()) == [*range(17), *range(20, 29), *range(30, 34)]
+    assert sorted(answered.values()) == [*range(18), *range(20, 29), *range(30, 34)]
 
 
 def test_the_header_names_the_parameters_as_the_functions_do(top: pathlib.Path) -> None:
@@ -113,6 +114,7 @@ MEANT = {
     0: "done", 1: "memory", 2: "number of jobs or of machines", 3: "list", 4: "^a time is greater",
     5: "^a job isn't below", 6: "^a job occurs twice", 7: "destruction size", 8: "passes", 9: "rounds", 10: "seed",
     11: "layout", 12: "block isn't from 1", 13: "makespan", 14: "room", 15: "prepared", 16: "held jobs",
+    17: "rule",
     20: "ends before the block", 21: "too few or too many", 22: "number of a size line is out", 23: "and a word",
     24: "time of the file is greater", 25: "machine number", 26: "follows the last time", 27: "ends inside a block",
     28: "doesn't end within", 30: "not an order file", 31: "0 or greater than the number of jobs",
@@ -166,7 +168,7 @@ def test_the_manual_page_has_each_number_and_function() -> None:
     text = MANUAL.read_text().partition(".Sh DESCRIPTION")[2]
     numbers = {name: int(value) for name, value in re.findall(r"^\.It Dv (PFS_\w+) Pq (\d+)$", text, re.MULTILINE)}
     assert numbers == {name: value for name, value in defined().items() if value in MEANT.keys() - {0}
-                       and not re.match("PFS_(MOST|LONGEST|TAILLARD|ORLIB)", name)}
+                       and not re.match("PFS_(MOST|LONGEST|TAILLARD|ORLIB|TIES_)", name)}
     assert set(re.findall(r"^\.Fn (\w+)", text, re.MULTILINE)) == NAMES
 
 
@@ -332,7 +334,7 @@ def searches(random: Random, shop: Instance) -> list[Call]:
         ("pfs_prove", [*given(shop), *list32(jobs), Number(0), out64(), out64(), out64()]),
         ("pfs_iterate", [*given(shop), Memory(ITERATE_OPTIONS.pack(
             random.choice(fuzz.SEEDS[:-1]), random.randint(1, shop.jobs - held), held, first, random.randint(0, 4),
-            random.choice([0, 1, 2, 100]), random.choice([0, 1, 2, 100]))),
+            random.choice([0, 1, 2, 100]), random.choice([0, 1, 2, 100]), random.randint(0, 1))),
                          *list32([random.getrandbits(32) for _ in range(random.choice([0, 1, 2, 9]))]),
                          *list32(jobs), out64(), *list32(jobs[:held] + jobs[held:][::-1]), out64()]),
         ("pfs_insert", [*given(shop), *list32(some), Number(jobs[-1], 32), out64(), out64()]),
@@ -405,7 +407,7 @@ def is_quick(name: str, arguments: Arguments) -> bool:
         _, take, first, count, passes = OPTIONS.unpack(options)
     elif name == "pfs_iterate":
         options = [argument.content for argument in arguments if isinstance(argument, Memory)][1]
-        _, take, _, first, count, *each = ITERATE_OPTIONS.unpack(options)
+        _, take, _, first, count, *each, _ = ITERATE_OPTIONS.unpack(options)
         take, passes = take + numbers[1], sum(each)
     elif name == "pfs_local_search":
         take, first, count, passes = 1, 0, 1, numbers[4]
@@ -441,6 +443,28 @@ def test_two_libraries_agree_on_random_instances(libpfs: Library) -> None:
                 if is_quick(name, wrong):
                     numbers.add(assert_same(libpfs, name, wrong))
     assert numbers == {0, 2, 3, 4, 5, 6, 7, 8, 9}
+
+
+@pytest.mark.seconds(10)
+def test_two_libraries_break_ties_alike(libpfs: Library) -> None:
+    """By both rules, on small instances with many equal sums, of which the rules leave different orders."""
+    random = Random(3)
+    differ = 0
+    for _ in range(TIED):
+        shop = Instance(random.choice([1, 2, 5, 9, 12]), random.choice([1, 2, 5]), [0, 0, 0])
+        shop.times = [[random.randint(0, random.choice([0, 1, 3, 3])) for _ in range(shop.jobs)] for _ in shop.times]
+        jobs = list(range(shop.jobs))
+        random.shuffle(jobs)
+        seed, take = random.choice(fuzz.SEEDS[:-1]), random.randint(1, shop.jobs)
+        held = random.choice([0, shop.jobs - take])
+        kept = list[Answer]()
+        for ties in (0, 1):
+            options = Memory(ITERATE_OPTIONS.pack(seed, take, held, 0, 3, 1, 2, ties))
+            arguments = [*given(shop), options, *list32([2**31, 2**30]), *list32(jobs), out64(), *list32(jobs), out64()]
+            assert assert_same(libpfs, "pfs_iterate", arguments) == 0
+            kept.append(libpfs.call("pfs_iterate", *arguments))
+        differ += kept[0].memory[3:] != kept[1].memory[3:]
+    assert differ > TIED // 4
 
 
 @pytest.mark.seconds(10)

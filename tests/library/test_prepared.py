@@ -1,5 +1,5 @@
-"""Calls on prepared instances: on random instances pfs_insert has the results of pfs_insertions, and a round from any
-order those of a new instance, also in four threads at once, with gcc's sanitizers and under valgrind
+"""Calls on prepared instances: on random instances pfs_insert has the results of pfs_insertions, and rounds from any
+order have those of a new instance, also in four threads at once, with gcc's sanitizers and under valgrind
 (support/prepared_calls.c). What the calls do with wrong arguments and with failing allocations is in
 test_library.py."""
 import pathlib

@@ -80,9 +80,10 @@ static int rounds(uint32_t *order, size_t length, uint32_t first, size_t take, u
     return pfs_rounds(shop, &options, order, length, &out.makespan, &out.cells);
 }
 
-static int iterate(uint32_t *orders, size_t length, uint32_t first, size_t take, size_t fixed, uint32_t passes) {
-    struct pfs_iterate_options options = {
-        .seed = 7, .take = take, .held = fixed, .first = first, .count = 1, .partial = 1, .passes = passes};
+static int iterate(uint32_t *orders, size_t length, uint32_t first, size_t take, size_t fixed, uint32_t passes,
+                   uint32_t ties) {
+    struct pfs_iterate_options options = {.seed = 7, .take = take, .held = fixed, .first = first, .count = 1,
+                                          .partial = 1, .passes = passes, .ties = ties};
     return pfs_iterate(shop, &options, NULL, 0, orders, length, &out.makespan, orders + 3, 3, &out.bound);
 }
 
@@ -141,7 +142,7 @@ static int call_named(const char *name) {
         return due.bound = 10, due.cells = 7,
                finds_best(pfs_prove(shop, in_place(BEST), 3, 7, &out.makespan, &out.bound, &out.cells));
     if (IS("iterate")) {
-        int number = iterate(both(NUMBERED, NUMBERED), 3, 0, 1, 0, 1);
+        int number = iterate(both(NUMBERED, NUMBERED), 3, 0, 1, 0, 1, 0);
         memcpy(due.list + 3, BEST, sizeof BEST);
         return due.bound = 10, finds_best(number);
     }
@@ -205,15 +206,16 @@ static void wrong_calls(void) {
     CALL(PFS_ROUNDS, rounds(in_place(NUMBERED), 3, PFS_MOST_ROUNDS, 3, 100));
     CALL(PFS_LENGTH, pfs_prove(shop, in_place(OUTSIDE), 2, 7, &out.makespan, &out.bound, &out.cells));
     CALL(PFS_REPEATED, pfs_prove(shop, in_place(TWICE), 3, 7, &out.makespan, &out.bound, &out.cells));
-    CALL(PFS_LENGTH, iterate(both(OUTSIDE, OUTSIDE), 2, 0, 0, 0, 101));
-    CALL(PFS_REPEATED, iterate(both(TWICE, OUTSIDE), 3, 0, 0, 0, 101));
-    CALL(PFS_JOB, iterate(both(BEST, OUTSIDE), 3, 0, 0, 0, 101));
-    CALL(PFS_TAKE, iterate(both(BEST, NUMBERED), 3, 0, 0, 1, 101));
-    CALL(PFS_TAKE, iterate(both(BEST, NUMBERED), 3, 0, 3, 1, 101));
-    CALL(PFS_TAKE, iterate(both(BEST, NUMBERED), 3, 0, 1, SIZE_MAX, 101));
-    CALL(PFS_HELD, iterate(both(BEST, NUMBERED), 3, 0, 2, 1, 101));
-    CALL(PFS_PASSES, iterate(both(BEST, BEST), 3, 0, 2, 1, 101));
-    CALL(PFS_ROUNDS, iterate(both(BEST, BEST), 3, PFS_MOST_ROUNDS, 2, 1, 100));
+    CALL(PFS_LENGTH, iterate(both(OUTSIDE, OUTSIDE), 2, 0, 0, 0, 101, 2));
+    CALL(PFS_REPEATED, iterate(both(TWICE, OUTSIDE), 3, 0, 0, 0, 101, 2));
+    CALL(PFS_JOB, iterate(both(BEST, OUTSIDE), 3, 0, 0, 0, 101, 2));
+    CALL(PFS_TAKE, iterate(both(BEST, NUMBERED), 3, 0, 0, 1, 101, 2));
+    CALL(PFS_TAKE, iterate(both(BEST, NUMBERED), 3, 0, 3, 1, 101, 2));
+    CALL(PFS_TAKE, iterate(both(BEST, NUMBERED), 3, 0, 1, SIZE_MAX, 101, 2));
+    CALL(PFS_HELD, iterate(both(BEST, NUMBERED), 3, 0, 2, 1, 101, 2));
+    CALL(PFS_PASSES, iterate(both(BEST, BEST), 3, 0, 2, 1, 101, UINT32_MAX));
+    CALL(PFS_ROUNDS, iterate(both(BEST, BEST), 3, PFS_MOST_ROUNDS, 2, 1, 100, PFS_TIES_IDLE));
+    CALL(PFS_TIES, iterate(both(BEST, BEST), 3, PFS_MOST_ROUNDS, 2, 1, 100, PFS_TIES_IDLE + 1));
     CALL(PFS_JOB, pfs_insert(shop, OUTSIDE, 3, 9, &out.place, &out.makespan));
     CALL(PFS_REPEATED, pfs_insert(shop, BEST, 2, 0, &out.place, &out.makespan));
     CALL(PFS_LENGTH, pfs_insertions(shop, OUTSIDE, 2, 9, out.makespans, 2));

@@ -1,6 +1,6 @@
-/* Compares pfs_insert with pfs_insertions, and a round of pfs_rounds with the same on a new instance: on random
- * instances of many sizes, in the orders of a random walk, and after faults. All instances are prepared in the same
- * struct, most of them while it holds the one before.
+/* Compares pfs_insert with pfs_insertions, and rounds of pfs_rounds and pfs_iterate with the same on a new instance: on
+ * random instances of many sizes, in the orders of a random walk, and after faults. All instances are prepared in the
+ * same struct, most of them while it holds the one before.
  *
  * usage: prepared_calls COUNT SEED     COUNT instances; prints the number of calls
  *        prepared_calls threads COUNT  the same in four threads at once, with a struct for each */
@@ -106,6 +106,35 @@ static void search_step(struct walk *walk) {
     }
 }
 
+/* The same with rounds of pfs_iterate, which keeps heads between insertions and calls. */
+static void iterate_step(struct walk *walk) {
+    uint32_t orders[2][2][MOST];
+    uint64_t spans[2][2] = {{77, 78}, {77, 79}};
+    struct pfs_instance fresh = {NULL}, *const both[2] = {&walk->instance, &fresh};
+    struct pfs_iterate_options options = {.seed = draw(walk, 9), .count = 4, .ties = PFS_TIES_IDLE};
+    options.take = 1 + draw(walk, walk->jobs < 3 ? 1 : 3);
+    options.held = draw(walk, (uint32_t)(walk->jobs - options.take) + 1);
+    int failed = prepare(walk, &fresh) != PFS_OK;
+    for (int each = 0; each < 2; ++each) {
+        uint32_t *current = orders[each][0], *best = orders[each][1];
+        memcpy(current, walk->order, walk->jobs * sizeof *current);
+        memcpy(best, walk->order, walk->jobs * sizeof *best);
+        failed += pfs_iterate(both[each], &options, NULL, 0, current, walk->jobs, &spans[each][0], best, walk->jobs,
+                              &spans[each][1]) != PFS_OK;
+    }
+    pfs_release(&fresh);
+    ++walk->calls;
+    ++walk->done;
+    for (int list = 0; list < 2; ++list)
+        failed += spans[0][list] != spans[1][list]
+                  || memcmp(orders[0][list], orders[1][list], walk->jobs * sizeof **orders[0]) != 0;
+    memcpy(walk->order, orders[0][0], walk->jobs * sizeof *walk->order);
+    if (failed != 0) {
+        ++walk->wrong;
+        printf("%zu jobs, %zu machines: another order with heads of earlier calls\n", walk->jobs, walk->machines);
+    }
+}
+
 static void on_instance(struct walk *walk) {
     size_t size;
     uint32_t longest = ONE_OF(walk, LONGEST);
@@ -122,9 +151,10 @@ static void on_instance(struct walk *walk) {
     if (prepare(walk, &walk->instance) != PFS_OK)
         exit(2);
     for (int made = 0; made < STEPS; ++made)
-        switch (draw(walk, 5)) {
+        switch (draw(walk, 6)) {
         case 0: spoilt_step(walk); break;
         case 1: search_step(walk); break;
+        case 2: iterate_step(walk); break;
         default: step(walk);
         }
     free(walk->times);

@@ -13,7 +13,7 @@ from support.second_program import (LONGEST_TIME, MOST_GENERATOR_SEED, MOST_JOBS
                                     ends_of, makespan)
 
 OK, SIZE, LENGTH, TIME, JOB, REPEATED, TAKE, PASSES, ROUNDS, SEED, LAYOUT, BLOCK, MAKESPAN, ROOM = 0, *range(2, 15)
-HELD = 16
+HELD, TIES = 16, 17
 MOST_ROUNDS = 1_000_000
 MOST_PASSES = 100
 MOST_BLOCKS = 1_000
@@ -195,19 +195,21 @@ def pfs_prove(shop: Instance, order: bytearray, length: int, nodes: int, span: b
     put64(left, nodes)
 
 
-# How `struct pfs_iterate_options` lies in memory: the seed, `take`, `held`, `first`, `count`, `partial` and `passes`.
-ITERATE_OPTIONS = struct.Struct("=QQQIIII")
+# How `struct pfs_iterate_options` lies in memory: the seed, `take`, `held`, `first`, `count`, `partial`, `passes` and
+# `ties`, and 4 bytes to a multiple of 8.
+ITERATE_OPTIONS = struct.Struct("=QQQIIIII4x")
 
 
 def pfs_iterate(shop: Instance, options: bytearray, accept: bytearray, accept_length: int, current: bytearray,
                 length: int, span: bytearray, best: bytearray, best_length: int, best_span: bytearray) -> None:
-    seed, take, held, first, count, partial, passes = ITERATE_OPTIONS.unpack(options)
+    seed, take, held, first, count, partial, passes, ties = ITERATE_OPTIONS.unpack(options)
     expect(length == best_length == shop.jobs, LENGTH)
     kept = distinct(shop.jobs, read32(current)[:length])
     shortest = distinct(shop.jobs, read32(best)[:length])
     expect(1 <= take <= shop.jobs - held, TAKE)
     expect(kept[:held] == shortest[:held], HELD)
     expect(max(partial, passes) <= MOST_PASSES, PASSES)
+    expect(ties <= 1, TIES)
     expect(first + count <= MOST_ROUNDS, ROUNDS)
     chances = read32(accept)[:accept_length]
     each = shop.jobs + take + 1
@@ -215,10 +217,10 @@ def pfs_iterate(shop: Instance, options: bytearray, accept: bytearray, accept_le
     for index in range(0, count * each, each):
         left, taken = removed(kept, held, words[index + 1:index + 1 + take])
         visited = removed(list(range(shop.jobs)), 0, words[index + 1 + take:index + each])[1]
-        left = improved(shop, left, held, visited, partial)
+        left = improved(shop, left, held, visited, partial, ties)
         for job in taken:
-            left = placed(shop, left, held, job)
-        new = improved(shop, left, held, visited, passes)
+            left = placed(shop, left, held, job, ties)
+        new = improved(shop, left, held, visited, passes, ties)
         longer = makespan(shop, new) - makespan(shop, kept)
         shortest = min(shortest, new, key=lambda order: makespan(shop, order))
         if longer <= 0 or longer < len(chances) and words[index] < chances[longer]:
@@ -236,19 +238,29 @@ def removed(order: list[int], held: int, words: list[int]) -> tuple[list[int], l
     return order[:held] + left, taken
 
 
-def placed(shop: Instance, order: list[int], held: int, job: int) -> list[int]:
-    """The order with a job at the first of its best places behind the held jobs."""
-    places = range(held, len(order) + 1)
-    return min((order[:place] + [job] + order[place:] for place in places), key=lambda made: makespan(shop, made))
+def placed(shop: Instance, order: list[int], held: int, job: int, ties: int) -> list[int]:
+    """The order with a job at the first of its best places behind the held jobs; with `ties` 1 those are the best that
+    make the next job, or else the order, end the least later on all machines together."""
+    def loss(place: int) -> tuple[int, int]:
+        made = order[:place] + [job] + order[place:]
+        return makespan(shop, made), ties * (last_ends(shop, made[:place + 2]) - last_ends(shop, order[:place + 1]))
+
+    place = min(range(held, len(order) + 1), key=loss)
+    return order[:place] + [job] + order[place:]
 
 
-def improved(shop: Instance, order: list[int], held: int, visited: list[int], passes: int) -> list[int]:
+def last_ends(shop: Instance, sequence: list[int]) -> int:
+    """The sum of the ends of a sequence's last job on all machines, and 0 of no job."""
+    return sum(ends_of(shop, sequence)[-1]) if sequence else 0
+
+
+def improved(shop: Instance, order: list[int], held: int, visited: list[int], passes: int, ties: int) -> list[int]:
     """The order after passes, up to the first that makes it no shorter."""
     for _ in range(passes):
         before = makespan(shop, order)
         for job in visited:
             if job in order[held:]:
-                order = placed(shop, [other for other in order if other != job], held, job)
+                order = placed(shop, [other for other in order if other != job], held, job, ties)
         if makespan(shop, order) >= before:
             break
     return order

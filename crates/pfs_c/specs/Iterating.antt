@@ -1,11 +1,12 @@
 -- The first fault in the arguments of `pfs_iterate`.
-use Rattle.std.specs.Prelude.{ℕ, ◌-◌, List, [], ◌∷◌, length, nat_eq, take, Option}
+use Rattle.std.specs.Prelude.{ℕ, ◌-◌, List, [], ◌∷◌, length, nat_eq, nat_le, take, Option}
 use Rattle.std.specs.Cmp.Lexicographic.{pointwise}
 use Rattle.pfs_base.specs.FlowShop.{FlowShop}
 use Rattle.pfs_base.specs.Lists.{first_some}
 use Rattle.pfs_iterate.specs.declared.options.Options.{Options}
+use Rattle.pfs_iterate.specs.declared.options.TheConstants.{TIES_IDLE}
 use Rattle.pfs_c.specs.declared.numbers.CallFault.{CallFault}
-use Rattle.pfs_c.specs.declared.numbers.CallFault.TheVariants.{Held}
+use Rattle.pfs_c.specs.declared.numbers.CallFault.TheVariants.{Held, Ties}
 use Rattle.pfs_c.specs.Searching.{count_fault, passes_fault, take_fault}
 use Rattle.pfs_c.specs.Validation.{unless, length_fault, jobs_fault}
 
@@ -13,9 +14,13 @@ use Rattle.pfs_c.specs.Validation.{unless, length_fault, jobs_fault}
 abbrev pub held_fault : ℕ → List ℕ → List ℕ → Option CallFault
 held_fault held current best = unless (pointwise nat_eq (take held best) (take held current)) Held
 
+-- `ties` is the number of a rule
+abbrev pub ties_fault : ℕ → Option CallFault
+ties_fault ties = unless (nat_le ties TIES_IDLE) Ties
+
 abbrev pub iterate_fault : FlowShop → List ℕ → List ℕ → Options → Option CallFault
 iterate_fault shop current best options =
     first_some (length_fault (length current) shop.jobs ∷ length_fault (length best) shop.jobs
     ∷ jobs_fault shop.jobs current ∷ jobs_fault shop.jobs best
     ∷ take_fault options.take (shop.jobs - options.held) ∷ held_fault options.held current best
-    ∷ passes_fault options.partial ∷ passes_fault options.passes ∷ count_fault options.first options.count ∷ [])
+    ∷ passes_fault options.partial ∷ passes_fault options.passes ∷ ties_fault options.ties ∷ count_fault options.first options.count ∷ [])

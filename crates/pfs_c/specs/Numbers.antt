@@ -21,6 +21,7 @@ fault_number faults.Makespan = pos 13
 fault_number faults.Room = pos 14
 fault_number faults.NotPrepared = pos 15
 fault_number faults.Held = pos 16
+fault_number faults.Ties = pos 17
 fault_number faults.NoBlock = pos 20
 fault_number faults.SizeCount = pos 21
 fault_number faults.SizeRange = pos 22

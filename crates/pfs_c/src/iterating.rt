@@ -11,7 +11,7 @@ use crate::handle::Prepared;
 use crate::kept::Kept;
 use crate::numbers::{CallFault, PFS_OK, number_of};
 use pfs_base::{MOST_PASSES, MOST_ROUNDS};
-use pfs_iterate::Options;
+use pfs_iterate::{Options, TIES_IDLE};
 use std::alloc::Global;
 
 /// Makes the rounds `first` to `first + count - 1`, counted from 0, of an iterated greedy search of a seed that also
@@ -87,6 +87,7 @@ fn iterate_in(
     validate(same, CallFault::Held)?;
     validate(options.partial <= MOST_PASSES, CallFault::Passes)?;
     validate(options.passes <= MOST_PASSES, CallFault::Passes)?;
+    validate(options.ties <= TIES_IDLE, CallFault::Ties)?;
     let last = options.first as u64 + options.count as u64;
     validate(last <= MOST_ROUNDS as u64, CallFault::Rounds)?;
     let spans = kept.iterate(options, accept, current, best);

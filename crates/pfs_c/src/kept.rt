@@ -48,6 +48,7 @@ impl Model for Kept {
     ghost use Rattle.pfs_base.specs.Limits.{limits};
     ghost use Rattle.pfs_base.specs.Paths.{makespan};
     ghost use Rattle.pfs_search.specs.Search.{IsSearchOf};
+    ghost use Rattle.pfs_iterate.specs.Rounds.{IsIteratedFor};
 
     ghost Value = { FlowShop };
 
@@ -58,7 +59,7 @@ impl Model for Kept {
       search : IsSearchOf a.instance.shop a.search;
       span : IsTrue a.is_span_known → a.search.kept.span ≡ makespan a.instance.shop a.search.kept.order;
       size : a.sequence.size ≡ a.instance.shop.jobs;
-      iterated : a.iterated ≡ a.instance.shop.jobs;
+      iterated : IsIteratedFor a.instance.shop a.iterated;
       batch : IfSome a.batch (λ batch. batch ≡ a.instance.shop);
     } };
 }

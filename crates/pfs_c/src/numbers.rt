@@ -49,6 +49,8 @@ pub(crate) enum CallFault {
     NotPrepared = 15,
     /// The best order does not begin with the held jobs of the current one.
     Held = 16,
+    /// No rule for equally good places has this number.
+    Ties = 17,
     /// The file ends before the block.
     NoBlock = 20,
     /// A size line has too few or too many numbers.

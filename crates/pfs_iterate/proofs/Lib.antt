@@ -1,4 +1,6 @@
+mod Ends
 mod Fronts
+mod HeadRows
 mod Least
 mod Passes
 mod Rearranging

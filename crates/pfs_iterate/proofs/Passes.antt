@@ -6,21 +6,21 @@ use Rattle.pfs_base.specs.Paths.{makespan}
 use Rattle.pfs_iterate.specs.declared.options.Options.{Options}
 use Rattle.pfs_iterate.specs.Iterated.{State, after_round, after_rounds, improved, moved, words_of_round}
 
-module _ (shop : FlowShop) (held : ℕ) (list jobs : List ℕ) (passes made : ℕ) (left : made < passes) where
+module _ (shop : FlowShop) (options : Options) (list jobs : List ℕ) (passes made : ℕ) (left : made < passes) where
   abbrev pub after_pass : List ℕ
-  after_pass = fold (moved shop held) jobs list
+  after_pass = fold (moved shop options) jobs list
 
   more : passes - made ≡ suc (passes - (made + 1))
   more = omega arith
 
   pub improved_goes_on : makespan shop after_pass < makespan shop jobs
-      → improved shop held list (passes - made) jobs ≡ improved shop held list (passes - (made + 1)) after_pass
+      → improved shop options list (passes - made) jobs ≡ improved shop options list (passes - (made + 1)) after_pass
   improved_goes_on shorter =
-      ap (λ n. improved shop held list n jobs) more ∙ rw (lt-ltb (makespan shop after_pass) (makespan shop jobs) shorter) refl
+      ap (λ n. improved shop options list n jobs) more ∙ rw (lt-ltb (makespan shop after_pass) (makespan shop jobs) shorter) refl
 
-  pub improved_stops : makespan shop jobs ≤ makespan shop after_pass → improved shop held list (passes - made) jobs ≡ after_pass
+  pub improved_stops : makespan shop jobs ≤ makespan shop after_pass → improved shop options list (passes - made) jobs ≡ after_pass
   improved_stops longer =
-      ap (λ n. improved shop held list n jobs) more ∙ rw (le-ltb (makespan shop after_pass) (makespan shop jobs) longer) refl
+      ap (λ n. improved shop options list n jobs) more ∙ rw (le-ltb (makespan shop after_pass) (makespan shop jobs) longer) refl
 
 pub rounds_more : (shop : FlowShop) (options : Options) (accept : List ℕ) (first count done : ℕ) (state : State)
     → done < count → after_rounds shop options accept (first + done) (count - done) state

@@ -1,5 +1,5 @@
 -- Rounds in parts, and rounds as those of `pfs_search`.
-use Rattle.std.proofs.Common.{◌≡◌, ℕ, zero, suc, ◌+◌, List, [], ◌∷◌, ◌++◌, take as front, fold, refl, ◌∙◌, arith}
+use Rattle.std.proofs.Common.{◌≡◌, ℕ, zero, suc, ◌+◌, List, [], ◌∷◌, ◌++◌, take as front, fold, insert, length, ap, refl, ◌∙◌, arith}
 use Rattle.std.proofs.Common.{inl, inr}
 use Rattle.std.specs.Prelude.{nat_le}
 use native.Mathlib.Numerals.{unary_clauses}
@@ -7,12 +7,14 @@ use Rattle.std.proofs.lemmas.Bool.{cases_Bool, le-ltb}
 use Rattle.std.proofs.Math.Nat.{zero-add, suc-add, add-zero}
 use Rattle.std.proofs.lemmas.List.{take-append-le, take_all}
 use Rattle.pfs_base.specs.FlowShop.{FlowShop}
-use Rattle.pfs_insert.specs.Insertion.{with_job}
+use Rattle.pfs_insert.specs.Insertion.{makespan_with, with_job}
 use Rattle.pfs_search.specs.Greedy.{jobs_left, jobs_taken}
 use Rattle.pfs_search.specs.Neh.{with_jobs}
 use Rattle.pfs_iterate.specs.Laws.{PartsLaw, GreedyLaw}
 use Rattle.pfs_iterate.specs.declared.options.Options.{Options}
-use Rattle.pfs_iterate.specs.Iterated.{after_round, found, is_accepted, put, words_of_round}
+use Rattle.pfs_iterate.specs.Iterated.{after_round, first_best, found, is_accepted, put, tie_break, words_of_round}
+use Rattle.pfs_iterate.specs.declared.options.TheConstants.{TIES_FIRST}
+use Rattle.pfs_iterate.proofs.Least.{first_best-none}
 
 pub parts_law : PartsLaw
 parts_law shop options accept first zero other state = rw (zero-add, add-zero) refl
@@ -29,23 +31,27 @@ accepted_none old new word =
       | inr longer ↦ rw (longer, le-ltb word 0 (omega arith)) refl
     ]
 
--- with no held job a job is put at its best place
-put_is : (shop : FlowShop) (jobs : List ℕ) (job : ℕ) → put shop 0 jobs job ≡ with_job shop jobs job
-put_is shop jobs job = simp unary_clauses
+-- with no held job and the first of equally good places, a job is put at its best place
+module _ (shop : FlowShop) (options : Options) (held : options.held ≡ 0) (ties : options.ties ≡ TIES_FIRST) where
+  put_is : (jobs : List ℕ) (job : ℕ) → put shop options jobs job ≡ with_job shop jobs job
+  put_is jobs job = ap (λ place. insert jobs place job)
+      (ap (λ from. first_best (makespan_with shop jobs job) (tie_break shop options.ties jobs job) from (length jobs + 1)) held
+      ∙ first_best-none (makespan_with shop jobs job) (tie_break shop options.ties jobs job) (length jobs + 1)
+      (λ place. rw ties refl))
 
-all_put : (shop : FlowShop) (jobs more : List ℕ) → fold (put shop 0) jobs more ≡ with_jobs shop jobs more
-all_put shop jobs [] = refl
-all_put shop jobs (job ∷ more) = rw (put_is shop jobs job) (all_put shop (with_job shop jobs job) more)
+  all_put : (jobs more : List ℕ) → fold (put shop options) jobs more ≡ with_jobs shop jobs more
+  all_put jobs [] = refl
+  all_put jobs (job ∷ more) = rw (put_is jobs job) (all_put (with_job shop jobs job) more)
 
-found_is : (shop : FlowShop) (options : Options) (order removing others : List ℕ) → options.held ≡ 0
-    → options.partial ≡ 0 → options.passes ≡ 0 → front options.take (removing ++ others) ≡ removing
-    → found shop options order (removing ++ others)
-    ≡ with_jobs shop (jobs_left order removing) (jobs_taken order removing)
-found_is shop options order removing others held partial passes all =
-    rw (all, held, partial, passes) (all_put shop (jobs_left order removing) (jobs_taken order removing))
+  found_is : (order removing others : List ℕ) → options.partial ≡ 0 → options.passes ≡ 0
+      → front options.take (removing ++ others) ≡ removing
+      → found shop options order (removing ++ others)
+      ≡ with_jobs shop (jobs_left order removing) (jobs_taken order removing)
+  found_is order removing others partial passes all =
+      rw (all, held, partial, passes) (rw held at (all_put (jobs_left order removing) (jobs_taken order removing)))
 
 pub greedy_law : GreedyLaw
-greedy_law shop options state word removing others held partial passes long =
+greedy_law shop options state word removing others held partial passes ties long =
     let all : front options.take (removing ++ others) ≡ removing =
     take-append-le options.take removing others (omega arith) ∙ take_all options.take removing (omega arith) in
-    rw (found_is shop options state.current removing others held partial passes all, accepted_none) refl
+    rw (found_is shop options held ties state.current removing others partial passes all, accepted_none) refl

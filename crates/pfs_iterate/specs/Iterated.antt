@@ -1,37 +1,67 @@
 -- Iterated greedy that also accepts longer orders, as a function of its words.
-use Rattle.std.specs.Prelude.{ℕ, zero, suc, ◌+◌, ◌-◌, Bool, true, not, List, ◌++◌, length, fold, filter}
+use Rattle.std.specs.Prelude.{ℕ, zero, suc, ◌+◌, ◌-◌, Bool, true, not, List, [], ◌∷◌, ◌++◌, length, fold, filter, sum_by}
 use Rattle.std.specs.Prelude.{nat_le, nat_lt, nat_eq, slice_index, insert, if◌then◌else◌, take as front, drop}
-use Rattle.std.specs.List.{list_any, slice_index_or}
+use Rattle.std.specs.List.{list_all, list_any, position_or_len, range_with_len, slice_index_or}
 use Rattle.pfs_base.specs.FlowShop.{FlowShop}
-use Rattle.pfs_base.specs.Paths.{makespan}
+use Rattle.pfs_base.specs.Lists.{below}
+use Rattle.pfs_base.specs.Paths.{heaviest, makespan, operation}
 use Rattle.pfs_order.specs.Sequence.{all_jobs}
-use Rattle.pfs_insert.specs.Insertion.{first_least, makespan_with}
+use Rattle.pfs_insert.specs.Insertion.{makespan_with}
 use Rattle.pfs_search.specs.Greedy.{jobs_left, jobs_taken}
 use Rattle.pfs_search.specs.Solution.{words_after}
 use Rattle.pfs_iterate.specs.declared.options.Options.{Options}
+use Rattle.pfs_iterate.specs.declared.options.TheConstants.{TIES_IDLE}
 
--- the first of the places from `held` on that gives the least makespan
-abbrev pub chosen : FlowShop → ℕ → List ℕ → ℕ → ℕ
-chosen shop held jobs job =
-    first_least (λ place. makespan_with shop jobs job (place + held)) (length jobs + 1 - held) + held
+-- when a machine ends the last job of a sequence: the weight of the heaviest path to this operation, and 0 for no jobs
+abbrev pub end_on : FlowShop → List ℕ → ℕ → ℕ
+end_on shop [] machine = 0
+end_on shop (job ∷ jobs) machine = heaviest (operation shop (job ∷ jobs)) 0 0 (length jobs) machine
+
+-- the sum of these over the machines
+abbrev pub ends : FlowShop → List ℕ → ℕ
+ends shop jobs = sum_by (end_on shop jobs) (below shop.machines)
+
+-- how much later, summed over the machines, the job at a place ends if another job is inserted before it; at the place
+-- after the last job, how much later the sequence ends
+abbrev pub total_delay : FlowShop → List ℕ → ℕ → ℕ → ℕ
+total_delay shop jobs job place = ends shop (front (place + 2) (insert jobs place job)) - ends shop (front (place + 1) jobs)
+
+-- what decides between places with equal makespans: the total delay, or nothing
+abbrev pub tie_break : FlowShop → ℕ → List ℕ → ℕ → ℕ → ℕ
+tie_break shop ties jobs job place = if nat_eq ties TIES_IDLE then total_delay shop jobs job place else 0
+
+-- the first of the numbers from `from` on and below `count` whose value is at most that of each of these and, of those
+-- with this value, whose `tie` is at most that of each
+abbrev pub first_best : (ℕ → ℕ) → (ℕ → ℕ) → ℕ → ℕ → ℕ
+first_best value tie from count =
+    let places = range_with_len from (count - from) in
+    position_or_len (λ place. list_all (λ other.
+    if nat_eq (value place) (value other) then nat_le (tie place) (tie other) else nat_le (value place) (value other))
+    places) places + from
+
+-- of the places from `held` on that give the least makespan, the first with the least total delay or, by TIES_FIRST, the
+-- first
+abbrev pub chosen : FlowShop → Options → List ℕ → ℕ → ℕ
+chosen shop options jobs job =
+    first_best (makespan_with shop jobs job) (tie_break shop options.ties jobs job) options.held (length jobs + 1)
 
 -- the sequence with a job inserted there
-abbrev pub put : FlowShop → ℕ → List ℕ → ℕ → List ℕ
-put shop held jobs job = insert jobs (chosen shop held jobs job) job
+abbrev pub put : FlowShop → Options → List ℕ → ℕ → List ℕ
+put shop options jobs job = insert jobs (chosen shop options jobs job) job
 
 -- the sequence after a job that is at a place from `held` on has left it for the chosen one
-abbrev pub moved : FlowShop → ℕ → List ℕ → ℕ → List ℕ
-moved shop held jobs job =
-    if list_any (nat_eq job) (drop held jobs)
-    then put shop held (filter (λ other. not (nat_eq other job)) jobs) job
+abbrev pub moved : FlowShop → Options → List ℕ → ℕ → List ℕ
+moved shop options jobs job =
+    if list_any (nat_eq job) (drop options.held jobs)
+    then put shop options (filter (λ other. not (nat_eq other job)) jobs) job
     else jobs
 
 -- the sequence after passes over a list of jobs, until one makes it no shorter
-abbrev pub improved : FlowShop → ℕ → List ℕ → ℕ → List ℕ → List ℕ
-improved shop held list zero jobs = jobs
-improved shop held list (suc passes) jobs =
-    let next = fold (moved shop held) jobs list in
-    if nat_lt (makespan shop next) (makespan shop jobs) then improved shop held list passes next else next
+abbrev pub improved : FlowShop → Options → List ℕ → ℕ → List ℕ → List ℕ
+improved shop options list zero jobs = jobs
+improved shop options list (suc passes) jobs =
+    let next = fold (moved shop options) jobs list in
+    if nat_lt (makespan shop next) (makespan shop jobs) then improved shop options list passes next else next
 
 -- the order that a round finds by its words after the first: the next `take` words remove jobs behind the first `held`,
 -- and the words after them name all jobs in the order in which a pass visits them
@@ -41,8 +71,8 @@ found shop options order words =
     let list = jobs_taken (all_jobs shop.jobs) (drop options.take words) in
     let behind = drop options.held order in
     let left = front options.held order ++ jobs_left behind removing in
-    improved shop options.held list options.passes
-    (fold (put shop options.held) (improved shop options.held list options.partial left) (jobs_taken behind removing))
+    improved shop options list options.passes
+    (fold (put shop options) (improved shop options list options.partial left) (jobs_taken behind removing))
 
 -- whether a word accepts a new makespan: one that is not greater than the old one always, one that is greater by d with
 -- the chance accept[d] of 2 ^ 32, and none beyond the end of the table

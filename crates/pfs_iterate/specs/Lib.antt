@@ -1,3 +1,4 @@
+pub mod Heads
 pub mod Iterated
 pub mod Laws
 pub mod Private

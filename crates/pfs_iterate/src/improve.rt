@@ -5,8 +5,10 @@ ghost use Rattle.pfs_base.specs.Paths.{makespan};
 ghost use Rattle.pfs_search.specs.Search.{IsSearchOf};
 ghost use Rattle.pfs_iterate.specs.Iterated.{improved, moved};
 ghost use Rattle.pfs_iterate.specs.Private.Steps.{IsRearranged};
+ghost use Rattle.pfs_iterate.specs.Rounds.{IsPlacesFor};
 
-use crate::places::put;
+use crate::options::Options;
+use crate::places::{Places, put};
 use pfs_base::Instance;
 use pfs_order::Seq;
 use pfs_search::Search;
@@ -32,29 +34,29 @@ fn place_from(jobs: &[u32], held: usize, job: usize) -> Option<usize>
 fn visit(
     instance: &Instance,
     search: &mut Search,
-    spans: &mut [u64],
+    places: &mut Places,
     seq: &mut Seq,
-    held: usize,
+    options: &Options,
     job: usize,
     span: u64,
 ) -> u64
     requires search { IsSearchOf instance.now.shop search.old }
     requires size { seq.old.size ≡ instance.now.shop.jobs }
-    requires held { held ≤ length seq.old.jobs }
-    requires room { instance.now.shop.jobs + 1 ≤ length spans.old }
+    requires held { options.now.held ≤ length seq.old.jobs }
+    requires places { IsPlacesFor instance.now.shop places.old }
     requires span { span ≡ makespan instance.now.shop seq.old.jobs }
-    ensures jobs { seq.new.jobs ≡ moved instance.now.shop held seq.old.jobs job }
+    ensures jobs { seq.new.jobs ≡ moved instance.now.shop options.now seq.old.jobs job }
     ensures span { result ≡ makespan instance.now.shop seq.new.jobs }
-    ensures kept { IsRearranged held seq.old seq.new }
+    ensures kept { IsRearranged options.now.held seq.old seq.new }
     ensures search { IsSearchOf instance.now.shop search.new }
-    ensures long { length spans.new ≡ length spans.old }
+    ensures places { IsPlacesFor instance.now.shop places.new }
 {
     // Called for its contract, which says that the jobs of a sequence are distinct.
     let _size = seq.size();
-    match place_from(seq.as_slice(), held, job) {
+    match place_from(seq.as_slice(), options.held, job) {
         Some(place) => {
             let job = seq.remove_at(place);
-            put(instance, search, spans, seq, held, job).span
+            put(instance, search, places, seq, options, job).span
         }
         None => span,
     }
@@ -65,26 +67,26 @@ fn visit(
 fn pass(
     instance: &Instance,
     search: &mut Search,
-    spans: &mut [u64],
+    places: &mut Places,
     seq: &mut Seq,
-    held: usize,
+    options: &Options,
     list: &[usize],
     span: u64,
 ) -> u64
     requires search { IsSearchOf instance.now.shop search.old }
     requires size { seq.old.size ≡ instance.now.shop.jobs }
-    requires held { held ≤ length seq.old.jobs }
-    requires room { instance.now.shop.jobs + 1 ≤ length spans.old }
+    requires held { options.now.held ≤ length seq.old.jobs }
+    requires places { IsPlacesFor instance.now.shop places.old }
     requires span { span ≡ makespan instance.now.shop seq.old.jobs }
-    ensures jobs { seq.new.jobs ≡ fold (moved instance.now.shop held) seq.old.jobs list.now }
+    ensures jobs { seq.new.jobs ≡ fold (moved instance.now.shop options.now) seq.old.jobs list.now }
     ensures span { result ≡ makespan instance.now.shop seq.new.jobs }
-    ensures kept { IsRearranged held seq.old seq.new }
+    ensures kept { IsRearranged options.now.held seq.old seq.new }
     ensures search { IsSearchOf instance.now.shop search.new }
-    ensures long { length spans.new ≡ length spans.old }
+    ensures places { IsPlacesFor instance.now.shop places.new }
 {
     let mut span = span;
     for job in list {
-        span = visit(instance, search, spans, seq, held, *job, span);
+        span = visit(instance, search, places, seq, options, *job, span);
     }
     span
 }
@@ -94,27 +96,27 @@ fn pass(
 pub(crate) fn improve(
     instance: &Instance,
     search: &mut Search,
-    spans: &mut [u64],
+    places: &mut Places,
     seq: &mut Seq,
-    held: usize,
+    options: &Options,
     list: &[usize],
     passes: u32,
     span: u64,
 ) -> u64
     requires search { IsSearchOf instance.now.shop search.old }
     requires size { seq.old.size ≡ instance.now.shop.jobs }
-    requires held { held ≤ length seq.old.jobs }
-    requires room { instance.now.shop.jobs + 1 ≤ length spans.old }
+    requires held { options.now.held ≤ length seq.old.jobs }
+    requires places { IsPlacesFor instance.now.shop places.old }
     requires span { span ≡ makespan instance.now.shop seq.old.jobs }
-    ensures jobs { seq.new.jobs ≡ improved instance.now.shop held list.now passes seq.old.jobs }
+    ensures jobs { seq.new.jobs ≡ improved instance.now.shop options.now list.now passes seq.old.jobs }
     ensures span { result ≡ makespan instance.now.shop seq.new.jobs }
-    ensures kept { IsRearranged held seq.old seq.new }
+    ensures kept { IsRearranged options.now.held seq.old seq.new }
     ensures search { IsSearchOf instance.now.shop search.new }
-    ensures long { length spans.new ≡ length spans.old }
+    ensures places { IsPlacesFor instance.now.shop places.new }
 {
     let mut before = span;
     for made in 0..passes {
-        let after = pass(instance, search, spans, seq, held, list, before);
+        let after = pass(instance, search, places, seq, options, list, before);
         if after >= before {
             return after;
         }

@@ -3,7 +3,7 @@ ghost use Rattle.std.specs.Prelude.{◌≡◌, IfOk, length, take as front};
 ghost use Rattle.pfs_order.specs.Sequence.{IsSequence};
 ghost use Rattle.pfs_search.specs.Search.{IsSearchOf};
 ghost use Rattle.pfs_base.specs.Paths.{makespan};
-ghost use Rattle.pfs_iterate.specs.Rounds.{CanIterate, IsIterated, IsWorkFor};
+ghost use Rattle.pfs_iterate.specs.Rounds.{CanIterate, IsIterated, IsIteratedFor, IsWorkFor};
 
 use crate::found::Found;
 use crate::options::Options;
@@ -15,7 +15,6 @@ use pfs_order::Order;
 use pfs_search::Search;
 use pfs_wave::OfShop;
 use std::alloc::{AllocError, Global};
-use std::marker::Model;
 
 /// The makespans of the current and of the best order.
 #[derive(Clone, Copy, Debug, PartialEq, Eq)]
@@ -26,7 +25,7 @@ pub struct Makespans {
     pub best: u64,
 }
 
-/// The memory of rounds, for instances of one number of jobs.
+/// The memory of rounds of an instance.
 #[derive(Drop)]
 pub struct Iterated {
     work: Work,
@@ -35,26 +34,14 @@ pub struct Iterated {
     best: Found,
 }
 
-impl Model for Iterated {
-    ghost use Rattle.std.specs.Prelude.{◌≡◌, ℕ, ◌+◌, ◌*◌, length};
-    ghost use Rattle.pfs_iterate.specs.Rounds.{IsWorkFor};
-
-    ghost Value = { ℕ };
-
-    ghost view = { λ a. a.work.seq.size };
-
-    ghost invariant = { λ a. record {
-      work : IsWorkFor a.work.seq.size a.work;
-      words : length a.words.items ≡ 2 * a.work.seq.size + 1;
-      current : length a.current.order ≡ a.work.seq.size;
-      best : length a.best.order ≡ a.work.seq.size;
-    } };
+impl OfShop for Iterated {
+    ghost is_of = { λ iterated shop. IsIteratedFor shop iterated };
 }
 
 impl Iterated {
     /// Reserves the memory for an instance.
     pub fn new(alloc: Global, instance: &Instance) -> Result<Iterated, AllocError>
-        ensures { IfOk result (λ made. made ≡ instance.now.shop.jobs) }
+        ensures { IfOk result (λ made. ⟦<Iterated as OfShop>⟧.is_of made instance.now.shop) }
     {
         let size = instance.jobs();
         let (Ok(current), Ok(best)) = (Order::identity(alloc, size), Order::identity(alloc, size))
@@ -62,7 +49,7 @@ impl Iterated {
             return Err(AllocError);
         };
         Ok(Iterated {
-            work: Work::new(alloc, size)?,
+            work: Work::new(alloc, instance)?,
             words: vec![in alloc; 0; 2 * size + 1]?,
             current: Found {
                 order: current,
@@ -78,7 +65,7 @@ impl Iterated {
     /// Makes rounds on a current and a best order, which it overwrites, and returns their makespans.
     ///
     /// A round removes `take` jobs of the current order behind the first `held`, moves those that are left, and inserts
-    /// the removed ones, each at its first best place from `held` on; then it moves all jobs. An order that is longer by
+    /// the removed ones, each at its best place from `held` on; then it moves all jobs. An order that is longer by
     /// d is taken where the round's first word is less than `accept[d]`.
     pub fn rounds(
         &mut self,
@@ -90,7 +77,7 @@ impl Iterated {
         best: &mut [u32],
     ) -> Makespans
         requires search { ⟦<Search as OfShop>⟧.is_of search.old instance.now.shop }
-        requires size { self.old ≡ instance.now.shop.jobs }
+        requires own { ⟦<Iterated as OfShop>⟧.is_of self.old instance.now.shop }
         requires options { CanIterate instance.now.shop options.now }
         requires current_all { length current.old ≡ instance.now.shop.jobs }
         requires current { IsSequence instance.now.shop.jobs current.old }
@@ -99,7 +86,7 @@ impl Iterated {
         requires front { front options.now.held best.old ≡ front options.now.held current.old }
         ensures done { IsIterated instance.now.shop options.now accept.now current.old best.old
             current.new result.current best.new result.best }
-        ensures size { self.new ≡ self.old }
+        ensures still { ⟦<Iterated as OfShop>⟧.is_of self.new instance.now.shop }
         ensures search { ⟦<Search as OfShop>⟧.is_of search.new instance.now.shop }
     {
         start(&mut self.current, &mut self.work, instance, search, current);
@@ -128,16 +115,16 @@ fn start(found: &mut Found, work: &mut Work, instance: &Instance, search: &mut S
     requires all { length jobs.now ≡ instance.now.shop.jobs }
     requires sequence { IsSequence instance.now.shop.jobs jobs.now }
     requires found { length found.old.order ≡ instance.now.shop.jobs }
-    requires work { IsWorkFor instance.now.shop.jobs work.old }
+    requires work { IsWorkFor instance.now.shop work.old }
     requires search { IsSearchOf instance.now.shop search.old }
     ensures order { found.new.order ≡ jobs.now }
     ensures span { found.new.span ≡ makespan instance.now.shop jobs.now }
-    ensures work { IsWorkFor instance.now.shop.jobs work.new }
+    ensures work { IsWorkFor instance.now.shop work.new }
     ensures search { IsSearchOf instance.now.shop search.new }
 {
     found.order.set(jobs);
     work.seq.set(jobs);
-    found.span = span_of(instance, search, &mut work.spans, &mut work.seq);
+    found.span = span_of(instance, search, &mut work.places, &mut work.seq);
 }
 
 // Writes an order over another one.

@@ -1,12 +1,18 @@
 //! Laws of the definitions. They are about no code.
-ghost use Rattle.pfs_iterate.specs.Laws.{GreedyLaw, PartsLaw};
+ghost use Rattle.pfs_iterate.specs.Laws.{DelayLaw, GreedyLaw, PartsLaw};
 
 /// Rounds in two parts have the state that all of them have at once.
 pub fn parts()
     ensures { PartsLaw }
 {}
 
-/// With no held jobs, no passes and an empty table a round is one of `pfs_search` on the words that remove jobs.
+/// With no held jobs, no passes, the first of equally good places and an empty table a round is one of `pfs_search` on the
+/// words that remove jobs.
 pub fn greedy()
     ensures { GreedyLaw }
+{}
+
+/// No machine ends earlier than before where a job is inserted, so a total delay is not negative.
+pub fn delays()
+    ensures { DelayLaw }
 {}

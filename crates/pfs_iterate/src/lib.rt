@@ -3,6 +3,7 @@
 
 mod destroy;
 mod found;
+mod heads;
 mod improve;
 mod iterated;
 pub mod laws;
@@ -12,4 +13,4 @@ mod rounds;
 mod work;
 
 pub use iterated::{Iterated, Makespans};
-pub use options::Options;
+pub use options::{Options, TIES_FIRST, TIES_IDLE};

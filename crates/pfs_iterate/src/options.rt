@@ -1,5 +1,11 @@
 //! Which rounds are made.
 
+/// Of equally good places the first is taken.
+pub const TIES_FIRST: u32 = 0;
+
+/// Of equally good places the first with the least total delay is taken (Fernandez-Viagas and Framinan, 2014).
+pub const TIES_IDLE: u32 = 1;
+
 /// Which rounds are made, and of which kind: the struct `pfs_iterate_options` of C.
 #[repr(C)]
 #[derive(Clone, Copy, Debug, PartialEq, Eq)]
@@ -18,4 +24,6 @@ pub struct Options {
     pub partial: u32,
     /// The most passes over the whole order.
     pub passes: u32,
+    /// The rule for equally good places, `TIES_FIRST` or `TIES_IDLE`.
+    pub ties: u32,
 }

@@ -1,37 +1,146 @@
-//! The makespans with a job at each place, and the first best one of the places that may change.
-ghost use Rattle.std.specs.Prelude.{◌≡◌, ℕ, ◌+◌, ◌<◌, ◌≤◌, length, Contains, insert, slice_index};
+//! The makespans with a job at each place, and the best one of the places that may change.
+ghost use Rattle.std.specs.Prelude.{◌≡◌, ℕ, ◌+◌, ◌<◌, ◌≤◌, length, take as front, Contains, insert, slice_index, IfOk};
 ghost use Rattle.std.specs.List.{slice_index_or};
 ghost use Rattle.pfs_base.specs.Paths.{makespan};
 ghost use Rattle.pfs_insert.specs.Insertion.{makespan_with};
 ghost use Rattle.pfs_search.specs.Search.{IsSearchOf};
-ghost use Rattle.pfs_iterate.specs.Iterated.{chosen};
-ghost use Rattle.pfs_iterate.specs.Private.Steps.{IsLeastFrom};
+ghost use Rattle.pfs_iterate.specs.Heads.{AreHeads};
+ghost use Rattle.pfs_iterate.specs.Iterated.{chosen, total_delay};
+ghost use Rattle.pfs_iterate.specs.Private.Steps.{IsBestFrom, IsLeastFrom};
+ghost use Rattle.pfs_iterate.specs.Rounds.{IsPlacesFor};
 
+use crate::heads::Heads;
+use crate::options::{Options, TIES_IDLE};
 use pfs_base::Instance;
 use pfs_insert::Placed;
 use pfs_order::Seq;
 use pfs_search::Search;
+use std::alloc::{AllocError, Global};
+
+/// What a place is chosen with: the makespans with a job at each place, and heads.
+#[derive(Drop)]
+pub(crate) struct Places {
+    pub(crate) spans: Vec<u64>,
+    pub(crate) heads: Heads,
+}
+
+impl Places {
+    /// Reserves the memory.
+    pub(crate) fn new(alloc: Global, instance: &Instance) -> Result<Places, AllocError>
+        ensures { IfOk result (IsPlacesFor instance.now.shop) }
+    {
+        Ok(Places {
+            spans: vec![in alloc; 0; instance.jobs() + 1]?,
+            heads: Heads::new(alloc, instance)?,
+        })
+    }
+}
+
+// The first place of the least makespan, and a place after which there is no other one.
+#[derive(Clone, Copy)]
+struct Least {
+    place: usize,
+    last: usize,
+    span: u64,
+}
 
 // The first place of the least makespan, from a place on.
 #[inline(always)]
-fn least_from(spans: &[u64], held: usize) -> Placed<u64>
+fn least_from(spans: &[u64], held: usize) -> Least
     requires { held < length spans.now }
-    ensures least { IsLeastFrom (λ place. slice_index_or spans.now place 0) held (length spans.now) result.place }
+    ensures least { IsLeastFrom (λ place. slice_index_or spans.now place 0) held (length spans.now) result.place result.last }
     ensures span { result.span ≡ slice_index_or spans.now result.place 0 }
 {
-    let mut found = Placed {
+    let mut found = Least {
         place: held,
+        last: held,
         span: spans[held],
     };
     for place in held + 1..spans.len() {
-        if spans[place] < found.span {
-            found = Placed {
+        let span = spans[place];
+        if span < found.span {
+            found = Least {
                 place,
-                span: spans[place],
+                last: place,
+                span,
             };
+        } else if span == found.span {
+            found.last = place;
         }
     }
     found
+}
+
+// Of the places with the makespan of `best`, the first with the least total delay.
+fn least_delay(
+    instance: &Instance,
+    heads: &mut Heads,
+    spans: &[u64],
+    seq: &Seq,
+    job: usize,
+    best: &Least,
+    held: usize,
+) -> usize
+    requires heads { AreHeads instance.now.shop heads.old }
+    requires size { seq.now.size ≡ instance.now.shop.jobs }
+    requires job { job < instance.now.shop.jobs }
+    requires long { length spans.now ≡ length seq.now.jobs + 1 }
+    requires least { IsLeastFrom (λ place. slice_index_or spans.now place 0) held (length spans.now) best.now.place
+        best.now.last }
+    requires span { best.now.span ≡ slice_index_or spans.now best.now.place 0 }
+    ensures best { IsBestFrom (λ place. slice_index_or spans.now place 0) (total_delay instance.now.shop seq.now.jobs job)
+        held (length spans.now) result }
+    ensures span { slice_index_or spans.now result 0 ≡ best.now.span }
+    ensures heads { AreHeads instance.now.shop heads.new }
+{
+    heads.follow(instance, seq.as_slice(), seq.len().min(best.last + 1));
+    let mut found = best.place;
+    let mut least = heads.delay(instance, job, found);
+    for place in best.place + 1..best.last + 1 {
+        if spans[place] == best.span {
+            let delay = heads.delay(instance, job, place);
+            if delay < least {
+                found = place;
+                least = delay;
+            }
+        }
+    }
+    found
+}
+
+// The best place of a job by the makespans at all places, and its makespan.
+#[inline(always)]
+fn choose(
+    instance: &Instance,
+    heads: &mut Heads,
+    spans: &[u64],
+    seq: &Seq,
+    job: usize,
+    options: &Options,
+) -> Placed<u64>
+    requires heads { AreHeads instance.now.shop heads.old }
+    requires size { seq.now.size ≡ instance.now.shop.jobs }
+    requires held { options.now.held ≤ length seq.now.jobs }
+    requires job { job < instance.now.shop.jobs }
+    requires spans { (place : ℕ) → place ≤ length seq.now.jobs
+        → slice_index spans.now place ≡ makespan_with instance.now.shop seq.now.jobs job place }
+    requires long { length spans.now ≡ length seq.now.jobs + 1 }
+    ensures chosen { result.place ≡ chosen instance.now.shop options.now seq.now.jobs job }
+    ensures from { options.now.held ≤ result.place }
+    ensures within { result.place ≤ length seq.now.jobs }
+    ensures span { result.span ≡ makespan_with instance.now.shop seq.now.jobs job result.place }
+    ensures heads { AreHeads instance.now.shop heads.new }
+{
+    let best = least_from(spans, options.held);
+    let span = best.span;
+    if options.ties != TIES_IDLE || best.last == best.place {
+        return Placed {
+            place: best.place,
+            span,
+        };
+    }
+    let place = least_delay(instance, heads, spans, seq, job, &best, options.held);
+    Placed { place, span }
 }
 
 // Writes the makespans with a job at each place of a sequence.
@@ -41,43 +150,44 @@ fn evaluate(instance: &Instance, search: &mut Search, seq: &Seq, job: usize, spa
     requires size { seq.now.size ≡ instance.now.shop.jobs }
     requires job { job < instance.now.shop.jobs }
     requires absent { Contains seq.now.jobs job → ⊥ }
-    requires room { length spans.old ≡ length seq.now.jobs + 1 }
+    requires room { length seq.now.jobs + 1 ≤ length spans.old }
     ensures spans { (place : ℕ) → place ≤ length seq.now.jobs
         → slice_index spans.new place ≡ makespan_with instance.now.shop seq.now.jobs job place }
     ensures long { length spans.new ≡ length spans.old }
     ensures search { IsSearchOf instance.now.shop search.new }
 {
+    let spans = &mut spans[..seq.len() + 1];
     search.insertions(&mut instance.metered(), seq.as_slice(), job, spans);
 }
 
-/// Inserts a job at its first best place, from `held` on, and returns the place and the makespan.
+/// Inserts a job at its best place, and returns the place and the makespan.
 #[inline(always)]
 pub(crate) fn put(
     instance: &Instance,
     search: &mut Search,
-    spans: &mut [u64],
+    places: &mut Places,
     seq: &mut Seq,
-    held: usize,
+    options: &Options,
     job: usize,
 ) -> Placed<u64>
     requires search { IsSearchOf instance.now.shop search.old }
+    requires places { IsPlacesFor instance.now.shop places.old }
     requires size { seq.old.size ≡ instance.now.shop.jobs }
-    requires held { held ≤ length seq.old.jobs }
+    requires held { options.now.held ≤ length seq.old.jobs }
     requires job { job < instance.now.shop.jobs }
     requires absent { Contains seq.old.jobs job → ⊥ }
-    requires room { instance.now.shop.jobs + 1 ≤ length spans.old }
-    ensures chosen { result.place ≡ chosen instance.now.shop held seq.old.jobs job }
-    ensures from { held ≤ result.place }
+    ensures chosen { result.place ≡ chosen instance.now.shop options.now seq.old.jobs job }
+    ensures from { options.now.held ≤ result.place }
     ensures within { result.place ≤ length seq.old.jobs }
     ensures jobs { seq.new ≡ record seq.old { jobs = insert seq.old.jobs result.place job } }
     ensures span { result.span ≡ makespan instance.now.shop seq.new.jobs }
     ensures search { IsSearchOf instance.now.shop search.new }
-    ensures long { length spans.new ≡ length spans.old }
+    ensures places { IsPlacesFor instance.now.shop places.new }
 {
     let len = seq.len();
-    let spans = &mut spans[..len + 1];
-    evaluate(instance, search, seq, job, spans);
-    let best = least_from(spans, held);
+    evaluate(instance, search, seq, job, &mut places.spans);
+    let spans = &places.spans[..len + 1];
+    let best = choose(instance, &mut places.heads, spans, seq, job, options);
     seq.insert_at(best.place, job);
     best
 }
@@ -86,16 +196,16 @@ pub(crate) fn put(
 pub(crate) fn span_of(
     instance: &Instance,
     search: &mut Search,
-    spans: &mut [u64],
+    places: &mut Places,
     seq: &mut Seq,
 ) -> u64
     requires search { IsSearchOf instance.now.shop search.old }
+    requires places { IsPlacesFor instance.now.shop places.old }
     requires size { seq.old.size ≡ instance.now.shop.jobs }
-    requires room { instance.now.shop.jobs + 1 ≤ length spans.old }
     ensures span { result ≡ makespan instance.now.shop seq.old.jobs }
     ensures jobs { seq.new ≡ seq.old }
     ensures search { IsSearchOf instance.now.shop search.new }
-    ensures long { length spans.new ≡ length spans.old }
+    ensures places { IsPlacesFor instance.now.shop places.new }
 {
     let len = seq.len();
     if len == 0 {
@@ -103,8 +213,7 @@ pub(crate) fn span_of(
     }
     let last = len - 1;
     let job = seq.remove_at(last);
-    let spans = &mut spans[..len];
-    evaluate(instance, search, seq, job, spans);
+    evaluate(instance, search, seq, job, &mut places.spans);
     seq.insert_at(last, job);
-    spans[last]
+    places.spans[last]
 }

@@ -5,13 +5,13 @@ ghost use Rattle.pfs_order.specs.Sequence.{IsSequence};
 ghost use Rattle.pfs_search.specs.Search.{IsSearchOf};
 ghost use Rattle.pfs_iterate.specs.Iterated.{after_round, after_rounds, found, is_accepted, put};
 ghost use Rattle.pfs_iterate.specs.Private.Steps.{IsMeasured};
-ghost use Rattle.pfs_iterate.specs.Rounds.{CanIterate, IsWorkFor};
+ghost use Rattle.pfs_iterate.specs.Rounds.{CanIterate, IsPlacesFor, IsWorkFor};
 
 use crate::destroy::{draw, take_jobs};
 use crate::found::Found;
 use crate::improve::improve;
 use crate::options::Options;
-use crate::places::{put, span_of};
+use crate::places::{Places, put, span_of};
 use crate::work::Work;
 use pfs_base::Instance;
 use pfs_order::{Order, Seq};
@@ -21,28 +21,28 @@ use pfs_search::Search;
 fn insert_all(
     instance: &Instance,
     search: &mut Search,
-    spans: &mut [u64],
+    places: &mut Places,
     seq: &mut Seq,
-    held: usize,
+    options: &Options,
     jobs: &[usize],
 ) -> u64
     requires search { IsSearchOf instance.now.shop search.old }
     requires size { seq.old.size ≡ instance.now.shop.jobs }
-    requires held { held ≤ length seq.old.jobs }
-    requires room { instance.now.shop.jobs + 1 ≤ length spans.old }
+    requires held { options.now.held ≤ length seq.old.jobs }
+    requires places { IsPlacesFor instance.now.shop places.old }
     requires some { 1 ≤ length jobs.now }
     requires together { IsSequence instance.now.shop.jobs (jobs.now ++ seq.old.jobs) }
-    ensures jobs { seq.new.jobs ≡ fold (put instance.now.shop held) seq.old.jobs jobs.now }
+    ensures jobs { seq.new.jobs ≡ fold (put instance.now.shop options.now) seq.old.jobs jobs.now }
     ensures span { result ≡ makespan instance.now.shop seq.new.jobs }
     ensures count { length seq.new.jobs ≡ length seq.old.jobs + length jobs.now }
-    ensures front { front held seq.new.jobs ≡ front held seq.old.jobs }
+    ensures front { front options.now.held seq.new.jobs ≡ front options.now.held seq.old.jobs }
     ensures size { seq.new.size ≡ seq.old.size }
     ensures search { IsSearchOf instance.now.shop search.new }
-    ensures long { length spans.new ≡ length spans.old }
+    ensures places { IsPlacesFor instance.now.shop places.new }
 {
     let mut span = 0;
     for job in jobs {
-        span = put(instance, search, spans, seq, held, *job).span;
+        span = put(instance, search, places, seq, options, *job).span;
     }
     span
 }
@@ -67,7 +67,7 @@ fn find(
     order: &Order,
     words: &[u32],
 ) -> u64
-    requires work { IsWorkFor instance.now.shop.jobs work.old }
+    requires work { IsWorkFor instance.now.shop work.old }
     requires search { IsSearchOf instance.now.shop search.old }
     requires options { CanIterate instance.now.shop options.now }
     requires order { length order.now ≡ instance.now.shop.jobs }
@@ -76,33 +76,33 @@ fn find(
     ensures span { result ≡ makespan instance.now.shop work.new.seq.jobs }
     ensures all { length work.new.seq.jobs ≡ instance.now.shop.jobs }
     ensures front { front options.now.held work.new.seq.jobs ≡ front options.now.held order.now }
-    ensures work { IsWorkFor instance.now.shop.jobs work.new }
+    ensures work { IsWorkFor instance.now.shop work.new }
     ensures search { IsSearchOf instance.now.shop search.new }
 {
     let held = options.held;
     let (removing, shuffling) = words.split_at(options.take);
     take_jobs(&work.all, &mut work.seq, &mut work.list, 0, shuffling);
     take_jobs(order, &mut work.seq, &mut work.removed, held, removing);
-    let spans = work.spans.as_mut_slice();
+    let places = &mut work.places;
     let seq = &mut work.seq;
-    let partial = span_of(instance, search, spans, seq);
+    let partial = span_of(instance, search, places, seq);
     improve(
         instance,
         search,
-        spans,
+        places,
         seq,
-        held,
+        options,
         &work.list,
         options.partial,
         partial,
     );
-    let rebuilt = insert_all(instance, search, spans, seq, held, &work.removed);
+    let rebuilt = insert_all(instance, search, places, seq, options, &work.removed);
     improve(
         instance,
         search,
-        spans,
+        places,
         seq,
-        held,
+        options,
         &work.list,
         options.passes,
         rebuilt,
@@ -120,7 +120,7 @@ fn round(
     current: &mut Found,
     best: &mut Found,
 )
-    requires work { IsWorkFor instance.now.shop.jobs work.old }
+    requires work { IsWorkFor instance.now.shop work.old }
     requires search { IsSearchOf instance.now.shop search.old }
     requires options { CanIterate instance.now.shop options.now }
     requires words { length words.now ≡ instance.now.shop.jobs + options.now.take + 1 }
@@ -135,7 +135,7 @@ fn round(
     ensures no_longer { best.new.span ≤ best.old.span }
     ensures current_front { front options.now.held current.new.order ≡ front options.now.held current.old.order }
     ensures best_front { front options.now.held best.new.order ≡ front options.now.held current.old.order }
-    ensures work { IsWorkFor instance.now.shop.jobs work.new }
+    ensures work { IsWorkFor instance.now.shop work.new }
     ensures search { IsSearchOf instance.now.shop search.new }
 {
     let span = find(work, instance, search, options, &current.order, &words[1..]);
@@ -160,7 +160,7 @@ pub(crate) fn play(
     current: &mut Found,
     best: &mut Found,
 )
-    requires work { IsWorkFor instance.now.shop.jobs work.old }
+    requires work { IsWorkFor instance.now.shop work.old }
     requires search { IsSearchOf instance.now.shop search.old }
     requires options { CanIterate instance.now.shop options.now }
     requires words { instance.now.shop.jobs + options.now.take + 1 ≤ length memory.old.items }
@@ -175,7 +175,7 @@ pub(crate) fn play(
     ensures no_longer { best.new.span ≤ best.old.span }
     ensures current_front { front options.now.held current.new.order ≡ front options.now.held current.old.order }
     ensures best_front { front options.now.held best.new.order ≡ front options.now.held current.old.order }
-    ensures work { IsWorkFor instance.now.shop.jobs work.new }
+    ensures work { IsWorkFor instance.now.shop work.new }
     ensures search { IsSearchOf instance.now.shop search.new }
     ensures long { length memory.new.items ≡ length memory.old.items }
 {

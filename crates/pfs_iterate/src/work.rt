@@ -1,8 +1,9 @@
 //! The memory of rounds.
-ghost use Rattle.std.specs.Prelude.{◌≤◌, IfOk};
+ghost use Rattle.std.specs.Prelude.{IfOk};
 ghost use Rattle.pfs_iterate.specs.Rounds.{IsWorkFor};
 
-use pfs_base::MOST_JOBS;
+use crate::places::Places;
+use pfs_base::Instance;
 use pfs_order::{Order, Seq};
 use std::alloc::{AllocError, Global};
 
@@ -17,17 +18,16 @@ pub(crate) struct Work {
     pub(crate) removed: Vec<usize>,
     // All jobs in the order in which a pass visits them.
     pub(crate) list: Vec<usize>,
-    // The makespans with a job at each place.
-    pub(crate) spans: Vec<u64>,
+    // What places are chosen with.
+    pub(crate) places: Places,
 }
 
 impl Work {
-    /// Reserves the memory for a number of jobs.
-    pub(crate) fn new(alloc: Global, size: usize) -> Result<Work, AllocError>
-        requires some { 1 ≤ size }
-        requires few { size ≤ MOST_JOBS }
-        ensures { IfOk result (IsWorkFor size) }
+    /// Reserves the memory for an instance.
+    pub(crate) fn new(alloc: Global, instance: &Instance) -> Result<Work, AllocError>
+        ensures { IfOk result (IsWorkFor instance.now.shop) }
     {
+        let size = instance.jobs();
         let (Ok(seq), Ok(all)) = (Seq::new(alloc, size), Order::identity(alloc, size)) else {
             return Err(AllocError);
         };
@@ -36,7 +36,7 @@ impl Work {
             all,
             removed: Vec::with_capacity(alloc, size)?,
             list: Vec::with_capacity(alloc, size)?,
-            spans: vec![in alloc; 0; size + 1]?,
+            places: Places::new(alloc, instance)?,
         })
     }
 }

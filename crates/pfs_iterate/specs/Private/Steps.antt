@@ -5,12 +5,23 @@ use Rattle.pfs_base.specs.Paths.{makespan}
 use Rattle.pfs_order.specs.Sequence.{IsSequence, Sequence}
 
 -- a place from `held` on and below `count`, whose value is at most that of each of these places, and less than that of
--- each of these before it
-pub record IsLeastFrom (value : ℕ → ℕ) (held count place : ℕ) : Type 0 where
+-- each of these before it and of each after `last`
+pub record IsLeastFrom (value : ℕ → ℕ) (held count place last : ℕ) : Type 0 where
+  pub from : held ≤ place
+  pub within : place ≤ last
+  pub last_within : last < count
+  pub least : (other : ℕ) → held ≤ other → other < count → value place ≤ value other
+  pub first : (other : ℕ) → held ≤ other → other < place → value place < value other
+  pub later : (other : ℕ) → last < other → other < count → value place < value other
+
+-- a place from `held` on and below `count`, whose value is at most that of each of these places; of those with this
+-- value, it has the least `tie`, which those before it don't have
+pub record IsBestFrom (value tie : ℕ → ℕ) (held count place : ℕ) : Type 0 where
   pub from : held ≤ place
   pub within : place < count
   pub least : (other : ℕ) → held ≤ other → other < count → value place ≤ value other
-  pub first : (other : ℕ) → held ≤ other → other < place → value place < value other
+  pub tied : (other : ℕ) → held ≤ other → other < count → value other ≡ value place → tie place ≤ tie other
+  pub first : (other : ℕ) → held ≤ other → other < place → value other ≡ value place → tie place < tie other
 
 -- an order of all jobs, and its makespan
 pub record IsMeasured (shop : FlowShop) (order : List ℕ) (span : ℕ) : Type 0 where

@@ -11,13 +11,13 @@ loop-made-preserved c =
     let jobs = c.loop-made.seq.jobs in
     let invariant = c.loop-made.invariant in
     let gives = c.pass-after.ensures in
-    let shorter : makespan shop (after_pass shop c.args.held list jobs c.args.passes c.loop-made.made c.loop-made-test.true)
+    let shorter : makespan shop (after_pass shop c.args.options.now list jobs c.args.passes c.loop-made.made c.loop-made-test.true)
     < makespan shop jobs = omega (arith, ap (makespan shop) gives.jobs, gives.span, invariant.span) in
     record {
       search = gives.search;
-      jobs = rw gives.jobs (sym (improved_goes_on shop c.args.held list jobs c.args.passes c.loop-made.made
+      jobs = rw gives.jobs (sym (improved_goes_on shop c.args.options.now list jobs c.args.passes c.loop-made.made
           c.loop-made-test.true shorter) ∙ invariant.jobs);
       span = gives.span;
-      kept = rearranged-trans c.args.held _ _ _ invariant.kept gives.kept;
-      long = gives.long ∙ invariant.long;
+      kept = rearranged-trans c.args.options.now.held _ _ _ invariant.kept gives.kept;
+      places = gives.places;
     }

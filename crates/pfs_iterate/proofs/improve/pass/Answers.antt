@@ -8,7 +8,7 @@ use Rattle.pfs_iterate.proofs.improve.pass.Goals as goal
 pub loop-job-preserved : goal.loop-job-preserved
 loop-job-preserved c =
     let shop = c.args.instance.now.shop in
-    let step = moved shop c.args.held in
+    let step = moved shop c.args.options.now in
     let jobs = c.loop-job.seq.jobs in
     let invariant = c.loop-job.invariant in
     let gives = c.visit-span.ensures in
@@ -17,6 +17,6 @@ loop-job-preserved c =
       jobs = rw gives.jobs (sym (at_drop_more (fold step jobs) c.args.list.now c.loop-job.job-index 0
           c.loop-job-test.true) ∙ invariant.jobs);
       span = gives.span;
-      kept = rearranged-trans c.args.held _ _ _ invariant.kept gives.kept;
-      long = gives.long ∙ invariant.long;
+      kept = rearranged-trans c.args.options.now.held _ _ _ invariant.kept gives.kept;
+      places = gives.places;
     }

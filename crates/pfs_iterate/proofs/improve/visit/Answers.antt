@@ -17,7 +17,7 @@ pub returns-in-Some-clause-jobs : goal.returns-in-Some-clause-jobs
 returns-in-Some-clause-jobs c =
     let shop = c.args.instance.now.shop in
     let jobs = c.args.seq.now.jobs in
-    let held = c.args.held in
+    let held = c.args.options.now.held in
     let place = c.in-Some.place in
     let job = c.args.job in
     let at = rw c.as_slice.ensures.value at c.in-Some.ensures in
@@ -38,8 +38,8 @@ returns-in-Some-clause-kept c =
     let gone = length-remove seq.jobs place at.1 in
     let fewer = ap (λ (s : Sequence). length s.jobs) c.remove_at-job.ensures.rest in
     let within : c.put.result.place < length seq.jobs = omega (arith, c.put.ensures.within) in
-    let moved = rearranged-moved c.args.held place c.put.result.place job seq at.0 at.1 c.put.ensures.from within
+    let moved = rearranged-moved c.args.options.now.held place c.put.result.place job seq at.0 at.1 c.put.ensures.from within
     c.remove_at-job.ensures.job in
-    subst (λ (s : Sequence). IsRearranged c.args.held seq s)
+    subst (λ (s : Sequence). IsRearranged c.args.options.now.held seq s)
     (sym (c.put.ensures.jobs ∙ ap (λ (s : Sequence). record s { jobs = insert s.jobs c.put.result.place job })
     c.remove_at-job.ensures.rest)) moved

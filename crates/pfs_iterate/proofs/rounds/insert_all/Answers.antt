@@ -28,16 +28,16 @@ loop-job-preserved c =
     let place = c.put-span.result.place in
     let next = get_or items i 0 in
     let new_jobs : c.put-span.new.seq.jobs ≡ insert jobs place next = ap (λ (s : Sequence). s.jobs) found.jobs in
-    let step : c.put-span.new.seq.jobs ≡ put shop c.args.held jobs next =
+    let step : c.put-span.new.seq.jobs ≡ put shop c.args.options.now jobs next =
     new_jobs ∙ ap (λ place. insert jobs place next) found.chosen in
     record {
       search = found.search;
       size = ap (λ (s : Sequence). s.size) found.jobs ∙ invariant.size;
       together = rw new_jobs (next_moved shop.jobs items jobs i c.loop-job-test.true invariant.together place);
-      jobs = rw step (sym (at_drop_more (fold (put shop c.args.held) jobs) items i 0 c.loop-job-test.true)
+      jobs = rw step (sym (at_drop_more (fold (put shop c.args.options.now) jobs) items i 0 c.loop-job-test.true)
           ∙ invariant.jobs);
       count = omega (arith, ap length new_jobs, length-insert jobs place next found.within, invariant.count);
-      front = rw new_jobs (take-insert c.args.held place next jobs found.from found.within ∙ invariant.front);
-      long = found.long ∙ invariant.long;
+      front = rw new_jobs (take-insert c.args.options.now.held place next jobs found.from found.within ∙ invariant.front);
+      places = found.places;
       span = λ _. found.span;
     }

@@ -3,6 +3,7 @@ use Rattle.pfs_base.specs.Paths.{makespan}
 use Rattle.pfs_order.specs.Sequence.{IsSequence}
 use Rattle.pfs_search.specs.Search.{IsSearchOf}
 use Rattle.pfs_iterate.specs.Iterated.{put}
+use Rattle.pfs_iterate.specs.Rounds.{IsPlacesFor}
 use Rattle.pfs_iterate.proofs.rounds.insert_all.Given as goal
 
 abbrev pub invariant-loop-job : goal.invariant-loop-job
@@ -12,10 +13,10 @@ invariant-loop-job l =
       search : IsSearchOf shop l.search;
       size : l.seq.size ≡ l.fn.seq.size;
       together : IsSequence shop.jobs (drop l.job-index l.jobs ++ l.seq.jobs);
-      jobs : fold (put shop l.held) l.seq.jobs (drop l.job-index l.jobs)
-          ≡ fold (put shop l.held) l.fn.seq.jobs l.jobs;
+      jobs : fold (put shop l.options) l.seq.jobs (drop l.job-index l.jobs)
+          ≡ fold (put shop l.options) l.fn.seq.jobs l.jobs;
       count : length l.seq.jobs ≡ length l.fn.seq.jobs + l.job-index;
-      front : take l.held l.seq.jobs ≡ take l.held l.fn.seq.jobs;
-      long : length l.spans ≡ length l.fn.spans;
+      front : take l.options.held l.seq.jobs ≡ take l.options.held l.fn.seq.jobs;
+      places : IsPlacesFor shop l.places;
       span : 0 < l.job-index → l.span ≡ makespan shop l.seq.jobs;
     }

@@ -1,6 +1,6 @@
-use Rattle.std.proofs.Common.{◌≡◌, ◌+◌, ◌≤◌, length, take as front, ap, sym, ◌∙◌, arith, rules}
+use Rattle.std.proofs.Common.{◌≡◌, ◌+◌, ◌-◌, ◌≤◌, length, take as front, ap, sym, ◌∙◌, arith, rules}
 use Rattle.std.proofs.lemmas.List.{length-take-le}
-use Rattle.pfs_iterate.specs.Iterated.{State, words_of_round}
+use Rattle.pfs_iterate.specs.Iterated.{State, after_round, after_rounds, words_of_round}
 use Rattle.pfs_iterate.proofs.Passes.{rounds_more}
 use Rattle.pfs_iterate.proofs.rounds.play.Goals as goal
 
@@ -30,8 +30,10 @@ loop-done-preserved c =
     record {
       work = gives.work;
       search = gives.search;
-      done = rw (gives.done, drawn) (sym (rounds_more shop options accept options.first options.count done before
-          c.loop-done-test.true) ∙ invariant.done);
+      done = ap (after_rounds shop options accept (options.first + (done + 1)) (options.count - (done + 1)))
+          (gives.done ∙ ap (after_round shop options accept before) drawn)
+          ∙ sym (rounds_more shop options accept options.first options.count done before c.loop-done-test.true)
+          ∙ invariant.done;
       current = gives.current;
       best = gives.best;
       no_longer = omega (arith, gives.no_longer, invariant.no_longer);

@@ -10,7 +10,7 @@ invariant-loop-done l =
     let shop = l.instance.shop in
     let options = l.options in
     record {
-      work : IsWorkFor shop.jobs l.work;
+      work : IsWorkFor shop l.work;
       search : IsSearchOf shop l.search;
       done : after_rounds shop options l.accept (options.first + l.done) (options.count - l.done)
           (record { current = l.current.order; best = l.best.order })

@@ -3,17 +3,6 @@ use Rattle.pfs_order.specs.Sequence.{IsSequence}
 use Rattle.pfs_iterate.specs.Rounds.{IsWorkFor}
 use Rattle.pfs_iterate.proofs.iterated.Iterated.rounds.Goals as goal
 
-pub invariant_of-self : goal.invariant_of-self
-invariant_of-self c =
-    let gives = c.play.ensures in
-    let size = sym gives.work.seq in
-    record {
-      work = subst (λ (n : ℕ). IsWorkFor n c.play.new.work) size gives.work;
-      words = search rules;
-      current = gives.current.all ∙ size;
-      best = gives.best.all ∙ size;
-    }
-
 pub returns-clause-done : goal.returns-clause-done
 returns-clause-done c =
     let gives = c.play.ensures in

@@ -1,0 +1,133 @@
+//! Heads of a sequence, and how much later an insertion makes what is behind it end.
+ghost use Rattle.std.specs.Prelude.{◌≡◌, ◌+◌, ◌-◌, ◌<◌, ◌≤◌, ◌++◌, [], ◌∷◌, length, take as front, slice_index, IfOk};
+ghost use Rattle.pfs_order.specs.Sequence.{IsSequence};
+ghost use Rattle.pfs_iterate.specs.Heads.{AreHeads, AreRows};
+ghost use Rattle.pfs_iterate.specs.Iterated.{ends, total_delay};
+
+use pfs_base::Instance;
+use std::alloc::{AllocError, Global};
+
+/// The heads of some jobs in sequence: a row of zeros, and then for each job the ends of the jobs so far.
+#[derive(Drop)]
+pub(crate) struct Heads {
+    pub(crate) jobs: Vec<u32>,
+    pub(crate) rows: Vec<u64>,
+}
+
+impl Heads {
+    /// The heads of no jobs.
+    pub(crate) fn new(alloc: Global, instance: &Instance) -> Result<Heads, AllocError>
+        ensures { IfOk result (AreHeads instance.now.shop) }
+    {
+        let jobs = instance.jobs();
+        Ok(Heads {
+            jobs: Vec::with_capacity(alloc, jobs)?,
+            rows: vec![in alloc; 0; (jobs + 1) * instance.machines()]?,
+        })
+    }
+
+    /// Makes these the heads of the first `count` jobs of a sequence. Rows of a front that is the same as before stay.
+    pub(crate) fn follow(&mut self, instance: &Instance, sequence: &[u32], count: usize)
+        requires heads { AreHeads instance.now.shop self.old }
+        requires sequence { IsSequence instance.now.shop.jobs sequence.now }
+        requires few { length sequence.now ≤ instance.now.shop.jobs }
+        requires count { count ≤ length sequence.now }
+        ensures heads { AreHeads instance.now.shop self.new }
+        ensures jobs { self.new.jobs.items ≡ front count sequence.now }
+    {
+        let same = same_front(&self.jobs, sequence, count);
+        self.jobs.truncate(same);
+        for place in same..count {
+            let job = sequence[place];
+            add_row(instance, &self.jobs, job as usize, &mut self.rows);
+            self.jobs.push_reserved(job);
+        }
+    }
+
+    /// How much later, summed over the machines, the job at a place ends if another job is inserted before it; at the
+    /// end, how much later all of them do.
+    pub(crate) fn delay(&self, instance: &Instance, job: usize, place: usize) -> u64
+        requires heads { AreHeads instance.now.shop self.now }
+        requires job { job < instance.now.shop.jobs }
+        requires place { place ≤ length self.now.jobs.items }
+        ensures { result ≡ total_delay instance.now.shop self.now.jobs.items job place }
+    {
+        if place == self.jobs.len() {
+            delay_at_end(instance, &self.jobs, &self.rows, job)
+        } else {
+            delay_before(instance, &self.jobs, &self.rows, job, place)
+        }
+    }
+}
+
+// The number of jobs, at most `most`, that two lists begin with together.
+fn same_front(one: &[u32], other: &[u32], most: usize) -> usize
+    requires { most ≤ length other.now }
+    ensures most { result ≤ most }
+    ensures within { result ≤ length one.now }
+    ensures same { front result one.now ≡ front result other.now }
+{
+    let most = most.min(one.len());
+    for place in 0..most {
+        if one[place] != other[place] {
+            return place;
+        }
+    }
+    most
+}
+
+// Adds the row of a job after these.
+fn add_row(instance: &Instance, jobs: &[u32], job: usize, rows: &mut [u64])
+    requires rows { AreRows instance.now.shop jobs.now rows.old }
+    requires job { job < instance.now.shop.jobs }
+    requires few { length jobs.now < instance.now.shop.jobs }
+    ensures { AreRows instance.now.shop (jobs.now ++ job ∷ []) rows.new }
+{
+    let machines = instance.machines();
+    let above = jobs.len() * machines;
+    let mut end = 0;
+    for machine in 0..machines {
+        end = rows[above + machine].max(end) + u64::from(instance.time(job, machine));
+        rows[above + machines + machine] = end;
+    }
+}
+
+// How much later, summed over the machines, a job at the end makes these end.
+fn delay_at_end(instance: &Instance, jobs: &[u32], rows: &[u64], job: usize) -> u64
+    requires rows { AreRows instance.now.shop jobs.now rows.now }
+    requires job { job < instance.now.shop.jobs }
+    ensures { result ≡ ends instance.now.shop (jobs.now ++ job ∷ []) - ends instance.now.shop jobs.now }
+{
+    let machines = instance.machines();
+    let above = jobs.len() * machines;
+    let (mut end, mut now, mut before) = (0, 0, 0);
+    for machine in 0..machines {
+        let ended = rows[above + machine];
+        end = ended.max(end) + u64::from(instance.time(job, machine));
+        now += end;
+        before += ended;
+    }
+    now - before
+}
+
+// How much later, summed over the machines, the job at a place ends if another job is inserted before it.
+fn delay_before(instance: &Instance, jobs: &[u32], rows: &[u64], job: usize, place: usize) -> u64
+    requires rows { AreRows instance.now.shop jobs.now rows.now }
+    requires job { job < instance.now.shop.jobs }
+    requires place { place < length jobs.now }
+    ensures { result ≡ ends instance.now.shop ((front place jobs.now ++ job ∷ []) ++ slice_index jobs.now place ∷ [])
+        - ends instance.now.shop (front (place + 1) jobs.now) }
+{
+    let machines = instance.machines();
+    let above = place * machines;
+    let next = jobs[place] as usize;
+    let (mut end, mut next_end, mut now, mut before) = (0, 0, 0, 0);
+    for machine in 0..machines {
+        let ended = rows[above + machines + machine];
+        end = rows[above + machine].max(end) + u64::from(instance.time(job, machine));
+        next_end = end.max(next_end) + u64::from(instance.time(next, machine));
+        now += next_end;
+        before += ended;
+    }
+    now - before
+}
