@@ -629,7 +629,7 @@ def test_the_chances_of_longer_orders(temperature: float, total: int, operations
 @pytest.mark.parametrize("hold", [[], [3, 1]])
 def test_a_search_that_accepts_longer_orders_loses_nothing(hold: list[int]) -> None:
     """By Ctrl-C, and in threads."""
-    shop = pfs.generate(30, 8, 4)
+    shop = pfs.generate(30, 8, 9)
 
     def interrupt(rounds: int, makespan: int) -> None:
         if rounds >= 5:
