@@ -30,7 +30,7 @@ OFFERED = {
     "pfs-gantt --": {"--help", "--critical", "--bound", "--unit", "--width", "--dpi", "--title"},
     "pfs-gantt th": {"three"},
     "pfs-plan --s": {"--seconds", "--seed", "--sheet", "--shift", "--schedule"},
-    "pfs-plan --decimal=": {"point", "comma"},
+    "pfs-plan --decimal=": {"point", "comma"}, "pfs-plan --method ": {"solve", "iterated-greedy"},
 }
 
 # For each line: bash's words, of which the `=` of `--layout=orlib` is one. Where nothing is offered, bash offers files.
