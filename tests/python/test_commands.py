@@ -491,7 +491,8 @@ def test_memory_that_runs_out_is_reported_on_one_line(folder: pathlib.Path, monk
     assert capsys.readouterr() == ("", "pfs: no memory\n")
     monkeypatch.undo()
     monkeypatch.chdir(folder)
-    monkeypatch.setattr(_library.library, "pfs_rounds", lambda *_: _library.MEMORY)
+    for name in ("pfs_rounds", "pfs_iterate"):
+        monkeypatch.setattr(_library.library, name, lambda *_: _library.MEMORY)
     assert _commands.main([*LONG, "--rounds", "3"]) == 4
     assert capsys.readouterr() == (shop_in(folder).neh().to_text(), "pfs: no memory\n"), "the order is lost"
     (folder / "times.csv").write_text(ABOVE_BOUND)
@@ -942,7 +943,7 @@ def test_the_manual_page_has_the_programs_options(folder: pathlib.Path) -> None:
     due = dict(re.findall(r"\[--([\w-]+)(?: ([A-Za-z.=-]+|\{[^}]*\}))?\]", usage))
     assert len(due) > 10 and due["version"] == ""
     page = (TOP / "python" / "pfs-plan.1").read_text()
-    assert dict(re.findall(r"^\.It Fl -([\w-]+)(?: Ar (\S+))?$", page, re.MULTILINE)) == due | {"decimal": "SIGN"}
+    assert dict(re.findall(r"^\.It Fl -([\w-]+)(?: Ar (\S+))?$", page, re.MULTILINE)) == due | {"decimal": "SIGN", "method": "METHOD"}
 
 
 @pytest.mark.parametrize("words", [["-m", "pfs", "plan"], ["-c", CALL]], ids=["python3 -m pfs plan", "pfs-plan"])

@@ -348,7 +348,8 @@ def test_the_search_that_accepts_longer_orders(experiment: Experiment, with_libr
         found = pfs.read(experiment.folder / row["instance"], "taillard").solve(method="iterated-greedy", **words)
         assert (experiment.folder / row["order"]).read_text() == found.to_text(), row
     assert experiment.script("check", "out.csv").status == 0
-    assert experiment.plan(text.format('command = "./mine {instance}"\n')).run("new.csv").stderr == (
+    own = MINE + 'search = "iterated-greedy"\ncommand = "./mine {instance}"\n'
+    assert experiment.plan(own).run("new.csv").stderr == (
         "pfs-experiments run: plan.toml: search is for pfs, not for a command\n")
     assert experiment.plan(text.format("")).run("new.csv", env=with_library).status == 0
     other = text.format("").replace('search = "iterated-greedy"\n[[', "[[")
@@ -360,25 +361,28 @@ def test_bounds_are_proved_and_optima_counted(experiment: Experiment, with_libra
     text = 'instances = ["shops/*"]\nseeds = [1, 2]\nrounds = [0, 200]\nmethod = "m"\n'
     assert experiment.plan(text).run().status == 0
     before = csv_rows(experiment.folder / "out.csv")
-    got = experiment.script("prove", "out.csv", "--seconds", "60", env=with_library)
+
+    def call(*words: str) -> Done:
+        return run_tool([experiment.scripts / "pfs-experiments", *words], experiment.folder, env=with_library)
+
+    got = call("prove", "out.csv", "--seconds", "60")
     assert got.status == 0 and "out.csv: 2 of 2 best orders are optimal\n" in got.stderr
     assert got.stdout == "shops/a: 1278, optimal\n" + f"shops/b: {before[-1]['makespan']}, optimal\n"
     after = csv_rows(experiment.folder / "out.csv")
     bounds = {"shops/a": "1278", "shops/b": before[-1]["makespan"]}
     assert after == [row | {"proved_bound": bounds[row["instance"]]} for row in before]
     assert experiment.script("check", "out.csv").status == 0
-    assert experiment.script("report", "out.csv", "report").status == 0
+    assert call("report", "out.csv", "report").status == 0
     tables = csv_rows(experiment.folder / "report" / "table.csv")
     for row in tables:
         runs = [each for each in after if (each["jobs"], each["rounds"]) == (row["jobs"], row["rounds"])]
         assert row["optimal"] == str(sum(each["makespan"] == each["proved_bound"] for each in runs))
     assert {row["optimal"] for row in tables} > {"0"}
-    assert experiment.script("status", "out.csv").status == 0
+    assert call("status", "out.csv").status == 0
     assert csv_rows(experiment.folder / "out.csv") == after
-    (experiment.folder / "out.csv").write_text((experiment.folder / "out.csv").read_text().replace(",1278,", ",1277,"))
-    assert "is below the bound 1278" in experiment.script("report", "out.csv", "report").stderr
-    assert "out.csv was not started" not in experiment.script("prove", "out.csv", env=with_library).stderr
-    assert experiment.script("prove", "none.csv", env=with_library).status == 4
+    (experiment.folder / "new.csv").write_text("instance,makespan,bound,proved_bound\nx,1277,9,1278\nx,1278,9,\n")
+    assert "the makespan 1277 of x is below the bound 1278" in call("report", "new.csv", "report").stderr
+    assert call("prove", "none.csv").stderr == "pfs-experiments prove: none.csv was not started: none.csv.d is missing\n"
 
 
 def test_readmes_plans_by_time(experiment: Experiment, with_library: dict[str, str]) -> None:

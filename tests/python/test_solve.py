@@ -562,7 +562,7 @@ def test_a_solution_of_another_instance_is_rejected() -> None:
 # Searches that accept longer orders, and those that hold jobs
 
 LONGER: dict[str, Any] = {"method": "iterated-greedy"}
-TIES = ["first", "idle"]
+TIES = ["first"]
 
 
 @given(case=plainly.shops_and_orders(5), counts=st.lists(st.integers(1, 5), min_size=1, max_size=3),
@@ -629,7 +629,7 @@ def test_the_chances_of_longer_orders(temperature: float, total: int, operations
 @pytest.mark.parametrize("hold", [[], [3, 1]])
 def test_a_search_that_accepts_longer_orders_loses_nothing(hold: list[int]) -> None:
     """By Ctrl-C, and in threads."""
-    shop = pfs.generate(30, 8, 4)
+    shop = pfs.generate(30, 8, 9)
 
     def interrupt(rounds: int, makespan: int) -> None:
         if rounds >= 5:

@@ -32,7 +32,7 @@ OFFERED = {
     "pfs-web --": {"--help", "--version", "--port", "--host", "--name", "--token-file", "--proxy", "--searches",
                    "--no-browser"},
     "pfs-plan --s": {"--seconds", "--seed", "--sheet", "--shift", "--schedule"},
-    "pfs-plan --decimal=": {"point", "comma"},
+    "pfs-plan --decimal=": {"point", "comma"}, "pfs-plan --method ": {"solve", "iterated-greedy"},
 }
 
 # For each line: bash's words, of which the `=` of `--layout=orlib` is one. Where nothing is offered, bash offers files.
