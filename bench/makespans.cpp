@@ -1,5 +1,5 @@
-// makespans two|lanes COUNT FILE: computes the makespans of the same 1,000 orders COUNT times, as `library makespans` of
-// library.c does, and prints their sum. `two` computes two orders in a loop. `lanes` computes sixteen orders in the
+// makespans two|lanes COUNT FILE: computes the makespans of the same 1,000 orders COUNT times, as `library makespans`
+// of library.c does, and prints their sum. `two` computes two orders in a loop. `lanes` computes sixteen orders in the
 // lanes of vectors of 16 bits, and is rejected if a makespan is above 32,766. Nothing is validated.
 #include "block_reader.hpp"
 
@@ -70,8 +70,8 @@ public:
     }
 
 private:
-    // The times of eight orders at a place: a transpose of 8 x 8 for eight machines. Lanes beyond `count` repeat the last
-    // order.
+    // The times of eight orders at a place: a transpose of 8 x 8 for eight machines. The lanes beyond `count` repeat the
+    // last order.
     void gather(const uint32_t* orders, size_t count, size_t place, size_t half) {
         const uint16_t* row[8];
         for (size_t lane = 0; lane < 8; ++lane) {

@@ -30,7 +30,8 @@ FUNCTIONS = [*QUIET, *LOUD, *OTHERS, "prepare", "release"]
 TEXTS = {"pfs_message", "pfs_version", "pfs_version_number"}
 NAMES = {f"pfs_{name}" for name in FUNCTIONS} | TEXTS
 # The arguments of library_calls: the functions, and calls on a larger instance.
-NAMED = [*QUIET, *LOUD, *OTHERS, "prepare", "prepare_again", "prepare_large", "insert_large", "search_large"]
+NAMED = [*QUIET, *LOUD, *OTHERS, "prepare", "prepare_again", "prepare_large", "insert_large", "makespans_large",
+         "search_large"]
 ALL_CALLS = Ran(b"172 calls, 0 failures\n", b"", 0)
 # No call makes as many allocations.
 MOST_GROWTHS = 200
@@ -261,10 +262,11 @@ def test_a_failed_allocation_leaves_every_output_unchanged(calls: Program, shim:
 
 
 @OF_CALLS
-def test_insertions_and_searches_allocate_nothing_on_large_instances(calls: Program, shim: Shim,
-                                                                     folder: pathlib.Path) -> None:
-    prepared, *made = (allocations(calls, shim, folder, f"{call}_large") for call in ("prepare", "insert", "search"))
-    assert made == [prepared, prepared] and prepared > 1
+@pytest.mark.parametrize("call", ["insert", "makespans", "search"])
+def test_calls_on_large_instances_allocate_nothing(calls: Program, shim: Shim, folder: pathlib.Path,
+                                                   call: str) -> None:
+    prepared, made = (allocations(calls, shim, folder, f"{name}_large") for name in ("prepare", call))
+    assert made == prepared > 1
 
 
 def allocations(calls: Program, shim: Shim, folder: pathlib.Path, name: str) -> int:

@@ -104,7 +104,7 @@ def test_a_faulty_sequence_leaves_all_makespans(libpfs: Library, place: int, mos
 
 
 def test_one_sequence_many_times_and_other_calls_between(libpfs: Library) -> None:
-    """The makespans are those of a new instance whatever was computed before."""
+    """What was computed before changes no makespan."""
     random = Random(1)
     times = drawn(random, 20, 5, range(1, 100))
     order = list(range(20))

@@ -172,6 +172,17 @@ static int call_named(const char *name) {
                pfs_write_order(BEST, 3, 0, 10, out.text, sizeof out.text, &out.length);
     if (IS("insert_large"))
         return due.place = 0, due.makespan = 7, pfs_insert(shop, NUMBERED, 2, 2, &out.place, &out.makespan);
+    if (IS("makespans_large")) {
+        static uint32_t orders[33 * 40];
+        uint64_t makespans[33];
+        for (uint32_t at = 0; at < COUNT(orders); ++at)
+            orders[at] = at % 40;
+        int number = pfs_makespans(shop, orders, COUNT(orders), 40, makespans, 33);
+        due.makespan = out.makespan = 44;
+        for (size_t at = 0; at < 33; ++at)
+            out.makespan = makespans[at] == 44 ? out.makespan : makespans[at];
+        return number;
+    }
     if (IS("search_large")) {
         uint32_t order[40];
         int number = pfs_neh(shop, order, 40, &out.makespan, &out.cells);

@@ -37,8 +37,8 @@ def test_what_only_proofs_and_private_functions_use_is_private(top: pathlib.Path
 
 # The list of what is proved
 
-LIBRARIES = ["pfs_base", "pfs_layout", "pfs_order", "pfs_audit", "pfs_batch", "pfs_exact", "pfs_insert", "pfs_wave",
-             "pfs_search", "pfs_iterate", "pfs_words", "pfs_desk", "pfs_c"]
+LIBRARIES = ["pfs_base", "pfs_layout", "pfs_order", "pfs_audit", "pfs_exact", "pfs_insert", "pfs_wave", "pfs_search",
+             "pfs_iterate", "pfs_words", "pfs_desk", "pfs_c"]
 
 
 def promised(crate: pathlib.Path) -> set[str]:
