@@ -1,5 +1,6 @@
 """The CSV of an experiment has the results of pfs itself: with GNU parallel, here and over ssh, and on a Slurm cluster
 of one node, also if its runs were killed at various moments and repeated, and if two experiments start at once."""
+import contextlib
 import functools
 import hashlib
 import json
@@ -10,6 +11,7 @@ import shutil
 import signal
 import subprocess
 import time
+from random import Random
 from typing import Any
 
 import pytest
@@ -258,15 +260,18 @@ def test_names_of_instances_are_not_formulas_in_a_spreadsheet(experiment: Experi
 # Folders that are damaged, and small disks
 
 RESULTS = [b"\xff\n", b'1,"\n', b"1,\0\n", b"o\n1,x,y,z,t,ok\n", b"1,1,1,1,1.000000,ok\n",
-           b"o\n1,1,1,1,1.000000,o", b"o\n1,1,1,1,1.000000,ok,12", None]
+           b"o\n1,1,1,1,1.000000,o", b"o\n1,1,1,1,1.000000,ok,12"]
+# Files of results: the length of each stands before it.
+FILES = [None, b"", b"2", b"x\n", b"\xff\n", b"99\no\n1,1,1,1,1.000000,ok\n",
+         *(b"%d\n%b" % (len(data), data) for data in RESULTS)]
 PLANS = [b"{", b"[]", b'{"places": 1}', b"[" * 100_000, b'{"layout": "\xff"}', b'{"places": {}, "runs": []}']
 
 
 def test_a_damaged_result_is_made_again_and_a_damaged_plan_is_reported(made: Experiment) -> None:
     """On one line; so is a folder without a program."""
     (made.runs / "joblog").write_bytes(b"\xff\n1\t2\n")
-    for data in RESULTS:
-        path = made.runs / "results" / "1"
+    for data in FILES:
+        path = max((made.runs / "results").glob("*-1"), key=lambda path: path.stat().st_mtime_ns)
         path.unlink() if data is None else path.write_bytes(data)
         assert made.run() == ended(6), f"{data!r} is taken as it is"
         assert made.rows() == made.wanted(rounds=(10,)), data
@@ -571,6 +576,49 @@ def test_no_run_is_lost_or_made_again(kills: Kills, experiment: Experiment) -> N
     assert sum(counts.values()) <= len(counts) + 2 * len(kills), "searches that were lost by kills"
 
 
+# 60 runs, which are short enough to share processes.
+MANY = ALL + f"rounds = [10]\nseeds = {[*range(30)]}\n"
+
+
+def test_a_kill_at_any_moment_costs_at_most_the_runs_under_way(experiment: Experiment) -> None:
+    """Of the starter, of GNU parallel or of a process that makes several runs: the CSV is that of a study without
+    interruptions, and each run was begun once, but for one of each process for each kill."""
+    assert experiment.plan(MANY).run("whole.csv").status == 0
+    random, kills, jobs = Random(4), 0, 2
+    while (before := len(experiment.done())) < 60 and kills < 12:
+        begun = experiment.start("--jobs", str(jobs))
+        most = random.randint(before + 1, min(60, before + 12))
+        wait_until(lambda: len(experiment.done()) >= most or begun.poll() is not None, f"{most} runs are done")
+        time.sleep(random.uniform(0, 0.03))
+        done, whom = experiment.done(), random.choice([b"pfs-experiments\0run", b"/parallel\0", b"/one\0"])
+        for process in pathlib.Path("/proc").glob("[0-9]*"):
+            with contextlib.suppress(OSError):
+                if whom in (process / "cmdline").read_bytes() and os.getsid(int(process.name)) == begun.pid:
+                    os.kill(int(process.name), signal.SIGKILL)
+                    kills += 1
+                    break
+        begun.wait(60)
+        wait_until(lambda: experiment.left() == [], "what a start has begun ends")
+        assert done <= experiment.done(), "results that are lost"
+    assert kills > 3 and experiment.run(program=experiment.replacement()) == ended(60)
+    assert experiment.rows() == experiment.rows("whole.csv")
+    assert experiment.script("check", "out.csv").status == 0
+    counts = experiment.searches()
+    assert min(counts.values()) == 1 and sum(counts.values()) <= 60 + jobs * kills, "searches that were lost by kills"
+
+
+def test_a_run_that_kills_its_process_leaves_the_later_ones_to_the_next_start(experiment: Experiment) -> None:
+    """There it comes last, so the others of its process are made, also if it kills it again."""
+    program = experiment.replacement('"solve "*"--seed 1 "*shops/a|"solve "*"--seed 1 "*instances/1) kill -9 $PPID;;')
+    got = experiment.plan(MANY).run(program=program)
+    lost = "shops/a (rounds 10, take 4, passes 0, seed 1) failed: lost: exit 137, signal 0\n"
+    assert got == ended(54, 1, 6, lost), "8 runs a process, of which the second is lost"
+    assert experiment.run(program=program) == ended(60, 1, 0, lost)
+    (experiment.folder / "fixed").touch()
+    assert experiment.run(program=program) == ended(60)
+    assert set(experiment.searches().values()) == {1, 3}, "how often each run was begun"
+
+
 @pytest.mark.parametrize("number", [signal.SIGTERM, signal.SIGKILL])
 def test_what_gnu_parallel_leaves_has_no_lock(number: signal.Signals, experiment: Experiment) -> None:
     """If it is ended at its start, processes by which it counts how many there may be are left."""
@@ -606,7 +654,7 @@ def test_on_a_terminal_the_share_that_is_done_is_shown(experiment: Experiment) -
     words = [str(word) for word in experiment.words("run", "plan.toml", "out.csv")]
     with Terminal(words, experiment.folder) as terminal:
         assert terminal.read_all() == 0
-        assert re.search(rb"100% 12:0=\d+s", terminal.seen), terminal.seen[-300:]
+        assert re.search(rb"100% 6:0=\d+s", terminal.seen), terminal.seen[-300:]
         assert b"citation" not in terminal.seen.lower()
 
 
@@ -680,7 +728,7 @@ def test_the_last_array_says_how_a_run_ended(folder: pathlib.Path) -> None:
     for age, name in enumerate(("9-1.log", "10-1.log")):
         (folder / "slurm" / name).write_bytes(b"\xff\nrun 1\nrun 7\nslurmstepd-host: error: %s\n" % name.encode())
         os.utime(folder / "slurm" / name, (age, age))
-    assert run.endings(folder) == {"7": "lost: 10-1.log"}
+    assert run.endings(folder, ()) == {"7": "lost: 10-1.log"}
 
 
 # A run of the first shop takes minutes with as many passes as there may be, and one of the second less than a second.

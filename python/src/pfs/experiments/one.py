@@ -1,16 +1,16 @@
 #!/usr/bin/env python3
-"""One run of an experiment, in the folder of copies, which may be on another machine: needs Python alone. Searches with
-the program `pfs`, audits the order, and prints the order file, and then one line of CSV: the run's number, makespan,
-bound, cells, processor seconds of the search, `ok` or an error, the rounds of a search by time, and how many processes
-a command has left. Without an order it prints only this line. The exit status is 0 even if the search or the audit
-fails. A search by time, which is made with the library, has a limit and no rounds; what a run doesn't have is a hyphen.
-A method that the file `commands.json` has is a command, which is the search. The arguments are those of `Run`."""
+"""Runs of an experiment, in the folder of copies, which may be on another machine: needs Python alone. The arguments are
+the numbers of the runs, each of which is a line of `runs.tsv`, with the values of `Run`; a hyphen is none. Searches with
+the program `pfs`, with the library if the run has a limit of time and no rounds, or with a command that `commands.json`
+has for the method. Audits the order. As soon as a run ends, prints the length of its result in bytes, on a line, and the
+result: the order file, and then one line of CSV with the run's number, makespan, bound, cells, processor seconds of the
+search, `ok` or an error, the rounds of a search by time, and how many processes a command has left. Without an order it
+is only this line. The exit status is 0 even if a search or an audit fails."""
 from __future__ import annotations
 
 import contextlib
 import csv
-import ctypes
-import functools
+import importlib
 import io
 import json
 import math
@@ -18,24 +18,20 @@ import os
 import re
 import resource
 import select
-import shutil
 import signal
 import subprocess
 import sys
-import tempfile
 import time
 from collections import namedtuple
 from collections.abc import Callable, Iterable
-from types import FrameType
-from typing import TYPE_CHECKING, NamedTuple
 
-if TYPE_CHECKING or __package__:
-    from pfs._order_text import numbers_in
-    from pfs._rounds import Pace, Rounds
-else:  # among the copies, where nothing else is left
-    sys.dont_write_bytecode = True
-    from order_text import numbers_in
-    from rounds import Pace, Rounds
+# Many runs are shorter than Python's start, so what only some runs need is imported where it is used.
+TYPE_CHECKING = False
+if TYPE_CHECKING:
+    from types import FrameType
+    from typing import Any
+
+    from pfs._rounds import Rounds
 
 HERE = os.path.dirname(os.path.abspath(__file__))
 LIBRARY = "libpfs.so.1"
@@ -47,23 +43,25 @@ MOST_BYTES, MOST_SAID = 1_048_576, 1_000
 PR_SET_PDEATHSIG, PR_SET_CHILD_SUBREAPER = 1, 36
 ENDINGS = (signal.SIGTERM, signal.SIGINT, signal.SIGHUP)
 
-# The arguments.
+# The values of a line of `runs.tsv`.
 Run = namedtuple("Run", "number file layout block rounds limit take passes seed repetition time_factor jobs machines "
                         "instance method")
+# The order file of a search, its cells and seconds, the rounds if it was by time, and how many processes a command has
+# left.
+Found = namedtuple("Found", "order cells seconds rounds left", defaults=("", 0))
+
+
+def shared(name: str) -> Any:
+    """Returns a module of the package, or its copy in this folder, in which `python3 -I -S` finds no module, and where
+    nothing else is left."""
+    if __package__:
+        return importlib.import_module(f"pfs._{name}")
+    sys.dont_write_bytecode, sys.path[:0] = True, [HERE]
+    return importlib.import_module(name)
 
 
 class Failed(Exception):
     """A run failed. The message says how."""
-
-
-class Found(NamedTuple):
-    """The order file of a search, its cells and seconds, the rounds if it was by time, and how many processes a command
-    has left."""
-    order: str
-    cells: str
-    seconds: float
-    rounds: str = ""
-    left: int = 0
 
 
 def run_pfs(run: Run, *words: str, text: str = "") -> subprocess.CompletedProcess[bytes]:
@@ -120,6 +118,8 @@ def audit(run: Run, order: str) -> tuple[str, str]:
 def caller(times: list[int], jobs: int, machines: int) -> Callable[..., None]:
     """Returns a function that calls a function of the library for C, which has to succeed, on the instance. The
     processing times are listed job by job."""
+    import ctypes
+    import weakref
     library, instance = ctypes.CDLL(os.path.join(HERE, LIBRARY)), ctypes.byref(ctypes.c_void_p())
 
     def check(function: str, *arguments: object) -> None:
@@ -129,13 +129,18 @@ def caller(times: list[int], jobs: int, machines: int) -> Callable[..., None]:
 
     sizes = [ctypes.c_size_t(size) for size in (len(times), jobs, machines)]
     check("pfs_prepare", (ctypes.c_uint32 * len(times))(*times), *sizes, instance)
-    return lambda function, *arguments: check(function, instance, *arguments)
+
+    def call(function: str, *arguments: object) -> None:
+        check(function, instance, *arguments)
+
+    weakref.finalize(call, library.pfs_release, instance)
+    return call
 
 
 def search(running: Rounds, seconds: float) -> float:
     """Searches for this processor time, and returns the time spent. A part is only started if it is expected to end in
     time, as estimated from the part before it."""
-    start, pace = time.process_time(), Pace(seconds, time.process_time, least=0)
+    start, pace = time.process_time(), shared("rounds").Pace(seconds, time.process_time, least=0)
     running.begin()
     while count := pace.next(running.left_of_seed()):
         before = time.process_time()
@@ -147,7 +152,8 @@ def search(running: Rounds, seconds: float) -> float:
 def by_time(run: Run) -> Found:
     jobs, machines, *pairs = map(int, pfs(run, "convert", "--to", "orlib").split()[3:])
     try:
-        running = Rounds(caller(pairs[1::2], jobs, machines), jobs, int(run.take), int(run.passes), int(run.seed))
+        call = caller(pairs[1::2], jobs, machines)
+        running = shared("rounds").Rounds(call, jobs, int(run.take), int(run.passes), int(run.seed))
         spent = search(running, float(run.limit))
     except (OSError, AttributeError) as error:
         raise Failed(f"libpfs: {error}") from None
@@ -161,6 +167,8 @@ def by_time(run: Run) -> Found:
 def by_command(words: list[str], run: Run) -> Found:
     """Searches with another program, which gets its own copy of the instance. If it prints only job numbers, the
     audit computes the makespan."""
+    import shutil
+    import tempfile
     try:
         with tempfile.TemporaryDirectory() as own:
             copy = shutil.copyfile(os.path.join(HERE, run.file), os.path.join(own, "instance"))
@@ -187,7 +195,7 @@ def order_of(text: str) -> tuple[str, list[str]]:
         raise Failed("nothing printed")
     if re.match("order2? ", lines[0]):
         return text if text.endswith("\n") else f"{text}\n", []
-    numbers = numbers_in(lines[0])
+    numbers = shared("order_text").numbers_in(lines[0])
     if len(lines) > 1 or isinstance(numbers, str):
         raise Failed(f"no order printed: {lines[0][:40]!r}")
     if 0 in numbers:
@@ -206,7 +214,7 @@ def run_command(words: list[str], folder: str, seconds: float | None) -> tuple[s
     try:
         with subprocess.Popen(words, cwd=folder, stdin=subprocess.DEVNULL, stdout=subprocess.PIPE,
                               stderr=subprocess.PIPE, bufsize=0, start_new_session=True,
-                              preexec_fn=functools.partial(limit, seconds)) as child:
+                              preexec_fn=lambda: limit(seconds)) as child:
             printed = Printed(child)
             try:
                 while child.poll() is None and len(printed.text) <= MOST_BYTES and time.monotonic() < end:
@@ -270,6 +278,7 @@ def stop(number: int, _frame: FrameType | None) -> None:
 
 
 def set_process(what: int, value: int) -> None:
+    import ctypes
     ctypes.CDLL(None).prctl(what, value)
 
 
@@ -296,12 +305,26 @@ def kill_descendants() -> int:
     return killed
 
 
+# The runs of this process
+
 def main() -> None:
+    """Makes the runs one after the other, until what has started this process is gone."""
+    parent, numbers = os.getppid(), {*map(int, sys.argv[1:])}
+    with open(os.path.join(HERE, "runs.tsv"), encoding="utf-8", newline="\n") as file:
+        runs = [Run._make(line[:-1].split("\t")) for number, line in enumerate(file, 1) if number in numbers]
+    with open(os.path.join(HERE, "commands.json"), encoding="utf-8") as file:
+        commands = json.load(file)
+    for run in runs:
+        if os.getppid() == parent:
+            made = result(run, commands.get(run.method))
+            sys.stdout.buffer.write(b"%d\n%b" % (len(made), made))
+            sys.stdout.buffer.flush()
+
+
+def result(run: Run, command: list[str] | None) -> bytes:
     """Searches with the command of the method, by rounds or by time, and audits the order."""
-    run, order = Run._make(sys.argv[1:]), ""
+    order = ""
     try:
-        with open(os.path.join(HERE, "commands.json"), encoding="utf-8") as file:
-            command = json.load(file).get(run.method)
         made = by_command(command, run) if command else by_rounds(run) if run.limit == "-" else by_time(run)
         order = made.order
         row = [run.number, *audit(run, order), made.cells, f"{made.seconds:.6f}", "ok"]
@@ -311,7 +334,7 @@ def main() -> None:
         row = [run.number, "", "", "", "", lost]
     line = io.StringIO()
     csv.writer(line, lineterminator="\n").writerow(row)
-    sys.stdout.buffer.write((order + line.getvalue()).encode(errors="replace"))
+    return (order + line.getvalue()).encode(errors="replace")
 
 
 if __name__ == "__main__":

@@ -249,7 +249,7 @@ def add_runs(plan: dict[str, Any], stored: dict[str, Any], references: Reference
         raise ExperimentError(f"{csv_path} was started with another plan, which has {what}: use another CSV, or delete "
                               f"{folder}")
     write_text(stage / "commands.json", json.dumps(commands_of(plan)))
-    write_text(folder / "runs.tsv", table_of(added))
+    write_text(stage / "runs.tsv", table_of(added))
     write_text(folder / "plan.json", json.dumps({**plan, "references": references, "places": stored["places"],
                                                  "runs": added, "order": [run["number"] for run in runs.values()]}))
     return list(runs.values())
