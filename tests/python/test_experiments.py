@@ -3,6 +3,7 @@ of one node, also if its runs were killed at various moments and repeated, and i
 import contextlib
 import functools
 import hashlib
+import itertools
 import json
 import os
 import pathlib
@@ -13,8 +14,10 @@ import subprocess
 import time
 from random import Random
 from typing import Any
+from unittest import mock
 
 import pytest
+from hypothesis import given, strategies
 from pfs import _rounds
 from pfs._rounds import Rounds
 from pfs.experiments import one, plan, run
@@ -47,6 +50,7 @@ def assert_refused(got: Done, *said: str, status: int = 2) -> None:
 # The instances of a plan, to which other lines may be added.
 ALL, ONLY_B = 'instances = ["shops/*"]\n', 'instances = ["shops/b"]\n'
 MINE = ALL + 'method = "m"\n'
+GRID = MINE + 'command = "a {instance} {x}"\n'
 INVALID = {
     "seed": ALL + "seed = [1]\n", "rounds must": ALL + "rounds = 3\n", "rounds must be": ALL + "rounds = []\n",
     "seeds": ALL + "seeds = [1.5]\n", "seeds must": ALL + "seeds = [true]\n", "passes": ALL + "passes = [101]\n",
@@ -67,12 +71,24 @@ INVALID = {
     "../": MINE + 'command = "a {instance}"\nfiles = ["../*/shops/a"]\n', "method": ALL + 'method = "a\\nb"\n',
     "must be tables": ALL + "methods = [1]\n", "key 'layout' of methods": ALL + '[[methods]]\nlayout = "orlib"\n',
     "each of methods needs method": ALL + "[[methods]]\n[[methods]]\n",
+    "anytime must be true or false": MINE + 'anytime = 1\n', "anytime is for a command with time_factors":
+    MINE + 'anytime = true\ncommand = "a {instance}"\n', "anytime is for a command":
+    ALL + "anytime = true\ntime_factors = [1]\n",
+    **{f"grid must be a table of lists, of different numbers or texts{' ' * at}": GRID + text
+       for at, text in enumerate(("grid = 3\n", "grid = []\n", "[grid]\n", "[grid]\nx = 1\n", "[grid]\nx = []\n",
+                                  "[grid]\nx = [1, 1]\n", '[grid]\nx = [1, "1"]\n', "[grid]\nx = [true]\n",
+                                  "[grid]\nx = [[1]]\n", '[grid]\nx = ["a\\nb"]\n'))},
+    "grid has y, so the command must contain {y}": GRID + "[grid]\nx = [1]\ny = [2]\n",
+    "grid has seed, so": GRID.replace("{x}", "{seed}") + "[grid]\nseed = [1]\n",
+    "grid has x, so": ALL + "[grid]\nx = [1]\n", "command needs method": GRID.replace("method", "#") +
+    "[grid]\nx = [1]\n", "{x}, but there are only": GRID,
 }
 
 
 @pytest.mark.parametrize(("named", "text"), INVALID.items(), ids=INVALID)
 def test_an_invalid_plan_is_rejected_with_its_fault(text: str, named: str, experiment: Experiment) -> None:
-    assert_refused(experiment.plan(text).run(), "pfs-experiments run: ", named, status=4 if named == "none.csv" else 2)
+    status = 4 if named == "none.csv" else 2
+    assert_refused(experiment.plan(text).run(), "pfs-experiments run: ", named.rstrip(), status=status)
     assert sorted(os.listdir(experiment.folder)) == ["plan.toml", "shops"]
 
 
@@ -414,6 +430,10 @@ command = "./mine {{instance}} {{seed}} {{seconds}} {{name}} {{jobs}} {{machines
 """
 
 
+# Uses 0.3 seconds of processor time.
+BUSY = "import time\nwhile time.process_time() < 0.3: pass\n"
+
+
 def with_other(experiment: Experiment, plan: str, program: str) -> Experiment:
     write_script(experiment.folder / "mine", f"#!/bin/sh\n{program}\n")
     return experiment.plan(plan)
@@ -464,6 +484,137 @@ def test_a_plan_has_several_methods(experiment: Experiment) -> None:
     assert_refused(experiment.plan(first).run(), "was started with another plan, which has block 1, method mine")
 
 
+# Trajectories and grids
+
+# At these seconds of processor time a program prints these lines.
+WALK = """#!/usr/bin/python3
+import sys, time
+open("{notes}", "a").write(" ".join(sys.argv[1:]) + "\\n")
+for seconds, line in {lines}:
+    while time.process_time() < seconds:
+        pass
+    print(line, flush=True)
+"""
+ANYTIME = """instances = ["shops/a"]
+time_factors = {}
+method = "walk"
+command = "./walk {{instance}} {{seconds}}"
+anytime = {}
+"""
+# The orders of the first shop by number, of NEH, and after 1,000 rounds, each with its makespan.
+Stated = list[str]
+
+
+@pytest.fixture
+def stated(experiment: Experiment) -> Stated:
+    orders = [" ".join(map(str, range(1, 21)))]
+    makespans = ["1448"]
+    for rounds in ("0", "1000"):
+        _, order, last = experiment.printed("solve", "--rounds", rounds, "shops/a").splitlines()
+        orders.append(order)
+        makespans.append(last.split()[1])
+    assert [*map(int, makespans)] == sorted({*map(int, makespans)}, reverse=True)
+    return [f"makespan {makespan} {order}" for makespan, order in zip(makespans, orders)]
+
+
+def walk(experiment: Experiment, lines: list[tuple[float, str]], factors: list[int], anytime: bool = True,
+         **how: str) -> Done:
+    write_script(experiment.folder / "walk", WALK.format(notes=experiment.folder / "notes", lines=lines))
+    return experiment.plan(ANYTIME.format(factors, json.dumps(anytime))).run(**how)
+
+
+def test_a_run_has_the_orders_of_shorter_ones(experiment: Experiment, stated: Stated) -> None:
+    """The best one that it had printed by their times, each of which is audited. What is done isn't changed by a plan
+    that grows. Without `anytime` each is a run of its own."""
+    lines = [(0, stated[0]), (0.8, stated[1]), (0.9, stated[0]), (1.6, stated[2])]
+    spans = [line.split()[1] for line in stated]
+    assert walk(experiment, lines, [10, 20, 40]) == ended(3)
+    assert experiment.started() == [mock.ANY], "programs that were started"
+    assert experiment.columns("time_factor", "makespan", "status") == [
+        (factor, span, "ok") for factor, span in zip(("10", "20", "40"), spans)]
+    seconds = [float(row[0]) for row in experiment.columns("seconds")]
+    assert seconds[:2] == [0.5, 1] and 1.6 <= seconds[2] < 2
+    ways = [way for way, in experiment.columns("trajectory")]
+    points = [point.split(":") for point in ways[2].split(" ")]
+    assert ways[:2] == ["", ""] and [span for _, span in points] == spans
+    assert 0 < float(points[0][0]) < 0.5 and 0.8 <= float(points[1][0]) < 1 and 1.6 <= float(points[2][0]) <= seconds[2]
+    orders = [(experiment.folder / name).read_text().splitlines()[1] for name, in experiment.columns("order")]
+    assert orders == [line.split(" ", 2)[2] for line in stated]
+    assert experiment.script("check", "out.csv").status == 0
+    before = experiment.columns(*HEAD)
+    assert walk(experiment, lines, [10, 20, 40, 50]) == ended(4)
+    assert experiment.columns(*HEAD)[:3] == before and len(experiment.started()) == 2
+    shutil.rmtree(experiment.runs)
+    assert walk(experiment, lines, [10, 20, 40], anytime=False).status == 1, "which takes too long for the first"
+    assert len(experiment.started()) == 5
+
+
+def test_an_order_on_the_way_that_is_wrong_or_late_fails(experiment: Experiment, stated: Stated) -> None:
+    """A wrong makespan, also of a line whose run then finds a better order, an order that isn't one, and too many. The
+    last order may be printed without its makespan, and be longer. Lines that say more are no orders."""
+    wrong = stated[0].replace("1448", "1447")
+    texts = {"wrong": (wrong, 2, "check: exit 1, wrong makespan, stated 1447, computed 1448"),
+             "no order": ("makespan 1448 3 x", 2, "command: no order printed: '3 x'"),
+             "0": ("makespan 1448 0 1", 2, "command: job 0: jobs count from 1"),
+             "longer": ("\n".join([stated[1], stated[0].split(" ", 2)[2]]), 0, "ok"),
+             "many": ("\n".join([stated[0]] * 1001), 2, "command: more than 1,000 makespans printed"),
+             "most": ("\n".join([stated[0]] * 999), 0, "ok"),
+             "words": (f"the makespan 1448 {stated[0]}", 2, "command: no order printed: 'the makespan 1448"),
+             "comma": (stated[0].replace(" ", ", ").replace("n, ", "n "), 0, "ok")}
+    for name, (text, failed, status) in texts.items():
+        got = walk(experiment, [(0, text), (0, stated[2] if failed else "")], [10, 20], csv_name=f"{name}.csv")
+        assert got.status == (1 if failed else 0), (name, got)
+        rows = experiment.columns("time_factor", "status", csv_name=f"{name}.csv")
+        assert all(row[1].startswith(status) for row in rows) and len(rows) == 2, (name, rows)
+    assert [*experiment.columns("makespan", csv_name="longer.csv")] == [(stated[1].split()[1],), ("1448",)]
+    assert walk(experiment, [(0.7, stated[0])], [10, 20]).status == 1
+    assert experiment.columns("status") == [("command: no order with its makespan printed in 0.5 s",), ("ok",)]
+
+
+@given(strategies.lists(strategies.sampled_from([b"makespan 7 1 2", b" makespan 8, 2 1 ", b"makespan 9", b"1 2", b""])),
+       strategies.lists(strategies.integers(0, 60)))
+def test_lines_are_taken_from_any_parts(lines: list[bytes], cuts: list[int]) -> None:
+    """Those with a makespan and an order are points, and the others are the output."""
+    with subprocess.Popen(["true"], stdout=subprocess.PIPE, stderr=subprocess.PIPE) as child:
+        printed = one.Printed(child)
+    text = b"".join(line + b"\n" for line in lines)
+    for start, end in itertools.pairwise([0, *sorted(cuts), len(text) + 60]):
+        printed.take(text[start:end])
+    points = {b"makespan 7 1 2": (7, "1 2"), b" makespan 8, 2 1 ": (8, "2 1")}
+    assert [point[1:] for point in printed.points] == [points[line] for line in lines if line in points]
+    assert printed.text == b"".join(line + b"\n" for line in lines if line not in points)
+
+
+TIMED = {"running": f"python3 -c '{BUSY}print(\"makespan 1 1\", flush=True)\nimport time; time.sleep(0.3)'",
+         "ended": f"(python3 -c '{BUSY}'); echo makespan 1 1",
+         "both": f"python3 -c '{BUSY}'; python3 -c '{BUSY}print(\"makespan 1 1\")'"}
+
+
+@pytest.mark.parametrize(("name", "line"), TIMED.items(), ids=TIMED)
+def test_the_time_of_an_order_is_that_of_all_processes(name: str, line: str, folder: pathlib.Path) -> None:
+    """Of those that run and of those that have ended."""
+    code = ("import sys; from pfs.experiments import one\n"
+            "_, spent, _, points = one.run_command(['sh', '-c', sys.argv[1]], '.', 9)\n"
+            "print(points[0].seconds, spent)\n")
+    env = dict(os.environ, PYTHONPATH=str(pathlib.Path(one.__file__).parents[2]))
+    got = run_tool(["/usr/bin/python3", "-B", "-c", code, line], folder, env=env)
+    seconds, spent = map(float, got.stdout.split())
+    assert (0.6 if name == "both" else 0.3) <= seconds <= spent, got
+
+
+def test_a_grid_is_a_method_for_each_combination(experiment: Experiment) -> None:
+    """With the values in its name and in its command. It may grow by values, and methods beside it may have none."""
+    grid = ('[[methods]]\nmethod = "m"\ncommand = "./mine {{instance}} {{x}} a{{y}}"\n'
+            '[methods.grid]\nx = {}\ny = [0.5]\n[[methods]]\nmethod = "other"\ncommand = "./mine {{instance}} 0 0"\n')
+    program = f'echo "$2 $3" >> {experiment.folder}/notes; echo 3 2 1'
+    for values, more in (("[1, 20]", []), ('[1, 20, "t; u"]', ["m, x t; u, y 0.5"])):
+        assert with_other(experiment, ONLY_B + grid.format(values), program).run() == ended(3 + len(more))
+        names = [name for name, in experiment.columns("method")]
+        assert names == ["m, x 1, y 0.5", "m, x 20, y 0.5", *more, "other"]
+    assert sorted(experiment.started()) == ["0 0", "1 a0.5", "20 a0.5", "t; u a0.5"]
+    assert_refused(experiment.plan(ONLY_B + grid.format("[1]")).run(), "was started with another plan, which has")
+
+
 # In this many seconds of processor time; what a line prints, and how many processes it leaves, or how it fails.
 SPIN = "setsid python3 -c 'import time\nwhile time.process_time() < 9: pass' "
 SLEEP = "setsid sleep 60 "
@@ -482,7 +633,7 @@ LINES = [
 def test_a_program_that_waits_or_takes_too_long_is_ended_with_all_that_it_has_started(
         seconds: str, line: str, wanted: str, folder: pathlib.Path) -> None:
     code = ("import sys; from pfs.experiments import one; one.PATIENCE = 3\n"
-            "try: text, _, left = one.run_command(['sh', '-c', sys.argv[2]], '.', float(sys.argv[1]))\n"
+            "try: text, _, left, _ = one.run_command(['sh', '-c', sys.argv[2]], '.', float(sys.argv[1]))\n"
             "except one.Failed as failure: print(failure)\nelse: print(text.strip(), left)\n")
     env = dict(os.environ, PYTHONPATH=str(pathlib.Path(one.__file__).parents[2]))
     got = run_tool(["/usr/bin/python3", "-B", "-c", code, seconds, line], folder, env=env)

@@ -26,11 +26,11 @@ from pfs.experiments.stage import Experiment, prepare, write_text
 COLUMNS = ["instance", "jobs", "machines", "rounds", "take", "passes", "seed", "repetition",
            "makespan", "bound", "gap_percent", "cells", "seconds", "status", "order", "reference", "source"]
 # The last line of the result of a run, or its first six. Only a run by time has rounds there.
-RESULT = ["number", "makespan", "bound", "cells", "seconds", "status", "rounds", "left"]
+RESULT = ["number", "makespan", "bound", "cells", "seconds", "status", "rounds", "left", "trajectory"]
 # The end of a run whose program was killed, or whose allocation failed: the next start repeats it.
 KILLED = re.compile("(?:solve|check): (?:signal [0-9]+|exit 4, pfs: no memory)|lost: .*")
 # The end of a line of GNU parallel's log: the exit status, the signal, and the numbers of the runs in the command.
-LOGGED = re.compile(r"\t([0-9]+)\t([0-9]+)\t[^\t\n]*/one((?: [0-9]+)+)$", re.ASCII | re.MULTILINE)
+LOGGED = re.compile(r"\t([0-9]+)\t([0-9]+)\t[^\t\n]*/one((?: [0-9,]+)+)$", re.ASCII | re.MULTILINE)
 # The length of a result in bytes, which stands before it.
 LENGTH = re.compile(rb"([0-9]{1,9})\n")
 # The most kinds of errors that are reported, and the columns that describe the first run of each.
@@ -43,14 +43,15 @@ NEEDED = ["instance", "rounds", "take", "passes", "seed", "repetition", "makespa
 MOST_TASKS, LEAST_SECONDS = 1000, 60
 # More than pfs needs for a table cell.
 SECONDS_A_CELL = 1e-9
-# A process of GNU parallel makes at most this number of runs, which take about this number of seconds, and there are at
-# least this number of processes.
+# A process of GNU parallel makes at most this number of runs, which take about this number of seconds, and there are
+# at least this number of processes.
 MOST_RUNS, SHARED_SECONDS, LEAST_PROCESSES = 25, 1, 8
 
 
 def begin(args: argparse.Namespace, program: str, package: str) -> tuple[Experiment, list[Row]]:
-    """Returns the prepared experiment and the runs that are left, whose numbers the file `left` has then. Those that
-    were lost come last: what has killed one may kill it again, and the later runs of its process are left."""
+    """Returns the prepared experiment and the runs that are left to be made, whose numbers the file `left` has then,
+    each with those of the runs that it makes too. Those that were lost come last: what has killed one may kill it
+    again, and the later runs of its process are left."""
     if shutil.which(program) is None:
         raise FileNotFoundError(f"{program} is not installed (Debian: {package})")
     experiment = prepare(args.plan, args.csv, args.pfs)
@@ -60,9 +61,22 @@ def begin(args: argparse.Namespace, program: str, package: str) -> tuple[Experim
     left.sort(key=lambda run: run["number"] in lost)
     for run in left:
         (experiment.folder / "results" / run["number"]).unlink(missing_ok=True)
-    write_text(experiment.folder / "left", "".join(f"{run['number']}\n" for run in left))
+    groups = together(left)
+    lines = [",".join(run["number"] for run in runs) for runs in groups]
+    write_text(experiment.folder / "left", "".join(f"{line}\n" for line in lines))
     (experiment.folder / "joblog").unlink(missing_ok=True)
-    return experiment, left
+    return experiment, [runs[0] for runs in groups]
+
+
+def together(left: list[Row]) -> list[list[Row]]:
+    """Returns the runs that are made at once, the longest first: of a method that is `anytime` those that differ only
+    in their time."""
+    groups: dict[tuple[str, ...], list[Row]] = {}
+    for run in left:
+        same = [column for column in stage.KEY if column != "time_factor"]
+        key = tuple(run[column] for column in same) if run["anytime"] and run["limit"] else (run["number"],)
+        groups.setdefault(key, []).append(run)
+    return [sorted(runs, key=lambda run: -float(run["limit"] or 0)) for runs in groups.values()]
 
 
 def run(args: argparse.Namespace) -> int:
@@ -182,13 +196,13 @@ def result_of(data: bytes) -> Row | None:
 
 
 def endings(folder: pathlib.Path, made: Container[str]) -> Row:
-    """Returns the errors of runs without a result, by their numbers, from the logs of GNU parallel and Slurm. Of the runs
-    of a process that was killed, the first one without a result was under way, and the later ones are left."""
+    """Returns the errors of runs without a result, by their numbers, from the logs of GNU parallel and Slurm. Of the
+    runs of a process that was killed, the first one without a result was under way, and the later ones are left."""
     found: Row = {}
     with contextlib.suppress(FileNotFoundError):
         text = (folder / "joblog").read_bytes().decode(errors="replace")
         for status, signal, numbers in LOGGED.findall(text):
-            for number in [number for number in numbers.split() if number not in made][:1]:
+            for number in [number for number in re.split("[ ,]", numbers[1:]) if number not in made][:1]:
                 found[number] = f"lost: exit {status}, signal {signal}"
     for log in sorted((folder / "slurm").glob("*.log"), key=lambda path: path.stat().st_mtime_ns):
         text = log.read_bytes().decode(errors="replace")
@@ -231,7 +245,8 @@ def write_csv(experiment: Experiment, csv_path: str) -> tuple[int, int]:
     lost = {number: {"status": status} for number, status in endings(experiment.folder, made).items()}
     results = [(run, found) for run in experiment.runs if (found := made.get(run["number"]) or lost.get(run["number"]))]
     rows = [row_of(run, found, experiment.reference) for run, found in results]
-    more = [column for column in ("time_factor", "method") if any(run[column] for run in experiment.runs)]
+    more = [column for column in ("time_factor", "method", "trajectory")
+            if any(row.get(column) for row in (*experiment.runs, *rows))]
     columns = [*COLUMNS, *more]
     write_text(csv_path, csv_text([columns, *([row.get(column, "") for column in columns] for row in rows)]))
     failed, left = sum(row["status"] != "ok" for row in rows), len(experiment.runs) - len(rows)

@@ -281,7 +281,7 @@ def planned_runs(plan: dict[str, Any], stored: dict[str, Any], stage: pathlib.Pa
         for method in plan["methods"]:
             for numbers in settings_of(method, jobs, machines, label):
                 yield dict(zip(RUN, ("", file, plan["layout"], block, *numbers, jobs, machines, label,
-                                     method["method"])))
+                                     method["method"], "yes" if method.get("anytime") else "")))
 
 
 def settings_of(method: dict[str, Any], jobs: str, machines: str, label: str) -> Iterator[tuple[str, ...]]:
