@@ -202,12 +202,11 @@ def by_command(words: list[str], run: Run) -> Found:
 
 
 def better(points: Iterable[Point]) -> list[Point]:
-    """Returns those that are shorter than all before them, of several at the same time the last one."""
-    found, least = dict[float, Point](), math.inf
+    """Returns those that are shorter than all before them."""
+    found: list[Point] = []
     for point in points:
-        if point.makespan < least:
-            found[point.seconds], least = point, point.makespan
-    return [*found.values()]
+        found += [point] if not found or point.makespan < found[-1].makespan else []
+    return found
 
 
 def stated_file(point: Point) -> str:
@@ -402,7 +401,7 @@ def results(run: Run, others: list[Run], command: list[str] | None) -> Iterator[
             yield order if each is run else "", [each.number, "", "", "", "", lost]
         return
     ends = better([*made.points, Point(made.seconds, int(makespan), order)]) if made.points else []
-    way = " ".join(f"{point.seconds:.6f}:{point.makespan}" for point in ends)
+    way = " ".join(f"{at}:{span}" for at, span in {f"{it.seconds:.6f}": it.makespan for it in ends}.items())
     yield order, [run.number, makespan, bound, made.cells, f"{made.seconds:.6f}", "ok", made.rounds, str(made.left),
                   way]
     for other in others:

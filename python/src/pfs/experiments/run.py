@@ -270,8 +270,8 @@ def with_order(folder: pathlib.Path, run: Row, result: Row) -> Row:
 
 def row_of(run: Row, result: Row, reference: Reference) -> Row:
     """Returns the row of a run, of the columns of the CSV that have a value."""
-    row = {**run, **result, "instance": path_cell(run["instance"]), "status": text_cell(result["status"]),
-           "method": text_cell(run["method"])}
+    row = {**run, **{column: cell for column, cell in result.items() if cell}, "method": text_cell(run["method"]),
+           "instance": path_cell(run["instance"]), "status": text_cell(result["status"])}
     if result["status"] == "ok":
         makespan, bound = int(result["makespan"]), int(result["bound"])
         row["gap_percent"] = f"{100 * (makespan - bound) / bound:.4f}" if bound else "0.0000"
