@@ -518,7 +518,7 @@ def stated(experiment: Experiment) -> Stated:
 
 
 def walk(experiment: Experiment, lines: list[tuple[float, str]], factors: list[int], anytime: bool = True,
-         **how: str) -> Done:
+         **how: Any) -> Done:
     write_script(experiment.folder / "walk", WALK.format(notes=experiment.folder / "notes", lines=lines))
     return experiment.plan(ANYTIME.format(factors, json.dumps(anytime))).run(**how)
 
@@ -607,7 +607,8 @@ def test_a_grid_is_a_method_for_each_combination(experiment: Experiment) -> None
     grid = ('[[methods]]\nmethod = "m"\ncommand = "./mine {{instance}} {{x}} a{{y}}"\n'
             '[methods.grid]\nx = {}\ny = [0.5]\n[[methods]]\nmethod = "other"\ncommand = "./mine {{instance}} 0 0"\n')
     program = f'echo "$2 $3" >> {experiment.folder}/notes; echo 3 2 1'
-    for values, more in (("[1, 20]", []), ('[1, 20, "t; u"]', ["m, x t; u, y 0.5"])):
+    plans: dict[str, list[str]] = {"[1, 20]": [], '[1, 20, "t; u"]': ["m, x t; u, y 0.5"]}
+    for values, more in plans.items():
         assert with_other(experiment, ONLY_B + grid.format(values), program).run() == ended(3 + len(more))
         names = [name for name, in experiment.columns("method")]
         assert names == ["m, x 1, y 0.5", "m, x 20, y 0.5", *more, "other"]
@@ -618,7 +619,7 @@ def test_a_grid_is_a_method_for_each_combination(experiment: Experiment) -> None
 def test_a_run_for_irace(experiment: Experiment, top: pathlib.Path) -> None:
     """By the words with which irace calls it: all settings make about the same number of cells. It names what pfs
     rejects, and the scenario has the files beside it."""
-    words = ["/usr/bin/python3", top / "experiments" / "target-runner.py", "1", "2"]
+    words = ["/usr/bin/python3", str(top / "experiments" / "target-runner.py"), "1", "2"]
     env = with_path(write_script(experiment.folder / "bin" / "pfs",
                                  f"#!/bin/sh\nexec {experiment.pfs.path} \"$@\"\n").parent)
     work = []

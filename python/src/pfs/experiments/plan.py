@@ -138,8 +138,8 @@ def command_of(path: str, plan: dict[str, Any]) -> dict[str, Any]:
         words = shlex.split(plan["command"])
     except ValueError as error:
         raise ExperimentError(f"{path}: command: {error}") from None
-    texts = plan.get("texts", {})
-    words = [re.sub(r"\{(\w+)\}", lambda name: texts.get(name[1], name[0]), word) for word in words]
+    texts: dict[str, str] = plan.get("texts", {})
+    words = [re.sub(r"\{(\w+)\}", lambda name: texts.get(str(name[1]), str(name[0])), word) for word in words]
     used = {name for word in words for name in re.findall(r"\{(\w*)\}", word)}
     for name in ("instance", *(["block"] if plan.get("blocks", [1]) != [1] else [])):
         require(name in used, path, f"command must contain {{{name}}}")

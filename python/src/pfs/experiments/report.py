@@ -463,7 +463,7 @@ def along(shared: pd.DataFrame, width: float | None) -> dict[str, Figure]:
     for size, group in runs.groupby(SIZE):
         target, panel = group["rpd"].median(), size_name(size)
         for setting, own in group.groupby(SETTING):
-            ways = [(np.array(way)[:, 0], 100 * (np.array(way)[:, 1] / reference - 1))
+            ways = [(np.array(way)[:, 0], 100 * (np.array(way)[:, 1] - reference) / reference)
                     for way, reference in zip(own["way"], own["reference"])]
             end = np.nanmax([own["seconds"].max(), *(times[-1] for times, _ in ways)])
             label = {"label": names[setting]}

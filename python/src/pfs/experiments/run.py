@@ -201,9 +201,9 @@ def endings(folder: pathlib.Path, made: Container[str]) -> Row:
     found: Row = {}
     with contextlib.suppress(FileNotFoundError):
         text = (folder / "joblog").read_bytes().decode(errors="replace")
-        for status, signal, numbers in LOGGED.findall(text):
+        for status, number_of_signal, numbers in LOGGED.findall(text):
             for number in [number for number in re.split("[ ,]", numbers[1:]) if number not in made][:1]:
-                found[number] = f"lost: exit {status}, signal {signal}"
+                found[number] = f"lost: exit {status}, signal {number_of_signal}"
     for log in sorted((folder / "slurm").glob("*.log"), key=lambda path: path.stat().st_mtime_ns):
         text = log.read_bytes().decode(errors="replace")
         last = re.findall(r"^run ([0-9]+)$", text, re.MULTILINE | re.ASCII)
