@@ -277,7 +277,7 @@ def test_names_of_instances_are_not_formulas_in_a_spreadsheet(experiment: Experi
 
 RESULTS = [b"\xff\n", b'1,"\n', b"1,\0\n", b"o\n1,x,y,z,t,ok\n", b"1,1,1,1,1.000000,ok\n",
            b"o\n1,1,1,1,1.000000,o", b"o\n1,1,1,1,1.000000,ok,12"]
-# Files of results: the length of each stands before it.
+# Files of results, each after its length.
 FILES = [None, b"", b"2", b"x\n", b"\xff\n", b"99\no\n1,1,1,1,1.000000,ok\n",
          *(b"%d\n%b" % (len(data), data) for data in RESULTS)]
 PLANS = [b"{", b"[]", b'{"places": 1}', b"[" * 100_000, b'{"layout": "\xff"}', b'{"places": {}, "runs": []}']
@@ -525,7 +525,7 @@ def walk(experiment: Experiment, lines: list[tuple[float, str]], factors: list[i
 
 def test_a_run_has_the_orders_of_shorter_ones(experiment: Experiment, stated: Stated) -> None:
     """The best one that it had printed by their times, each of which is audited. What is done isn't changed by a plan
-    that grows. Without `anytime` each is a run of its own."""
+    that grows. Without `anytime` each is made."""
     lines = [(0, stated[0]), (0.8, stated[1]), (0.9, stated[0]), (1.6, stated[2])]
     spans = [line.split()[1] for line in stated]
     assert walk(experiment, lines, [10, 20, 40]) == ended(3)
@@ -551,7 +551,7 @@ def test_a_run_has_the_orders_of_shorter_ones(experiment: Experiment, stated: St
 
 def test_an_order_on_the_way_that_is_wrong_or_late_fails(experiment: Experiment, stated: Stated) -> None:
     """A wrong makespan, also of a line whose run then finds a better order, an order that isn't one, and too many. The
-    last order may be printed without its makespan, and be longer. Lines that say more are no orders."""
+    last order may be printed without its makespan, and be longer. A line that says more isn't an order."""
     wrong = stated[0].replace("1448", "1447")
     texts = {"wrong": (wrong, 2, "check: exit 1, wrong makespan, stated 1447, computed 1448"),
              "no order": ("makespan 1448 3 x", 2, "command: no order printed: '3 x'"),
@@ -603,7 +603,7 @@ def test_the_time_of_an_order_is_that_of_all_processes(name: str, line: str, fol
 
 
 def test_a_grid_is_a_method_for_each_combination(experiment: Experiment) -> None:
-    """With the values in its name and in its command. It may grow by values, and methods beside it may have none."""
+    """With the values in its name and in its command. It may grow by values, and other methods may have none."""
     grid = ('[[methods]]\nmethod = "m"\ncommand = "./mine {{instance}} {{x}} a{{y}}"\n'
             '[methods.grid]\nx = {}\ny = [0.5]\n[[methods]]\nmethod = "other"\ncommand = "./mine {{instance}} 0 0"\n')
     program = f'echo "$2 $3" >> {experiment.folder}/notes; echo 3 2 1'
@@ -617,8 +617,8 @@ def test_a_grid_is_a_method_for_each_combination(experiment: Experiment) -> None
 
 
 def test_a_run_for_irace(experiment: Experiment, top: pathlib.Path) -> None:
-    """By the words with which irace calls it: all settings make about the same number of cells. It names what pfs
-    rejects, and the scenario has the files beside it."""
+    """As irace calls it: all settings make about the same number of cells. It names what pfs rejects, and the files
+    that the scenario names exist."""
     words = ["/usr/bin/python3", str(top / "experiments" / "target-runner.py"), "1", "2"]
     env = with_path(write_script(experiment.folder / "bin" / "pfs",
                                  f"#!/bin/sh\nexec {experiment.pfs.path} \"$@\"\n").parent)

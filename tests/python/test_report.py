@@ -538,7 +538,7 @@ WAY_HEAD = "instance,jobs,machines,method,seed,makespan,reference,seconds,trajec
 
 def test_trajectories_have_their_mean_and_the_share_that_reaches_the_target(done: Callable[[str], Any]) -> None:
     """The mean begins when all runs have an order. The target is the median of the RPDs at the end, which are 4, 2, 3
-    and 1. Runs without a trajectory aren't drawn, and the larger shop has a panel of its own."""
+    and 1. Runs without a trajectory aren't drawn, and the larger shop has another panel."""
     text = WAY_HEAD + "".join(f"i,20,5,{method},{seed},{way[-3:]},100,{seconds},{way}\n"
                               for method, ways in WAYS.items() for seed, (seconds, way) in enumerate(ways))
     figures = reports.along(done(text + "j,50,5,a,,101,100,3,3:101\nj,50,5,b,,101,100,7,\n"), None)

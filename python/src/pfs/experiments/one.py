@@ -39,7 +39,7 @@ LIBRARY = "libpfs.so.1"
 # A command, and each of its processes, may use this multiple of its processor time, and these seconds for its start,
 # in whole seconds. In real time it may take ten times as long, and this number of seconds more.
 TIMES, START, PATIENCE = 1.5, 0.5, 10.0
-# The most bytes that a command may print beside its trajectory, how many of the last of its errors are kept, and the
+# The most bytes that a command may print without its trajectory, how many of the last of its errors are kept, and the
 # most lines of a trajectory.
 MOST_BYTES, MOST_SAID, MOST_POINTS = 1_048_576, 1_000, 1_000
 # A makespan with its order, which a command prints while it runs.

@@ -31,7 +31,7 @@ RESULT = ["number", "makespan", "bound", "cells", "seconds", "status", "rounds",
 KILLED = re.compile("(?:solve|check): (?:signal [0-9]+|exit 4, pfs: no memory)|lost: .*")
 # The end of a line of GNU parallel's log: the exit status, the signal, and the numbers of the runs in the command.
 LOGGED = re.compile(r"\t([0-9]+)\t([0-9]+)\t[^\t\n]*/one((?: [0-9,]+)+)$", re.ASCII | re.MULTILINE)
-# The length of a result in bytes, which stands before it.
+# The line before a result, with its length in bytes.
 LENGTH = re.compile(rb"([0-9]{1,9})\n")
 # The most kinds of errors that are reported, and the columns that describe the first run of each.
 MOST_KINDS = 10
@@ -80,8 +80,8 @@ def together(left: list[Row]) -> list[list[Row]]:
 
 
 def run(args: argparse.Namespace) -> int:
-    """Makes the runs that are left with GNU parallel, by default one per core at a time, and writes the CSV. What the
-    processes of each start print has a name of its own, so that an earlier one writes into no file of a later one."""
+    """Makes the runs that are left with GNU parallel, by default one per core at a time, and writes the CSV. The files
+    of results have new names at each start, so no process of an earlier start writes into one of a later start."""
     experiment, runs = begin(args, "parallel", "parallel")
     machines = args.sshloginfile
     if machines and os.path.isfile(machines):
