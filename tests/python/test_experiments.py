@@ -460,6 +460,16 @@ def test_another_program_is_run_and_audited(experiment: Experiment) -> None:
     assert experiment.written() == before, "runs that were made again"
 
 
+def test_a_command_that_replaces_the_audit_is_reported(experiment: Experiment) -> None:
+    """Its CSV isn't written."""
+    for change in ("cp $0 ../pfs", "rm ../one", "echo >> ../order_text.py"):
+        plan = ONLY_B + 'method = "m"\ncommand = "./mine {instance}"\n'
+        got = with_other(experiment, plan, f"{change}; echo 1 2 3").run()
+        assert_refused(got, "out.csv: a command has changed the programs by which its orders are audited: delete ")
+        assert not (experiment.folder / "out.csv").exists()
+        shutil.rmtree(experiment.runs)
+
+
 def test_a_plan_has_several_methods(experiment: Experiment) -> None:
     """Each with its own settings. It may grow by some, whose commands can't change."""
     first = ONLY_B + 'seeds = [1, 2]\n[[methods]]\nmethod = "=p"\nrounds = [0, 5]\n'

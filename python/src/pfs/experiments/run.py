@@ -19,7 +19,7 @@ import sys
 from collections.abc import Container, Iterator
 
 from pfs._atomic import FORMULA, text_cell
-from pfs.experiments import csv_text, one, plain, stage
+from pfs.experiments import ExperimentError, csv_text, one, plain, stage
 from pfs.experiments.plan import Reference, Row, reference_for, rows_of
 from pfs.experiments.stage import Experiment, prepare, write_text
 
@@ -83,6 +83,8 @@ def run(args: argparse.Namespace) -> int:
     """Makes the runs that are left with GNU parallel, by default one per core at a time, and writes the CSV. The files
     of results have new names at each start, so no process of an earlier start writes into one of a later start."""
     experiment, runs = begin(args, "parallel", "parallel")
+    auditors = [experiment.folder / experiment.stage / name for name in stage.OWN]
+    before = [path.read_bytes() for path in auditors]
     machines = args.sshloginfile
     if machines and os.path.isfile(machines):
         machines = os.path.abspath(machines)
@@ -92,6 +94,9 @@ def run(args: argparse.Namespace) -> int:
     words += ["--sshloginfile", machines, "--basefile", experiment.stage] if machines else []
     words += [*args.options, "python3", "-I", "-S", f"{experiment.stage}/one"]
     parallel(experiment.folder, words)
+    if before != [path.read_bytes() if path.exists() else b"" for path in auditors]:
+        raise ExperimentError(f"{args.csv}: a command has changed the programs by which its orders are audited: delete "
+                              f"{experiment.folder}")
     failed, left = gather(experiment, args.csv)
     if machines and left == 0:
         subprocess.run(["parallel", "--plain", "--will-cite", "--sshloginfile", machines, "--nonall",

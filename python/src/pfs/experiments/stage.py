@@ -37,6 +37,8 @@ KEY = ["file", "block", "method", "rounds", "time_factor", "take", "passes", "se
 OF_ROUNDS = ["take", "passes", "seed"]
 # What `pfs generate 1 1 1` prints.
 ONE_JOB = b"1 1 1 0 0\nprocessing times :\n1\n"
+# The programs in the stage that search and audit.
+OWN = ("pfs", "one", "rounds.py", "order_text.py")
 # Seconds after which a program that doesn't behave like pfs is killed.
 PATIENCE = 20
 
@@ -165,8 +167,7 @@ def begin(folder: pathlib.Path, pfs: str) -> None:
         shutil.rmtree(half_done)
     stage = folder / f"pfs-experiment-{secrets.token_hex(6)}"
     (folder / "results").mkdir(exist_ok=True)
-    for source, name in ((pfs, "pfs"), (one.__file__, "one"), (_rounds.__file__, "rounds.py"),
-                         (_order_text.__file__, "order_text.py")):
+    for source, name in zip((pfs, one.__file__, _rounds.__file__, _order_text.__file__), OWN):
         copy(source, stage / name)
         (stage / name).chmod(0o755)
 
