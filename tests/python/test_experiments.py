@@ -352,15 +352,17 @@ def test_runs_by_time_take_their_time(experiment: Experiment, with_library: dict
 
 
 def test_readmes_plans_by_time(experiment: Experiment, with_library: dict[str, str]) -> None:
-    """For files in OR-Library's layout, and for several methods."""
-    for_vfr, of_mine, methods = re.findall(r"```\n([^`]*time_factors[^`]*)```", README)
+    """For files in OR-Library's layout, for a grid, and for several methods."""
+    for_vfr, of_mine, of_grid, methods = re.findall(r"```\n([^`]*time_factors[^`]*)```", README)
     (experiment.folder / "VFR10_5_1_Gap.txt").write_text(
         experiment.printed("convert", "--from", "taillard", "--to", "orlib", "shops/b"))
     (experiment.folder / "best.csv").write_text("instance,makespan\nVFR10_5_1,20\n")
     assert experiment.plan(for_vfr).run(env=with_library).status == 0
     assert experiment.columns("instance", "time_factor", "reference") == [("VFR10_5_1_Gap.txt", "30", "20")]
-    write_script(experiment.folder / "mine", "#!/bin/sh\necho 1 2 3\n")
-    for text, found in ((of_mine, {("mine", "")}), (methods, {("mine", ""), ("pfs", "1")})):
+    makespan = experiment.printed("value", "--layout", "taillard", "shops/b").strip()
+    write_script(experiment.folder / "mine", f"#!/bin/sh\necho {makespan} 1 2 3\n")
+    grid = {(f"mine, temperature {first}, take {second}", "") for first in ("0.2", "0.4") for second in (2, 4)}
+    for text, found in ((of_mine, {("mine", "")}), (of_grid, grid), (methods, {("mine", ""), ("pfs", "1")})):
         experiment.plan(re.sub("out/taillard/[^\"]*", "shops/b", text))
         assert experiment.run("methods.csv", env=with_library).status == 0
         assert {*experiment.columns("method", "passes", csv_name="methods.csv")} == found

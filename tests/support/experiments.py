@@ -138,7 +138,7 @@ class Experiment(NamedTuple):
     def done(self) -> set[str]:
         """The numbers of the runs that have a whole result."""
         texts = [path.read_text() for path in (self.runs / "results").glob("*[0-9]")]
-        return {number for text in texts for number in re.findall(r"^(\d+),\d+,.*,ok$", text, re.MULTILINE)}
+        return {number for text in texts for number in re.findall(r"^(\d+),\d+,.*,ok,.*$", text, re.MULTILINE)}
 
     def written(self) -> dict[str, int]:
         """When each result was written."""
