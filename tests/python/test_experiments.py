@@ -362,10 +362,11 @@ def test_readmes_plans_by_time(experiment: Experiment, with_library: dict[str, s
     makespan = experiment.printed("value", "--layout", "taillard", "shops/b").strip()
     write_script(experiment.folder / "mine", f"#!/bin/sh\necho {makespan} 1 2 3\n")
     grid = {(f"mine, temperature {first}, take {second}", "") for first in ("0.2", "0.4") for second in (2, 4)}
-    for text, found in ((of_mine, {("mine", "")}), (of_grid, grid), (methods, {("mine", ""), ("pfs", "1")})):
+    for name, text, found in (("methods", of_mine, {("mine", "")}), ("methods", methods, {("mine", ""), ("pfs", "1")}),
+                              ("grid", of_grid, grid)):
         experiment.plan(re.sub("out/taillard/[^\"]*", "shops/b", text))
-        assert experiment.run("methods.csv", env=with_library).status == 0
-        assert {*experiment.columns("method", "passes", csv_name="methods.csv")} == found
+        assert experiment.run(f"{name}.csv", env=with_library).status == 0
+        assert {*experiment.columns("method", "passes", csv_name=f"{name}.csv")} == found
 
 
 def test_a_search_by_time_continues_with_another_seed(libpfs: Library, monkeypatch: pytest.MonkeyPatch) -> None:
