@@ -5,7 +5,7 @@ import pathlib
 import random
 import re
 import time
-from collections.abc import Sequence
+from collections.abc import Callable, Sequence
 from typing import Any
 
 import numpy as np
@@ -350,7 +350,7 @@ def wrong_makespan(kind: str, rows: list[dict[str, Any]], at: int, chance: rando
     swapped[one], swapped[two] = order[two], order[one]
     flat = shop.times.T.flatten().tolist()
     turned = shop.times[:, [1, 0, *range(2, shop.machines)]]
-    stated = {
+    stated: dict[str, Callable[[], int]] = {
         "of another instance": lambda: makespan(shop_of(other), order),
         "reversed": lambda: makespan(shop, order[::-1]), "a digit is lost": lambda: makespan(shop, order) // 10,
         "places": lambda: makespan(shop, [order.index(job) for job in range(count)]),
@@ -360,8 +360,8 @@ def wrong_makespan(kind: str, rows: list[dict[str, Any]], at: int, chance: rando
         "two jobs": lambda: makespan(shop, swapped),
         "of another method": lambda: int(rows[method_at]["makespan"]),
         "of another row": lambda: int(other["makespan"]),
-        "machines": lambda: plainly.makespan(turned.tolist(), order)}[kind]()
-    return stated, str(other["instance"]), {other_at, method_at}
+        "machines": lambda: plainly.makespan(turned.tolist(), order)}
+    return stated[kind](), str(other["instance"]), {other_at, method_at}
 
 
 def table_of(seed: int) -> tuple[list[dict[str, Any]], dict[int, tuple[str, str]]]:
