@@ -5,7 +5,7 @@ import pathlib
 import random
 import re
 import time
-from collections.abc import Sequence
+from collections.abc import Callable, Sequence
 from typing import Any
 
 import numpy as np
@@ -287,11 +287,12 @@ def test_causes_of_wrong_makespans() -> None:
 def test_rows_that_were_mistaken_for_others() -> None:
     stated = makespan(pfs.taillard(1), ORDER) + 77
     others = [{**row("Ta1", ORDER, stated, "GA"), "order": "1 2"}, row("ta003", ORDER, stated)]
-    assert told([row("ta001", ORDER, stated), *others[:1]]) == ["row 1 states it for this instance"]
+    assert told([row("ta001", ORDER, stated), *others[:1]]) == ["perhaps by chance, row 1 states it for this instance"]
     assert told([row("ta001", ORDER, stated), others[0], others[0]]) == [
-        "row 1 states it for this instance (as with 1 other row)"]
-    assert told([row("ta001", ORDER, stated), others[1]]) == ["row 1 states it for ta003"]
-    assert told([row("ta001", ORDER, stated, "HGA"), others[1]])[:1] != ["row 1 states it for ta003"]
+        "perhaps by chance, row 1 states it for this instance (as with 1 other row)"]
+    other = "perhaps by chance, row 1 states it for ta003"
+    assert told([row("ta001", ORDER, stated), others[1]]) == [other]
+    assert other not in told([row("ta001", ORDER, stated, "HGA"), others[1]])
 
 
 def test_jobs_that_were_exchanged() -> None:
@@ -303,7 +304,7 @@ def test_jobs_that_were_exchanged() -> None:
             order[one], order[other] = order[other], order[one]
             spans.setdefault(makespan(shop, order), []).append((one, other))
     takes = makespan(shop, ORDER)
-    texts = "with the jobs at places {} and {} exchanged it takes {}", " (as with {} other pair{})"
+    texts = "perhaps by chance, with the jobs at places {} and {} exchanged it takes {}", " (as with {} other pair{})"
     checked = 0
     for span, pairs in spans.items():
         if abs(span - takes) < 2:
@@ -315,6 +316,88 @@ def test_jobs_that_were_exchanged() -> None:
             assert found[-1] == texts[0].format(one + 1, other + 1, span) + more
             checked += 1
     assert checked > 20
+
+
+# The instances of a table of 300 rows, and the methods.
+NUMBERS, METHODS = (*range(1, 26), *range(31, 56), *range(61, 86)), ["NEH", "IG", "HGA", "TS"]
+# Of 17 errors how often each is made, and what is told of it; nothing of the last one, which no audit can know.
+KINDS = {"of another instance": (2, "the order takes {} on {}"), "reversed": (2, "the reversed order takes {}"),
+         "a digit is lost": (2, "no order takes less than"), "places": (2, "as the places of the jobs it takes {}"),
+         "read job by job": (1, "with jobs and machines exchanged it takes {}"),
+         "sum": (1, "that is the sum of the completion times"), "best known": (2, "that is the best known makespan"),
+         "neighbours": (1, "exchanged it takes {}"),
+         "two jobs": (1, "exchanged it takes {}"), "of another method": (1, "states it for this instance"),
+         "of another row": (1, "states it for {1}"), "machines": (1, "no cause")}
+
+
+def shop_of(given: dict[str, Any]) -> pfs.Instance:
+    return pfs.taillard(int(given["instance"][2:]))
+
+
+def wrong_makespan(kind: str, rows: list[dict[str, Any]], at: int, chance: random.Random) -> tuple[int, str, set[int]]:
+    """A makespan that somebody states by an error of this kind, the name of another instance, and the rows that it may
+    be of."""
+    order = [job - 1 for job in rows[at]["order"]]
+    shop, count = shop_of(rows[at]), len(order)
+    first = at - at % 100
+    like = [other for other in range(first, first + 100)
+            if other % 4 == at % 4 and shop_of(rows[other]).machines == shop.machines and other != at]
+    other_at, method_at = chance.choice(like), at - at % 4 + (at + 1) % 4
+    other = rows[other_at]
+    one = chance.randrange(count - 1)
+    two = one + 1 if kind == "neighbours" else chance.randrange(one + 1, count)
+    swapped = order.copy()
+    swapped[one], swapped[two] = order[two], order[one]
+    flat = shop.times.T.flatten().tolist()
+    turned = shop.times[:, [1, 0, *range(2, shop.machines)]]
+    stated: dict[str, Callable[[], int]] = {
+        "of another instance": lambda: makespan(shop_of(other), order),
+        "reversed": lambda: makespan(shop, order[::-1]), "a digit is lost": lambda: makespan(shop, order) // 10,
+        "places": lambda: makespan(shop, [order.index(job) for job in range(count)]),
+        "read job by job": lambda: plainly.makespan(np.reshape(flat, shop.times.shape).tolist(), order),
+        "sum": lambda: sum(makespan(shop, order[:length]) for length in range(1, count + 1)),
+        "best known": lambda: shop.upper, "neighbours": lambda: makespan(shop, swapped),
+        "two jobs": lambda: makespan(shop, swapped),
+        "of another method": lambda: int(rows[method_at]["makespan"]),
+        "of another row": lambda: int(other["makespan"]),
+        "machines": lambda: plainly.makespan(turned.tolist(), order)}
+    return stated[kind](), str(other["instance"]), {other_at, method_at}
+
+
+def table_of(seed: int) -> tuple[list[dict[str, Any]], dict[int, tuple[str, str]]]:
+    """A table of good orders, and of each row whose makespan is wrong the kind of the error and what is told of it."""
+    chance, rows, found = random.Random(seed), list[dict[str, Any]](), dict[int, tuple[str, str]]()
+    for number in NUMBERS:
+        shop = pfs.taillard(number)
+        for method in METHODS:
+            order = shop.neh().order.tolist()
+            for _ in range(METHODS.index(method) * 2):
+                order.insert(chance.randrange(len(order)), order.pop(chance.randrange(len(order))))
+            rows.append(row(f"ta{number:03}", order, makespan(shop, order), method))
+    right = [dict(each) for each in rows]
+    free, kept = chance.sample(range(len(rows)), len(rows)), set[int]()
+    for kind, (count, text) in KINDS.items():
+        for _ in range(count):
+            while True:
+                at = free.pop()
+                stated, name, sources = wrong_makespan(kind, right, at, chance)
+                if abs(stated - right[at]["makespan"]) > 1 and at not in kept and not sources & found.keys():
+                    break
+            rows[at]["makespan"], found[at] = stated, (kind, text.format(stated, name))
+            kept |= sources
+    return rows, found
+
+
+@pytest.mark.parametrize("seed", range(3))
+def test_of_17_wrong_makespans_in_300_rows_16_have_their_cause(seed: int) -> None:
+    rows, wrong = table_of(seed)
+    audited = pfs.audit(rows)
+    assert {at for at, each in enumerate(audited) if not each.valid} == wrong.keys()
+    told = {at: audited[at].why.split("; ")[1:] for at in wrong}
+    unexplained = [kind for at, (kind, text) in wrong.items() if not any(text in hint for hint in told[at])]
+    assert unexplained == ["machines"]
+    others = [(kind, hint) for at, (kind, text) in wrong.items() for hint in told[at] if text not in hint]
+    assert [pair for pair in others if not pair[1].startswith("perhaps by chance, ")] == []
 
 
 def test_an_instance_is_named_once_whatever_its_spellings() -> None:

@@ -691,6 +691,24 @@ def test_a_plan_on_a_calendar(folder: pathlib.Path) -> None:
         "end 2026-12-02 13:10\n", "")
 
 
+def test_no_output_is_where_the_plan_is_printed(folder: pathlib.Path) -> None:
+    """Also by a link. A link into a folder that is missing is rejected before the search too, and one to a file that
+    isn't there yet is followed."""
+    (folder / "times.csv").write_text(TABLE)
+    for name, target in (("out.csv", "/dev/stdout"), ("bad.csv", "none/x.csv"), ("new.csv", "x.csv")):
+        (folder / name).symlink_to(target)
+    replaced = "is printed to, and writing would replace it: name another file"
+    words = [sys.executable, "-m", "pfs", "plan", "times.csv", "--rounds", "1", "--schedule"]
+    for path, status, said in (("plan.csv", 3, replaced), ("out.csv", 3, replaced),
+                               ("bad.csv", 4, "bad.csv: No such file or directory"), ("new.csv", 0, "")):
+        with open(folder / "plan.csv", "w") as file:
+            got = subprocess.run([*words, path], cwd=folder, env=environment(), stdin=subprocess.DEVNULL,
+                                 stdout=file, stderr=subprocess.PIPE, text=True)
+        assert (got.returncode, said in got.stderr) == (status, True), got
+        assert (folder / "plan.csv").read_text().startswith("makespan ") == (status == 0)
+    assert (folder / "x.csv").exists() and (folder / "new.csv").is_symlink()
+
+
 # What is rejected before the search, and why
 
 SEARCH, PLAN, BEGIN = " ".join(LONG), "plan times.csv", "--begin 2026-11-30T06:00"

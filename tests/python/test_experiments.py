@@ -1,7 +1,9 @@
 """The CSV of an experiment has the results of pfs itself: with GNU parallel, here and over ssh, and on a Slurm cluster
 of one node, also if its runs were killed at various moments and repeated, and if two experiments start at once."""
+import contextlib
 import functools
 import hashlib
+import itertools
 import json
 import os
 import pathlib
@@ -10,10 +12,13 @@ import shutil
 import signal
 import subprocess
 import time
+from random import Random
 from typing import Any
+from unittest import mock
 
 import pfs
 import pytest
+from hypothesis import given, strategies
 from pfs import _rounds
 from pfs._rounds import Rounds
 from pfs.experiments import one, plan, run
@@ -46,6 +51,7 @@ def assert_refused(got: Done, *said: str, status: int = 2) -> None:
 # The instances of a plan, to which other lines may be added.
 ALL, ONLY_B = 'instances = ["shops/*"]\n', 'instances = ["shops/b"]\n'
 MINE = ALL + 'method = "m"\n'
+GRID = MINE + 'command = "a {instance} {x}"\n'
 INVALID = {
     "seed": ALL + "seed = [1]\n", "rounds must": ALL + "rounds = 3\n", "rounds must be": ALL + "rounds = []\n",
     "seeds": ALL + "seeds = [1.5]\n", "seeds must": ALL + "seeds = [true]\n", "passes": ALL + "passes = [101]\n",
@@ -67,12 +73,24 @@ INVALID = {
     "../": MINE + 'command = "a {instance}"\nfiles = ["../*/shops/a"]\n', "method": ALL + 'method = "a\\nb"\n',
     "must be tables": ALL + "methods = [1]\n", "key 'layout' of methods": ALL + '[[methods]]\nlayout = "orlib"\n',
     "each of methods needs method": ALL + "[[methods]]\n[[methods]]\n",
+    "anytime must be true or false": MINE + 'anytime = 1\n', "anytime is for a command with time_factors":
+    MINE + 'anytime = true\ncommand = "a {instance}"\n', "anytime is for a command":
+    ALL + "anytime = true\ntime_factors = [1]\n",
+    **{f"grid must be a table of lists, of different numbers or texts{' ' * at}": GRID + text
+       for at, text in enumerate(("grid = 3\n", "grid = []\n", "[grid]\n", "[grid]\nx = 1\n", "[grid]\nx = []\n",
+                                  "[grid]\nx = [1, 1]\n", '[grid]\nx = [1, "1"]\n', "[grid]\nx = [true]\n",
+                                  "[grid]\nx = [[1]]\n", '[grid]\nx = ["a\\nb"]\n'))},
+    "grid has y, so the command must contain {y}": GRID + "[grid]\nx = [1]\ny = [2]\n",
+    "grid has seed, so": GRID.replace("{x}", "{seed}") + "[grid]\nseed = [1]\n",
+    "grid has x, so": ALL + "[grid]\nx = [1]\n", "command needs method": GRID.replace("method", "#") +
+    "[grid]\nx = [1]\n", "{x}, but there are only": GRID,
 }
 
 
 @pytest.mark.parametrize(("named", "text"), INVALID.items(), ids=INVALID)
 def test_an_invalid_plan_is_rejected_with_its_fault(text: str, named: str, experiment: Experiment) -> None:
-    assert_refused(experiment.plan(text).run(), "pfs-experiments run: ", named, status=4 if named == "none.csv" else 2)
+    status = 4 if named == "none.csv" else 2
+    assert_refused(experiment.plan(text).run(), "pfs-experiments run: ", named.rstrip(), status=status)
     assert sorted(os.listdir(experiment.folder)) == ["plan.toml", "shops"]
 
 
@@ -260,15 +278,18 @@ def test_names_of_instances_are_not_formulas_in_a_spreadsheet(experiment: Experi
 # Folders that are damaged, and small disks
 
 RESULTS = [b"\xff\n", b'1,"\n', b"1,\0\n", b"o\n1,x,y,z,t,ok\n", b"1,1,1,1,1.000000,ok\n",
-           b"o\n1,1,1,1,1.000000,o", b"o\n1,1,1,1,1.000000,ok,12", None]
+           b"o\n1,1,1,1,1.000000,o", b"o\n1,1,1,1,1.000000,ok,12"]
+# Files of results, each after its length.
+FILES = [None, b"", b"2", b"x\n", b"\xff\n", b"99\no\n1,1,1,1,1.000000,ok\n",
+         *(b"%d\n%b" % (len(data), data) for data in RESULTS)]
 PLANS = [b"{", b"[]", b'{"places": 1}', b"[" * 100_000, b'{"layout": "\xff"}', b'{"places": {}, "runs": []}']
 
 
 def test_a_damaged_result_is_made_again_and_a_damaged_plan_is_reported(made: Experiment) -> None:
     """On one line; so is a folder without a program."""
     (made.runs / "joblog").write_bytes(b"\xff\n1\t2\n")
-    for data in RESULTS:
-        path = made.runs / "results" / "1"
+    for data in FILES:
+        path = max((made.runs / "results").glob("*-1"), key=lambda path: path.stat().st_mtime_ns)
         path.unlink() if data is None else path.write_bytes(data)
         assert made.run() == ended(6), f"{data!r} is taken as it is"
         assert made.rows() == made.wanted(rounds=(10,)), data
@@ -386,18 +407,22 @@ def test_bounds_are_proved_and_optima_counted(experiment: Experiment, with_libra
 
 
 def test_readmes_plans_by_time(experiment: Experiment, with_library: dict[str, str]) -> None:
-    """For files in OR-Library's layout, and for several methods."""
-    for_vfr, of_mine, methods = re.findall(r"```\n([^`]*time_factors[^`]*)```", README)
+    """For files in OR-Library's layout, for a grid, and for several methods."""
+    for_vfr, of_mine, of_grid, methods = re.findall(r"```\n([^`]*time_factors[^`]*)```", README)
     (experiment.folder / "VFR10_5_1_Gap.txt").write_text(
         experiment.printed("convert", "--from", "taillard", "--to", "orlib", "shops/b"))
     (experiment.folder / "best.csv").write_text("instance,makespan\nVFR10_5_1,20\n")
     assert experiment.plan(for_vfr).run(env=with_library).status == 0
     assert experiment.columns("instance", "time_factor", "reference") == [("VFR10_5_1_Gap.txt", "30", "20")]
-    write_script(experiment.folder / "mine", "#!/bin/sh\necho 1 2 3\n")
-    for text, found in ((of_mine, {("mine", "")}), (methods, {("mine", ""), ("pfs", "1"), ("longer", "100")})):
+    makespan = experiment.printed("value", "--layout", "taillard", "shops/b").strip()
+    write_script(experiment.folder / "mine", f"#!/bin/sh\necho {makespan} 1 2 3\n")
+    grid = {(f"mine, temperature {first}, take {second}", "") for first in ("0.2", "0.4") for second in (2, 4)}
+    for name, text, found in (("methods", of_mine, {("mine", "")}),
+                              ("methods", methods, {("mine", ""), ("pfs", "1"), ("longer", "100")}),
+                              ("grid", of_grid, grid)):
         experiment.plan(re.sub("out/taillard/[^\"]*", "shops/b", text))
-        assert experiment.run("methods.csv", env=with_library).status == 0
-        assert {*experiment.columns("method", "passes", csv_name="methods.csv")} == found
+        assert experiment.run(f"{name}.csv", env=with_library).status == 0
+        assert {*experiment.columns("method", "passes", csv_name=f"{name}.csv")} == found
 
 
 def test_a_search_by_time_continues_with_another_seed(libpfs: Library, monkeypatch: pytest.MonkeyPatch) -> None:
@@ -464,6 +489,10 @@ command = "./mine {{instance}} {{seed}} {{seconds}} {{name}} {{jobs}} {{machines
 """
 
 
+# Uses 0.3 seconds of processor time.
+BUSY = "import time\nwhile time.process_time() < 0.3: pass\n"
+
+
 def with_other(experiment: Experiment, plan: str, program: str) -> Experiment:
     write_script(experiment.folder / "mine", f"#!/bin/sh\n{program}\n")
     return experiment.plan(plan)
@@ -490,6 +519,16 @@ def test_another_program_is_run_and_audited(experiment: Experiment) -> None:
     assert experiment.written() == before, "runs that were made again"
 
 
+def test_a_command_that_replaces_the_audit_is_reported(experiment: Experiment) -> None:
+    """Its CSV isn't written."""
+    for change in ("cp $0 ../pfs", "rm ../one", "echo >> ../order_text.py"):
+        plan = ONLY_B + 'method = "m"\ncommand = "./mine {instance}"\n'
+        got = with_other(experiment, plan, f"{change}; echo 1 2 3").run()
+        assert_refused(got, "out.csv: a command has changed the programs by which its orders are audited: delete ")
+        assert not (experiment.folder / "out.csv").exists()
+        shutil.rmtree(experiment.runs)
+
+
 def test_a_plan_has_several_methods(experiment: Experiment) -> None:
     """Each with its own settings. It may grow by some, whose commands can't change."""
     first = ONLY_B + 'seeds = [1, 2]\n[[methods]]\nmethod = "=p"\nrounds = [0, 5]\n'
@@ -514,6 +553,161 @@ def test_a_plan_has_several_methods(experiment: Experiment) -> None:
     assert_refused(experiment.plan(first).run(), "was started with another plan, which has block 1, method mine")
 
 
+# Trajectories and grids
+
+# At these seconds of processor time a program prints these lines.
+WALK = """#!/usr/bin/python3
+import sys, time
+open("{notes}", "a").write(" ".join(sys.argv[1:]) + "\\n")
+for seconds, line in {lines}:
+    while time.process_time() < seconds:
+        pass
+    print(line, flush=True)
+"""
+ANYTIME = """instances = ["shops/a"]
+time_factors = {}
+method = "walk"
+command = "./walk {{instance}} {{seconds}}"
+anytime = {}
+"""
+# The orders of the first shop by number, of NEH, and after 1,000 rounds, each with its makespan.
+Stated = list[str]
+
+
+@pytest.fixture
+def stated(experiment: Experiment) -> Stated:
+    orders = [" ".join(map(str, range(1, 21)))]
+    makespans = ["1448"]
+    for rounds in ("0", "1000"):
+        _, order, last = experiment.printed("solve", "--layout", "taillard", "--rounds", rounds, "shops/a").splitlines()
+        orders.append(order)
+        makespans.append(last.split()[1])
+    assert [*map(int, makespans)] == sorted({*map(int, makespans)}, reverse=True)
+    return [f"makespan {makespan} {order}" for makespan, order in zip(makespans, orders)]
+
+
+def walk(experiment: Experiment, lines: list[tuple[float, str]], factors: list[int], anytime: bool = True,
+         **how: Any) -> Done:
+    write_script(experiment.folder / "walk", WALK.format(notes=experiment.folder / "notes", lines=lines))
+    return experiment.plan(ANYTIME.format(factors, json.dumps(anytime))).run(**how)
+
+
+def test_a_run_has_the_orders_of_shorter_ones(experiment: Experiment, stated: Stated) -> None:
+    """The best one that it had printed by their times, each of which is audited. What is done isn't changed by a plan
+    that grows. Without `anytime` each is made."""
+    lines = [(0, stated[0]), (0.8, stated[1]), (0.9, stated[0]), (1.6, stated[2])]
+    spans = [line.split()[1] for line in stated]
+    assert walk(experiment, lines, [10, 20, 40]) == ended(3)
+    assert experiment.started() == [mock.ANY], "programs that were started"
+    assert experiment.columns("time_factor", "makespan", "status") == [
+        (factor, span, "ok") for factor, span in zip(("10", "20", "40"), spans)]
+    seconds = [float(row[0]) for row in experiment.columns("seconds")]
+    assert seconds[:2] == [0.5, 1] and 1.6 <= seconds[2] < 2
+    ways = [way for way, in experiment.columns("trajectory")]
+    points = [point.split(":") for point in ways[2].split(" ")]
+    assert ways[:2] == ["", ""] and [span for _, span in points] == spans
+    assert 0 < float(points[0][0]) < 0.5 and 0.8 <= float(points[1][0]) < 1 and 1.6 <= float(points[2][0]) <= seconds[2]
+    orders = [(experiment.folder / name).read_text().splitlines()[1] for name, in experiment.columns("order")]
+    assert orders == [line.split(" ", 2)[2] for line in stated]
+    assert experiment.script("check", "out.csv").status == 0
+    before = experiment.columns(*HEAD)
+    assert walk(experiment, lines, [10, 20, 40, 50]) == ended(4)
+    assert experiment.columns(*HEAD)[:3] == before and len(experiment.started()) == 2
+    shutil.rmtree(experiment.runs)
+    assert walk(experiment, lines, [10, 20, 40], anytime=False).status == 1, "which takes too long for the first"
+    assert len(experiment.started()) == 5
+
+
+def test_an_order_on_the_way_that_is_wrong_or_late_fails(experiment: Experiment, stated: Stated) -> None:
+    """A wrong makespan, also of a line whose run then finds a better order, an order that isn't one, and too many. The
+    last order may be printed without its makespan, and be longer. A line that says more isn't an order."""
+    wrong = stated[0].replace("1448", "1447")
+    texts = {"wrong": (wrong, 2, "check: exit 1, wrong makespan, stated 1447, computed 1448"),
+             "no order": ("makespan 1448 3 x", 2, "command: no order printed: '3 x'"),
+             "0": ("makespan 1448 0 1", 2, "command: job 0: jobs count from 1"),
+             "longer": ("\n".join([stated[1], stated[0].split(" ", 2)[2]]), 0, "ok"),
+             "many": ("\n".join([stated[0]] * 1001), 2, "command: more than 1,000 makespans printed"),
+             "most": ("\n".join([stated[0]] * 999), 0, "ok"),
+             "words": (f"the makespan 1448 {stated[0]}", 2, "command: no order printed: 'the makespan 1448"),
+             "comma": (stated[0].replace(" ", ", ").replace("n, ", "n "), 0, "ok")}
+    for name, (text, failed, status) in texts.items():
+        got = walk(experiment, [(0, text), (0, stated[2] if failed else "")], [10, 20], csv_name=f"{name}.csv")
+        assert got.status == (1 if failed else 0), (name, got)
+        rows = experiment.columns("time_factor", "status", csv_name=f"{name}.csv")
+        assert all(row[1].startswith(status) for row in rows) and len(rows) == 2, (name, rows)
+    assert [*experiment.columns("makespan", csv_name="longer.csv")] == [(stated[1].split()[1],), ("1448",)]
+    assert walk(experiment, [(0.7, stated[0])], [10, 20]).status == 1
+    assert experiment.columns("status") == [("command: no order with its makespan printed in 0.5 s",), ("ok",)]
+
+
+@given(strategies.lists(strategies.sampled_from([b"makespan 7 1 2", b" makespan 8, 2 1 ", b"makespan 9", b"1 2", b""])),
+       strategies.lists(strategies.integers(0, 60)))
+def test_lines_are_taken_from_any_parts(lines: list[bytes], cuts: list[int]) -> None:
+    """Those with a makespan and an order are points, and the others are the output."""
+    with subprocess.Popen(["true"], stdout=subprocess.PIPE, stderr=subprocess.PIPE) as child:
+        printed = one.Printed(child)
+    text = b"".join(line + b"\n" for line in lines)
+    for start, end in itertools.pairwise([0, *sorted(cuts), len(text) + 60]):
+        printed.take(text[start:end])
+    points = {b"makespan 7 1 2": (7, "1 2"), b" makespan 8, 2 1 ": (8, "2 1")}
+    assert [point[1:] for point in printed.points] == [points[line] for line in lines if line in points]
+    assert printed.text == b"".join(line + b"\n" for line in lines if line not in points)
+
+
+TIMED = {"running": f"python3 -c '{BUSY}print(\"makespan 1 1\", flush=True)\nimport time; time.sleep(0.3)'",
+         "ended": f"(python3 -c '{BUSY}'); echo makespan 1 1",
+         "both": f"python3 -c '{BUSY}'; python3 -c '{BUSY}print(\"makespan 1 1\")'"}
+
+
+@pytest.mark.parametrize(("name", "line"), TIMED.items(), ids=TIMED)
+def test_the_time_of_an_order_is_that_of_all_processes(name: str, line: str, folder: pathlib.Path) -> None:
+    """Of those that run and, in hundredths of a second, of those that have ended."""
+    code = ("import sys; from pfs.experiments import one\n"
+            "_, spent, _, points = one.run_command(['sh', '-c', sys.argv[1]], '.', 9)\n"
+            "print(points[0].seconds, spent)\n")
+    env = dict(os.environ, PYTHONPATH=str(pathlib.Path(one.__file__).parents[2]))
+    got = run_tool(["/usr/bin/python3", "-B", "-c", code, line], folder, env=env)
+    seconds, spent = map(float, got.stdout.split())
+    assert (0.57 if name == "both" else 0.28) <= seconds <= spent, got
+
+
+def test_a_grid_is_a_method_for_each_combination(experiment: Experiment) -> None:
+    """With the values in its name and in its command. It may grow by values, and other methods may have none."""
+    grid = ('[[methods]]\nmethod = "m"\ncommand = "./mine {{instance}} {{x}} a{{y}}"\n'
+            '[methods.grid]\nx = {}\ny = [0.5]\n[[methods]]\nmethod = "other"\ncommand = "./mine {{instance}} 0 0"\n')
+    program = f'echo "$2 $3" >> {experiment.folder}/notes; echo 3 2 1'
+    plans: dict[str, list[str]] = {"[1, 20]": [], '[1, 20, "t; u"]': ["m, x t; u, y 0.5"]}
+    for values, more in plans.items():
+        assert with_other(experiment, ONLY_B + grid.format(values), program).run() == ended(3 + len(more))
+        names = [name for name, in experiment.columns("method")]
+        assert names == ["m, x 1, y 0.5", "m, x 20, y 0.5", *more, "other"]
+    assert sorted(experiment.started()) == ["0 0", "1 a0.5", "20 a0.5", "t; u a0.5"]
+    assert_refused(experiment.plan(ONLY_B + grid.format("[1]")).run(), "was started with another plan, which has")
+
+
+def test_a_run_for_irace(experiment: Experiment, top: pathlib.Path) -> None:
+    """As irace calls it: all settings make about the same number of cells. It names what pfs rejects, and the files
+    that the scenario names exist."""
+    words = ["/usr/bin/python3", str(top / "experiments" / "target-runner.py"), "1", "2"]
+    env = with_path(write_script(experiment.folder / "bin" / "pfs",
+                                 f"#!/bin/sh\nexec {experiment.pfs.path} \"$@\"\n").parent)
+    work = []
+    for take, passes, rounds in ((1, 0, 12_820), (4, 1, 541), (10, 3, 189)):
+        setting = ["--take", str(take), "--passes", str(passes)]
+        got = run_tool([*words, "7", "shops/a", *setting], experiment.folder, env=env)
+        solve = ["solve", "--layout", "taillard", "--rounds", str(rounds), "--seed", "7", "--cells", *setting]
+        *_, makespan, cells = experiment.printed(*solve, "shops/a").splitlines()
+        assert got == Done(0, makespan.removeprefix("makespan ") + "\n", ""), (take, passes)
+        work.append(int(cells.split()[1]))
+    assert max(work) < 1.02 * min(work)
+    assert run_tool([*words, "7", "shops/b", "--take", "10", "--passes", "0"], experiment.folder, env=env).status == 0
+    bad = run_tool([*words, "7", "plan.toml", "--take", "1", "--passes", "0"], experiment.folder, env=env)
+    assert bad.status != 0 and "pfs: " in bad.stderr and bad.stdout == ""
+    scenario = (top / "experiments" / "irace.txt").read_text()
+    named = re.findall(r'^(?:targetRunner|parameterFile) = "(.*)"$', scenario, re.MULTILINE)
+    assert len(named) == 2 and all((top / "experiments" / name).is_file() for name in named)
+
+
 # In this many seconds of processor time; what a line prints, and how many processes it leaves, or how it fails.
 SPIN = "setsid python3 -c 'import time\nwhile time.process_time() < 9: pass' "
 SLEEP = "setsid sleep 60 "
@@ -532,7 +726,7 @@ LINES = [
 def test_a_program_that_waits_or_takes_too_long_is_ended_with_all_that_it_has_started(
         seconds: str, line: str, wanted: str, folder: pathlib.Path) -> None:
     code = ("import sys; from pfs.experiments import one; one.PATIENCE = 3\n"
-            "try: text, _, left = one.run_command(['sh', '-c', sys.argv[2]], '.', float(sys.argv[1]))\n"
+            "try: text, _, left, _ = one.run_command(['sh', '-c', sys.argv[2]], '.', float(sys.argv[1]))\n"
             "except one.Failed as failure: print(failure)\nelse: print(text.strip(), left)\n")
     env = dict(os.environ, PYTHONPATH=str(pathlib.Path(one.__file__).parents[2]))
     got = run_tool(["/usr/bin/python3", "-B", "-c", code, seconds, line], folder, env=env)
@@ -626,6 +820,49 @@ def test_no_run_is_lost_or_made_again(kills: Kills, experiment: Experiment) -> N
     assert sum(counts.values()) <= len(counts) + 2 * len(kills), "searches that were lost by kills"
 
 
+# 60 runs, which are short enough to share processes.
+MANY = ALL + f"rounds = [10]\nseeds = {[*range(30)]}\n"
+
+
+def test_a_kill_at_any_moment_costs_at_most_the_runs_under_way(experiment: Experiment) -> None:
+    """Of the starter, of GNU parallel or of a process that makes several runs: the CSV is that of a study without
+    interruptions, and each run was begun once, but for one of each process for each kill."""
+    assert experiment.plan(MANY).run("whole.csv").status == 0
+    random, kills, jobs = Random(4), 0, 2
+    while (before := len(experiment.done())) < 60 and kills < 12:
+        begun = experiment.start("--jobs", str(jobs))
+        most = random.randint(before + 1, min(60, before + 12))
+        wait_until(lambda: len(experiment.done()) >= most or begun.poll() is not None, f"{most} runs are done")
+        time.sleep(random.uniform(0, 0.03))
+        done, whom = experiment.done(), random.choice([b"pfs-experiments\0run", b"/parallel\0", b"/one\0"])
+        for process in pathlib.Path("/proc").glob("[0-9]*"):
+            with contextlib.suppress(OSError):
+                if whom in (process / "cmdline").read_bytes() and os.getsid(int(process.name)) == begun.pid:
+                    os.kill(int(process.name), signal.SIGKILL)
+                    kills += 1
+                    break
+        begun.wait(60)
+        wait_until(lambda: experiment.left() == [], "what a start has begun ends")
+        assert done <= experiment.done(), "results that are lost"
+    assert kills > 3 and experiment.run(program=experiment.replacement()) == ended(60)
+    assert experiment.rows() == experiment.rows("whole.csv")
+    assert experiment.script("check", "out.csv").status == 0
+    counts = experiment.searches()
+    assert min(counts.values()) == 1 and sum(counts.values()) <= 60 + jobs * kills, "searches that were lost by kills"
+
+
+def test_a_run_that_kills_its_process_leaves_the_later_ones_to_the_next_start(experiment: Experiment) -> None:
+    """There it comes last, so the others of its process are made, also if it kills it again."""
+    program = experiment.replacement('"solve "*"--seed 1 "*shops/a|"solve "*"--seed 1 "*instances/1) kill -9 $PPID;;')
+    got = experiment.plan(MANY).run(program=program)
+    lost = "shops/a (rounds 10, take 4, passes 0, seed 1) failed: lost: exit 137, signal 0\n"
+    assert got == ended(54, 1, 6, lost), "8 runs a process, of which the second is lost"
+    assert experiment.run(program=program) == ended(60, 1, 0, lost)
+    (experiment.folder / "fixed").touch()
+    assert experiment.run(program=program) == ended(60)
+    assert set(experiment.searches().values()) == {1, 3}, "how often each run was begun"
+
+
 @pytest.mark.parametrize("number", [signal.SIGTERM, signal.SIGKILL])
 def test_what_gnu_parallel_leaves_has_no_lock(number: signal.Signals, experiment: Experiment) -> None:
     """If it is ended at its start, processes by which it counts how many there may be are left."""
@@ -661,7 +898,7 @@ def test_on_a_terminal_the_share_that_is_done_is_shown(experiment: Experiment) -
     words = [str(word) for word in experiment.words("run", "plan.toml", "out.csv")]
     with Terminal(words, experiment.folder) as terminal:
         assert terminal.read_all() == 0
-        assert re.search(rb"100% 12:0=\d+s", terminal.seen), terminal.seen[-300:]
+        assert re.search(rb"100% 6:0=\d+s", terminal.seen), terminal.seen[-300:]
         assert b"citation" not in terminal.seen.lower()
 
 
@@ -735,7 +972,7 @@ def test_the_last_array_says_how_a_run_ended(folder: pathlib.Path) -> None:
     for age, name in enumerate(("9-1.log", "10-1.log")):
         (folder / "slurm" / name).write_bytes(b"\xff\nrun 1\nrun 7\nslurmstepd-host: error: %s\n" % name.encode())
         os.utime(folder / "slurm" / name, (age, age))
-    assert run.endings(folder) == {"7": "lost: 10-1.log"}
+    assert run.endings(folder, ()) == {"7": "lost: 10-1.log"}
 
 
 # A run of the first shop takes minutes with as many passes as there may be, and one of the second less than a second.

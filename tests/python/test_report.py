@@ -531,6 +531,42 @@ def test_the_plots_of_times(done: Callable[[str], Any]) -> None:
     assert "cell of searches by time" in figure._suptitle.get_text()
 
 
+# Of two methods the seconds of two runs on an instance whose reference is 100, and their makespans on the way.
+WAYS = {"a": [(30, "1:110 10:104"), (40, "2:106 20:102")], "b": [(6, "3:103"), (5, "0.5:120 5:101")]}
+WAY_HEAD = "instance,jobs,machines,method,seed,makespan,reference,seconds,trajectory\n"
+
+
+def test_trajectories_have_their_mean_and_the_share_that_reaches_the_target(done: Callable[[str], Any]) -> None:
+    """The mean begins when all runs have an order. The target is the median of the RPDs at the end, which are 4, 2, 3
+    and 1. Runs without a trajectory aren't drawn, and the larger shop has another panel."""
+    text = WAY_HEAD + "".join(f"i,20,5,{method},{seed},{way[-3:]},100,{seconds},{way}\n"
+                              for method, ways in WAYS.items() for seed, (seconds, way) in enumerate(ways))
+    figures = reports.along(done(text + "j,50,5,a,,101,100,3,3:101\nj,50,5,b,,101,100,7,\n"), None)
+    assert list(figures) == ["trajectory", "target"]
+    first, second = figures["trajectory"].axes[:2]
+    assert (first.get_title(), second.get_title(), first.get_xscale()) == ("20×5", "50×5", "log")
+    lines = lines_of(first)
+    assert [(lines[name][0], lines[name][-1]) for name in "ab"] == [((2, 8), (40, 3)), ((3, 11.5), (6, 2))]
+    for x, y in lines["a"]:
+        assert y == pytest.approx(8 if x < 10 else 5 if x < 20 else 3), x
+    assert list(lines_of(second)) == ["a"] and {y for _, y in lines_of(second)["a"]} == {1}
+    first, second = figures["target"].axes[:2]
+    assert first.get_title() == "20×5: RPD of at most 2.500 %"
+    assert lines_of(first) == {"a": [(1, 0), (20, 0.5), (40, 0.5)], "b": [(0.5, 0), (5, 0.5), (6, 0.5)]}
+    assert lines_of(second) == {"a": [(3, 0), (3, 1), (3, 1)]}
+    assert {line.get_drawstyle() for line in first.get_lines()} == {"steps-post"}
+    assert reports.along(done(WAY_HEAD + "i,20,5,a,1,104,100,1,\n"), None) == {}
+
+
+@pytest.mark.parametrize("way", ["1", "1:", "x:104", "1:104 ", "2:110 1:104", "1:104 2:104", "1:103 2:104", "1:110",
+                                 "1e9:104", "-1:104", "1:110  2:104", "1:1_04", "\N{ARABIC-INDIC DIGIT ONE}:104"])
+def test_a_trajectory_leads_to_the_makespan_of_its_run(way: str, report: Reported) -> None:
+    """Each point is later, and shorter. That of a run that failed isn't read."""
+    got = report(WAY_HEAD + f"i,20,5,a,1,,,,x\ni,20,5,a,2,104,100,1,{way}\n")
+    assert got == Done(2, "", "pfs-experiments report: out.csv: line 3: the trajectory must be SECONDS:MAKESPAN for "
+                              "each better makespan, up to that of the run\n")
+
+
 def bars_of(axis: Any) -> list[list[float]]:
     """The ends of the intervals in a panel, from above."""
     return [[float(x) for x, _ in segment] for segment in axis.collections[0].get_segments()]
@@ -574,12 +610,12 @@ def test_all_is_inside_of_the_picture_and_can_be_read(width: str, options: list[
                                                       folder: pathlib.Path) -> None:
     """With long names, at the width of a column too: letters have 7 points or more. With `--no-title` nothing has a
     title."""
-    text = HEAD.replace("\n", ",method\n") + "".join(
+    text = HEAD.replace("\n", ",method,trajectory\n") + "".join(
         f"{name},{jobs},5,{rounds},1,0,1,1,{100 + at},90,1.0,1000,{rounds / 10},ok,"
-        f'"the method of somebody, number {at}"\n'
+        f'"the method of somebody, number {at}",0.01:120 0.05:{100 + at}\n'
         for at in range(3) for name, jobs in (("i", 20 + at), ("j", 20)) for rounds in (1, 10, 1000))
     assert report(text, "--format", "svg", "--width", width, *options).status == 0
-    for name in ("gap", "rpd", "seconds", "time", "differences"):
+    for name in ("gap", "rpd", "seconds", "time", "differences", "trajectory", "target"):
         picture = (folder / "report" / f"{name}.svg").read_text()
         assert f'width="{72 * float(width):g}pt"' in picture
         letters = re.findall(r'<text style="font: ([0-9.]+)px [^"]*?(?:text-anchor: (\w+))?" x="([0-9.]+)" '

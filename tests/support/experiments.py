@@ -2,6 +2,7 @@
 import itertools
 import os
 import pathlib
+import re
 import subprocess
 from collections.abc import Callable, Iterable, Iterator
 from contextlib import contextmanager, suppress
@@ -130,16 +131,14 @@ class Experiment(NamedTuple):
     def searches(self) -> dict[str, int]:
         """How often each run's search was started."""
         started = [(*line.split()[2:7:2], line.split()[-1]) for line in self.started()]
-        runs = [line.split("\t") for line in (self.runs / "runs.tsv").read_text().splitlines()]
+        table, = self.runs.glob("pfs-experiment-*/runs.tsv")
+        runs = [line.split("\t") for line in table.read_text().splitlines()]
         return {run[0]: started.count((run[4], run[7], run[8], run[1])) for run in runs}
 
     def done(self) -> set[str]:
-        """The numbers of the runs that have a whole result. A start removes those that are not whole."""
-        found = set()
-        for path in (self.runs / "results").glob("[0-9]*"):
-            with suppress(FileNotFoundError):
-                found |= {path.name} if path.name.isdigit() and path.read_text().endswith(",ok\n") else set()
-        return found
+        """The numbers of the runs that have a whole result."""
+        texts = [path.read_text() for path in (self.runs / "results").glob("*[0-9]")]
+        return {number for text in texts for number in re.findall(r"^(\d+),\d+,.*,ok,.*$", text, re.MULTILINE)}
 
     def written(self) -> dict[str, int]:
         """When each result was written."""

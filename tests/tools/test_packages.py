@@ -235,7 +235,7 @@ def test_the_packages_have_their_files_where_debian_looks(extracted: pathlib.Pat
     pages = "usr/share/doc/python3-pfs"
     places |= {f"usr/share/man/man1/{name}.1": f"python/{name}.1" for name in PROGRAMS} \
         | {f"{pages}/README.md": "python/README.md", "lib/systemd/system/pfs-web.service": "debian/pfs-web.service"} \
-        | {f"usr/share/lintian/overrides/{name}": f"debian/{name}.lintian-overrides" for name in ("pfs", LIBPFS)}
+        | {f"usr/share/lintian/overrides/{name}": f"debian/{name}.lintian-overrides" for name in PACKAGES}
     for folder, to in (("python/src/pfs", f"{MODULES}/pfs"), ("python/examples", f"{pages}/examples")):
         places |= {f"{to}/{name}": f"{folder}/{name}" for name in contents_of(made.copy.top / folder)}
     found = contents_of(extracted)
@@ -258,10 +258,8 @@ def test_the_packages_have_their_files_where_debian_looks(extracted: pathlib.Pat
 
 
 def test_debians_tools_accept_the_packages(made: Made, folder: pathlib.Path) -> None:
-    """Lintian but for the archive, which has the bytes that were proved, and for the changelog, which closes no bug of
-    Debian. Other packages depend on the library as it says."""
-    got = run_tool([tool("lintian"), "--allow-root", "--fail-on", "error,warning", "--suppress-tags",
-                    "initial-upload-closes-no-bugs,script-not-executable,unstripped-static-library",
+    """Lintian, whose overrides have their reasons. Other packages depend on the library as it says."""
+    got = run_tool([tool("lintian"), "--allow-root", "--fail-on", "error,warning",
                     *(made.path(f"/{package}_") for package in PACKAGES)], made.folder)
     assert (got.status, got.stdout) == (0, "")
     number = f"{BETWEEN}-1"

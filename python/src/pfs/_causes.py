@@ -50,12 +50,13 @@ class Causes:
 
     def of(self, row: Stated, jobs: list[int], makespan: int) -> list[str]:
         """Return hints at the cause of a wrong makespan. What may be a coincidence is only told where nothing else is
-        found, and not for a makespan that is off by one."""
+        found, marked, and not for a makespan that is off by one."""
         bound = row.shop.bound()
         found = [f"no order takes less than {bound}"] if row.makespan < bound else []
         causes = list(islice(self.certain(row, jobs, makespan), MOST_HINTS - len(found)))
         if not causes and abs(row.makespan - makespan) > 1:
-            causes = list(islice(self.possible(row, jobs), 1))
+            possible = islice(self.possible(row, jobs), MOST_HINTS - len(found))
+            causes = [f"perhaps by chance, {text}" for text in possible]
         return found + causes
 
     def certain(self, row: Stated, jobs: list[int], makespan: int) -> Iterator[str]:

@@ -293,7 +293,7 @@ def calendar_of(given: argparse.Namespace) -> Calendar | None:
 def check_outputs(inputs: Sequence[str | None], schedules: Sequence[str], charts: Sequence[str],
                   tables: Sequence[str]) -> None:
     """Raise an error before the search if an output would fail after it, or replace an input: for an ending that it
-    isn't written with, a file that is read, a missing folder, or no matplotlib."""
+    isn't written with, a file that is read or printed to, a missing folder, or no matplotlib. Links are followed."""
     endings = {ending_of(chart) for chart in charts}
     for path, what in (*((path, "schedule") for path in schedules), *((path, "table") for path in tables)):
         ending = os.path.splitext(path)[1].lower()
@@ -303,9 +303,11 @@ def check_outputs(inputs: Sequence[str | None], schedules: Sequence[str], charts
             optional("openpyxl", "writing a workbook")
     read = {os.path.realpath(path) for path in inputs if path is not None and os.path.isfile(path)}
     for path in [*schedules, *charts, *tables]:
-        if os.path.realpath(path) in read:
-            raise ValueError(f"{path} is read, and writing would replace it: name another file")
-        if not os.path.isdir(os.path.dirname(path) or "."):
+        target = os.path.realpath(path)
+        if target in read or (target == os.path.realpath("/dev/stdout") and os.path.isfile(target)):
+            what = "read" if target in read else "printed to"
+            raise ValueError(f"{path} is {what}, and writing would replace it: name another file")
+        if not os.path.isdir(os.path.dirname(target)):
             raise FileNotFoundError(errno.ENOENT, os.strerror(errno.ENOENT), path)
         if os.path.isdir(path):
             raise IsADirectoryError(errno.EISDIR, os.strerror(errno.EISDIR), path)

@@ -1,17 +1,18 @@
 #!/usr/bin/env python3
-"""One run of an experiment, in the folder of copies, which may be on another machine: needs Python alone. Searches with
-the program `pfs`, audits the order, and prints the order file, and then one line of CSV: the run's number, makespan,
-bound, cells, processor seconds of the search, `ok` or an error, the rounds of a search by time, and how many processes
-a command has left. Without an order it prints only this line. The exit status is 0 even if the search or the audit
-fails. A search by time, which is made with the library, has a limit and no rounds; what a run doesn't have is a hyphen.
-A method that the file `commands.json` has is a command, which is the search, or the name of a search that only the
-library makes. The arguments are those of `Run`."""
+"""Runs of an experiment, in the folder of copies, which may be on another machine: needs Python alone. The arguments
+are the numbers of the runs, each of which is a line of `runs.tsv`, with the values of `Run`; a hyphen is none. In 3,1,2
+the runs 1 and 2 are what run 3 had found by their times. `commands.json` has for a method its command, or the name of a
+search that only the library makes. Else it searches with the program `pfs`, or with the library if the run has a limit
+of time and no rounds. Audits the order. As soon as a run ends, prints the length of its result in bytes, on a line, and
+the result: the order file, and then one line of CSV with the run's number, makespan, bound, cells, processor seconds of
+the search, `ok` or an error, the rounds of a search by time, how many processes a command has left, and the trajectory,
+`SECONDS:MAKESPAN` for each better makespan. Without an order it is only this line. The exit status is 0 even if a
+search or an audit fails."""
 from __future__ import annotations
 
 import contextlib
 import csv
-import ctypes
-import functools
+import importlib
 import io
 import json
 import math
@@ -19,52 +20,55 @@ import os
 import re
 import resource
 import select
-import shutil
 import signal
 import subprocess
 import sys
-import tempfile
 import time
 from collections import namedtuple
-from collections.abc import Callable, Iterable
-from types import FrameType
-from typing import TYPE_CHECKING, NamedTuple
+from collections.abc import Callable, Iterable, Iterator
 
-if TYPE_CHECKING or __package__:
-    from pfs._order_text import numbers_in
-    from pfs._rounds import Pace, Rounds, iterating
-else:  # among the copies, where nothing else is left
-    sys.dont_write_bytecode = True
-    from order_text import numbers_in
-    from rounds import Pace, Rounds, iterating
+# Many runs are shorter than Python's start, so what only some runs need is imported where it is used.
+TYPE_CHECKING = False
+if TYPE_CHECKING:
+    from types import FrameType
+    from typing import Any
+
+    from pfs._rounds import Rounds
 
 HERE = os.path.dirname(os.path.abspath(__file__))
 LIBRARY = "libpfs.so.1"
 # A command, and each of its processes, may use this multiple of its processor time, and these seconds for its start,
 # in whole seconds. In real time it may take ten times as long, and this number of seconds more.
 TIMES, START, PATIENCE = 1.5, 0.5, 10.0
-# The most bytes that a command may print, and how many of the last of its errors are kept.
-MOST_BYTES, MOST_SAID = 1_048_576, 1_000
+# The most bytes that a command may print without its trajectory, how many of the last of its errors are kept, and the
+# most lines of a trajectory.
+MOST_BYTES, MOST_SAID, MOST_POINTS = 1_048_576, 1_000, 1_000
+# A makespan with its order, which a command prints while it runs.
+POINT = re.compile(rb"makespan ([0-9]{1,18})[ :,]\s*(\S.*)")
 PR_SET_PDEATHSIG, PR_SET_CHILD_SUBREAPER = 1, 36
 ENDINGS = (signal.SIGTERM, signal.SIGINT, signal.SIGHUP)
 
-# The arguments.
+# The values of a line of `runs.tsv`.
 Run = namedtuple("Run", "number file layout block rounds limit take passes seed repetition time_factor jobs machines "
-                        "instance method")
+                        "instance method anytime")
+# The order file of a search, its cells and seconds, the rounds if it was by time, how many processes a command has
+# left, and the better orders on the way.
+Found = namedtuple("Found", "order cells seconds rounds left points", defaults=("", 0, ()))
+# After how many seconds an order was found, its makespan, and its order file, or "" if the library says so.
+Point = namedtuple("Point", "seconds makespan order", defaults=("",))
+
+
+def shared(name: str) -> Any:
+    """Returns a module of the package, or its copy in this folder, in which `python3 -I -S` finds no module, and where
+    nothing else is left."""
+    if __package__:
+        return importlib.import_module(f"pfs._{name}")
+    sys.dont_write_bytecode, sys.path[:0] = True, [HERE]
+    return importlib.import_module(name)
 
 
 class Failed(Exception):
     """A run failed. The message says how."""
-
-
-class Found(NamedTuple):
-    """The order file of a search, its cells and seconds, the rounds if it was by time, and how many processes a command
-    has left."""
-    order: str
-    cells: str
-    seconds: float
-    rounds: str = ""
-    left: int = 0
 
 
 def run_pfs(run: Run, *words: str, text: str = "") -> subprocess.CompletedProcess[bytes]:
@@ -121,6 +125,8 @@ def audit(run: Run, order: str) -> tuple[str, str]:
 def caller(times: list[int], jobs: int, machines: int) -> Callable[..., None]:
     """Returns a function that calls a function of the library for C, which has to succeed, on the instance. The
     processing times are listed job by job."""
+    import ctypes
+    import weakref
     library, instance = ctypes.CDLL(os.path.join(HERE, LIBRARY)), ctypes.byref(ctypes.c_void_p())
 
     def check(function: str, *arguments: object) -> None:
@@ -130,18 +136,26 @@ def caller(times: list[int], jobs: int, machines: int) -> Callable[..., None]:
 
     sizes = [ctypes.c_size_t(size) for size in (len(times), jobs, machines)]
     check("pfs_prepare", (ctypes.c_uint32 * len(times))(*times), *sizes, instance)
-    return lambda function, *arguments: check(function, instance, *arguments)
+
+    def call(function: str, *arguments: object) -> None:
+        check(function, instance, *arguments)
+
+    weakref.finalize(call, library.pfs_release, instance)
+    return call
 
 
-def search(running: Rounds, seconds: float | None, rounds: int | None = None) -> float:
+def search(running: Rounds, seconds: float | None, rounds: int | None = None,
+           note: Callable[[float], object] = float) -> float:
     """Searches for this processor time or up to this round, and returns the time spent. A part is only started if it is
-    expected to end in time, as estimated from the part before it."""
-    start, pace = time.process_time(), Pace(seconds, time.process_time, least=0)
+    expected to end in time, as estimated from the part before it. Notes the time after each part."""
+    start, pace = time.process_time(), shared("rounds").Pace(seconds, time.process_time, least=0)
     running.begin()
+    note(time.process_time() - start)
     while count := pace.next(running.left_of_seed() if rounds is None else rounds - running.finished().total):
         before = time.process_time()
         running.run_rounds(count)
         pace.took(count, time.process_time() - before)
+        note(time.process_time() - start)
     return time.process_time() - start
 
 
@@ -149,40 +163,64 @@ def by_library(run: Run, is_iterated: bool) -> Found:
     """Searches by time, or also accepts longer orders, whose rounds count no cells."""
     jobs, machines, *pairs = map(int, pfs(run, "convert", "--to", "orlib").split()[3:])
     times = pairs[1::2]
-    more = iterating(sum(times), len(times)) if is_iterated else None
     is_by_time = run.limit != "-"
     try:
-        running = Rounds(caller(times, jobs, machines), jobs, int(run.take), int(run.passes), int(run.seed), more=more)
-        spent = search(running, float(run.limit)) if is_by_time else search(running, None, int(run.rounds))
+        call, rounds = caller(times, jobs, machines), shared("rounds")
+        more = rounds.iterating(sum(times), len(times)) if is_iterated else None
+        running = rounds.Rounds(call, jobs, int(run.take), int(run.passes), int(run.seed), more=more)
+        points: list[Point] = []
+        limits = (float(run.limit), None) if is_by_time else (None, int(run.rounds))
+        spent = search(running, *limits,
+                       lambda seconds: points.append(Point(seconds, running.finished().makespan.value)))
     except (OSError, AttributeError) as error:
         raise Failed(f"libpfs: {error}") from None
     best = running.finished()
     order = order_file(f"order2 {jobs} {machines}", [job + 1 for job in best.order], best.makespan.value)
-    return Found(order, "" if is_iterated else str(best.all_cells()), spent, str(best.total) if is_by_time else "")
+    return Found(order, "" if is_iterated else str(best.all_cells()), spent, str(best.total) if is_by_time else "",
+                 points=better(points) if is_by_time else [])
 
 
 # Other programs
 
 def by_command(words: list[str], run: Run) -> Found:
     """Searches with another program, which gets its own copy of the instance. If it prints only job numbers, the
-    audit computes the makespan."""
+    audit computes the makespan. Its last order is the result. The better ones on the way are audited too."""
+    import shutil
+    import tempfile
     try:
         with tempfile.TemporaryDirectory() as own:
             copy = shutil.copyfile(os.path.join(HERE, run.file), os.path.join(own, "instance"))
             os.chmod(copy, 0o444)
             values = {**run._asdict(), "seconds": run.limit, "instance": copy, "name": os.path.basename(run.instance)}
             words = [re.sub(r"\{(\w+)\}", lambda name: str(values[str(name[1])]), word) for word in words]
-            text, spent, left = run_command(words, os.path.join(HERE, "files"),
-                                            None if run.limit == "-" else float(run.limit))
-        order, jobs = order_of(text)
+            text, spent, left, printed = run_command(words, os.path.join(HERE, "files"),
+                                                     None if run.limit == "-" else float(run.limit))
+        points = [Point(point.seconds, point.makespan, stated_file(point)) for point in better(printed)]
+        order, jobs = ("", []) if points and not text.strip() else order_of(text)
     except Failed as failure:
         raise Failed(f"command: {failure}") from None
+    for point in points:
+        audit(run, point.order)
     if jobs:
         first = f"order {len(jobs)}"
         verdict = run_pfs(run, "check", text=order_file(first, jobs, 0)).stdout.decode(errors="replace")
         computed = re.search("^computed ([0-9]{1,18})$", verdict, re.MULTILINE)
         order = order_file(first, jobs, int(computed[1]) if computed else 0)
-    return Found(order, "", spent, left=left)
+    return Found(order or points[-1].order, "", spent, left=left, points=points)
+
+
+def better(points: Iterable[Point]) -> list[Point]:
+    """Returns those that are shorter than all before them."""
+    found: list[Point] = []
+    for point in points:
+        found += [point] if not found or point.makespan < found[-1].makespan else []
+    return found
+
+
+def stated_file(point: Point) -> str:
+    """Returns the order file of an order that was printed with its makespan."""
+    _, jobs = order_of(point.order)
+    return order_file(f"order {len(jobs)}", jobs, point.makespan)
 
 
 def order_of(text: str) -> tuple[str, list[str]]:
@@ -192,7 +230,7 @@ def order_of(text: str) -> tuple[str, list[str]]:
         raise Failed("nothing printed")
     if re.match("order2? ", lines[0]):
         return text if text.endswith("\n") else f"{text}\n", []
-    numbers = numbers_in(lines[0])
+    numbers = shared("order_text").numbers_in(lines[0])
     if len(lines) > 1 or isinstance(numbers, str):
         raise Failed(f"no order printed: {lines[0][:40]!r}")
     if 0 in numbers:
@@ -200,10 +238,10 @@ def order_of(text: str) -> tuple[str, list[str]]:
     return "", list(map(str, numbers))
 
 
-def run_command(words: list[str], folder: str, seconds: float | None) -> tuple[str, float, int]:
+def run_command(words: list[str], folder: str, seconds: float | None) -> tuple[str, float, int, list[Point]]:
     """Returns what a program prints on standard output, its processor seconds with those of all processes that it has
-    started, and how many of them it has left. These are killed when it ends. A program that takes too long, prints too
-    much or fails is killed with all of them."""
+    started, how many of them it has left, and its trajectory. These are killed when it ends. A program that takes too
+    long, prints too much or fails is killed with all of them."""
     before, end = child_seconds(), math.inf if seconds is None else time.monotonic() + 10 * TIMES * seconds + PATIENCE
     set_process(PR_SET_CHILD_SUBREAPER, 1)
     for number in ENDINGS:
@@ -211,22 +249,22 @@ def run_command(words: list[str], folder: str, seconds: float | None) -> tuple[s
     try:
         with subprocess.Popen(words, cwd=folder, stdin=subprocess.DEVNULL, stdout=subprocess.PIPE,
                               stderr=subprocess.PIPE, bufsize=0, start_new_session=True,
-                              preexec_fn=functools.partial(limit, seconds)) as child:
+                              preexec_fn=lambda: limit(seconds)) as child:
             printed = Printed(child)
             try:
-                while child.poll() is None and len(printed.text) <= MOST_BYTES and time.monotonic() < end:
+                while child.poll() is None and not printed.is_too_much() and time.monotonic() < end:
                     printed.wait(child)
                 ended = child.poll() is not None
             finally:
                 left = kill_descendants()
-            while len(printed.text) <= MOST_BYTES and printed.read(0):
+            while not printed.is_too_much() and printed.read(0):
                 """What was printed before the end."""
     except (OSError, ValueError) as error:
         raise Failed(getattr(error, "strerror", None) or str(error)) from None
-    text, said = printed.text, printed.said.decode(errors="replace").splitlines() or [""]
-    spent = child_seconds() - before
-    if len(text) > MOST_BYTES:
-        raise Failed(f"more than {MOST_BYTES:,} bytes printed")
+    said, spent = printed.said.decode(errors="replace").splitlines() or [""], child_seconds() - before
+    if printed.is_too_much():
+        many = f"{MOST_POINTS:,} makespans" if len(printed.points) > MOST_POINTS else f"{MOST_BYTES:,} bytes"
+        raise Failed(f"more than {many} printed")
     if seconds is not None and spent > TIMES * seconds + START:
         raise Failed(f"took too long: {spent:.2f} s of processor time instead of {seconds:g} s")
     if not ended:
@@ -235,16 +273,32 @@ def run_command(words: list[str], folder: str, seconds: float | None) -> tuple[s
         raise Failed(f"signal {-child.returncode}")
     if child.returncode > 0:
         raise Failed(f"exit {child.returncode}, {' '.join(said[-1].split())[:200]}")
-    return text.decode(errors="replace"), spent, left
+    printed.take(b"\n" if printed.line else b"")
+    return printed.text.decode(errors="replace"), spent, left, [
+        point._replace(seconds=min(point.seconds - before, spent)) for point in printed.points]
 
 
 class Printed:
-    """What a program prints: its output, a little more than is taken at most, and the last part of its errors."""
+    """What a program prints: its output, a little more than is taken at most, its trajectory, the line that it is
+    printing, and the last part of its errors."""
 
     def __init__(self, child: subprocess.Popen[bytes]) -> None:
         assert child.stdout and child.stderr
         self.out, self.open = child.stdout, [child.stdout, child.stderr]
-        self.text, self.said = b"", b""
+        self.text, self.line, self.said = b"", b"", b""
+        self.points: list[Point] = []
+
+    def is_too_much(self) -> bool:
+        return len(self.text) + len(self.line) > MOST_BYTES or len(self.points) > MOST_POINTS
+
+    def take(self, part: bytes) -> None:
+        """Takes the next part of the output."""
+        *lines, self.line = (self.line + part).split(b"\n")
+        for line in lines:
+            if point := POINT.fullmatch(line.strip()):
+                self.points.append(Point(seconds_so_far(), int(point[1]), point[2].decode(errors="replace")))
+            else:
+                self.text += line + b"\n"
 
     def wait(self, child: subprocess.Popen[bytes]) -> None:
         """Reads more, or waits for the end of the program, for a twentieth of a second."""
@@ -261,7 +315,7 @@ class Printed:
             if not part:
                 self.open.remove(pipe)
             elif pipe is self.out:
-                self.text += part
+                self.take(part)
             else:
                 self.said = (self.said + part)[-MOST_SAID:]
         return bool(ready)
@@ -275,6 +329,7 @@ def stop(number: int, _frame: FrameType | None) -> None:
 
 
 def set_process(what: int, value: int) -> None:
+    import ctypes
     ctypes.CDLL(None).prctl(what, value)
 
 
@@ -283,6 +338,25 @@ def limit(seconds: float | None) -> None:
     set_process(PR_SET_PDEATHSIG, signal.SIGKILL)
     if seconds is not None:
         resource.setrlimit(resource.RLIMIT_CPU, (math.ceil(TIMES * seconds + START),) * 2)
+
+
+def children_of(process: int) -> list[int]:
+    with open(f"/proc/{process}/task/{process}/children", encoding="ascii") as children:
+        return [*map(int, children.read().split())]
+
+
+def seconds_so_far() -> float:
+    """Returns the processor seconds of the processes that have ended, as `child_seconds`, and of those that run."""
+    total, running = child_seconds(), children_of(os.getpid())
+    while running:
+        process = running.pop()
+        with contextlib.suppress(OSError):  # it has just ended
+            with open(f"/proc/{process}/stat", "rb") as file:
+                waited = sum(map(int, file.read().rpartition(b")")[2].split()[13:15])) / os.sysconf("SC_CLK_TCK")
+            # the clock of a process's processor time, which clock_getcpuclockid of the C library returns
+            total += time.clock_gettime(~process << 3 | 2) + waited
+            running += children_of(process)
+    return total
 
 
 def kill_descendants() -> int:
@@ -294,33 +368,62 @@ def kill_descendants() -> int:
             pid, status = os.waitpid(-1, os.WNOHANG)
             killed += pid != 0 and os.WIFSIGNALED(status) and os.WTERMSIG(status) == signal.SIGKILL
             if pid == 0:
-                with open(f"/proc/self/task/{os.getpid()}/children", encoding="ascii") as children:
-                    for child in map(int, children.read().split()):
-                        os.kill(child, signal.SIGKILL)
+                for child in children_of(os.getpid()):
+                    os.kill(child, signal.SIGKILL)
                 time.sleep(0.005)
     return killed
 
 
+# The runs of this process
+
 def main() -> None:
-    """Searches with the command of the method, by rounds or by time, and audits the order."""
-    run, order = Run._make(sys.argv[1:]), ""
+    """Makes the runs one after the other, until what has started this process is gone."""
+    parent, groups = os.getppid(), [[*map(int, word.split(","))] for word in sys.argv[1:]]
+    wanted = {number for group in groups for number in group}
+    with open(os.path.join(HERE, "runs.tsv"), encoding="utf-8", newline="\n") as file:
+        runs = {number: Run._make(line[:-1].split("\t")) for number, line in enumerate(file, 1) if number in wanted}
+    with open(os.path.join(HERE, "commands.json"), encoding="utf-8") as file:
+        commands = json.load(file)
+    for first, *others in groups:
+        if os.getppid() == parent:
+            run = runs[first]
+            for order, row in results(run, [runs[number] for number in others], commands.get(run.method)):
+                line = io.StringIO()
+                csv.writer(line, lineterminator="\n").writerow(row)
+                made = (order + line.getvalue()).encode(errors="replace")
+                sys.stdout.buffer.write(b"%d\n%b" % (len(made), made))
+            sys.stdout.buffer.flush()
+
+
+def results(run: Run, others: list[Run], command: list[str] | str | None) -> Iterator[tuple[str, list[str]]]:
+    """Searches with the command of the method, by rounds or by time, and audits the order. Yields the order file and
+    the row of the run and of each of the others, which are what it had found by their times."""
+    order = ""
     try:
-        with open(os.path.join(HERE, "commands.json"), encoding="utf-8") as file:
-            command = json.load(file).get(run.method)
         is_iterated = isinstance(command, str)
         if command and not is_iterated:
             made = by_command(command, run)
         else:
             made = by_library(run, is_iterated) if is_iterated or run.limit != "-" else by_rounds(run)
         order = made.order
-        row = [run.number, *audit(run, order), made.cells, f"{made.seconds:.6f}", "ok"]
-        row += [made.rounds, str(made.left)] if made.rounds or made.left else []
+        makespan, bound = audit(run, order)
     except (Failed, OSError) as failure:
         lost = f"lost: {failure.strerror}" if isinstance(failure, OSError) else str(failure)
-        row = [run.number, "", "", "", "", lost]
-    line = io.StringIO()
-    csv.writer(line, lineterminator="\n").writerow(row)
-    sys.stdout.buffer.write((order + line.getvalue()).encode(errors="replace"))
+        for each in (run, *others):
+            yield order if each is run else "", [each.number, "", "", "", "", lost]
+        return
+    ends = better([*made.points, Point(made.seconds, int(makespan), order)]) if made.points else []
+    way = " ".join(f"{at}:{span}" for at, span in {f"{it.seconds:.6f}": it.makespan for it in ends}.items())
+    yield order, [run.number, makespan, bound, made.cells, f"{made.seconds:.6f}", "ok", made.rounds, str(made.left),
+                  way]
+    for other in others:
+        limit = float(other.limit)
+        found = [point for point in ends if point.seconds <= limit][-1:]
+        for point in found:
+            seconds = min(limit, made.seconds)
+            yield point.order, [other.number, str(point.makespan), bound, "", f"{seconds:.6f}", "ok"]
+        if not found:
+            yield "", [other.number, "", "", "", "", f"command: no order with its makespan printed in {limit:g} s"]
 
 
 if __name__ == "__main__":

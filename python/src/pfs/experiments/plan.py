@@ -4,11 +4,12 @@ from __future__ import annotations
 import csv
 import glob
 import importlib
+import itertools
 import os
 import re
 import shlex
 import sys
-from collections.abc import Callable, Iterable
+from collections.abc import Callable, Iterable, Iterator
 from typing import Any, cast
 
 from pfs._benchmarks import canonical
@@ -35,14 +36,15 @@ VALUES: dict[str, tuple[str, Callable[[Any], bool]]] = {
     "reference": ("the path of a CSV", lambda given: isinstance(given, str) and "\0" not in given),
     "search": ('"solve" or "iterated-greedy"', lambda given: given in ("solve", "iterated-greedy")),
     "command": ("a command", lambda given: isinstance(given, str) and "\0" not in given),
+    "anytime": ("true or false", lambda given: type(given) is bool),
     "method": ("a name without control characters",
                lambda given: isinstance(given, str) and given != "" and given.isprintable())}
 # The defaults of lists of numbers.
 NUMBERS = {"blocks": [1], "rounds": [0], "takes": None, "passes": [0], "seeds": [0]}
 # What a method may have that a plan lists in `methods`, and what is for the whole plan.
 OF_METHOD = {"rounds", "takes", "passes", "seeds", "repetitions", "time_factors", "search", "command", "method",
-             "files"}
-KEYS = {*VALUES, "files", "instances", "methods"}
+             "files", "grid", "anytime"}
+KEYS = {*VALUES, "files", "grid", "instances", "methods"}
 # Keys that a command can't have, and what it may have in braces.
 OF_PFS = ("rounds", "takes", "passes", "search")
 OF_COMMAND = {"instance", "name", "jobs", "machines", "block", "seed", "seconds"}
@@ -79,12 +81,36 @@ def read_plan(path: str) -> dict[str, Any]:
     require(plan.keys() <= KEYS, path, f"unknown key {min(plan.keys() - KEYS, default='')!r}")
     for each in listed:
         require(each.keys() <= OF_METHOD, path, f"unknown key {min(each.keys() - OF_METHOD, default='')!r} of methods")
-    methods = [method_of(path, plan | each) for each in listed]
+    methods = [method_of(path, each) for given in listed for each in of_grid(path, plan | given)]
     require(len({method["method"] for method in methods}) == len(methods), path,
             "each of methods needs method, a name that no other one has")
     return {"layout": plan.get("layout", "taillard"), "blocks": plan.get("blocks", [1]),
             "reference": plan.get("reference"), "instances": matches(path, "instances", plan.get("instances")),
             "methods": methods}
+
+
+def of_grid(path: str, method: dict[str, Any]) -> Iterator[dict[str, Any]]:
+    """Yields a method for each combination of the values of its grid, which replace `{name}` in the command, and which
+    its name has."""
+    grid = method.pop("grid", None)
+    if grid is None:
+        yield method
+        return
+    is_right = isinstance(grid, dict) and grid and all(map(is_values, grid.values()))
+    require(is_right, path, "grid must be a table of lists, of different numbers or texts, by the names in the command")
+    for name in grid:
+        require(name not in OF_COMMAND and re.fullmatch(r"\w+", name) and f"{{{name}}}" in str(method.get("command")),
+                path, f"grid has {name}, so the command must contain {{{name}}}, which has no other meaning")
+    for values in itertools.product(*grid.values()):
+        texts = dict(zip(grid, map(str, values)))
+        name = ", ".join([str(method.get("method")), *(f"{name} {text}" for name, text in texts.items())])
+        yield {**method, **({"method": name} if "method" in method else {}), "texts": texts}
+
+
+def is_values(given: object) -> bool:
+    """Whether the values of a name in a grid are different numbers or texts."""
+    return isinstance(given, list) and 0 < len(given) == len({*map(str, given)}) and all(
+        type(each) in (int, float, str) and str(each).isprintable() for each in given)
 
 
 def method_of(path: str, plan: dict[str, Any]) -> dict[str, Any]:
@@ -99,6 +125,8 @@ def method_of(path: str, plan: dict[str, Any]) -> dict[str, Any]:
         full["rounds"] = plan.get("rounds", [])
     if "command" in plan or "files" in plan:
         full |= command_of(path, plan)
+    require(not plan.get("anytime") or ("command" in plan and "time_factors" in plan), path,
+            "anytime is for a command with time_factors")
     return {key: full[key] for key in full.keys() & OF_METHOD}
 
 
@@ -118,6 +146,8 @@ def command_of(path: str, plan: dict[str, Any]) -> dict[str, Any]:
         words = shlex.split(plan["command"])
     except ValueError as error:
         raise ExperimentError(f"{path}: command: {error}") from None
+    texts: dict[str, str] = plan.get("texts", {})
+    words = [re.sub(r"\{(\w+)\}", lambda name: texts.get(str(name[1]), str(name[0])), word) for word in words]
     used = {name for word in words for name in re.findall(r"\{(\w*)\}", word)}
     for name in ("instance", *(["block"] if plan.get("blocks", [1]) != [1] else [])):
         require(name in used, path, f"command must contain {{{name}}}")

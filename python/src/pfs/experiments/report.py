@@ -3,6 +3,7 @@ deviations (RPD). Runs that failed are only counted."""
 from __future__ import annotations
 
 import argparse
+import itertools
 import logging
 import math
 import pathlib
@@ -13,6 +14,7 @@ from collections.abc import Callable
 from typing import Any
 
 import matplotlib
+import numpy as np
 import pandas as pd
 from matplotlib.figure import Figure
 from matplotlib.ticker import NullLocator
@@ -46,6 +48,9 @@ SETTINGS = {"svg.fonttype": "none", "svg.hashsalt": "pfs", "pdf.fonttype": 42, "
 WIDE, HIGH, LONGEST = 0.077, 0.17, 40
 # Shorter times can't be measured.
 LEAST_SECONDS = 1e-9
+# A trajectory, and the points of the line that is the mean of several.
+WAY = re.compile(r"[0-9]{1,9}(?:\.[0-9]{1,9})?:[0-9]{1,18}(?: [0-9]{1,9}(?:\.[0-9]{1,9})?:[0-9]{1,18})*", re.ASCII)
+WAY_POINTS = 300
 
 # Figures, axes and colours of matplotlib, which has no types.
 Axis = Any
@@ -129,14 +134,27 @@ def published(path: str) -> pd.DataFrame:
 
 def read_one(path: str, name: str) -> pd.DataFrame:
     """Reads the runs of a CSV. The results of a run that failed are unknown."""
-    usual = {"method": "", "seed": "", "status": "ok", "order": "", **dict.fromkeys(GREATEST, "")}
+    usual = {"method": "", "seed": "", "status": "ok", "order": "", "trajectory": "", **dict.fromkeys(GREATEST, "")}
     read = pd.DataFrame({**usual, **row, "path": path, "line": str(line)}
                         for line, row in enumerate(rows_of(path, ["instance", "makespan"]), 2))
     read.loc[read["status"].ne("ok") | read["makespan"].eq(""), ["makespan", "cells", "gap_percent", "seconds"]] = ""
     runs = read[["instance", "seed"]].assign(method=read["method"].replace("", name), row=read.to_dict("records"))
     runs = runs.join(numbers_in(read, list(GREATEST), path))
+    runs["way"] = [way_of(*row) for row in zip(read["trajectory"], runs["makespan"], read["line"], read["path"])]
     runs.loc[runs["time_factor"].notna(), "rounds"] = float("nan")
     return runs
+
+
+def way_of(text: str, makespan: float, line: str, path: str) -> list[tuple[float, float]] | None:
+    """Returns the seconds and makespans of a trajectory, each later and shorter, up to the makespan of the run."""
+    if not text or makespan != makespan:
+        return None
+    pairs = [tuple(map(float, point.split(":"))) for point in text.split(" ")] if WAY.fullmatch(text) else []
+    if not pairs or pairs[-1][1] != makespan or any(
+            second[0] < first[0] or second[1] >= first[1] for first, second in itertools.pairwise(pairs)):
+        raise ExperimentError(f"{path}: line {line}: the trajectory must be SECONDS:MAKESPAN for each better makespan, "
+                              "up to that of the run")
+    return [(seconds, makespan) for seconds, makespan in pairs]
 
 
 def numbers_in(read: pd.DataFrame, columns: list[str], path: str) -> pd.DataFrame:
@@ -306,7 +324,7 @@ def plot(done: pd.DataFrame, shared: pd.DataFrame, folder: pathlib.Path, ending:
     figures = {"gap": by_rounds(done, "gap_percent", "gap to the lower bound, %", "Gap to the bound", width),
                "rpd": by_rounds(shared, "rpd", "RPD, %", "Relative percentage deviation", width),
                "seconds": by_seconds(shared, width), "time": cell_times(done, width),
-               "differences": differences(shared, width)}
+               "differences": differences(shared, width), **along(shared, width)}
     for name, figure in figures.items():
         if figure is not None:
             if not titles:
@@ -424,12 +442,61 @@ def by_seconds(done: pd.DataFrame, width: float | None) -> Figure | None:
                            label=[names[key] for key in points[kind].itertuples(index=False, name=None)])
     styles = {label: {"color": colour(at / max(1, len(names) - 1)), "marker": "os^Dv"[at % 5], "fillstyle": "none",
                       "markersize": 4} for at, label in enumerate(names.values())}
-    figure = panels(points, styles, 3, width, "processor time, s", "RPD, %",
-                    "Mean relative percentage deviation by time", "method")
+    return by_time(panels(points, styles, 3, width, "processor time, s", "RPD, %",
+                          "Mean relative percentage deviation by time", "method"), points)
+
+
+def by_time(figure: Figure, points: pd.DataFrame) -> Figure:
+    """Scales the horizontal axis of all panels for these times."""
     least, most = (math.log10(points["x"].agg(end)) for end in ("min", "max"))
     scale(figure.axes[0], 10.0 ** math.floor(least), 10.0 ** max(math.ceil(most), math.floor(least) + 1),
           lambda value: f"{value:,.0f}" if 1 <= value < 1e6 else f"{value:g}", "log")
     return figure
+
+
+def along(shared: pd.DataFrame, width: float | None) -> dict[str, Figure]:
+    """Draws the mean RPD while the runs of each setting search, from when all have an order, and the share of them that
+    has reached the target, which for each size is the median RPD at the end of all runs; by processor time."""
+    runs = shared[shared["way"].notna() & shared["rpd"].notna() & (shared["reference"] > 0)]
+    means, shares = list[pd.DataFrame](), list[pd.DataFrame]()
+    settings = list(runs.groupby(SETTING).groups)
+    names = dict(zip(settings, setting_names(settings)))
+    for size, group in runs.groupby(SIZE):
+        target, panel = group["rpd"].median(), size_name(size)
+        for setting, own in group.groupby(SETTING):
+            ways = [(np.array(way)[:, 0], 100 * (np.array(way)[:, 1] - reference) / reference)
+                    for way, reference in zip(own["way"], own["reference"])]
+            end = np.nanmax([own["seconds"].max(), *(times[-1] for times, _ in ways)])
+            label = {"label": names[setting]}
+            means.append(mean_way(ways, end).assign(panel=panel, **label))
+            shares.append(reached(ways, target + 1e-9, end).assign(panel=f"{panel}: RPD of at most {target:.3f} %",
+                                                                   **label))
+    styles = {name: {"color": colour(at / max(1, len(names) - 1)), "linestyle": ("-", "--", "-.", ":")[at % 4],
+                     "drawstyle": "steps-post"} for at, name in enumerate(names.values())}
+    found = {}
+    for file, parts, y, title in (
+            ("trajectory", means, "mean RPD, %", "Mean relative percentage deviation during the search"),
+            ("target", shares, "share of the runs", "Time to target: runs that have reached it")):
+        if parts:
+            points = pd.concat(parts)
+            found[file] = by_time(panels(points, styles, 3, width, "processor time, s", y, title, "setting"), points)
+    return found
+
+
+def mean_way(ways: list[tuple[Any, Any]], end: float) -> pd.DataFrame:
+    """Returns the mean of trajectories from when all have begun."""
+    start = max(LEAST_SECONDS, *(times[0] for times, _ in ways))
+    x = np.geomspace(start, max(end, start), WAY_POINTS)
+    x[0] = start
+    return pd.DataFrame({"x": x, "y": np.mean([values[np.searchsorted(times, x, "right") - 1]
+                                               for times, values in ways], axis=0)})
+
+
+def reached(ways: list[tuple[Any, Any]], target: float, end: float) -> pd.DataFrame:
+    """Returns the share of trajectories that have reached the target, from the first time of any."""
+    at = sorted(times[values <= target][0] for times, values in ways if (values <= target).any())
+    x = np.maximum([min(times[0] for times, _ in ways), *at, end], LEAST_SECONDS)
+    return pd.DataFrame({"x": x, "y": [*(count / len(ways) for count in range(len(at) + 1)), len(at) / len(ways)]})
 
 
 # Values side by side

@@ -11,27 +11,31 @@ import math
 import os
 import pathlib
 import re
+import secrets
 import shlex
 import shutil
 import signal
 import subprocess
 import sys
+from collections.abc import Container, Iterator
 
 from pfs._atomic import FORMULA, text_cell
-from pfs.experiments import csv_text, one, plain, stage
-from pfs.experiments.plan import Row, reference_for, rows_of
+from pfs.experiments import ExperimentError, csv_text, one, plain, stage
+from pfs.experiments.plan import Reference, Row, reference_for, rows_of
 from pfs.experiments.stage import Experiment, prepare, write_text
 
 COLUMNS = ["instance", "jobs", "machines", "rounds", "take", "passes", "seed", "repetition",
            "makespan", "bound", "gap_percent", "cells", "seconds", "status", "order", "reference", "source"]
-# The last line that `one` prints of a run, or its first six. Only a run by time has rounds there.
-RESULT = ["number", "makespan", "bound", "cells", "seconds", "status", "rounds", "left"]
+# The last line of the result of a run, or its first six. Only a run by time has rounds there.
+RESULT = ["number", "makespan", "bound", "cells", "seconds", "status", "rounds", "left", "trajectory"]
 # The file of an experiment's folder with the bounds that `prove` has proved.
 PROOFS = "proofs.json"
 # The end of a run whose program was killed, or whose allocation failed: the next start repeats it.
 KILLED = re.compile("(?:solve|check): (?:signal [0-9]+|exit 4, pfs: no memory)|lost: .*")
-# The end of a line of GNU parallel's log: the exit status, the signal, and the number of the run in the command.
-LOGGED = re.compile(r"\t([0-9]+)\t([0-9]+)\t\S+/one ([0-9]+) [^\n]*$", re.ASCII | re.MULTILINE)
+# The end of a line of GNU parallel's log: the exit status, the signal, and the numbers of the runs in the command.
+LOGGED = re.compile(r"\t([0-9]+)\t([0-9]+)\t[^\t\n]*/one((?: [0-9,]+)+)$", re.ASCII | re.MULTILINE)
+# The line before a result, with its length in bytes.
+LENGTH = re.compile(rb"([0-9]{1,9})\n")
 # The most kinds of errors that are reported, and the columns that describe the first run of each.
 MOST_KINDS = 10
 DISTINCT = ["method", "rounds", "time_factor", "take", "passes", "seed"]
@@ -42,39 +46,71 @@ NEEDED = ["instance", "rounds", "take", "passes", "seed", "repetition", "makespa
 MOST_TASKS, LEAST_SECONDS = 1000, 60
 # More than pfs needs for a table cell.
 SECONDS_A_CELL = 1e-9
+# A process of GNU parallel makes at most this number of runs, which take about this number of seconds, and there are
+# at least this number of processes.
+MOST_RUNS, SHARED_SECONDS, LEAST_PROCESSES = 25, 1, 8
 
 
 def begin(args: argparse.Namespace, program: str, package: str) -> tuple[Experiment, list[Row]]:
-    """Returns the prepared experiment and the runs that are left, after removing what there is of their results, so
-    that processes of an earlier start write into no file of a later one."""
+    """Returns the prepared experiment and the runs that are left to be made, whose numbers the file `left` has then,
+    each with those of the runs that it makes too. Those that were lost come last: what has killed one may kill it
+    again, and the later runs of its process are left."""
     if shutil.which(program) is None:
         raise FileNotFoundError(f"{program} is not installed (Debian: {package})")
     experiment = prepare(args.plan, args.csv, args.pfs)
-    left = [run for run in experiment.runs if not is_done(experiment.folder, run["number"], args.retry)]
+    statuses = {result["number"]: result["status"] for result in results_of(experiment.folder)}
+    lost = endings(experiment.folder, statuses)
+    left = [run for run in experiment.runs if not is_done(statuses.get(run["number"]), args.retry)]
+    left.sort(key=lambda run: run["number"] in lost)
     for run in left:
         (experiment.folder / "results" / run["number"]).unlink(missing_ok=True)
-    write_text(experiment.folder / "left.tsv", stage.table_of(left))
+    groups = together(left)
+    lines = [",".join(run["number"] for run in runs) for runs in groups]
+    write_text(experiment.folder / "left", "".join(f"{line}\n" for line in lines))
     (experiment.folder / "joblog").unlink(missing_ok=True)
-    return experiment, left
+    return experiment, [runs[0] for runs in groups]
+
+
+def together(left: list[Row]) -> list[list[Row]]:
+    """Returns the runs that are made at once, the longest first: of a method that is `anytime` those that differ only
+    in their time."""
+    groups: dict[tuple[str, ...], list[Row]] = {}
+    for run in left:
+        same = [column for column in stage.KEY if column != "time_factor"]
+        key = tuple(run[column] for column in same) if run["anytime"] and run["limit"] else (run["number"],)
+        groups.setdefault(key, []).append(run)
+    return [sorted(runs, key=lambda run: -float(run["limit"] or 0)) for runs in groups.values()]
 
 
 def run(args: argparse.Namespace) -> int:
-    """Makes the runs that are left with GNU parallel, by default one per core at a time, and writes the CSV."""
-    experiment, _ = begin(args, "parallel", "parallel")
+    """Makes the runs that are left with GNU parallel, by default one per core at a time, and writes the CSV. The files
+    of results have new names at each start, so no process of an earlier start writes into one of a later start."""
+    experiment, runs = begin(args, "parallel", "parallel")
+    auditors = [experiment.folder / experiment.stage / name for name in stage.OWN]
+    before = [path.read_bytes() for path in auditors]
     machines = args.sshloginfile
     if machines and os.path.isfile(machines):
         machines = os.path.abspath(machines)
-    words = ["parallel", "--plain", "--will-cite", "--arg-file", "left.tsv", "--colsep", "\t", "--joblog", "joblog",
-             "--results", "results/{1}"]
+    words = ["parallel", "--plain", "--will-cite", "--arg-file", "left", "-n", str(runs_a_process(runs)),
+             "--joblog", "joblog", "--results", f"results/{secrets.token_hex(4)}-{{#}}"]
     words += ["--bar"] if sys.stderr.isatty() else []
     words += ["--sshloginfile", machines, "--basefile", experiment.stage] if machines else []
-    words += [*args.options, f"{experiment.stage}/one", *(f"{{{at}}}" for at in range(1, len(stage.RUN) + 1))]
+    words += [*args.options, "python3", "-I", "-S", f"{experiment.stage}/one"]
     parallel(experiment.folder, words)
+    if before != [path.read_bytes() if path.exists() else b"" for path in auditors]:
+        raise ExperimentError(f"{args.csv}: a command has changed the programs by which its orders are audited: delete "
+                              f"{experiment.folder}")
     failed, left = gather(experiment, args.csv)
     if machines and left == 0:
         subprocess.run(["parallel", "--plain", "--will-cite", "--sshloginfile", machines, "--nonall",
                         f"rm -rf ~/{experiment.stage}"], stdin=subprocess.DEVNULL)
     return 1 if failed or left else 0
+
+
+def runs_a_process(left: list[Row]) -> int:
+    """Returns how many runs a process makes, which takes longer to start than a short run."""
+    longest = max(map(seconds_of, left), default=0)
+    return max(1, min(MOST_RUNS, int(SHARED_SECONDS / max(longest, 1e-9)), -(-len(left) // LEAST_PROCESSES)))
 
 
 def parallel(folder: pathlib.Path, words: list[str]) -> None:
@@ -134,20 +170,32 @@ def seconds_of(run: Row) -> float:
 
 # Results
 
-def is_done(folder: pathlib.Path, number: str, retry: bool) -> bool:
-    result = result_of(folder, number)
-    return result is not None and not KILLED.fullmatch(result["status"]) and (result["status"] == "ok" or not retry)
+def is_done(status: str | None, retry: bool) -> bool:
+    """Whether a run with a result of this status, or without one, isn't made again."""
+    return status is not None and not KILLED.fullmatch(status) and (status == "ok" or not retry)
 
 
-def result_of(folder: pathlib.Path, number: str) -> Row | None:
+def results_of(folder: pathlib.Path) -> Iterator[Row]:
+    """Yields the complete results of runs, each with its order file, a later one of a run after an earlier one."""
+    files = [path for path in (folder / "results").iterdir() if not path.suffix]
+    for path in sorted(files, key=lambda path: path.stat().st_mtime_ns):
+        data = path.read_bytes()
+        while length := LENGTH.match(data):
+            text, data = data[length.end():][:int(length[1])], data[length.end() + int(length[1]):]
+            result = result_of(text) if len(text) == int(length[1]) else None
+            if result:
+                yield result
+
+
+def result_of(data: bytes) -> Row | None:
     """Returns the result of a run, with its order file; None if it is incomplete."""
     try:
-        text = (folder / "results" / number).read_bytes().decode()
+        text = data.decode()
         order, _, last = f"\n{text}".removesuffix("\n").rpartition("\n")
         row: list[str] = next(csv.reader(io.StringIO(last)), [])
-    except (FileNotFoundError, UnicodeDecodeError, csv.Error):
+    except (UnicodeDecodeError, csv.Error):
         return None
-    if not text.endswith("\n") or not 6 <= len(row) <= len(RESULT) or row[0] != number:
+    if not text.endswith("\n") or not 6 <= len(row) <= len(RESULT):
         return None
     result = {**dict(zip(RESULT, row)), "order": f"{order[1:]}\n" if order else ""}
     numbers = ",".join(row[1:3] + row[4:5])
@@ -155,12 +203,15 @@ def result_of(folder: pathlib.Path, number: str) -> Row | None:
     return result if result["status"] != "ok" or is_whole else None
 
 
-def endings(folder: pathlib.Path) -> Row:
-    """Returns the errors of runs without a result, by their numbers, from the logs of GNU parallel and Slurm."""
+def endings(folder: pathlib.Path, made: Container[str]) -> Row:
+    """Returns the errors of runs without a result, by their numbers, from the logs of GNU parallel and Slurm. Of the
+    runs of a process that was killed, the first one without a result was under way, and the later ones are left."""
     found: Row = {}
     with contextlib.suppress(FileNotFoundError):
         text = (folder / "joblog").read_bytes().decode(errors="replace")
-        found = {number: f"lost: exit {status}, signal {signal}" for status, signal, number in LOGGED.findall(text)}
+        for status, number_of_signal, numbers in LOGGED.findall(text):
+            for number in [number for number in re.split("[ ,]", numbers[1:]) if number not in made][:1]:
+                found[number] = f"lost: exit {status}, signal {number_of_signal}"
     for log in sorted((folder / "slurm").glob("*.log"), key=lambda path: path.stat().st_mtime_ns):
         text = log.read_bytes().decode(errors="replace")
         last = re.findall(r"^run ([0-9]+)$", text, re.MULTILINE | re.ASCII)
@@ -195,33 +246,20 @@ def gather(experiment: Experiment, csv_path: str) -> tuple[int, int]:
 def write_csv(experiment: Experiment, csv_path: str) -> tuple[int, int]:
     """Writes the order files and the CSV of the runs that have ended. Reports and returns the numbers of runs that
     failed and that are missing."""
-    folder, ended, rows, killed = experiment.folder, endings(experiment.folder), [], 0
-    proofs = proofs_of(folder)
-    orders = folder / "orders"
-    orders.mkdir(exist_ok=True)
-    for run in experiment.runs:
-        result = result_of(folder, run["number"]) or {"status": ended.get(run["number"], "")}
-        if not result["status"]:
-            continue
-        row = {**run, **result, "instance": path_cell(run["instance"]), "status": text_cell(result["status"])}
-        if result.get("order"):
-            name = order_name(run)
-            if not (orders / name).exists() or (orders / name).read_bytes() != result["order"].encode():
-                write_text(orders / name, result["order"])
-            row["order"] = path_cell(f"{folder.name}/orders/{name}")
-        if result["status"] == "ok":
-            makespan, bound = int(result["makespan"]), int(result["bound"])
-            row["gap_percent"] = f"{100 * (makespan - bound) / bound:.4f}" if bound else "0.0000"
-        known = reference_for(experiment.reference, run["instance"])
-        row |= {"reference": str(known[0]), "source": text_cell(known[1])} if known else {}
-        row |= {"proved_bound": str(proofs[run["instance"]])} if run["instance"] in proofs else {}
-        rows.append(row | {"method": text_cell(run["method"])})
-        killed += int(result.get("left") or 0)
-    more = [column for column in ("time_factor", "method") if any(run[column] for run in experiment.runs)]
-    columns = [*COLUMNS, *more, *(["proved_bound"] if proofs else [])]
+    (experiment.folder / "orders").mkdir(exist_ok=True)
+    by_number, proofs = {run["number"]: run for run in experiment.runs}, proofs_of(experiment.folder)
+    made = {result["number"]: with_order(experiment.folder, by_number[result["number"]], result)
+            for result in results_of(experiment.folder) if result["number"] in by_number}
+    lost = {number: {"status": status} for number, status in endings(experiment.folder, made).items()}
+    results = [(run, found) for run in experiment.runs if (found := made.get(run["number"]) or lost.get(run["number"]))]
+    rows = [row_of(run, found, experiment.reference, proofs) for run, found in results]
+    more = [column for column in ("time_factor", "method", "trajectory", "proved_bound")
+            if any(row.get(column) for row in (*experiment.runs, *rows))]
+    columns = [*COLUMNS, *more]
     write_text(csv_path, csv_text([columns, *([row.get(column, "") for column in columns] for row in rows)]))
     failed, left = sum(row["status"] != "ok" for row in rows), len(experiment.runs) - len(rows)
     report_errors(rows)
+    killed = sum(int(row.get("left") or 0) for row in rows)
     if killed:
         print(f"processes that commands left when they ended, and that were killed: {killed}", file=sys.stderr)
     print(f"{csv_path}: {len(rows)} runs, {failed} of them failed, {left} still to run", file=sys.stderr)
@@ -232,6 +270,29 @@ def proofs_of(folder: pathlib.Path) -> dict[str, int]:
     """Returns the bounds that `prove` has proved, by the names of the instances."""
     path = folder / PROOFS
     return {**json.loads(path.read_bytes())} if path.exists() else {}
+
+
+def with_order(folder: pathlib.Path, run: Row, result: Row) -> Row:
+    """Writes the order file of a result, and returns the result with its path."""
+    if not result["order"]:
+        return result
+    path = folder / "orders" / order_name(run)
+    if not path.exists() or path.read_bytes() != result["order"].encode():
+        write_text(path, result["order"])
+    return result | {"order": path_cell(f"{folder.name}/orders/{path.name}")}
+
+
+def row_of(run: Row, result: Row, reference: Reference, proofs: dict[str, int]) -> Row:
+    """Returns the row of a run, of the columns of the CSV that have a value."""
+    row = {**run, **{column: cell for column, cell in result.items() if cell}, "method": text_cell(run["method"]),
+           "instance": path_cell(run["instance"]), "status": text_cell(result["status"])}
+    if result["status"] == "ok":
+        makespan, bound = int(result["makespan"]), int(result["bound"])
+        row["gap_percent"] = f"{100 * (makespan - bound) / bound:.4f}" if bound else "0.0000"
+    if run["instance"] in proofs:
+        row["proved_bound"] = str(proofs[run["instance"]])
+    known = reference_for(reference, run["instance"])
+    return row | ({"reference": str(known[0]), "source": text_cell(known[1])} if known else {})
 
 
 def report_errors(rows: list[Row]) -> None:

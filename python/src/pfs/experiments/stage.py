@@ -37,6 +37,8 @@ KEY = ["file", "block", "method", "rounds", "time_factor", "take", "passes", "se
 OF_ROUNDS = ["take", "passes", "seed"]
 # What `pfs generate 1 1 1` prints.
 ONE_JOB = b"1 1 1 0 0\nprocessing times :\n1\n"
+# The programs in the stage that search and audit.
+OWN = ("pfs", "one", "rounds.py", "order_text.py")
 # Seconds after which a program that doesn't behave like pfs is killed.
 PATIENCE = 20
 
@@ -165,8 +167,7 @@ def begin(folder: pathlib.Path, pfs: str) -> None:
         shutil.rmtree(half_done)
     stage = folder / f"pfs-experiment-{secrets.token_hex(6)}"
     (folder / "results").mkdir(exist_ok=True)
-    for source, name in ((pfs, "pfs"), (one.__file__, "one"), (_rounds.__file__, "rounds.py"),
-                         (_order_text.__file__, "order_text.py")):
+    for source, name in zip((pfs, one.__file__, _rounds.__file__, _order_text.__file__), OWN):
         copy(source, stage / name)
         (stage / name).chmod(0o755)
 
@@ -250,7 +251,7 @@ def add_runs(plan: dict[str, Any], stored: dict[str, Any], references: Reference
         raise ExperimentError(f"{csv_path} was started with another plan, which has {what}: use another CSV, or delete "
                               f"{folder}")
     write_text(stage / "commands.json", json.dumps(commands_of(plan)))
-    write_text(folder / "runs.tsv", table_of(added))
+    write_text(stage / "runs.tsv", table_of(added))
     write_text(folder / "plan.json", json.dumps({**plan, "references": references, "places": stored["places"],
                                                  "runs": added, "order": [run["number"] for run in runs.values()]}))
     return list(runs.values())
@@ -282,7 +283,7 @@ def planned_runs(plan: dict[str, Any], stored: dict[str, Any], stage: pathlib.Pa
         for method in plan["methods"]:
             for numbers in settings_of(method, jobs, machines, label):
                 yield dict(zip(RUN, ("", file, plan["layout"], block, *numbers, jobs, machines, label,
-                                     method["method"])))
+                                     method["method"], "yes" if method.get("anytime") else "")))
 
 
 def settings_of(method: dict[str, Any], jobs: str, machines: str, label: str) -> Iterator[tuple[str, ...]]:
