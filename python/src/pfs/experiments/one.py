@@ -400,11 +400,10 @@ def results(run: Run, others: list[Run], command: list[str] | str | None) -> Ite
     the row of the run and of each of the others, which are what it had found by their times."""
     order = ""
     try:
-        is_iterated = isinstance(command, str)
-        if command and not is_iterated:
+        if isinstance(command, list):
             made = by_command(command, run)
         else:
-            made = by_library(run, is_iterated) if is_iterated or run.limit != "-" else by_rounds(run)
+            made = by_library(run, command is not None) if command or run.limit != "-" else by_rounds(run)
         order = made.order
         makespan, bound = audit(run, order)
     except (Failed, OSError) as failure:
