@@ -5,8 +5,8 @@ sessionStorage.setItem("token", token);
 history.replaceState(null, "", location.pathname);
 const DATES = ["begin", "shifts", "days", "closed"], OPTIONS = ["unit", "decimal", "decimals"], MOST = 6e6;
 // The document, which survives a reload. What the server said of its table and of its plan, and the search that runs.
-const blank = name => ({name, delimiter: ",", rows: [], machines: null, order: null, held: 0, plans: [], seed: 0,
-                        controls: {}});
+const blank = name => ({name, delimiter: ",", rows: [], machines: null, order: null, held: 0, least: 0, plans: [],
+                        seed: 0, controls: {}});
 let doc = blank(""), content = null, read = null, now = null, running = null, asked = 0;
 
 async function ask(path, body, method = body ? "POST" : "GET") {
@@ -61,6 +61,8 @@ async function open() {
 }
 async function again() { show(await ask("/api/read", {rows: doc.rows, options: options()})); await evaluate(); }
 function show(found) {
+  // What was proved of another table says nothing of this one.
+  if (read && JSON.stringify(read.shop) !== JSON.stringify(found.shop)) doc.least = 0;
   read = found;
   byId("options").hidden = false;
   byId("sheets").hidden = !content || byId("sheet").options.length < 2;
@@ -163,12 +165,13 @@ window.addEventListener("paste", event => {
 
 // 2 The search
 const calendar = () => Object.fromEntries(DATES.map(id => [id, byId(id).value]));
-const plan = more => ({shop: read.shop, order: doc.order, held: doc.held, calendar: calendar(),
+const plan = more => ({shop: read.shop, order: doc.order, held: doc.held, least: doc.least, calendar: calendar(),
+                       language: document.documentElement.lang,
                        title: byId("title").value || doc.name.slice(0, 200), ...more});
 byId("plan").onclick = doing(async () => {
   byId("plan").disabled = true;
   try {
-    const {search} = await ask("/api/search", plan({seconds: Number(byId("seconds").value), seed: doc.seed++}));
+    const {shop} = read, {search} = await ask("/api/search", plan({seconds: Number(byId("seconds").value), seed: doc.seed++}));
     running = {search, isWaiting: true};
     showRunning();
     for (let told = {}; running && told.state !== "done";) {
@@ -180,6 +183,7 @@ byId("plan").onclick = doing(async () => {
         tr("{makespan} so far, no order is below {bound}; {left} s left", {...told,
           left: Math.max(0, Math.ceil(told.limit - told.seconds))});
       if (told.order) doc.order = told.order;
+      if (told.order && shop === read.shop) doc.least = told.least;
       else await new Promise(done => setTimeout(done, 300));
     }
     await evaluate();

@@ -172,6 +172,7 @@ def told(given: dict[str, Any], folder: str) -> dict[str, Any]:
     _, *end = ended_at(shop, best, None if calendar is None else Clock(calendar, shop))
     _, *machines = rows_of(report, lambda time: amount(time, shop.decimals, shop.unit))
     draw(schedule, chart, given, calendar)
+    best.bound = min(max(shop.bound(), whole(given, "least", 2**53)), best.makespan)
     return {**quality(shop, best), **others, "end": end[0].removeprefix("end ") if end else "", "machines": machines,
             "bottleneck": report.bottleneck, "jobs": [[each.name, *span(each.start, each.end)] for each in report.jobs],
             "chart": chart.read_text("utf-8")}
@@ -179,13 +180,18 @@ def told(given: dict[str, Any], folder: str) -> dict[str, Any]:
 
 def quality(shop: Instance, best: Solution) -> dict[str, Any]:
     """A makespan, and how far above the shortest one it may be, in percent."""
-    bound = shop.bound()
-    return {"makespan": span_text(shop, best.makespan), "span": best.makespan, "bound": span_text(shop, bound),
-            "isOptimal": best.makespan == bound, "above": round(100 * (best.makespan - bound) / max(1, bound), 1)}
+    return {"makespan": span_text(shop, best.makespan), "span": best.makespan, "bound": span_text(shop, best.bound),
+            "isOptimal": best.optimal, "above": round(100 * (best.makespan - best.bound) / max(1, best.bound), 1)}
+
+
+def language_of(given: dict[str, Any]) -> str:
+    """The language of charts and lists. It can't name a file."""
+    return "de" if text(given, "language") == "de" else "en"
 
 
 def draw(schedule: Schedule, path: pathlib.Path, given: dict[str, Any], calendar: Calendar | None) -> None:
-    schedule.plot(path, critical=True, bound=True, calendar=calendar, title=text(given, "title") or True)
+    schedule.plot(path, critical=True, bound=True, calendar=calendar, title=text(given, "title") or True,
+                  language=language_of(given))
 
 
 def file(given: dict[str, Any], folder: str) -> bytes:
@@ -196,9 +202,9 @@ def file(given: dict[str, Any], folder: str) -> bytes:
         names = map(schedule.instance.job_name, schedule.order.tolist())
         path.write_text("".join(f"{name}\n" for name in names), "utf-8")
     elif kind == "csv":
-        schedule.to_csv(path, ";", mark=True, calendar=calendar)
+        schedule.to_csv(path, ";", mark=True, calendar=calendar, language=language_of(given))
     elif kind == "xlsx":
-        schedule.to_xlsx(path, calendar=calendar)
+        schedule.to_xlsx(path, calendar=calendar, language=language_of(given))
     elif kind == "zip":
         if calendar is None:
             raise Wrong("a calendar needs a date and time at which the work begins")

@@ -16,14 +16,17 @@ from pfs.web.plans import field, order_from, quality, shop_from, texts, whole
 
 # Seconds without a question after which a search ends, and the longest search.
 FORGET, MOST_SECONDS = 20.0, 600
+# For how many seconds a proof is tried after a search.
+PROOF = 1.0
 # How many searches wait at most, and how many of one address wait or run.
 MOST_WAITING, MOST_OF_ONE = 16, 8
 
 
 def solve(shop: Instance, run: Run, start: list[int] | None) -> Solution:
-    """The search of a plan."""
-    return shop.solve(passes=1, seed=run.seed, start=start, hold=(start or [])[:run.held], time_limit=run.seconds,
-                      progress=run.progress, stop=run)
+    """The search of a plan, and a proof that it is optimal where no job is held."""
+    held = (start or [])[:run.held]
+    return shop.solve(method="iterated-greedy", seed=run.seed, start=start, hold=held, time_limit=run.seconds,
+                      progress=run.progress, stop=run, prove=None if held else PROOF)
 
 
 class Run:
@@ -76,7 +79,7 @@ class Run:
             return {**found, "makespan": span_text(self.shop, self.makespan) if self.makespan else "",
                     "bound": span_text(self.shop, self.shop.bound())}
         order = [self.shop.job_name(job) for job in self.best.order.tolist()]
-        return {**found, **quality(self.shop, self.best), "order": order}
+        return {**found, **quality(self.shop, self.best), "order": order, "least": self.best.bound}
 
 
 class Searches:
