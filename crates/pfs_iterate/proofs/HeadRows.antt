@@ -5,7 +5,7 @@ use Rattle.std.proofs.lemmas.Bool.{cases_lt}
 use Rattle.std.proofs.lemmas.List.{length-append, length-take-le, take-append-le, take-take, take_all}
 use Rattle.std.proofs.lemmas.List.Elements.{All-push, All-take}
 use Rattle.pfs_base.specs.FlowShop.{FlowShop}
-use Rattle.pfs_iterate.specs.Heads.{AreRows}
+use Rattle.pfs_iterate.specs.Private.Memory.{AreRows}
 use Rattle.pfs_iterate.specs.Iterated.{end_on}
 
 -- an entry of a row is before those of the next row

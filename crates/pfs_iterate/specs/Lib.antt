@@ -1,4 +1,3 @@
-pub mod Heads
 pub mod Iterated
 pub mod Laws
 pub mod Private

@@ -1,2 +1,3 @@
 -- Definitions that no contract of a public function cites.
+pub mod Memory
 pub mod Steps

@@ -1,31 +1,16 @@
 -- What rounds need and keep.
-use Rattle.std.specs.Prelude.{◌≡◌, ℕ, ◌+◌, ◌*◌, ◌≤◌, List, length, take, vec_capacity}
+use Rattle.std.specs.Prelude.{◌≡◌, ℕ, ◌+◌, ◌*◌, ◌≤◌, List, length, take}
 use Rattle.pfs_base.specs.declared.limits.TheConstants.{MOST_ROUNDS}
 use Rattle.pfs_base.specs.FlowShop.{FlowShop}
 use Rattle.pfs_base.specs.Paths.{makespan}
-use Rattle.pfs_order.specs.Sequence.{IsSequence, all_jobs}
-use Rattle.pfs_iterate.specs.Heads.{AreHeads}
+use Rattle.pfs_order.specs.Sequence.{IsSequence}
+use Rattle.pfs_iterate.specs.Private.Memory.{IsWorkFor}
 use Rattle.pfs_iterate.specs.Iterated.{after_rounds}
 use Rattle.pfs_iterate.specs.declared.options.Options.{Options}
 use Rattle.pfs_iterate.specs.declared.options.TheConstants.{TIES_IDLE}
 use Rattle.pfs_iterate.specs.declared.iterated.Iterated.{Iterated}
-use Rattle.pfs_iterate.specs.declared.places.Places.{Places}
-use Rattle.pfs_iterate.specs.declared.work.Work.{Work}
 
--- memory to choose the places of jobs of a shop
-pub record IsPlacesFor (shop : FlowShop) (places : Places) : Type 0 where
-  pub spans : length places.spans.items ≡ shop.jobs + 1
-  pub heads : AreHeads shop places.heads
-
--- memory for the rounds of a shop
-pub record IsWorkFor (shop : FlowShop) (work : Work) : Type 0 where
-  pub seq : work.seq.size ≡ shop.jobs
-  pub all : work.all ≡ all_jobs shop.jobs
-  pub removed : shop.jobs ≤ vec_capacity work.removed
-  pub list : shop.jobs ≤ vec_capacity work.list
-  pub places : IsPlacesFor shop work.places
-
--- the same with room for the words of a round, and with two orders
+-- the memory of a shop's rounds, with room for the words of a round and for two orders
 pub record IsIteratedFor (shop : FlowShop) (iterated : Iterated) : Type 0 where
   pub work : IsWorkFor shop iterated.work
   pub words : length iterated.words.items ≡ 2 * shop.jobs + 1

@@ -1,7 +1,7 @@
 //! Heads of a sequence, and how much later an insertion makes what is behind it end.
 ghost use Rattle.std.specs.Prelude.{◌≡◌, ◌+◌, ◌-◌, ◌<◌, ◌≤◌, ◌++◌, [], ◌∷◌, length, take as front, slice_index, IfOk};
 ghost use Rattle.pfs_order.specs.Sequence.{IsSequence};
-ghost use Rattle.pfs_iterate.specs.Heads.{AreHeads, AreRows};
+ghost use Rattle.pfs_iterate.specs.Private.Memory.{AreHeads, AreRows};
 ghost use Rattle.pfs_iterate.specs.Iterated.{ends, total_delay};
 
 use pfs_base::Instance;

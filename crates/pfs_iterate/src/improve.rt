@@ -5,7 +5,7 @@ ghost use Rattle.pfs_base.specs.Paths.{makespan};
 ghost use Rattle.pfs_search.specs.Search.{IsSearchOf};
 ghost use Rattle.pfs_iterate.specs.Iterated.{improved, moved};
 ghost use Rattle.pfs_iterate.specs.Private.Steps.{IsRearranged};
-ghost use Rattle.pfs_iterate.specs.Rounds.{IsPlacesFor};
+ghost use Rattle.pfs_iterate.specs.Private.Memory.{IsPlacesFor};
 
 use crate::options::Options;
 use crate::places::{Places, put};

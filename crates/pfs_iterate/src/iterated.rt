@@ -3,7 +3,8 @@ ghost use Rattle.std.specs.Prelude.{◌≡◌, IfOk, length, take as front};
 ghost use Rattle.pfs_order.specs.Sequence.{IsSequence};
 ghost use Rattle.pfs_search.specs.Search.{IsSearchOf};
 ghost use Rattle.pfs_base.specs.Paths.{makespan};
-ghost use Rattle.pfs_iterate.specs.Rounds.{CanIterate, IsIterated, IsIteratedFor, IsWorkFor};
+ghost use Rattle.pfs_iterate.specs.Private.Memory.{IsWorkFor};
+ghost use Rattle.pfs_iterate.specs.Rounds.{CanIterate, IsIterated, IsIteratedFor};
 
 use crate::found::Found;
 use crate::options::Options;

@@ -4,10 +4,9 @@ ghost use Rattle.std.specs.List.{slice_index_or};
 ghost use Rattle.pfs_base.specs.Paths.{makespan};
 ghost use Rattle.pfs_insert.specs.Insertion.{makespan_with};
 ghost use Rattle.pfs_search.specs.Search.{IsSearchOf};
-ghost use Rattle.pfs_iterate.specs.Heads.{AreHeads};
 ghost use Rattle.pfs_iterate.specs.Iterated.{chosen, total_delay};
 ghost use Rattle.pfs_iterate.specs.Private.Steps.{IsBestFrom, IsLeastFrom};
-ghost use Rattle.pfs_iterate.specs.Rounds.{IsPlacesFor};
+ghost use Rattle.pfs_iterate.specs.Private.Memory.{AreHeads, IsPlacesFor};
 
 use crate::heads::Heads;
 use crate::options::{Options, TIES_IDLE};

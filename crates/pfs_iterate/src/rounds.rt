@@ -5,7 +5,8 @@ ghost use Rattle.pfs_order.specs.Sequence.{IsSequence};
 ghost use Rattle.pfs_search.specs.Search.{IsSearchOf};
 ghost use Rattle.pfs_iterate.specs.Iterated.{after_round, after_rounds, found, is_accepted, put};
 ghost use Rattle.pfs_iterate.specs.Private.Steps.{IsMeasured};
-ghost use Rattle.pfs_iterate.specs.Rounds.{CanIterate, IsPlacesFor, IsWorkFor};
+ghost use Rattle.pfs_iterate.specs.Private.Memory.{IsPlacesFor, IsWorkFor};
+ghost use Rattle.pfs_iterate.specs.Rounds.{CanIterate};
 
 use crate::destroy::{draw, take_jobs};
 use crate::found::Found;

@@ -1,6 +1,6 @@
 //! The memory of rounds.
 ghost use Rattle.std.specs.Prelude.{IfOk};
-ghost use Rattle.pfs_iterate.specs.Rounds.{IsWorkFor};
+ghost use Rattle.pfs_iterate.specs.Private.Memory.{IsWorkFor};
 
 use crate::places::Places;
 use pfs_base::Instance;

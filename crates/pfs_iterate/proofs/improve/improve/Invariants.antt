@@ -3,7 +3,7 @@ use Rattle.pfs_base.specs.Paths.{makespan}
 use Rattle.pfs_search.specs.Search.{IsSearchOf}
 use Rattle.pfs_iterate.specs.Iterated.{improved}
 use Rattle.pfs_iterate.specs.Private.Steps.{IsRearranged}
-use Rattle.pfs_iterate.specs.Rounds.{IsPlacesFor}
+use Rattle.pfs_iterate.specs.Private.Memory.{IsPlacesFor}
 use Rattle.pfs_iterate.proofs.improve.improve.Given as goal
 
 abbrev pub invariant-loop-made : goal.invariant-loop-made

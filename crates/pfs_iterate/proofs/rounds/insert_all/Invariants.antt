@@ -3,7 +3,7 @@ use Rattle.pfs_base.specs.Paths.{makespan}
 use Rattle.pfs_order.specs.Sequence.{IsSequence}
 use Rattle.pfs_search.specs.Search.{IsSearchOf}
 use Rattle.pfs_iterate.specs.Iterated.{put}
-use Rattle.pfs_iterate.specs.Rounds.{IsPlacesFor}
+use Rattle.pfs_iterate.specs.Private.Memory.{IsPlacesFor}
 use Rattle.pfs_iterate.proofs.rounds.insert_all.Given as goal
 
 abbrev pub invariant-loop-job : goal.invariant-loop-job

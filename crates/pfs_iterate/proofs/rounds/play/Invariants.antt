@@ -2,7 +2,7 @@ use Rattle.std.proofs.Common.{◌≡◌, ◌+◌, ◌-◌, ◌≤◌, length, ta
 use Rattle.pfs_search.specs.Search.{IsSearchOf}
 use Rattle.pfs_iterate.specs.Iterated.{after_rounds}
 use Rattle.pfs_iterate.specs.Private.Steps.{IsMeasured}
-use Rattle.pfs_iterate.specs.Rounds.{IsWorkFor}
+use Rattle.pfs_iterate.specs.Private.Memory.{IsWorkFor}
 use Rattle.pfs_iterate.proofs.rounds.play.Given as goal
 
 abbrev pub invariant-loop-done : goal.invariant-loop-done

@@ -1,5 +1,5 @@
 use Rattle.std.proofs.Common.{◌≡◌, ◌≤◌, take}
-use Rattle.pfs_iterate.specs.Heads.{AreHeads}
+use Rattle.pfs_iterate.specs.Private.Memory.{AreHeads}
 use Rattle.pfs_iterate.proofs.heads.Heads.follow.Given as goal
 
 abbrev pub invariant-loop-place : goal.invariant-loop-place

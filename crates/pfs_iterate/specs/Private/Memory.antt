@@ -1,9 +1,12 @@
--- The rows that total delays are computed from.
+-- What the memory of rounds holds.
 use Rattle.std.specs.Prelude.{◌≡◌, ℕ, ◌+◌, ◌*◌, ◌<◌, ◌≤◌, List, length, take as front, vec_capacity}
 use Rattle.std.specs.List.{All, slice_index_or}
 use Rattle.pfs_base.specs.FlowShop.{FlowShop}
+use Rattle.pfs_order.specs.Sequence.{all_jobs}
 use Rattle.pfs_iterate.specs.Iterated.{end_on}
 use Rattle.pfs_iterate.specs.declared.heads.Heads.{Heads}
+use Rattle.pfs_iterate.specs.declared.places.Places.{Places}
+use Rattle.pfs_iterate.specs.declared.work.Work.{Work}
 
 -- rows for all jobs of the shop. The first row, and one for each of these jobs, have the ends of the jobs before and up to
 -- it on each machine.
@@ -18,3 +21,16 @@ pub record AreRows (shop : FlowShop) (jobs rows : List ℕ) : Type 0 where
 pub record AreHeads (shop : FlowShop) (heads : Heads) : Type 0 where
   pub rows : AreRows shop heads.jobs.items heads.rows.items
   pub room : shop.jobs ≤ vec_capacity heads.jobs
+
+-- memory to choose the places of jobs of a shop
+pub record IsPlacesFor (shop : FlowShop) (places : Places) : Type 0 where
+  pub spans : length places.spans.items ≡ shop.jobs + 1
+  pub heads : AreHeads shop places.heads
+
+-- memory for the rounds of a shop
+pub record IsWorkFor (shop : FlowShop) (work : Work) : Type 0 where
+  pub seq : work.seq.size ≡ shop.jobs
+  pub all : work.all ≡ all_jobs shop.jobs
+  pub removed : shop.jobs ≤ vec_capacity work.removed
+  pub list : shop.jobs ≤ vec_capacity work.list
+  pub places : IsPlacesFor shop work.places
