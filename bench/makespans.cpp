@@ -70,7 +70,7 @@ public:
     }
 
 private:
-    // The times of eight orders at a place: a transpose of 8 x 8 for eight machines. The lanes beyond `count` repeat the
+    // The times of eight orders at a place: a transpose of 8 x 8 for eight machines. Lanes beyond `count` repeat the
     // last order.
     void gather(const uint32_t* orders, size_t count, size_t place, size_t half) {
         const uint16_t* row[8];

@@ -6,6 +6,8 @@ ghost use Rattle.pfs_batch.specs.Private.Lanes.{columns};
 use crate::lanes::Lanes;
 use std::simd::prelude::*;
 
+// What shuffles take of two vectors, whose second one has the numbers from 8 on. LOW_K and HIGH_K take K numbers of the
+// first vector and K of the second one by turns, from their first halves or from their last.
 const LOW_1: [usize; 8] = [0, 8, 1, 9, 2, 10, 3, 11];
 
 const HIGH_1: [usize; 8] = [4, 12, 5, 13, 6, 14, 7, 15];
@@ -18,9 +20,10 @@ const LOW_4: [usize; 8] = [0, 1, 2, 3, 8, 9, 10, 11];
 
 const HIGH_4: [usize; 8] = [4, 5, 6, 7, 12, 13, 14, 15];
 
+// All of the first, and then all of the second one.
 const BOTH: [usize; 16] = [0, 1, 2, 3, 4, 5, 6, 7, 8, 9, 10, 11, 12, 13, 14, 15];
 
-/// Eight times from one on.
+// The times of a lane on eight machines, from the machine `first` on.
 #[inline(always)]
 fn load(rows: &[u16], starts: &[usize; 16], lane: usize, first: usize) -> u16x8
     requires lane { lane < 16 }
@@ -33,7 +36,7 @@ fn load(rows: &[u16], starts: &[usize; 16], lane: usize, first: usize) -> u16x8
     u16x8::from_slice(&rows[at..at + 8])
 }
 
-/// Eight vectors, the first of which has the first number of each.
+// Eight vectors, of which vector k has number k of each of these.
 #[inline(always)]
 fn transposed(
     a: u16x8,
@@ -77,7 +80,7 @@ fn transposed(
     ]
 }
 
-/// Vectors with the times of eight lanes on eight machines.
+/// The times of eight lanes, from lane `from` on, on eight machines: a vector for each machine.
 #[inline(always)]
 pub fn eight_of(rows: &[u16], starts: &[usize; 16], from: usize, first: usize) -> [u16x8; 8]
     requires from { from ≤ 8 }
@@ -97,7 +100,7 @@ pub fn eight_of(rows: &[u16], starts: &[usize; 16], from: usize, first: usize) -
     transposed(a, b, c, d, e, f, g, h)
 }
 
-/// Eight lanes and eight more.
+/// The first eight lanes and the last eight.
 #[inline(always)]
 pub fn joined(low: u16x8, high: u16x8) -> Lanes
     requires low { length low ≡ 8 }

@@ -89,10 +89,15 @@ pub(crate) fn validate_jobs(size: usize, jobs: &[u32]) -> Result<(), CallFault>
     ensures kind { result ≢ Err CallFault.Room }
 {
     // Only a list that has a fault is searched for the first one.
-    if size <= FEW_JOBS && is_sequence(size as u32, jobs, &mut [false; FEW_JOBS]) {
-        return Ok(());
-    }
-    if size > FEW_JOBS && is_long_sequence(size as u32, jobs) {
+    if size <= 64 {
+        if is_sequence(size as u32, jobs, &mut [false; 64]) {
+            return Ok(());
+        }
+    } else if size <= FEW_JOBS {
+        if is_sequence(size as u32, jobs, &mut [false; FEW_JOBS]) {
+            return Ok(());
+        }
+    } else if is_long_sequence(size as u32, jobs) {
         return Ok(());
     }
     validate_more(size, &[], jobs)

@@ -16,7 +16,7 @@ use pfs_base::{Instance, MOST_JOBS};
 use pfs_batch::{Batch, WIDTH};
 
 // Fewer sequences than these are faster one after the other.
-const FEWEST: usize = 6;
+const FEWEST: usize = 8;
 
 /// Validates the length of a list of sequences, and then the sequences one after the other, each from the left.
 pub(crate) fn validate_many(

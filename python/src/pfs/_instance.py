@@ -459,7 +459,7 @@ class Instance:
         ----------
         orders : array_like
             A row for each sequence, of distinct jobs, counted from 0: orders of all jobs, or partial sequences. Or a
-            list of `Solution` or `Sequence`.
+            list of `Solution` or `Sequence`. An array of uint32 is fastest: others are converted.
 
         Examples
         --------

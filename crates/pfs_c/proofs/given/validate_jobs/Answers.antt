@@ -8,6 +8,12 @@ returns-then-is_sequence-clause-validated c =
     let right = (jobs_right c.args.size c.args.jobs.now).1 (c.is_sequence.ensures.sequence.0 c.if-is_sequence.true) in
     rw right refl
 
+pub returns-then-is_sequence-2-clause-validated : goal.returns-then-is_sequence-2-clause-validated
+returns-then-is_sequence-2-clause-validated c =
+    let right = (jobs_right c.args.size c.args.jobs.now).1
+    (c.is_sequence-then-size-le-FEW_JOBS.ensures.sequence.0 c.if-is_sequence-2.true) in
+    rw right refl
+
 pub returns-then-is_long_sequence-clause-validated : goal.returns-then-is_long_sequence-clause-validated
 returns-then-is_long_sequence-clause-validated c =
     let right = (jobs_right c.args.size c.args.jobs.now).1 (c.is_long_sequence.ensures.0 c.if-is_long_sequence.true) in
