@@ -104,7 +104,8 @@ def page(tmp_path_factory: pytest.TempPathFactory) -> Iterator[Page]:
     for flag in ("--headless=new", "--no-sandbox", "--disable-gpu", "--disable-dev-shm-usage", "--lang=en",
                  "--window-size=1200,1400", f"--user-data-dir={folder / 'profile'}"):
         options.add_argument(flag)
-    options.add_experimental_option("prefs", {"download.default_directory": str(folder)})
+    options.add_experimental_option("prefs", {"download.default_directory": str(folder),
+                                              "profile.default_content_setting_values.automatic_downloads": 1})
     options.set_capability("goog:loggingPrefs", {"browser": "ALL"})
     with served("--searches", "2") as server:
         browser = webdriver.Chrome(service=Service(tool("chromedriver")), options=options)
@@ -181,7 +182,7 @@ def test_a_week(page: Page) -> None:
     assert page.text("#plans tr:nth-child(2) td:nth-child(1)") == "Plan 1"
     # From now on, with a machine that is down.
     page.browser.execute_script("arguments[0].value = '2026-11-30T07:00'", page.one("#now"))
-    page.browser.execute_script("arguments[0].value = '2026-11-30T07:45'", page.all("[data-machine]")[1])
+    page.browser.execute_script("arguments[0].value = '2026-11-30T07:45'", page.all("#machines input")[1])
     page.click("#rest")
     page.wait(lambda: "finished" in page.text("#ends") and "left out" in page.text("#ends")
               or "nothing is finished" in page.text("#ends"))
@@ -213,12 +214,11 @@ def test_by_the_keyboard_alone(page: Page) -> None:
 
     def tab_to(test: Callable[[WebElement], Any]) -> WebElement:
         for _ in range(400):
-            active().send_keys(Keys.TAB)
+            webdriver.ActionChains(page.browser).send_keys(Keys.TAB).perform()
             if test(active()):
                 return active()
         pytest.fail("the focus doesn't come there")
 
-    page.browser.execute_script("document.activeElement.blur()")
     tab_to(lambda each: each.get_attribute("id") == "plan").send_keys(Keys.ENTER)
     page.wait(lambda: len(page.order()) == 12)
     own = page.order()[3]
@@ -231,16 +231,23 @@ def test_by_the_keyboard_alone(page: Page) -> None:
     assert page.logged() == []
 
 
-def test_a_search_is_ended_and_the_server_says_what_it_lacks(page: Page) -> None:
+def test_a_search_is_ended_and_what_goes_wrong_is_shown(page: Page) -> None:
+    """A search of many jobs by Enough; a table without jobs; and another token."""
     page.open()
-    page.paste(json.loads(json.dumps(TABLE)))
-    page.wait(lambda: "12 jobs" in page.text("#read"))
+    page.paste("job;a;b;c;d;e;f\n" + "".join(f"J{at};" + ";".join(str((at * each * 7919) % 97 + 1) for each in
+                                                              (3, 5, 7, 11, 13, 17)) + "\n" for at in range(60)))
+    page.wait(lambda: "60 jobs" in page.text("#read"))
+    Select(page.one("#seconds")).select_by_value("600")
+    page.click("#plan")
+    page.wait(lambda: "so far, no order is below" in page.text("#progress"))
+    page.shot("progress")
+    page.click("#end")
+    page.wait(lambda: len(page.all("#order td.name")) > 10 and page.one("#plan").is_enabled())
     page.paste("job;saw\n")
     page.wait(lambda: page.text("#message") or page.text("#faults"))
-    page.open()
     page.browser.execute_script("sessionStorage.setItem('token', 'wrong'); location.reload()")
-    page.paste(TABLE)
     page.wait(lambda: "token" in page.text("#message"))
+    assert [("403" in each or "422" in each) for each in page.logged()].count(False) == 0
 
 
 def test_in_german_on_a_phone(page: Page) -> None:
@@ -270,7 +277,7 @@ def test_each_text_of_the_page_is_there_in_german() -> None:
     known = set(re.findall(r'^ +"((?:[^"\\]|\\.)*)":|, "((?:[^"\\]|\\.)*)":', german, re.MULTILINE))
     keys = {json.loads(f'"{one or other}"') for one, other in known}
     script, html = (WEB / "page.js").read_text("utf-8"), (WEB / "page.html").read_text("utf-8")
-    used = set(re.findall(r'\btr\("([^"]+)"', script))
+    used = {json.loads(f'"{text}"') for text in re.findall(r'\btr\("([^"]+)"', script)}
     for listed in re.findall(r'\[((?:"[^"]*"(?:,\s*)?)+)\]\.map\(text => tr\(text\)\)', script):
         used |= set(re.findall(r'"([^"]+)"', listed))
     body = re.sub(r"<(script|title)\b.*?</\1>", "", html.partition("<body>")[2], flags=re.DOTALL)

@@ -202,7 +202,7 @@ def test_after_it_was_killed_a_new_one_answers_the_same_page(token_file: pathlib
         first.process.wait()
     with served(*words, port=port) as second:
         assert second.ask(f"/api/search/{name}")[0] == 404
-        assert second.answer("/api/plan", {"shop": shop, "order": ["chair", "table"]})["makespan"] == "10 h"
+        assert second.answer("/api/plan", {"shop": shop, "order": ["chair", "table"]})["makespan"] == "9 h"
 
 
 # With a proxy
@@ -248,5 +248,5 @@ def test_the_unit_is_one_that_systemd_reads(tmp_path: pathlib.Path) -> None:
         pytest.skip("systemd isn't installed")
     unit = tmp_path / "pfs-web.service"
     unit.write_text((TOP / "debian" / "pfs-web.service").read_text().replace("/usr/bin/pfs-web", "/bin/true"))
-    done = run_tool([analyze, "verify", unit], tmp_path)
-    assert "pfs-web.service" not in done.stderr.replace("man:pfs-web(1)", ""), done.stderr
+    done = run_tool([analyze, "verify", "--man=no", unit], tmp_path)
+    assert "pfs-web" not in done.stderr, done.stderr

@@ -34,8 +34,8 @@ def policy() -> str:
     elsewhere, and no text becomes a script."""
     folder = importlib.resources.files("pfs")
     style, script = policy_of(folder.joinpath("chart.html").read_text("utf-8")).split("; ")[1:3]
-    return (f"default-src 'none'; {script} 'self'; {style} 'self'; connect-src 'self'; base-uri 'none'; "
-            "form-action 'none'; frame-ancestors 'none'")
+    return (f"default-src 'none'; {script} 'self'; {style} 'self'; connect-src 'self'; img-src data:; "
+            "base-uri 'none'; form-action 'none'; frame-ancestors 'none'")
 
 
 def refusal(names: set[str], token: str) -> tuple[str, int] | None:

@@ -55,7 +55,7 @@ const GERMAN = {
   "first after what is held, and hold it": "vorziehen, direkt nach dem Gehaltenen, und halten",
   "Say in “Dates and shifts” when the work begins.": "Bitte bei „Termine und Schichten“ den Arbeitsbeginn eintragen.",
   "finished and left out:": "fertig und weggelassen:", "nothing is finished by then": "bis dahin ist nichts fertig",
-  "job ends": "Auftrag endet", "shown": "gezeigt", "plan": "Plan", "makespan": "Durchlaufzeit",
+  "job ends": "Auftrag endet", "shown": "gezeigt", "plan": "Plan", "makespan": "Gesamtdauer",
   "jobs that move": "verschobene Aufträge", "Show": "Zeigen", "forget this plan": "diesen Plan vergessen",
 };
 const FAULTS = [
