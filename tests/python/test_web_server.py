@@ -145,6 +145,7 @@ def test_what_is_too_large_is_refused_before_it_is_read(server: Server) -> None:
 def test_requests_that_are_half_sent_stop_nobody(server: Server) -> None:
     """Twenty of them, more than there are threads. Each connection is closed after a while."""
     head = f"POST /api/read HTTP/1.1\r\nHost: 127.0.0.1:{server.port}\r\nContent-Length: 1000\r\n\r\nabc"
+    server.answer("/api/read", {"rows": []})
     with contextlib.ExitStack() as lines:
         for _ in range(20):
             lines.enter_context(socket.create_connection(("127.0.0.1", server.port))).sendall(head.encode())

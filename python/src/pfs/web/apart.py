@@ -7,6 +7,7 @@ import resource
 import tempfile
 import threading
 from collections.abc import Callable
+from multiprocessing import forkserver
 from multiprocessing.connection import Connection
 from typing import Any
 
@@ -30,7 +31,9 @@ class Apart:
 
     def __init__(self) -> None:
         self.context = multiprocessing.get_context("forkserver")
-        self.context.set_forkserver_preload(["pfs.web.plans"])
+        # What isn't installed is left out.
+        self.context.set_forkserver_preload(["__main__", "pfs.web.plans", "matplotlib.figure", "openpyxl"])
+        forkserver.ensure_running()
         self.slots, self.places = threading.Semaphore(AT_ONCE), threading.Semaphore(AT_ONCE + MOST_WAITING)
 
     def __call__(self, call: Call, given: dict[str, Any]) -> Any:

@@ -162,10 +162,11 @@ const calendar = () => Object.fromEntries(DATES.map(id => [id, byId(id).value]))
 const plan = more => ({shop: read.shop, order: doc.order, held: doc.held, calendar: calendar(),
                        title: byId("title").value || doc.name.slice(0, 200), ...more});
 byId("plan").onclick = doing(async () => {
-  const {search} = await ask("/api/search", plan({seconds: Number(byId("seconds").value), seed: doc.seed++}));
-  running = {search, isWaiting: true};
-  showRunning();
+  byId("plan").disabled = true;
   try {
+    const {search} = await ask("/api/search", plan({seconds: Number(byId("seconds").value), seed: doc.seed++}));
+    running = {search, isWaiting: true};
+    showRunning();
     for (let told = {}; running && told.state !== "done";) {
       told = await ask(`/api/search/${search}`);
       if (!running) return;
@@ -177,11 +178,11 @@ byId("plan").onclick = doing(async () => {
       if (told.order) doc.order = told.order;
       else await new Promise(done => setTimeout(done, 300));
     }
+    await evaluate();
   } finally {
     running = null;
     showRunning();
   }
-  await evaluate();
 });
 function showRunning() {
   byId("end").hidden = byId("bar").hidden = !running;
