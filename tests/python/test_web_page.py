@@ -171,6 +171,8 @@ def test_a_week(page: Page) -> None:
     page.wait(lambda: page.order() == [last, *first[:5]])
     assert "moved" in page.one("#moves tbody tr:nth-child(2) td:last-child").get_attribute("class")
     assert page.text("#plans tr:nth-child(2) td:nth-child(4)") == "1"
+    webdriver.ActionChains(page.browser).drag_and_drop(*page.all("#order td.name")[1:3]).perform()
+    page.wait(lambda: page.order() == [last, first[1], first[0], *first[2:5]])
     page.browser.execute_script("arguments[0].click()", page.key(f"{first[2]}:first"))
     page.wait(lambda: page.order()[0] == first[2] and page.all("#order tr.held"))
     planned(page)
@@ -219,6 +221,13 @@ def test_by_the_keyboard_alone(page: Page) -> None:
                 return active()
         pytest.fail("the focus doesn't come there")
 
+    tab_to(lambda each: each.get_attribute("data-key") == "3,2")
+    # Faster than the server reads what is written.
+    webdriver.ActionChains(page.browser).send_keys("71", Keys.TAB, "73", Keys.TAB, Keys.TAB, "K3", Keys.ENTER).perform()
+    page.wait(lambda: page.browser.execute_script("return doc.rows.slice(2, 4).map(row => row[1].join())")
+              == ["J2,71,73", "K3,22,34"])
+    page.wait(lambda: active().get_attribute("data-key") == "4,1" and page.browser.execute_script(
+        "return read.shop.times[1].join() + read.shop.jobs[2]") == "71,73K3")
     tab_to(lambda each: each.get_attribute("id") == "plan").send_keys(Keys.ENTER)
     page.wait(lambda: len(page.order()) == 12)
     own = page.order()[3]

@@ -20,6 +20,7 @@ function rowOf(cells, parent, kind = "td", className = "") {
   return row;
 }
 const HIGH = 32, MORE = 12;
+let isDrawing = false;
 // A list of many rows in a box, of which only those that are seen are drawn: `draw` makes a row. `head` makes the head.
 function listIn(box, draw, head) {
   const table = made("table", null, box), top = made("thead", null, table), body = made("tbody", null, table);
@@ -34,12 +35,20 @@ function listIn(box, draw, head) {
     const last = Math.min(count, first + Math.ceil((box.clientHeight || 400) / HIGH) + 2 * MORE);
     if (!isNew && first === from && last === to) return;
     const own = document.activeElement, key = box.contains(own) ? own.dataset.key : undefined;
+    const [typed, start, end] = own.type === "text" ? [own.value, own.selectionStart, own.selectionEnd] : [];
     // A field that loses the focus tells its change.
     if (key !== undefined && !isNew) own.blur();
     [from, to] = [first, last];
     const rows = Array.from({length: last - first}, (_, at) => draw(first + at));
+    isDrawing = true;
     body.replaceChildren(space(first), ...rows, space(count - last));
-    if (key !== undefined) focusOn(key);
+    const found = key !== undefined && focusOn(key);
+    // What is being written while a change before it is read again.
+    if (found && found.type === "text") {
+      found.value = typed;
+      found.setSelectionRange(start, end);
+    }
+    isDrawing = false;
   }
   function focusOn(key) {
     const found = [...box.querySelectorAll("[data-key]")].find(each => each.dataset.key === key);

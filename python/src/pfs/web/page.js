@@ -46,6 +46,7 @@ async function take(bytes, name) {
   let text = "";
   for (let at = 0; at < bytes.byteLength; at += 32768)
     text += String.fromCharCode(...new Uint8Array(bytes, at, Math.min(32768, bytes.byteLength - at)));
+  document.activeElement.blur();
   doc = blank(name);
   content = btoa(text);
   restore({unit: "", decimal: "", decimals: "", title: ""});
@@ -116,8 +117,11 @@ function drawRow(at) {
     onclick: doing(() => { doc.rows.splice(at, 1); return again(); })});
   for (let column = 1; column <= wide; ++column) {
     const td = made("td", null, drawn), key = `${line},${column}`, text = wrong.get(key);
-    const field = control("input", key, letters(column) + line, td, {type: "text", value: texts[column - 1] || "",
-      title: text || "", onchange: doing(() => edit(row, column, field.value.trim()))});
+    const before = texts[column - 1] || "", commit = doing(async () => {
+      if (!isDrawing && field.value.trim() !== before) await edit(row, column, field.value.trim());
+    });
+    const field = control("input", key, letters(column) + line, td, {type: "text", value: before, title: text || "",
+      onblur: commit, onkeydown: event => { if (event.key === "Enter") commit(); }});
     field.setAttribute("aria-invalid", Boolean(text));
     const isOff = doc.machines && column > 1 && head && !doc.machines.includes(head[1][column - 1]);
     td.className = text ? "wrong" : isOff ? "off" : "";
