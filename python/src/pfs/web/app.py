@@ -2,8 +2,6 @@
 request, and a search is forgotten when nobody asks for it."""
 from __future__ import annotations
 
-import base64
-import binascii
 import hmac
 import importlib.resources
 import logging
@@ -109,23 +107,11 @@ def made(names: set[str], token: str, searches: Searches) -> Flask:
             return Response("Not Found\n", 404, mimetype="text/plain")
         return Response(static[name], mimetype=STATIC[name])
 
-    @app.post("/api/read")
-    def read() -> Response:
-        asked = given()
-        if "content" in asked:
-            try:
-                asked["content"] = base64.b64decode(plans.field(asked, "content", str, ""), validate=True)
-            except binascii.Error:
-                raise plans.OTHER_FORM from None
-        return jsonify(apart(plans.read, asked))
+    calls = {"read": plans.read, "plan": plans.told, "rest": plans.rest}
 
-    @app.post("/api/plan")
-    def plan() -> Response:
-        return jsonify(apart(plans.told, given()))
-
-    @app.post("/api/rest")
-    def rest() -> Response:
-        return jsonify(apart(plans.rest, given()))
+    @app.post("/api/<any(read, plan, rest):what>")
+    def made_apart(what: str) -> Response:
+        return jsonify(apart(calls[what], given()))
 
     @app.post("/api/file")
     def file() -> Response:

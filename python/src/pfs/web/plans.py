@@ -2,6 +2,8 @@
 are called apart (`pfs.web.apart`)."""
 from __future__ import annotations
 
+import base64
+import binascii
 import csv
 import io
 import pathlib
@@ -67,7 +69,11 @@ def read(given: dict[str, Any], folder: str) -> dict[str, Any]:
     options = field(given, "options", dict, {})
     if "content" not in given:
         return read_rows(given.get("rows"), options)
-    content, name, sheet = given["content"], text(given, "name", MOST_LETTERS), text(options, "sheet")
+    try:
+        content = base64.b64decode(field(given, "content", str, ""), validate=True)
+    except binascii.Error:
+        raise OTHER_FORM from None
+    name, sheet = text(given, "name", MOST_LETTERS), text(options, "sheet")
     faults: list[TableFault] = []
     sheets: list[str] = []
     if content.startswith(tables.ARCHIVE):
