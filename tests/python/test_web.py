@@ -204,6 +204,13 @@ def test_what_a_planner_can_change_is_told(client: FlaskClient, what: str) -> No
     assert status == 422 and said in error
 
 
+def test_a_table_has_a_greatest_number_of_times(client: FlaskClient) -> None:
+    """With one more it is rejected; with that number its names are missing."""
+    for count, said in ((plans.MOST_TIMES + 1, f"more than {plans.MOST_TIMES:,} times"), (plans.MOST_TIMES, "times")):
+        status, error = refused(client, "/api/search", {"shop": {**SHOP, "times": [[1] * count]}})
+        assert status == 422 and said in error and ("more than 400,000" in error) == (count > plans.MOST_TIMES)
+
+
 def test_other_kinds_of_requests_are_refused(client: FlaskClient) -> None:
     own = {"Host": HOST, "X-Pfs-Token": TOKEN}
     for sent, kind, status in ((b"rows=1", "application/x-www-form-urlencoded", 415), (b"{}", "text/plain", 415),
