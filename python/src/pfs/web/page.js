@@ -171,7 +171,8 @@ const plan = more => ({shop: read.shop, order: doc.order, held: doc.held, least:
 byId("plan").onclick = doing(async () => {
   byId("plan").disabled = true;
   try {
-    const {shop} = read, {search} = await ask("/api/search", plan({seconds: Number(byId("seconds").value), seed: doc.seed++}));
+    const {shop} = read, wanted = {seconds: Number(byId("seconds").value), seed: doc.seed++};
+    const {search} = await ask("/api/search", plan(wanted));
     running = {search, isWaiting: true};
     showRunning();
     for (let told = {}; running && told.state !== "done";) {
