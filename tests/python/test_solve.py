@@ -21,6 +21,7 @@ from hypothesis import given
 from hypothesis import strategies as st
 from pfs import _commands, _library, _rounds, _search
 from support import plainly
+from support.library import HEADER
 
 
 class Clock:
@@ -562,7 +563,8 @@ def test_a_solution_of_another_instance_is_rejected() -> None:
 # Searches that accept longer orders, and those that hold jobs
 
 LONGER: dict[str, Any] = {"method": "iterated-greedy"}
-TIES = ["first"]
+# Those of the header: a library without a rule for ties takes the first of equally good places.
+TIES = ["first", *["idle"] * ("PFS_TIES_IDLE" in HEADER.read_text())]
 
 
 @given(case=plainly.shops_and_orders(5), counts=st.lists(st.integers(1, 5), min_size=1, max_size=3),
