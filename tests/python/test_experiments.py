@@ -863,6 +863,19 @@ def test_a_run_that_kills_its_process_leaves_the_later_ones_to_the_next_start(ex
     assert set(experiment.searches().values()) == {1, 3}, "how often each run was begun"
 
 
+def test_a_process_whose_starter_is_killed_makes_no_further_run(experiment: Experiment) -> None:
+    """If GNU parallel is killed at once with its starter, nothing ends the processes, which have 8 runs each."""
+    with experiment.plan(MANY).gate() as let_through:
+        begun = experiment.start("--jobs", "2")
+        wait_until(lambda: len(experiment.started()) == 2, "two searches wait")
+        os.killpg(begun.pid, signal.SIGKILL)
+        begun.wait(60)
+        let_through(60)
+        wait_until(lambda: experiment.left() == [], "the processes end")
+    assert len(experiment.started()) == len(experiment.done()) == 2
+    assert experiment.run() == ended(60)
+
+
 @pytest.mark.parametrize("number", [signal.SIGTERM, signal.SIGKILL])
 def test_what_gnu_parallel_leaves_has_no_lock(number: signal.Signals, experiment: Experiment) -> None:
     """If it is ended at its start, processes by which it counts how many there may be are left."""

@@ -378,14 +378,14 @@ def kill_descendants() -> int:
 
 def main() -> None:
     """Makes the runs one after the other, until what has started this process is gone."""
-    parent, groups = os.getppid(), [[*map(int, word.split(","))] for word in sys.argv[1:]]
+    before, groups = starters(), [[*map(int, word.split(","))] for word in sys.argv[1:]]
     wanted = {number for group in groups for number in group}
     with open(os.path.join(HERE, "runs.tsv"), encoding="utf-8", newline="\n") as file:
         runs = {number: Run._make(line[:-1].split("\t")) for number, line in enumerate(file, 1) if number in wanted}
     with open(os.path.join(HERE, "commands.json"), encoding="utf-8") as file:
         commands = json.load(file)
     for first, *others in groups:
-        if os.getppid() == parent:
+        if starters() == before:
             run = runs[first]
             for order, row in results(run, [runs[number] for number in others], commands.get(run.method)):
                 line = io.StringIO()
@@ -393,6 +393,14 @@ def main() -> None:
                 made = (order + line.getvalue()).encode(errors="replace")
                 sys.stdout.buffer.write(b"%d\n%b" % (len(made), made))
             sys.stdout.buffer.flush()
+
+
+def starters() -> tuple[int, bytes]:
+    """Returns the parent of this process, which is a shell, and that of the shell."""
+    parent, second = os.getppid(), b""
+    with contextlib.suppress(OSError), open(f"/proc/{parent}/stat", "rb") as file:
+        second = file.read().rpartition(b")")[2].split()[1]
+    return parent, second
 
 
 def results(run: Run, others: list[Run], command: list[str] | str | None) -> Iterator[tuple[str, list[str]]]:
