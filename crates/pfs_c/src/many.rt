@@ -1,6 +1,5 @@
 //! Makespans of many sequences of equal length, which are stored one after the other.
 ghost use Rattle.std.specs.Prelude.{◌≡◌, ℕ, ◌+◌, ◌*◌, ◌<◌, ◌≤◌, ◌^◌, [], ◌∷◌, length, slice_index, IfOk, IfSome};
-ghost use Rattle.pfs_base.specs.FlowShop.{FlowShop};
 ghost use Rattle.pfs_base.specs.Lists.{first_some};
 ghost use Rattle.pfs_base.specs.Paths.{makespan};
 ghost use Rattle.pfs_batch.specs.Many.{sequence_at};
