@@ -1,11 +1,11 @@
 -- When each machine ends the last job of a sequence, from the ends of the jobs before it.
 use Rattle.std.proofs.Common.{◌≡◌, ℕ, zero, suc, ◌+◌, ◌*◌, ◌<◌, ◌≤◌, max, List, [], ◌∷◌, ◌++◌, length, get_or, insert, take}
-use Rattle.std.proofs.Common.{sum_by, refl, sym, ap, ◌∙◌, inl, inr, add-one, zero-add, suc-add, arith}
+use Rattle.std.proofs.Common.{sum_by, refl, sym, ap, ◌∙◌, inl, inr, add-one, arith}
 use Rattle.std.specs.List.{range_with_len}
 use Rattle.std.proofs.Math.Seq.{get_or-append_seam}
 use Rattle.std.proofs.lemmas.Bool.{cases_lt}
 use Rattle.std.proofs.lemmas.List.{get_or-take, length-append, length-take-le, take-take, take_all, take_more}
-use Rattle.std.proofs.lemmas.List.Edits.{insert_end, length-insert}
+use Rattle.std.proofs.lemmas.List.Edits.{insert_end}
 use Rattle.pfs_base.specs.declared.limits.TheConstants.{MOST_JOBS, MOST_MACHINES, LONGEST_TIME}
 use Rattle.pfs_base.specs.FlowShop.{FlowShop, IsWithin, time_of}
 use Rattle.pfs_base.specs.Limits.{limits}

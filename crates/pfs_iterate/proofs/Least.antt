@@ -1,5 +1,5 @@
 -- The first of the places from one on that is the best.
-use Rattle.std.proofs.Common.{◌≡◌, ℕ, ◌+◌, ◌-◌, ◌<◌, ◌≤◌, Bool, true, false, get_or, eqb, leb, if◌then◌else◌, ◌∙◌, ap, arith}
+use Rattle.std.proofs.Common.{◌≡◌, ℕ, ◌+◌, ◌-◌, ◌<◌, ◌≤◌, Bool, true, false, get_or, eqb, leb, if◌then◌else◌, ◌∙◌, arith}
 use Rattle.std.proofs.Common.{inl, inr, List, [], ◌∷◌, refl, sym, add-zero}
 use Rattle.pfs_insert.specs.Insertion.{first_least}
 use Rattle.std.specs.List.{list_all, position_or_len, range_with_len}

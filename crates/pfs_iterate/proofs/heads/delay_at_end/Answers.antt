@@ -2,7 +2,7 @@ use Rattle.std.proofs.Common.{◌≡◌, ℕ, List, ◌<◌, ◌≤◌, ◌+◌,
 use Rattle.std.proofs.lemmas.List.{length-append}
 use Rattle.pfs_base.specs.FlowShop.{FlowShop}
 use Rattle.pfs_base.specs.Lists.{below}
-use Rattle.pfs_iterate.specs.Iterated.{end_on, ends}
+use Rattle.pfs_iterate.specs.Iterated.{end_on}
 use Rattle.pfs_iterate.proofs.Ends.{end_before_more, end_short, later, next_end, sum_more, sum_short, sums_later}
 use Rattle.pfs_iterate.proofs.HeadRows.{end_above}
 use Rattle.pfs_iterate.proofs.heads.delay_at_end.Goals as goal

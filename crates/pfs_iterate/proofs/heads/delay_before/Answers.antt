@@ -1,8 +1,8 @@
-use Rattle.std.proofs.Common.{◌≡◌, ℕ, List, ◌<◌, ◌≤◌, ◌+◌, ◌*◌, ◌++◌, [], ◌∷◌, ◌∙◌, length, get_or, sym, ap, sum_by, take, suc-mul, add-one, arith}
+use Rattle.std.proofs.Common.{◌≡◌, ℕ, List, ◌<◌, ◌≤◌, ◌+◌, ◌*◌, ◌++◌, [], ◌∷◌, ◌∙◌, length, get_or, sym, ap, sum_by, take, arith}
 use Rattle.std.proofs.lemmas.List.{length-append, length-take-le, take_more}
 use Rattle.pfs_base.specs.FlowShop.{FlowShop}
 use Rattle.pfs_base.specs.Lists.{below}
-use Rattle.pfs_iterate.specs.Iterated.{end_on, ends}
+use Rattle.pfs_iterate.specs.Iterated.{end_on}
 use Rattle.pfs_iterate.proofs.Ends.{end_before_more, end_short, later_before, next_end, sum_more, sum_short, sums_later}
 use Rattle.pfs_iterate.proofs.HeadRows.{end_above, end_below, few_with}
 use Rattle.pfs_iterate.proofs.heads.delay_before.Goals as goal

@@ -1,4 +1,4 @@
-use Rattle.std.proofs.Common.{◌≡◌, ℕ, ◌+◌, ◌<◌, ◌≤◌, min, length, take, get_or, ◌∙◌, refl, sym, ap, subst, arith}
+use Rattle.std.proofs.Common.{◌≡◌, ℕ, ◌+◌, ◌<◌, ◌≤◌, length, take, get_or, ◌∙◌, refl, sym, ap, subst, arith}
 use Rattle.pfs_iterate.specs.Iterated.{total_delay}
 use Rattle.pfs_iterate.specs.Private.Steps.{IsBestFrom}
 use Rattle.pfs_iterate.proofs.Ends.{delay_in_front}

@@ -1,6 +1,5 @@
 use Rattle.std.proofs.Common.{◌≡◌}
 use Rattle.std.specs.List.{slice_index_or}
-use Rattle.pfs_iterate.specs.Private.Memory.{AreHeads}
 use Rattle.pfs_iterate.specs.Iterated.{total_delay}
 use Rattle.pfs_iterate.specs.Private.Steps.{IsBestFrom}
 use Rattle.pfs_iterate.proofs.places.least_delay.Given as goal

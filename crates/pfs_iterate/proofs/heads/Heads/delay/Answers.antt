@@ -1,5 +1,4 @@
 use Rattle.std.proofs.Common.{◌≡◌, ◌<◌, ◌+◌, ◌-◌, ◌∙◌, length, take, sym, ap₂, ap, take_all, arith}
-use Rattle.std.proofs.lemmas.List.{take_more}
 use Rattle.pfs_iterate.specs.Iterated.{ends}
 use Rattle.pfs_iterate.proofs.Ends.{front_before, front_end}
 use Rattle.pfs_iterate.proofs.heads.Heads.delay.Goals as goal

@@ -1,4 +1,4 @@
-use Rattle.std.proofs.Common.{◌≡◌, ◌≤◌, take}
+use Rattle.std.proofs.Common.{◌≡◌, take}
 use Rattle.pfs_iterate.specs.Private.Memory.{AreHeads}
 use Rattle.pfs_iterate.proofs.heads.Heads.follow.Given as goal
 

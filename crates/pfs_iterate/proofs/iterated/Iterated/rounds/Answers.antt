@@ -1,6 +1,5 @@
-use Rattle.std.proofs.Common.{ℕ, sym, subst, ◌∙◌, rules}
+use Rattle.std.proofs.Common.{ℕ, sym, subst, ◌∙◌}
 use Rattle.pfs_order.specs.Sequence.{IsSequence}
-use Rattle.pfs_iterate.specs.Private.Memory.{IsWorkFor}
 use Rattle.pfs_iterate.proofs.iterated.Iterated.rounds.Goals as goal
 
 pub returns-clause-done : goal.returns-clause-done
