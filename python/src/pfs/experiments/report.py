@@ -30,8 +30,8 @@ from pfs.experiments.statistics import SETTING, SIZE, setting_names
 GROUP = ["method", *SIZE, "rounds", "take", "passes", "time_factor"]
 # The greatest value of each column of numbers, and the least of those that may be below 0. The first ones are whole.
 GREATEST = {"jobs": 10 ** 6, "machines": 10 ** 6, "rounds": 10 ** 9, "take": 10 ** 6, "passes": 10 ** 6,
-            **dict.fromkeys(("bound", "proved_bound", "reference", "makespan"), MOST_MAKESPAN), "cells": 2 ** 64 - 1,
-            "seconds": 1e12, "time_factor": 1e12, "gap_percent": 1e20, "rpd": 1e20}
+            **dict.fromkeys(("bound", "proved_bound", "reference"), MOST_MAKESPAN), "cells": 2 ** 64 - 1,
+            "makespan": MOST_MAKESPAN, "seconds": 1e12, "time_factor": 1e12, "gap_percent": 1e20, "rpd": 1e20}
 LEAST, WHOLE = {"gap_percent": -100, "rpd": -100}, list(GREATEST)[:9]
 NUMBER = r" *-?[0-9]+(?:\.[0-9]*)?(?:[eE][+-]?[0-9]{1,3})? *"
 # The decimals of the columns of tables.
