@@ -39,8 +39,8 @@ first_best value tie from count =
     if nat_eq (value place) (value other) then nat_le (tie place) (tie other) else nat_le (value place) (value other))
     places) places + from
 
--- of the places from `held` on that give the least makespan, the first with the least total delay or, by TIES_FIRST, the
--- first
+-- of the places from `held` on that give the least makespan, the first with the least total delay or, by TIES_FIRST,
+-- the first
 abbrev pub chosen : FlowShop → Options → List ℕ → ℕ → ℕ
 chosen shop options jobs job =
     first_best (makespan_with shop jobs job) (tie_break shop options.ties jobs job) options.held (length jobs + 1)

@@ -12,16 +12,16 @@ PartsLaw = (shop : FlowShop) (options : Options) (accept : List ℕ) (first one 
     → after_rounds shop options accept first (one + other) state
     ≡ after_rounds shop options accept (first + one) other (after_rounds shop options accept first one state)
 
--- with no held jobs, no passes, the rule TIES_FIRST and an empty table a round's current order is the one that a round of `pfs_search` has,
--- without passes, from the words that remove jobs
+-- with no held jobs, no passes, the rule TIES_FIRST and an empty table a round's current order is the one that a round of
+-- `pfs_search` has, without passes, from the words that remove jobs
 abbrev pub GreedyLaw : Type 0
 GreedyLaw = (shop : FlowShop) (options : Options) (state : State) (word : ℕ) (removing others : List ℕ)
     → options.held ≡ 0 → options.partial ≡ 0 → options.passes ≡ 0 → options.ties ≡ TIES_FIRST → length removing ≡ options.take
     → (after_round shop options [] state (word ∷ (removing ++ others))).current
     ≡ greedy_round shop 0 state.current removing
 
--- no machine ends earlier than before where a job is inserted before another one, or at the end: so a total delay is not
--- negative
+-- no machine ends earlier than before where a job is inserted before another one, or at the end, so a total delay is
+-- not negative
 abbrev pub DelayLaw : Type 0
 DelayLaw = (shop : FlowShop) (jobs : List ℕ) (job place machine : ℕ) → place ≤ length jobs
     → end_on shop (front (place + 1) jobs) machine ≤ end_on shop (front (place + 2) (insert jobs place job)) machine

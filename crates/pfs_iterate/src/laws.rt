@@ -6,8 +6,8 @@ pub fn parts()
     ensures { PartsLaw }
 {}
 
-/// With no held jobs, no passes, the first of equally good places and an empty table a round is one of `pfs_search` on the
-/// words that remove jobs.
+/// With no held jobs, no passes, the first of equally good places and an empty table a round is one of `pfs_search` on
+/// the words that remove jobs.
 pub fn greedy()
     ensures { GreedyLaw }
 {}

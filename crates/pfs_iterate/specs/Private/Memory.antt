@@ -8,8 +8,8 @@ use Rattle.pfs_iterate.specs.declared.heads.Heads.{Heads}
 use Rattle.pfs_iterate.specs.declared.places.Places.{Places}
 use Rattle.pfs_iterate.specs.declared.work.Work.{Work}
 
--- rows for all jobs of the shop. The first row, and one for each of these jobs, have the ends of the jobs before and up to
--- it on each machine.
+-- rows for all jobs of the shop: the first one, and after it one for each of these jobs, have the end of the jobs so far
+-- on each machine
 pub record AreRows (shop : FlowShop) (jobs rows : List ℕ) : Type 0 where
   pub few : length jobs ≤ shop.jobs
   pub small : All (λ job. job < shop.jobs) jobs
