@@ -208,13 +208,12 @@ int pfs_sizes(struct pfs_instance *instance, size_t *jobs, size_t *machines) PFS
  * Calls that return PFS_JOB or PFS_REPEATED do not say which job it is; this one does.
  *
  * @param[in,out] instance the instance
- * @param[in] sequence jobs
- * @param[in] sequence_length number of jobs in the list
+ * @param[in] jobs the list
+ * @param[in] jobs_length number of jobs in the list
  * @param[out] place place of that job, from 0; the length of the list if each of its jobs is valid
  * @return PFS_OK, or the first of PFS_NOT_PREPARED (instance), PFS_JOB or PFS_REPEATED (the job at this place)
  */
-int pfs_faulty_job(struct pfs_instance *instance, const uint32_t *sequence, size_t sequence_length,
-                   size_t *place) PFS_CHECKED;
+int pfs_faulty_job(struct pfs_instance *instance, const uint32_t *jobs, size_t jobs_length, size_t *place) PFS_CHECKED;
 
 /** @brief Computes the makespan of a sequence of distinct jobs. Time O(km).
  *

@@ -22,8 +22,8 @@ from support.tools import output_of
 
 CALLS = SUPPORT / "library_calls.c"
 # The functions that allocate nothing once their instance is prepared, those that do, and those that need none.
-QUIET = ["makespan", "makespans", "bound", "neh", "rounds", "iterate", "insert", "insertions", "heads_tails",
-         "construct", "local_search"]
+QUIET = ["sizes", "faulty_job", "makespan", "makespans", "bound", "neh", "rounds", "iterate", "insert", "insertions",
+         "heads_tails", "construct", "local_search"]
 LOUD = ["table", "prove", "write"]
 OTHERS = ["random", "generate", "read", "read_order", "write_order"]
 FUNCTIONS = [*QUIET, *LOUD, *OTHERS, "prepare", "release"]

@@ -105,7 +105,7 @@ def test_options_on_a_sheet(tmp_path: pathlib.Path, name: str, at: int) -> None:
     words = ["--begin", "2026-11-30T06:00", "--shift", "fri:06:00-12:00", "--closed", "2026-12-04", "--take", "2",
              "--report"]
     plain, printed, _ = ended(["plan", "plain.xlsx", *words], tmp_path)
-    told = (f"times.xlsx: options of the sheet 'pfs': --begin=2026-11-30 06:00:00, --shift=fri:06:00-12:00, "
+    told = ("times.xlsx: options of the sheet 'pfs': --begin=2026-11-30 06:00:00, --shift=fri:06:00-12:00, "
             "--closed=2026-12-04, --take=2, --report\n")
     status, got, said = ended(["plan", "times.xlsx"], tmp_path)
     assert (status, got) == (plain, printed) and said.startswith(told) and "not" not in said

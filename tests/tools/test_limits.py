@@ -55,7 +55,7 @@ TOLD = {
                     "order file has at most {LONGEST_ORDER_FILE} bytes"],
     "lib/pfs.h": ["the seed is not 1 to {MOST_GENERATOR_SEED},"],
     "lib/pfs_text.c": ["the seed isn't from 1 to {MOST_GENERATOR_SEED}"],
-    "python/src/pfs/_commands.py": ["else {MOST_ROUNDS} in a search", "0 to {MOST_PASSES}, else 0"],
+    "python/src/pfs/_commands.py": ['"{MOST_ROUNDS}", "", "4", "0"', "0 to {MOST_PASSES}, else "],
     "python/src/pfs/_gantt.py": ["MOST_MACHINES, LONGEST = {MOST_JOBS}, {MOST_MACHINES}"],
     "python/src/pfs/experiments/plan.py": [
         '"blocks": list_of(1, {MOST_BLOCKS}', '"rounds": list_of(0, {MOST_ROUNDS}', '"takes": list_of(1, {MOST_JOBS}',

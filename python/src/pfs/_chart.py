@@ -26,8 +26,8 @@ ENDINGS = ("svg", "png", "pdf", "html")
 # The greatest numbers of operations that Jupyter shows, and that a page lists as text.
 MOST_SHOWN, MOST_LISTED = 2_000, 100_000
 # What the script of a page says.
-PAGE_WORDS = ("job", "machine", "start", "end", "place", "time", "idle", "Job", "a page a day", "1 job found", "jobs found",
-              "the first 20 are listed below", "Sun", "Mon", "Tue", "Wed", "Thu", "Fri", "Sat")
+PAGE_WORDS = ("job", "machine", "start", "end", "place", "time", "idle", "Job", "a page a day", "1 job found",
+              "jobs found", "the first 20 are listed below", "Sun", "Mon", "Tue", "Wed", "Thu", "Fri", "Sat")
 # Minutes between the marks of a scale of hours and minutes.
 MINUTES = [1, 2, 5, 10, 15, 30, *(60 * 2**at for at in range(30))]
 

@@ -464,8 +464,8 @@ def add_plan_words(plan: argparse.ArgumentParser) -> None:
         help="print after the order how busy each machine is, when each job is made, and the bottleneck")
     add("--title", default=True, metavar="TEXT", help="the title of charts, else what they show")
     add("--language", default="en", metavar="LANGUAGE",
-        help="of schedules and charts: en, de, or a file with words, in UTF-8: each line has an English text, = and what "
-        "to write instead")
+        help="of schedules and charts: en, de, or a file with words, in UTF-8: each line has an English text, = and "
+        "what to write instead")
 
 
 def add_order_words(add: Callable[..., object]) -> None:

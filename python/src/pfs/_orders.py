@@ -37,9 +37,9 @@ class FoundOrder(NamedTuple):
 def order_in(path: str | os.PathLike[str], shop: Instance, language: str = "en") -> FoundOrder:
     """Return the order in a file.
 
-    The file is the output of `plan`, its schedule as a table, in English, German or the language, or a list of the names of the jobs, one per line, with or
-    without a place before it, or all on one line. A `TableFault` says which name occurs twice, or that no name is one
-    of the table's."""
+    The file is the output of `plan`, its schedule as a table, in English, German or the language, or a list of the
+    names of the jobs, one per line, with or without a place before it, or all on one line. A `TableFault` says which
+    name occurs twice, or that no name is one of the table's."""
     path = os.fspath(path)
     content = content_of(path)
     numbers = numbers_by_name(shop)
@@ -81,8 +81,8 @@ def numbers_by_name(shop: Instance) -> dict[str, int]:
 
 def named_jobs(text: str, path: str, numbers: dict[str, int], heads: Collection[tuple[str, ...]]) -> Iterator[
         tuple[int, str]]:
-    """Return the names of the jobs with their lines. A schedule has one of the rows of heads, and each job several times;
-    the first is used."""
+    """Return the names of the jobs with their lines. A schedule has one of the rows of heads, and each job several
+    times; the first is used."""
     filled = ((line, cell) for line, row in enumerate(lines_of(text), 1)
               if (cell := row.strip()) and not re.fullmatch("sep=.", cell))
     lines = list(islice(filled, 4))

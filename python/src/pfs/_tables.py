@@ -288,7 +288,8 @@ def sheet_of(content: bytes, path: str, sheet: str | None) -> tuple[str, str]:
     note = f"the sheet {own!r} is read, and not {', '.join(others)} (`sheet`)" if others and sheet is None else ""
     hidden = " and ".join(counted(number, f"hidden {what}") for number, what in zip(book.hidden, ("row", "column"))
                           if number)
-    note += f"{'; ' if note and hidden else ''}{hidden}{' is' if sum(book.hidden) == 1 else ' are'} read too" if hidden else ""
+    if hidden:
+        note += f"{'; ' if note else ''}{hidden} {'is' if sum(book.hidden) == 1 else 'are'} read too"
     return text, note and f"{path}: {note}"
 
 
