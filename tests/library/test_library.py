@@ -324,7 +324,7 @@ def searches(random: Random, shop: Instance) -> list[Call]:
     sequences = [job for _ in range(count) for job in random.sample(jobs, length)]
     return [
         ("pfs_sizes", [*given(shop), out64(), out64()]),
-        ("pfs_faulty_job", [*given(shop), *list32([random.randint(0, shop.jobs) for _ in range(length)]), out64()]),
+        ("pfs_faulty_job", [*given(shop), *list32(some), out64()]),
         ("pfs_makespan", [*given(shop), *list32(some), out64()]),
         ("pfs_makespans", [*given(shop), *list32(sequences), Number(length), *list64([PATTERN] * count)]),
         ("pfs_bound", [*given(shop), out64()]),

@@ -62,8 +62,8 @@ def read32(memory: bytes) -> list[int]:
 
 # The functions that work on a prepared instance.
 ON_SHOP = {f"pfs_{name}" for name in (
-    "makespan", "makespans", "bound", "table", "neh", "rounds", "iterate", "prove", "insert", "insertions",
-    "heads_tails", "construct", "local_search", "write")}
+    "sizes", "faulty_job", "makespan", "makespans", "bound", "table", "neh", "rounds", "iterate", "prove", "insert",
+    "insertions", "heads_tails", "construct", "local_search", "write")}
 
 
 class Library:
