@@ -444,7 +444,7 @@ def test_two_libraries_agree_on_random_instances(libpfs: Library) -> None:
             for wrong in [spoilt(random, arguments) for _ in range(6)]:
                 if is_quick(name, wrong):
                     numbers.add(assert_same(libpfs, name, wrong))
-    assert numbers == {0, 2, 3, 4, 5, 6, 7, 8, 9}
+    assert numbers == {0, *range(2, 10), 16, 17}
 
 
 @pytest.mark.seconds(10)
