@@ -81,52 +81,16 @@ def neh(times: Table) -> list[int]:
     return second_program.by_totals(instance_of(times))
 
 
-def placed(times: Table, order: list[int], held: int, job: int, ties: str) -> list[int]:
-    """The order with a job at its best place behind the held ones. Of those that are equally good it is the first or,
-    by idle time, the first of those that delay the next job least, or at the end the end, summed over the machines."""
-    def delay(place: int) -> int:
-        fronts = [order[:place] + [job] + order[place:place + 1], order[:place + 1]]
-        after, before = (sum(end for _, end in schedule(times, front)[-1]) if front else 0 for front in fronts)
-        return after - before
-
-    tried = [order[:place] + [job] + order[place:] for place in range(held, len(order) + 1)]
-    spans = [makespan(times, each) for each in tried]
-    best = [at for at, span in enumerate(spans) if span == min(spans)]
-    return tried[min(best, key=lambda at: delay(held + at)) if ties == "idle" else best[0]]
-
-
 def iterated(times: Table, orders: tuple[list[int], list[int]], rounds: range, *, held: int, take: int, partial: int,
              passes: int, ties: str, temperature: float, seed: int) -> tuple[list[int], list[int]]:
     """The current and the best order after some rounds of the search that also accepts longer orders."""
-    current, best = orders
-    jobs, total = len(times), sum(sum(row) for row in times)
-    heat = temperature * total / (10 * jobs * len(times[0]))
+    heat = temperature * sum(sum(row) for row in times) / (10 * len(times) * len(times[0]))
 
-    def improved(order: list[int], visits: list[int], most: int) -> list[int]:
-        for _ in range(most):
-            before = makespan(times, order)
-            for job in visits:
-                if job in order[held:]:
-                    order = placed(times, [each for each in order if each != job], held, job, ties)
-            if makespan(times, order) >= before:
-                break
-        return order
+    def is_accepted(longer: int, word: int) -> bool:
+        return longer <= 0 or heat > 0 and word < math.floor(2**32 * math.exp(-longer / heat))
 
-    for number in rounds:
-        each = jobs + take + 1
-        chance, *words = second_library.words_of(seed, number * each, each)
-        new, all_jobs = list(current), list(range(jobs))
-        removed = [new.pop(held + word % (len(new) - held)) for word in words[:take]]
-        visits = [all_jobs.pop(word % len(all_jobs)) for word in words[take:]]
-        new = improved(new, visits, partial)
-        for job in removed:
-            new = placed(times, new, held, job, ties)
-        new = improved(new, visits, passes)
-        longer = makespan(times, new) - makespan(times, current)
-        if longer <= 0 or heat and chance < math.floor(2**32 * math.exp(-longer / heat)):
-            current = new
-        best = min(best, new, key=lambda order: makespan(times, order))
-    return current, best
+    options = seed, take, held, rounds.start, len(rounds), partial, passes, ("first", "idle").index(ties)
+    return second_library.iterated(instance_of(times), *orders, options, is_accepted)
 
 
 def order_file(order: Sequence[int], machines: int | None, span: int) -> str:

@@ -212,6 +212,19 @@ def pfs_iterate(shop: Instance, options: bytearray, accept: bytearray, accept_le
     expect(ties <= 1, TIES)
     expect(first + count <= MOST_ROUNDS, ROUNDS)
     chances = read32(accept)[:accept_length]
+    kept, shortest = iterated(shop, kept, shortest, (seed, take, held, first, count, partial, passes, ties),
+                              lambda longer, word: longer <= 0 or longer < len(chances) and word < chances[longer])
+    put32(current, kept)
+    put64(span, makespan(shop, kept))
+    put32(best, shortest)
+    put64(best_span, makespan(shop, shortest))
+
+
+def iterated(shop: Instance, kept: list[int], shortest: list[int], options: tuple[int, ...],
+             is_accepted: Callable[[int, int], bool]) -> tuple[list[int], list[int]]:
+    """The current and the best order after rounds with these options. An order that is longer by some time is accepted
+    or not by the round's first word."""
+    seed, take, held, first, count, partial, passes, ties = options
     each = shop.jobs + take + 1
     words = words_of(seed, first * each, count * each)
     for index in range(0, count * each, each):
@@ -221,14 +234,10 @@ def pfs_iterate(shop: Instance, options: bytearray, accept: bytearray, accept_le
         for job in taken:
             left = placed(shop, left, held, job, ties)
         new = improved(shop, left, held, visited, passes, ties)
-        longer = makespan(shop, new) - makespan(shop, kept)
         shortest = min(shortest, new, key=lambda order: makespan(shop, order))
-        if longer <= 0 or longer < len(chances) and words[index] < chances[longer]:
+        if is_accepted(makespan(shop, new) - makespan(shop, kept), words[index]):
             kept = new
-    put32(current, kept)
-    put64(span, makespan(shop, kept))
-    put32(best, shortest)
-    put64(best_span, makespan(shop, shortest))
+    return kept, shortest
 
 
 def removed(order: list[int], held: int, words: list[int]) -> tuple[list[int], list[int]]:
