@@ -21,7 +21,6 @@ from hypothesis import given
 from hypothesis import strategies as st
 from pfs import _commands, _library, _rounds, _search
 from support import plainly
-from support.library import HEADER
 
 
 class Clock:
@@ -564,12 +563,11 @@ def test_a_solution_of_another_instance_is_rejected() -> None:
 
 LONGER: dict[str, Any] = {"method": "iterated-greedy"}
 # Those of the header: a library without a rule for ties takes the first of equally good places.
-TIES = ["first", *["idle"] * ("PFS_TIES_IDLE" in HEADER.read_text())]
 
 
 @given(case=plainly.shops_and_orders(5), counts=st.lists(st.integers(1, 5), min_size=1, max_size=3),
        rounds=st.integers(0, 8), seed=st.integers(0, 2**64 - 1), held=st.integers(0, 5), partial=st.integers(0, 2),
-       passes=st.integers(0, 2), ties=st.sampled_from(TIES), temperature=st.sampled_from([0, 0.5, 3, 40]),
+       passes=st.integers(0, 2), ties=st.sampled_from(["first", "idle"]), temperature=st.sampled_from([0, 0.5, 3, 40]),
        chance=st.randoms(use_true_random=False))
 def test_rounds_that_accept_longer_orders(
         cut: Callable[[list[int]], None], case: tuple[plainly.Table, list[int]], counts: list[int], rounds: int,
