@@ -562,7 +562,6 @@ def test_a_solution_of_another_instance_is_rejected() -> None:
 # Searches that accept longer orders, and those that hold jobs
 
 LONGER: dict[str, Any] = {"method": "iterated-greedy"}
-# Those of the header: a library without a rule for ties takes the first of equally good places.
 
 
 @given(case=plainly.shops_and_orders(5), counts=st.lists(st.integers(1, 5), min_size=1, max_size=3),
