@@ -60,6 +60,8 @@ LIST = [c_void_p, c_size_t]
 PROTOTYPES: Final[dict[str, list[type[Any]]]] = {
     "pfs_prepare": [*LIST, c_size_t, c_size_t, c_void_p],
     "pfs_release": [c_void_p],
+    "pfs_sizes": [c_void_p, c_void_p, c_void_p],
+    "pfs_faulty_job": [c_void_p, *LIST, c_void_p],
     "pfs_makespan": [c_void_p, *LIST, c_void_p],
     "pfs_makespans": [c_void_p, *LIST, c_size_t, *LIST],
     "pfs_bound": [c_void_p, c_void_p],

@@ -285,7 +285,7 @@ class Printed:
     def __init__(self, child: subprocess.Popen[bytes]) -> None:
         assert child.stdout and child.stderr
         self.out, self.open = child.stdout, [child.stdout, child.stderr]
-        self.text, self.line, self.said = b"", b"", b""
+        self.text, self.line, self.said = bytearray(), b"", b""
         self.points: list[Point] = []
 
     def is_too_much(self) -> bool:
