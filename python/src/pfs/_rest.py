@@ -90,7 +90,6 @@ def pause_of(shop: Instance, machine: int, time: int, names: set[str]) -> Row:
     """A machine that is down, as a job that takes this time there and none elsewhere, with a new name."""
     text = f"({shop.machine_name(machine)} is down)"
     name = next(each for number in count(1) if (each := text if number == 1 else f"{text} {number}") not in names)
-    names.add(name)
     left = np.zeros(shop.machines, dtype=np.int64)
     left[machine] = time
     return Row(None, name, left)
