@@ -181,3 +181,14 @@ def test_seconds_that_are_rejected() -> None:
                          (np.bool_(True), "seconds must be a number of seconds, not True")):
         with pytest.raises((TypeError, ValueError), match=f"^{why}"):
             pfs.taillard(1).optimum(seconds)
+
+
+def test_the_greatest_bound_is_kept() -> None:
+    """A call from a shorter order may prove less than one before it."""
+    shop = pfs.Instance([[3, 2], [2, 5], [4, 1]])
+    proof = _proof.Proof(shop, shop.solve(0, start=[2, 1, 0]))
+    for bound, makespan in ((10, 12), (9, 10)):
+        call = _proof.Call(shop, bytes(12), 1)
+        call.order[:], call.makespan.value, call.bound.value = [1, 0, 2], makespan, bound
+        proof.keep(call)
+    assert (proof.best.makespan, proof.best.bound, proof.best.order.tolist()) == (10, 10, [1, 0, 2])
