@@ -319,7 +319,7 @@ def call_everywhere(shop: pfs.Instance) -> dict[str, Callable[[], Any]]:
 
 # Nothing of the package calls these.
 UNCALLED = {"pfs_release", "pfs_construct", "pfs_heads_tails", "pfs_iterate", "pfs_local_search", "pfs_prove",
-            "pfs_random"}
+            "pfs_random", "pfs_sizes", "pfs_faulty_job"}
 CALLED = [name for name in _library.PROTOTYPES if name not in UNCALLED]
 
 

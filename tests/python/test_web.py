@@ -403,6 +403,9 @@ def test_a_plan_is_told_as_the_package_has_it(client: FlaskClient) -> None:
     assert got["end"] == "2026-12-01 13:30" and (got["gone"], got["new"]) == ([], [])
     worse = answer(client, "/api/plan", {**PLAN, "order": ["shelf", "chair", "table", "box"]})
     assert not worse["isOptimal"] and worse["above"] == round(100 * (worse["span"] - 155) / 155, 1) > 0
+    proved = answer(client, "/api/plan", {**PLAN, "order": ["shelf", "chair", "table", "box"], "least": 160})
+    assert (proved["bound"], proved["above"]) == ("16.0 h", round(100 * (worse["span"] - 160) / 160, 1))
+    assert answer(client, "/api/plan", {**PLAN, "least": 10**9})["bound"] == "15.5 h", "no bound above a makespan"
 
 
 def test_jobs_that_are_gone_or_new_are_told(client: FlaskClient) -> None:
@@ -424,6 +427,14 @@ def test_a_name_is_no_script_in_what_is_made(client: FlaskClient) -> None:
 
 BEGINS = {"xlsx": b"PK", "zip": b"PK", "pdf": b"%PDF", "csv": b"\xef\xbb\xbfjob;machine", "html": b"<!DOCTYPE html>",
           "txt": b"box\ntable\nchair\nshelf\n"}
+
+
+def test_the_language_of_a_plan_is_no_file(client: FlaskClient) -> None:
+    assert "Auftrag suchen:" in answer(client, "/api/plan", {**PLAN, "language": "de"})["chart"]
+    for language, first in (("de", b"\xef\xbb\xbfAuftrag;Maschine;Beginn;Ende\n"), ("en", BEGINS["csv"]),
+                            ("fr", BEGINS["csv"]), (__file__, BEGINS["csv"])):
+        got = asked(client, "/api/file", {**PLAN, "kind": "csv", "language": language})
+        assert got.status_code == 200 and got.data.startswith(first)
 
 
 @pytest.mark.parametrize("kind", BEGINS)
