@@ -32,9 +32,9 @@ from pfs._names import CLOCK, amount, shown
 from pfs._now import Beginning, beginning
 from pfs._optional import optional
 from pfs._orders import AFTER_ORDER, FoundOrder, numbers_by_name, order_in, stated_end
+from pfs._proof import MOST_JOBS, MOST_MACHINES, proved
 from pfs._report import JOBS, rows_of, text_table
 from pfs._schedule import Schedule
-from pfs._proof import proved
 from pfs._search import USUAL, MovedSearch, Search, by_total, insert_after, limit_of, solve
 from pfs._solution import Solution
 from pfs._state import State
@@ -189,8 +189,12 @@ def plan_command(given: argparse.Namespace) -> int:
     other = FoundOrder([], {}) if given.compare is None else order_in(given.compare, shop, given.language)
     with signals() as caught:
         best, fault = searched(search, given.rounds, given.seconds, caught, lambda _: None)
-        if fault is None and given.prove and not search.held and not given.keep:
+        is_tried = (given.prove and not search.held and not given.keep
+                    and shop.jobs <= MOST_JOBS and shop.machines <= MOST_MACHINES)
+        if fault is None and is_tried:
             best, fault = proved_for(given.prove, search, best, caught)
+        tell("--prove", "" if is_tried or not given.is_proof_asked else "not tried: jobs are held, the order is only "
+             f"evaluated, or there are more than {MOST_JOBS} jobs or {MOST_MACHINES} machines")
         faults = [] if fault is None else [fault]
         for output in outputs_of(given, begin, table, other, best):
             try:
@@ -619,6 +623,7 @@ def set_limits(given: argparse.Namespace) -> None:
     is_given = given.order is not None and is_by_time and given.seconds is None and not is_changed
     if is_by_time and given.seconds is None:
         given.seconds = float(not is_given)
+    given.is_proof_asked = bool(given.prove)
     if given.prove is None or is_given:
         given.prove = float(is_by_time and given.seconds > 0)
     if given.passes is None and given.method == "solve":
