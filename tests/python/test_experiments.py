@@ -56,6 +56,13 @@ INVALID = {
     "seed": ALL + "seed = [1]\n", "rounds must": ALL + "rounds = 3\n", "rounds must be": ALL + "rounds = []\n",
     "seeds": ALL + "seeds = [1.5]\n", "seeds must": ALL + "seeds = [true]\n", "passes": ALL + "passes = [101]\n",
     "search must": ALL + 'search = "neh"\n', "search": ALL + "search = 1\n",
+    **{f"{key} must be {what}{' ' * at}": f'{ALL}search = "iterated-greedy"\n{key} = {value}\n'
+       for key, what, values in (("partial", "a whole number from 0 to 100", "-1 101 1.0 true"),
+                                 ("ties", '"first" or "idle"', '1 "last"'),
+                                 ("temperature", "a number from 0 to 1,000", "-0.1 1000.1 nan true"))
+       for at, value in enumerate(values.split())},
+    **{f'{key} needs search = "iterated-greedy"': f"{ALL}{key} = {value}\n"
+       for key, value in (("partial", 1), ("ties", '"idle"'), ("temperature", 1))},
     "repetitions": ALL + "repetitions = 0\n", "layout": ALL + 'layout = "csv"\n', "plan.toml": ALL + "rounds = [1\n",
     "instances": "", "none*": 'instances = ["none*"]', "shops is not a file": 'instances = ["sh*"]',
     "from 0 to 1,000,000": ALL + "rounds = [1000001]\n", "shops/b has only 3 jobs": ALL + "takes = [2, 4]\n",
@@ -357,7 +364,9 @@ def test_the_search_that_accepts_longer_orders(experiment: Experiment, with_libr
     """By rounds and by time, beside that of pfs. Its orders are those of the package, and are audited."""
     text = ('instances = ["shops/*"]\nseeds = [1, 2]\nrounds = [0, 20]\n[[methods]]\nmethod = "pfs"\n'
             '[[methods]]\nmethod = "ig"\nsearch = "iterated-greedy"\n{}'
-            '[[methods]]\nmethod = "own"\nsearch = "iterated-greedy"\ntakes = [1]\npasses = [0, 3]\n')
+            '[[methods]]\nmethod = "own"\nsearch = "iterated-greedy"\ntakes = [1]\npasses = [0, 3]\n'
+            'partial = 2\nties = "first"\ntemperature = 40\n')
+    own: dict[str, Any] = {"partial": 2, "ties": "first", "temperature": 40}
     for more in ("", "time_factors = [1]\n"):
         assert experiment.plan(text.format(more)).run(env=with_library).status == 0
     rows = [row for row in csv_rows(experiment.folder / "out.csv") if row["method"] != "pfs"]
@@ -366,15 +375,18 @@ def test_the_search_that_accepts_longer_orders(experiment: Experiment, with_libr
     assert {row["time_factor"] for row in rows if row["method"] == "ig"} == {"", "1"}
     for row in rows:
         words: dict[str, Any] = {name: int(row[name]) for name in ("rounds", "take", "passes", "seed")}
+        words |= own if row["method"] == "own" else {}
         found = pfs.read(experiment.folder / row["instance"], "taillard").solve(method="iterated-greedy", **words)
         assert (experiment.folder / row["order"]).read_text() == found.to_text(), row
     assert experiment.script("check", "out.csv").status == 0
-    own = MINE + 'search = "iterated-greedy"\ncommand = "./mine {instance}"\n'
-    assert experiment.plan(own).run("new.csv").stderr == (
+    mine = MINE + 'search = "iterated-greedy"\ncommand = "./mine {instance}"\n'
+    assert experiment.plan(mine).run("new.csv").stderr == (
         "pfs-experiments run: plan.toml: search is for pfs, not for a command\n")
     assert experiment.plan(text.format("")).run("new.csv", env=with_library).status == 0
-    other = text.format("").replace('search = "iterated-greedy"\n[[', "[[")
-    assert "new.csv was started with another command" in experiment.plan(other).run("new.csv", env=with_library).stderr
+    for was, new in (('search = "iterated-greedy"\n[[', "[["),
+                     ("ature = 40", "ature = 0"), ("partial = 2", "partial = 3")):
+        assert "new.csv was started with another command or search" in experiment.plan(
+            text.format("").replace(was, new)).run("new.csv", env=with_library).stderr
 
 
 def test_bounds_are_proved_and_optima_counted(experiment: Experiment, with_library: dict[str, str]) -> None:

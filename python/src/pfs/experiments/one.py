@@ -1,9 +1,9 @@
 #!/usr/bin/env python3
 """Runs of an experiment, in the folder of copies, which may be on another machine: needs Python alone. The arguments
 are the numbers of the runs, each of which is a line of `runs.tsv`, with the values of `Run`; a hyphen is none. In 3,1,2
-the runs 1 and 2 are what run 3 had found by their times. `commands.json` has for a method its command, or the name of a
-search that only the library makes. Else it searches with the program `pfs`, or with the library if the run has a limit
-of time and no rounds. Audits the order. As soon as a run ends, prints the length of its result in bytes, on a line, and
+the runs 1 and 2 are what run 3 had found by their times. `commands.json` has for a method its command, or the options of
+a search that only the library makes. Else it searches with the program `pfs`, or with the library if the run has a
+limit of time and no rounds. Audits the order. As soon as a run ends, prints the length of its result in bytes, on a line, and
 the result: the order file, and then one line of CSV with the run's number, makespan, bound, cells, processor seconds of
 the search, `ok` or an error, the rounds of a search by time, how many processes a command has left, and the trajectory,
 `SECONDS:MAKESPAN` for each better makespan. Without an order it is only this line. The exit status is 0 even if a
@@ -159,14 +159,14 @@ def search(running: Rounds, seconds: float | None, rounds: int | None = None,
     return time.process_time() - start
 
 
-def by_library(run: Run, is_iterated: bool) -> Found:
-    """Searches by time, or also accepts longer orders, whose rounds count no cells."""
+def by_library(run: Run, options: dict[str, Any] | None) -> Found:
+    """Searches by time, or with these options also accepts longer orders, in rounds that count no cells."""
     jobs, machines, *pairs = map(int, pfs(run, "convert", "--to", "orlib").split()[3:])
     times = pairs[1::2]
     is_by_time = run.limit != "-"
     try:
         call, rounds = caller(times, jobs, machines), shared("rounds")
-        more = rounds.iterating(sum(times), len(times)) if is_iterated else None
+        more = None if options is None else rounds.iterating(sum(times), len(times), **options)
         running = rounds.Rounds(call, jobs, int(run.take), int(run.passes), int(run.seed), more=more)
         points: list[Point] = []
         limits = (float(run.limit), None) if is_by_time else (None, int(run.rounds))
@@ -176,7 +176,7 @@ def by_library(run: Run, is_iterated: bool) -> Found:
         raise Failed(f"libpfs: {error}") from None
     best = running.finished()
     order = order_file(f"order2 {jobs} {machines}", [job + 1 for job in best.order], best.makespan.value)
-    return Found(order, "" if is_iterated else str(best.all_cells()), spent, str(best.total) if is_by_time else "",
+    return Found(order, str(best.all_cells()) if more is None else "", spent, str(best.total) if is_by_time else "",
                  points=better(points) if is_by_time else [])
 
 
@@ -403,15 +403,16 @@ def starters() -> tuple[int, bytes]:
     return parent, second
 
 
-def results(run: Run, others: list[Run], command: list[str] | str | None) -> Iterator[tuple[str, list[str]]]:
-    """Searches with the command of the method, by rounds or by time, and audits the order. Yields the order file and
-    the row of the run and of each of the others, which are what it had found by their times."""
+def results(run: Run, others: list[Run],
+            command: list[str] | dict[str, Any] | None) -> Iterator[tuple[str, list[str]]]:
+    """Searches with the command of the method or its options, by rounds or by time, and audits the order. Yields the
+    order file and the row of the run and of each of the others, which are what it had found by their times."""
     order = ""
     try:
         if isinstance(command, list):
             made = by_command(command, run)
         else:
-            made = by_library(run, command is not None) if command or run.limit != "-" else by_rounds(run)
+            made = by_rounds(run) if command is None and run.limit == "-" else by_library(run, command)
         order = made.order
         makespan, bound = audit(run, order)
     except (Failed, OSError) as failure:

@@ -35,6 +35,9 @@ VALUES: dict[str, tuple[str, Callable[[Any], bool]]] = {
     "layout": ('"taillard" or "orlib"', lambda given: given in ("taillard", "orlib")),
     "reference": ("the path of a CSV", lambda given: isinstance(given, str) and "\0" not in given),
     "search": ('"solve" or "iterated-greedy"', lambda given: given in ("solve", "iterated-greedy")),
+    "partial": ("a whole number from 0 to 100", lambda given: type(given) is int and 0 <= given <= 100),
+    "ties": ('"first" or "idle"', lambda given: given in ("first", "idle")),
+    "temperature": ("a number from 0 to 1,000", lambda given: type(given) in (int, float) and 0 <= given <= 1000),
     "command": ("a command", lambda given: isinstance(given, str) and "\0" not in given),
     "anytime": ("true or false", lambda given: type(given) is bool),
     "method": ("a name without control characters",
@@ -42,10 +45,11 @@ VALUES: dict[str, tuple[str, Callable[[Any], bool]]] = {
 # The defaults of lists of numbers.
 NUMBERS = {"blocks": [1], "rounds": [0], "takes": None, "passes": [0], "seeds": [0]}
 # What a method may have that a plan lists in `methods`, and what is for the whole plan.
-OF_METHOD = {"rounds", "takes", "passes", "seeds", "repetitions", "time_factors", "search", "command", "method",
-             "files", "grid", "anytime"}
+OF_METHOD = {"rounds", "takes", "passes", "seeds", "repetitions", "time_factors", "search", "partial", "ties",
+             "temperature", "command", "method", "files", "grid", "anytime"}
 KEYS = {*VALUES, "files", "grid", "instances", "methods"}
-# Keys that a command can't have, and what it may have in braces.
+# Keys of the search that also accepts longer orders, keys that a command can't have, and what it may have in braces.
+OF_ITERATED = ("partial", "ties", "temperature")
 OF_PFS = ("rounds", "takes", "passes", "search")
 OF_COMMAND = {"instance", "name", "jobs", "machines", "block", "seed", "seconds"}
 
@@ -121,6 +125,8 @@ def method_of(path: str, plan: dict[str, Any]) -> dict[str, Any]:
     full: dict[str, Any] = {"repetitions": 1, "method": "", **NUMBERS, **plan}
     if is_iterated(plan) and "passes" not in plan:
         full["passes"] = [100]
+    for key in OF_ITERATED:
+        require(key not in plan or is_iterated(plan), path, f'{key} needs search = "iterated-greedy"')
     if "time_factors" in plan:
         full["rounds"] = plan.get("rounds", [])
     if "command" in plan or "files" in plan:

@@ -26,7 +26,7 @@ from pfs._atomic import atomic_write
 from pfs._benchmarks import taillard_rows
 from pfs._cli import version
 from pfs.experiments import ExperimentError, listed, one, plain
-from pfs.experiments.plan import Reference, Row, is_iterated, read_plan, reference_for, reference_of
+from pfs.experiments.plan import OF_ITERATED, Reference, Row, is_iterated, read_plan, reference_for, reference_of
 
 # What plan.json has of a run: columns of the CSV, its number, the copy of its instance, and the seconds of a search by
 # time. Unknown values are empty, and hyphens in runs.tsv, which is made of it: a line for each number.
@@ -102,7 +102,7 @@ def prepare(plan_path: str, csv_path: str, program: str | None) -> Experiment:
         stored = {"places": {}, "runs": [], "methods": [], "layout": plan["layout"], **stored_plan(folder)}
         commands = commands_of(plan)
         others = {"layout": stored["layout"] != plan["layout"],
-                  "command": any(commands.get(name, was) != was for name, was in commands_of(stored).items())}
+                  "command or search": any(commands.get(name, was) != was for name, was in commands_of(stored).items())}
         for what in filter(others.get, others):
             raise ExperimentError(f"{csv_path} was started with another {what}: use another CSV")
         stage = folder / stage_of(folder)
@@ -227,9 +227,11 @@ def note_start(stage: pathlib.Path, plan: dict[str, Any], inputs: dict[str, str]
 
 # The runs
 
-def commands_of(plan: dict[str, Any]) -> dict[str, list[str] | str | None]:
-    """Returns the command line of each method, the name of a search that the program doesn't make, or None for pfs."""
-    return {each["method"]: each.get("command") or (each["search"] if is_iterated(each) else None)
+def commands_of(plan: dict[str, Any]) -> dict[str, list[str] | dict[str, Any] | None]:
+    """Returns the command line of each method, the options of a search that also accepts longer orders, or None for
+    pfs."""
+    return {each["method"]: each.get("command") or (
+                {key: each[key] for key in OF_ITERATED if key in each} if is_iterated(each) else None)
             for each in plan["methods"]}
 
 
