@@ -368,13 +368,14 @@ struct pfs_iterate_options {
  * its best one. Passes end early after one that makes the sequence no shorter. A best place is one of the places from
  * place `held` on that give the least makespan.
  *
- * A job may move if it is behind the first `held` ones and stay[job] is 0 or beyond the list. Only such jobs are removed
- * and moved, so all others keep their order. With NULL and 0 in place of the list no other jobs stay than the held ones.
- *
  * If there are several such places, PFS_TIES_FIRST takes the first. PFS_TIES_IDLE takes the first of those with the
  * least total delay, the rule of Fernandez-Viagas and Framinan (2014) for idle times. The total delay of a place is the
  * sum over the machines of how much later the job that is now at the place would end; after the last job, of how much
  * later the sequence would end.
+ *
+ * A job may move if it is behind the first `held` ones and stay[job] is 0 or beyond the list. Only such jobs are
+ * removed and moved, so all others keep their order. With NULL and 0 in place of the list, all jobs behind the held
+ * ones may move.
  *
  * The order that a round finds becomes the best one if it is shorter than that. It becomes the current one if it is no
  * longer, or if it is longer by d and the first random word of the round is less than accept[d]; an order that is

@@ -464,8 +464,8 @@ def test_two_libraries_break_ties_alike(libpfs: Library) -> None:
         kept = list[Answer]()
         for ties in (0, 1):
             options = Memory(ITERATE_OPTIONS.pack(seed, take, held, 0, 3, 1, 2, ties))
-            arguments = [*given(shop), options, *list32([2**31, 2**30]), *text(b""), *list32(jobs), out64(), *list32(jobs),
-                         out64()]
+            arguments = [*given(shop), options, *list32([2**31, 2**30]), *text(b""), *list32(jobs), out64(),
+                         *list32(jobs), out64()]
             assert assert_same(libpfs, "pfs_iterate", arguments) == 0
             kept.append(libpfs.call("pfs_iterate", *arguments))
         differ += kept[0].memory[3:] != kept[1].memory[3:]

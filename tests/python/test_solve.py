@@ -677,7 +677,7 @@ def held_searches(draw: st.DrawFn) -> tuple[plainly.Table, list[int], list[int],
 @given(held_searches(), st.integers(0, 2), st.integers(1, 6), st.integers(0, 2**64 - 1))
 def test_held_jobs_stay_where_they_are(case: tuple[plainly.Table, list[int], list[int], list[int]], passes: int,
                                        take: int, seed: int) -> None:
-    """The first ones keep their places and those that don't move their order, and the order is that of the definition."""
+    """The first ones keep their places and those that don't move their order. The order is that of the definition."""
     times, order, hold, move = case
     shop = pfs.Instance(times)
     words: dict[str, Any] = {"take": min(take, shop.jobs), "passes": passes, "seed": seed, "start": order}

@@ -76,8 +76,8 @@ def iterating_of(shop: Instance, held: int, stay: bytes, method: str = "solve", 
 
 
 class Search(Rounds):
-    """Iterated greedy on an instance, by a method and its options `more`. The jobs `hold` keep the first places, and all
-    but the jobs `move` their order. `solution` returns the best order so far, also after an interruption."""
+    """Iterated greedy on an instance, by a method and its options `more`. The jobs `hold` keep the first places, and
+    all but the jobs `move` their order. `solution` returns the best order so far, also after an interruption."""
 
     def __init__(self, shop: Instance, start: Jobs | None, first: int, take: int | None, passes: int | None, seed: int,
                  hold: Jobs = (), move: Jobs | None = None, **more: Any) -> None:
