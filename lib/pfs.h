@@ -350,12 +350,12 @@ int pfs_prove(struct pfs_instance *instance, uint32_t *order, size_t order_lengt
 /** @brief Which rounds pfs_iterate makes. */
 struct pfs_iterate_options {
     uint64_t seed;    /**< seed of the random words */
-    size_t take;      /**< number of jobs that a round removes, 1 to the number of jobs - held */
+    size_t take;      /**< number of jobs that a round removes, 1 to the number of jobs that may move */
     size_t held;      /**< number of jobs at the front of the order that keep their places */
     uint32_t first;   /**< the first round, counted from 0 */
     uint32_t count;   /**< number of rounds; first + count is at most PFS_MOST_ROUNDS */
     uint32_t partial; /**< most passes over the jobs that are left after the removal, at most PFS_MOST_PASSES */
-    uint32_t passes;  /**< most passes over all jobs, at most PFS_MOST_PASSES */
+    uint32_t passes;  /**< most passes over the whole order, at most PFS_MOST_PASSES */
     uint32_t ties;    /**< rule for equally good places, PFS_TIES_FIRST or PFS_TIES_IDLE */
 };
 
@@ -373,6 +373,10 @@ struct pfs_iterate_options {
  * sum over the machines of how much later the job that is now at the place would end; after the last job, of how much
  * later the sequence would end.
  *
+ * A job may move if it is behind the first `held` ones and stay[job] is 0 or beyond the list. Only such jobs are
+ * removed and moved, so all others keep their order. With NULL and 0 in place of the list, all jobs behind the held
+ * ones may move.
+ *
  * The order that a round finds becomes the best one if it is shorter than that. It becomes the current one if it is no
  * longer, or if it is longer by d and the first random word of the round is less than accept[d]; an order that is
  * longer by accept_length or more does not. So accept[d] is the probability in units of 2^-32. accept[0] is not used.
@@ -386,6 +390,8 @@ struct pfs_iterate_options {
  * @param[in] options which rounds to make
  * @param[in] accept chances of longer orders
  * @param[in] accept_length number of chances
+ * @param[in] stay for each job 0, or another number if it keeps its place in relation to the others that do
+ * @param[in] stay_length number of jobs in this list
  * @param[in,out] current all jobs; the order to start from, then the current order after the rounds
  * @param[in] current_length length of the current order, which is the number of jobs
  * @param[out] current_makespan makespan of the current order after the rounds
@@ -394,12 +400,12 @@ struct pfs_iterate_options {
  * @param[in] best_length length of the best order, which is the number of jobs
  * @param[out] best_makespan makespan of the best order after the rounds
  * @return PFS_OK, or the first of PFS_NOT_PREPARED (instance), PFS_LENGTH (current_length, best_length), PFS_JOB or
- *     PFS_REPEATED (the jobs of the current and then of the best order, from the left), PFS_TAKE (take, held), PFS_HELD
+ *     PFS_REPEATED (the jobs of the current and then of the best order, from the left), PFS_TAKE (take), PFS_HELD
  *     (best), PFS_PASSES (partial, passes), PFS_TIES (ties), PFS_ROUNDS (first + count)
  */
 int pfs_iterate(struct pfs_instance *instance, const struct pfs_iterate_options *options, const uint32_t *accept,
-                size_t accept_length, uint32_t *current, size_t current_length, uint64_t *current_makespan,
-                uint32_t *best, size_t best_length, uint64_t *best_makespan) PFS_CHECKED;
+                size_t accept_length, const uint8_t *stay, size_t stay_length, uint32_t *current, size_t current_length,
+                uint64_t *current_makespan, uint32_t *best, size_t best_length, uint64_t *best_makespan) PFS_CHECKED;
 
 /** @brief Finds the best place of a job in a sequence of other jobs. Time O(km).
  *

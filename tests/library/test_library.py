@@ -318,6 +318,8 @@ def searches(random: Random, shop: Instance) -> list[Call]:
     random.shuffle(jobs)
     some = jobs[:random.randint(0, shop.jobs - 1)]
     held = random.choice([0, len(some)])
+    moving = random.sample(jobs[held:], random.randint(1, shop.jobs - held))
+    stay = random.choice([b"", bytes(random.choice([1, 255]) * (job not in moving) for job in range(shop.jobs))])
     size = shop.jobs * shop.machines
     first = random.choice([0, 0, 1, 7, second_program.MOST_JOBS])
     count, length = random.randint(0, 5), random.randint(0, shop.jobs)
@@ -335,9 +337,9 @@ def searches(random: Random, shop: Instance) -> list[Call]:
                         *list32(jobs), out64(), out64()]),
         ("pfs_prove", [*given(shop), *list32(jobs), Number(0), out64(), out64(), out64()]),
         ("pfs_iterate", [*given(shop), Memory(ITERATE_OPTIONS.pack(
-            random.choice(fuzz.SEEDS[:-1]), random.randint(1, shop.jobs - held), held, first, random.randint(0, 4),
+            random.choice(fuzz.SEEDS[:-1]), random.randint(1, len(moving)), held, first, random.randint(0, 4),
             random.choice([0, 1, 2, 100]), random.choice([0, 1, 2, 100]), random.randint(0, 1))),
-                         *list32([random.getrandbits(32) for _ in range(random.choice([0, 1, 2, 9]))]),
+                         *list32([random.getrandbits(32) for _ in range(random.choice([0, 1, 2, 9]))]), *text(stay),
                          *list32(jobs), out64(), *list32(jobs[:held] + jobs[held:][::-1]), out64()]),
         ("pfs_insert", [*given(shop), *list32(some), Number(jobs[-1], 32), out64(), out64()]),
         ("pfs_insertions", [*given(shop), *list32(some), Number(jobs[-1], 32), *list64([PATTERN] * (len(some) + 1))]),
@@ -462,7 +464,8 @@ def test_two_libraries_break_ties_alike(libpfs: Library) -> None:
         kept = list[Answer]()
         for ties in (0, 1):
             options = Memory(ITERATE_OPTIONS.pack(seed, take, held, 0, 3, 1, 2, ties))
-            arguments = [*given(shop), options, *list32([2**31, 2**30]), *list32(jobs), out64(), *list32(jobs), out64()]
+            arguments = [*given(shop), options, *list32([2**31, 2**30]), *text(b""), *list32(jobs), out64(),
+                         *list32(jobs), out64()]
             assert assert_same(libpfs, "pfs_iterate", arguments) == 0
             kept.append(libpfs.call("pfs_iterate", *arguments))
         differ += kept[0].memory[3:] != kept[1].memory[3:]

@@ -410,7 +410,8 @@ def test_the_methods_of_a_plan(folder: pathlib.Path, monkeypatch: pytest.MonkeyP
         "--method iterated-greedy --passes 3 --take 1": ("iterated-greedy", 1, 3, 1, 1),
         "--order order": ("iterated-greedy", 2, 100, 0, 0),
         "--order order --prove 9": ("iterated-greedy", 2, 100, 0, 0),
-        "--order order --keep": ("solve", 4, 1, 1, 0), "--order order --keep --method solve": ("solve", 4, 1, 1, 0),
+        "--order order --keep": ("iterated-greedy", 2, 100, 1, 0),
+        "--order order --keep --method solve": ("solve", 4, 1, 1, 0),
         "--order order --hold 2": ("iterated-greedy", 2, 100, 1, 0), "--seconds 0": ("iterated-greedy", 2, 100, 0, 0),
         "--rounds 9 --prove 3": ("iterated-greedy", 2, 100, None, 3)}
     for words, due in cases.items():
@@ -453,7 +454,7 @@ def test_the_defaults_that_the_help_states(folder: pathlib.Path, monkeypatch: py
         assert "--block K counted from 1" in text
         got["block"] = "1"
     if command == "plan":
-        assert "without one of rounds a second" in text and "else iterated-greedy, and solve with --keep" in text
+        assert "without one of rounds a second" in text and "does it; else iterated-greedy" in text
         got |= {"seconds": "1", "method": "iterated-greedy"}
         got["prove"] = re.findall(r"else (\d), and 0 with --rounds", text)[0]
     others = {"block", "rounds"} if command == "plan" else {"seconds", "method", "prove"}

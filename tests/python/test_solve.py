@@ -428,7 +428,6 @@ def test_a_call_frees_the_lock() -> None:
     ({"method": "iterated-greedy", "temperature": 1000.1}, ValueError, "temperature must be from 0 to 1,000, not "),
     ({"method": "iterated-greedy", "temperature": float("nan")}, ValueError, "temperature must be .*, not nan$"),
     ({"method": "iterated-greedy", "temperature": "1"}, TypeError, "temperature must be a number, not '1'$"),
-    ({"method": "iterated-greedy", "move": [1]}, ValueError, "move needs method='solve'$"),
 ])
 def test_options_that_are_rejected(words: dict[str, Any], kind: type[Exception], why: str) -> None:
     shop = pfs.Instance(pfs.taillard(1).times, job_names=map(str, range(20)))
@@ -564,13 +563,19 @@ def test_a_solution_of_another_instance_is_rejected() -> None:
 LONGER: dict[str, Any] = {"method": "iterated-greedy"}
 
 
+def free_jobs(order: list[int], held: int, move: list[int] | None) -> list[int]:
+    """The jobs behind the held ones that may move."""
+    return [job for job in order[held:] if move is None or job in move]
+
+
 @given(case=plainly.shops_and_orders(5), counts=st.lists(st.integers(1, 5), min_size=1, max_size=3),
        rounds=st.integers(0, 8), seed=st.integers(0, 2**64 - 1), held=st.integers(0, 5), partial=st.integers(0, 2),
        passes=st.integers(0, 2), ties=st.sampled_from(["first", "idle"]), temperature=st.sampled_from([0, 0.5, 3, 40]),
-       chance=st.randoms(use_true_random=False))
+       moves=st.one_of(st.none(), st.sets(st.integers(0, 4))), chance=st.randoms(use_true_random=False))
 def test_rounds_that_accept_longer_orders(
         cut: Callable[[list[int]], None], case: tuple[plainly.Table, list[int]], counts: list[int], rounds: int,
-        seed: int, held: int, partial: int, passes: int, ties: str, temperature: float, chance: Any) -> None:
+        seed: int, held: int, partial: int, passes: int, ties: str, temperature: float, moves: set[int] | None,
+        chance: Any) -> None:
     """Both orders are those of the definition, however the rounds are cut into parts and calls."""
     times, order = case
     jobs = len(times)
@@ -579,11 +584,13 @@ def test_rounds_that_accept_longer_orders(
     held, shop = min(held, jobs), pfs.Instance(times)
     hold, start = order[:held], chance.sample(order, jobs)
     begun = hold + [job for job in start if job not in hold]
-    free = max(1, jobs - held)
-    due = plainly.iterated(times, (begun, begun), range(rounds), **words | {"held": jobs - free,
-                                                                            "take": min(words["take"], free)})
+    move = None if moves is None else [job for job in moves if job < jobs]
+    free = free_jobs(begun, held, move)
+    due = (begun, begun) if not free else plainly.iterated(
+        times, (begun, begun), range(rounds), held=held, staying=set(order) - set(free),
+        **words | {"take": min(words["take"], len(free))})
     cut(counts)
-    words |= {**LONGER, "hold": hold}
+    words |= {**LONGER, "hold": hold, "move": move}
     whole = shop.solve(rounds, start=start, **words)
     assert whole.current is not None and (whole.current.tolist(), whole.order.tolist()) == due
     assert whole.makespan == plainly.makespan(times, due[1]) and whole.rounds == rounds
@@ -670,19 +677,22 @@ def held_searches(draw: st.DrawFn) -> tuple[plainly.Table, list[int], list[int],
 @given(held_searches(), st.integers(0, 2), st.integers(1, 6), st.integers(0, 2**64 - 1))
 def test_held_jobs_stay_where_they_are(case: tuple[plainly.Table, list[int], list[int], list[int]], passes: int,
                                        take: int, seed: int) -> None:
-    """The first ones keep their places and those that don't move their order, and no makespan is above the start's."""
+    """The first ones keep their places and those that don't move their order. The order is that of the definition."""
     times, order, hold, move = case
     shop = pfs.Instance(times)
     words: dict[str, Any] = {"take": min(take, shop.jobs), "passes": passes, "seed": seed, "start": order}
     start = [*hold, *(job for job in order if job not in hold)]
     for moved in (move, None):
         found = shop.solve(5, **words, hold=hold, move=moved)
-        jobs = found.order.tolist()
+        jobs, free = found.order.tolist(), free_jobs(start, len(hold), moved)
+        stay = [job for job in start if job not in free]
         assert jobs[:len(hold)] == hold and sorted(jobs) == list(range(shop.jobs))
         assert found.makespan == plainly.makespan(times, jobs) <= plainly.makespan(times, start)
-        if moved is not None:
-            stay = [job for job in start if job in hold or job not in moved]
-            assert [job for job in jobs if job in stay] == stay
+        assert [job for job in jobs if job in stay] == stay
+        if free and (hold or moved is not None):
+            assert jobs == plainly.iterated(
+                times, (start, start), range(5), held=len(hold), take=min(words["take"], len(free)), partial=0,
+                passes=passes, ties="first", temperature=0, seed=seed, staying=stay)[1]
         begun = shop.solve(0, **words, hold=hold, move=moved)
         assert not hold and moved is None or begun.order.tolist() == start
 

@@ -84,7 +84,7 @@ static int iterate(uint32_t *orders, size_t length, uint32_t first, size_t take,
                    uint32_t ties) {
     struct pfs_iterate_options options = {.seed = 7, .take = take, .held = fixed, .first = first, .count = 1,
                                           .partial = 1, .passes = passes, .ties = ties};
-    return pfs_iterate(shop, &options, NULL, 0, orders, length, &out.makespan, orders + 3, 3, &out.bound);
+    return pfs_iterate(shop, &options, NULL, 0, NULL, 0, orders, length, &out.makespan, orders + 3, 3, &out.bound);
 }
 
 /* Two lists that a call reads and overwrites. */

@@ -6,7 +6,7 @@ import os
 import pathlib
 import subprocess
 import sys
-from collections.abc import Sequence
+from collections.abc import Collection, Sequence
 
 import pfs
 from hypothesis import strategies as st
@@ -82,15 +82,17 @@ def neh(times: Table) -> list[int]:
 
 
 def iterated(times: Table, orders: tuple[list[int], list[int]], rounds: range, *, held: int, take: int, partial: int,
-             passes: int, ties: str, temperature: float, seed: int) -> tuple[list[int], list[int]]:
-    """The current and the best order after some rounds of the search that also accepts longer orders."""
+             passes: int, ties: str, temperature: float, seed: int, staying: Collection[int] = ()
+             ) -> tuple[list[int], list[int]]:
+    """The current and the best order after some rounds of the search that also accepts longer orders. Some jobs stay in
+    their order."""
     heat = temperature * sum(sum(row) for row in times) / (10 * len(times) * len(times[0]))
 
     def is_accepted(longer: int, word: int) -> bool:
         return longer <= 0 or heat > 0 and word < math.floor(2**32 * math.exp(-longer / heat))
 
     options = seed, take, held, rounds.start, len(rounds), partial, passes, ("first", "idle").index(ties)
-    return second_library.iterated(instance_of(times), *orders, options, is_accepted)
+    return second_library.iterated(instance_of(times), *orders, options, is_accepted, staying)
 
 
 def order_file(order: Sequence[int], machines: int | None, span: int) -> str:

@@ -119,8 +119,8 @@ static void iterate_step(struct walk *walk) {
         uint32_t *current = orders[each][0], *best = orders[each][1];
         memcpy(current, walk->order, walk->jobs * sizeof *current);
         memcpy(best, walk->order, walk->jobs * sizeof *best);
-        failed += pfs_iterate(both[each], &options, NULL, 0, current, walk->jobs, &spans[each][0], best, walk->jobs,
-                              &spans[each][1]) != PFS_OK;
+        failed += pfs_iterate(both[each], &options, NULL, 0, NULL, 0, current, walk->jobs, &spans[each][0], best,
+                              walk->jobs, &spans[each][1]) != PFS_OK;
     }
     pfs_release(&fresh);
     ++walk->calls;

@@ -4,7 +4,7 @@ for each pointer and an `Instance` for a prepared one, and computes its results 
 import contextlib
 import re
 import struct
-from collections.abc import Callable, Iterator, Sequence
+from collections.abc import Callable, Collection, Iterator, Sequence
 from typing import Any
 
 from support import second_program
@@ -200,20 +200,23 @@ def pfs_prove(shop: Instance, order: bytearray, length: int, nodes: int, span: b
 ITERATE_OPTIONS = struct.Struct("=QQQIIIII4x")
 
 
-def pfs_iterate(shop: Instance, options: bytearray, accept: bytearray, accept_length: int, current: bytearray,
-                length: int, span: bytearray, best: bytearray, best_length: int, best_span: bytearray) -> None:
+def pfs_iterate(shop: Instance, options: bytearray, accept: bytearray, accept_length: int, stay: bytearray,
+                stay_length: int, current: bytearray, length: int, span: bytearray, best: bytearray, best_length: int,
+                best_span: bytearray) -> None:
     seed, take, held, first, count, partial, passes, ties = ITERATE_OPTIONS.unpack(options)
     expect(length == best_length == shop.jobs, LENGTH)
     kept = distinct(shop.jobs, read32(current)[:length])
     shortest = distinct(shop.jobs, read32(best)[:length])
-    expect(1 <= take <= shop.jobs - held, TAKE)
+    staying = {job for job in range(min(stay_length, shop.jobs)) if stay[job]}
+    expect(1 <= take <= len([job for job in kept[held:] if job not in staying]), TAKE)
     expect(kept[:held] == shortest[:held], HELD)
     expect(max(partial, passes) <= MOST_PASSES, PASSES)
     expect(ties <= 1, TIES)
     expect(first + count <= MOST_ROUNDS, ROUNDS)
     chances = read32(accept)[:accept_length]
     kept, shortest = iterated(shop, kept, shortest, (seed, take, held, first, count, partial, passes, ties),
-                              lambda longer, word: longer <= 0 or longer < len(chances) and word < chances[longer])
+                              lambda longer, word: longer <= 0 or longer < len(chances) and word < chances[longer],
+                              staying)
     put32(current, kept)
     put64(span, makespan(shop, kept))
     put32(best, shortest)
@@ -221,15 +224,17 @@ def pfs_iterate(shop: Instance, options: bytearray, accept: bytearray, accept_le
 
 
 def iterated(shop: Instance, kept: list[int], shortest: list[int], options: tuple[int, ...],
-             is_accepted: Callable[[int, int], bool]) -> tuple[list[int], list[int]]:
-    """The current and the best order after rounds with these options. An order that is longer by some time is accepted
-    or not by the round's first word."""
+             is_accepted: Callable[[int, int], bool], staying: Collection[int] = ()) -> tuple[list[int], list[int]]:
+    """The current and the best order after rounds with these options, in which some jobs stay. An order that is longer
+    by some time is accepted or not by the round's first word."""
     seed, take, held, first, count, partial, passes, ties = options
     each = shop.jobs + take + 1
     words = words_of(seed, first * each, count * each)
     for index in range(0, count * each, each):
-        left, taken = removed(kept, held, words[index + 1:index + 1 + take])
-        visited = removed(list(range(shop.jobs)), 0, words[index + 1 + take:index + each])[1]
+        taken = drawn([job for job in kept[held:] if job not in staying], words[index + 1:index + 1 + take])
+        visited = drawn(list(range(shop.jobs)), words[index + 1 + take:index + each])
+        visited = [job for job in visited if job not in staying]
+        left = [job for job in kept if job not in taken]
         left = improved(shop, left, held, visited, partial, ties)
         for job in taken:
             left = placed(shop, left, held, job, ties)
@@ -240,11 +245,10 @@ def iterated(shop: Instance, kept: list[int], shortest: list[int], options: tupl
     return kept, shortest
 
 
-def removed(order: list[int], held: int, words: list[int]) -> tuple[list[int], list[int]]:
-    """The jobs that are left after each word has removed one behind the held ones, and the removed ones."""
-    left = order[held:]
-    taken = [left.pop(word % len(left)) for word in words]
-    return order[:held] + left, taken
+def drawn(jobs: list[int], words: list[int]) -> list[int]:
+    """The jobs that words remove one after the other, each from the jobs that are left."""
+    left = list(jobs)
+    return [left.pop(word % len(left)) for word in words]
 
 
 def placed(shop: Instance, order: list[int], held: int, job: int, ties: int) -> list[int]:

@@ -1,8 +1,9 @@
 -- The first fault in the arguments of `pfs_iterate`.
-use Rattle.std.specs.Prelude.{ℕ, ◌-◌, List, [], ◌∷◌, length, nat_eq, nat_le, take, Option}
+use Rattle.std.specs.Prelude.{ℕ, List, [], ◌∷◌, length, nat_eq, nat_le, take, Option}
 use Rattle.std.specs.Cmp.Lexicographic.{pointwise}
 use Rattle.pfs_base.specs.FlowShop.{FlowShop}
 use Rattle.pfs_base.specs.Lists.{first_some}
+use Rattle.pfs_iterate.specs.Iterated.{movable}
 use Rattle.pfs_iterate.specs.declared.options.Options.{Options}
 use Rattle.pfs_iterate.specs.declared.options.TheConstants.{TIES_IDLE}
 use Rattle.pfs_c.specs.declared.numbers.CallFault.{CallFault}
@@ -18,9 +19,9 @@ held_fault held current best = unless (pointwise nat_eq (take held best) (take h
 abbrev pub ties_fault : ℕ → Option CallFault
 ties_fault ties = unless (nat_le ties TIES_IDLE) Ties
 
-abbrev pub iterate_fault : FlowShop → List ℕ → List ℕ → Options → Option CallFault
-iterate_fault shop current best options =
+abbrev pub iterate_fault : FlowShop → List ℕ → List ℕ → List ℕ → Options → Option CallFault
+iterate_fault shop stay current best options =
     first_some (length_fault (length current) shop.jobs ∷ length_fault (length best) shop.jobs
     ∷ jobs_fault shop.jobs current ∷ jobs_fault shop.jobs best
-    ∷ take_fault options.take (shop.jobs - options.held) ∷ held_fault options.held current best
+    ∷ take_fault options.take (length (movable options.held stay current)) ∷ held_fault options.held current best
     ∷ passes_fault options.partial ∷ passes_fault options.passes ∷ ties_fault options.ties ∷ count_fault options.first options.count ∷ [])

@@ -11,27 +11,29 @@ use crate::handle::Prepared;
 use crate::kept::Kept;
 use crate::numbers::{CallFault, PFS_OK, number_of};
 use pfs_base::{MOST_PASSES, MOST_ROUNDS};
-use pfs_iterate::{Options, TIES_IDLE};
+use pfs_iterate::{Options, TIES_IDLE, count_movable};
 use std::alloc::Global;
 
 /// Makes the rounds `first` to `first + count - 1`, counted from 0, of an iterated greedy search of a seed that also
 /// accepts longer orders (Ruiz and Stützle 2007) and moves the jobs that are left after a removal (Dubois-Lacoste,
-/// Pagnozzi and Stützle 2017). `current` and `best` are overwritten with the order after these rounds and with the
-/// shortest one so far, `current_span` and `best_span` with their makespans.
+/// Pagnozzi and Stützle 2017). Jobs with a number above 0 in `stay` keep their order. `current` and `best` are
+/// overwritten with the order after these rounds and with the shortest one so far, `current_span` and `best_span` with
+/// their makespans.
 #[unsafe(no_mangle)]
 pub extern "C" fn pfs_iterate(
     alloc: Global,
     instance: &mut Prepared,
     options: &Options,
     accept: &[u32],
+    stay: &[u8],
     current: &mut [u32],
     current_span: &mut u64,
     best: &mut [u32],
     best_span: &mut u64,
 ) -> i32
     ensures number { result ≡ number_returned
-        (on_shop instance.old.shop (λ shop. iterate_fault shop current.old best.old options.now)) }
-    ensures done { result ≡ PFS_OK → IfSome instance.old.shop (λ shop. IsIterated shop options.now accept.now
+        (on_shop instance.old.shop (λ shop. iterate_fault shop stay.now current.old best.old options.now)) }
+    ensures done { result ≡ PFS_OK → IfSome instance.old.shop (λ shop. IsIterated shop options.now accept.now stay.now
         current.old best.old current.new current_span.new best.new best_span.new) }
     ensures shop { instance.new.shop ≡ instance.old.shop }
     ensures kept_current { result ≢ PFS_OK → current.new ≡ current.old }
@@ -46,6 +48,7 @@ pub extern "C" fn pfs_iterate(
         &mut kept,
         options,
         accept,
+        stay,
         current,
         current_span,
         best,
@@ -59,13 +62,14 @@ fn iterate_in(
     kept: &mut Kept,
     options: &Options,
     accept: &[u32],
+    stay: &[u8],
     current: &mut [u32],
     current_span: &mut u64,
     best: &mut [u32],
     best_span: &mut u64,
 ) -> Result<(), CallFault>
-    ensures validated { Validates result (iterate_fault kept.old current.old best.old options.now) }
-    ensures done { IfOk result (λ _. IsIterated kept.old options.now accept.now current.old best.old
+    ensures validated { Validates result (iterate_fault kept.old stay.now current.old best.old options.now) }
+    ensures done { IfOk result (λ _. IsIterated kept.old options.now accept.now stay.now current.old best.old
         current.new current_span.new best.new best_span.new) }
     ensures shop { kept.new ≡ kept.old }
     ensures kept_current { IfErr result (λ _. current.new ≡ current.old) }
@@ -79,10 +83,9 @@ fn iterate_in(
     validate_jobs(jobs, current)?;
     validate_jobs(jobs, best)?;
     validate(1 <= options.take, CallFault::Take)?;
-    validate(
-        options.take <= jobs.saturating_sub(options.held),
-        CallFault::Take,
-    )?;
+    validate(options.held <= jobs, CallFault::Take)?;
+    let movable = count_movable(current, options.held, stay);
+    validate(options.take <= movable, CallFault::Take)?;
     let same = best[..options.held] == current[..options.held];
     validate(same, CallFault::Held)?;
     validate(options.partial <= MOST_PASSES, CallFault::Passes)?;
@@ -90,7 +93,7 @@ fn iterate_in(
     validate(options.ties <= TIES_IDLE, CallFault::Ties)?;
     let last = options.first as u64 + options.count as u64;
     validate(last <= MOST_ROUNDS as u64, CallFault::Rounds)?;
-    let spans = kept.iterate(options, accept, current, best);
+    let spans = kept.iterate(options, accept, stay, current, best);
     *current_span = spans.current;
     *best_span = spans.best;
     Ok(())

@@ -6,6 +6,7 @@ ghost use Rattle.pfs_base.specs.Limits.{limits};
 ghost use Rattle.pfs_base.specs.Paths.{makespan};
 ghost use Rattle.pfs_insert.specs.Inserter.{IsBestPlace};
 ghost use Rattle.pfs_order.specs.Sequence.{IsSequence};
+ghost use Rattle.pfs_iterate.specs.Iterated.{movable};
 ghost use Rattle.pfs_iterate.specs.Rounds.{CanIterate, IsIterated};
 ghost use Rattle.pfs_search.specs.Search.{IsSearchOf};
 ghost use Rattle.pfs_search.specs.Solution.{IsImproved, IsNeh};
@@ -173,6 +174,7 @@ impl Kept {
         &mut self,
         options: &Options,
         accept: &[u32],
+        stay: &[u8],
         current: &mut [u32],
         best: &mut [u32],
     ) -> Makespans
@@ -182,7 +184,8 @@ impl Kept {
         requires best_all { length best.old ≡ self.old.jobs }
         requires best { IsSequence self.old.jobs best.old }
         requires front { take options.now.held best.old ≡ take options.now.held current.old }
-        ensures done { IsIterated self.old options.now accept.now current.old best.old
+        requires free { options.now.take ≤ length (movable options.now.held stay.now current.old) }
+        ensures done { IsIterated self.old options.now accept.now stay.now current.old best.old
             current.new result.current best.new result.best }
         ensures shop { self.new ≡ self.old }
     {
@@ -192,6 +195,7 @@ impl Kept {
             &mut self.search,
             options,
             accept,
+            stay,
             current,
             best,
         )

@@ -1,3 +1,4 @@
+mod Among
 mod Ends
 mod Fronts
 mod HeadRows
@@ -5,4 +6,5 @@ mod Least
 mod Passes
 mod Rearranging
 mod RoundLaws
+mod Staying
 mod Taking

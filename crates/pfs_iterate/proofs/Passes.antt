@@ -22,11 +22,11 @@ module _ (shop : FlowShop) (options : Options) (list jobs : List ℕ) (passes ma
   improved_stops longer =
       ap (λ n. improved shop options list n jobs) more ∙ rw (le-ltb (makespan shop after_pass) (makespan shop jobs) longer) refl
 
-pub rounds_more : (shop : FlowShop) (options : Options) (accept : List ℕ) (first count done : ℕ) (state : State)
-    → done < count → after_rounds shop options accept (first + done) (count - done) state
-    ≡ after_rounds shop options accept (first + (done + 1)) (count - (done + 1))
-    (after_round shop options accept state (words_of_round shop options (first + done)))
-rounds_more shop options accept first count done state left =
+pub rounds_more : (shop : FlowShop) (options : Options) (accept stay : List ℕ) (first count done : ℕ) (state : State)
+    → done < count → after_rounds shop options accept stay (first + done) (count - done) state
+    ≡ after_rounds shop options accept stay (first + (done + 1)) (count - (done + 1))
+    (after_round shop options accept stay state (words_of_round shop options (first + done)))
+rounds_more shop options accept stay first count done state left =
     let more : count - done ≡ suc (count - (done + 1)) = omega arith in
     let next : first + (done + 1) ≡ first + done + 1 = omega arith in
     rw (more, next) refl

@@ -1,13 +1,13 @@
 -- Iterated greedy that also accepts longer orders, as a function of its words.
 use Rattle.std.specs.Prelude.{ℕ, zero, suc, ◌+◌, ◌-◌, Bool, true, not, List, [], ◌∷◌, ◌++◌, length, fold, filter, sum_by}
-use Rattle.std.specs.Prelude.{nat_le, nat_lt, nat_eq, slice_index, insert, if◌then◌else◌, take as front, drop}
+use Rattle.std.specs.Prelude.{nat_le, nat_lt, nat_eq, slice_index, insert, remove, if◌then◌else◌, take as front, drop}
 use Rattle.std.specs.List.{list_all, list_any, position_or_len, range_with_len, slice_index_or}
 use Rattle.pfs_base.specs.FlowShop.{FlowShop}
 use Rattle.pfs_base.specs.Lists.{below}
 use Rattle.pfs_base.specs.Paths.{heaviest, makespan, operation}
 use Rattle.pfs_order.specs.Sequence.{all_jobs}
 use Rattle.pfs_insert.specs.Insertion.{makespan_with}
-use Rattle.pfs_search.specs.Greedy.{jobs_left, jobs_taken}
+use Rattle.pfs_search.specs.Greedy.{jobs_taken, place_of}
 use Rattle.pfs_search.specs.Solution.{words_after}
 use Rattle.pfs_iterate.specs.declared.options.Options.{Options}
 use Rattle.pfs_iterate.specs.declared.options.TheConstants.{TIES_IDLE}
@@ -63,16 +63,34 @@ improved shop options list (suc passes) jobs =
     let next = fold (moved shop options) jobs list in
     if nat_lt (makespan shop next) (makespan shop jobs) then improved shop options list passes next else next
 
--- the order that a round finds by its words after the first: the next `take` words remove jobs behind the first `held`,
--- and the words after them name all jobs in the order in which a pass visits them
-abbrev pub found : FlowShop → Options → List ℕ → List ℕ → List ℕ
-found shop options order words =
+-- whether a job may move: it has no mark, which is a number above 0 at its place in `stay`
+abbrev pub is_free : List ℕ → ℕ → Bool
+is_free stay job = nat_eq (slice_index_or stay job 0) 0
+
+-- the jobs behind the first `held` that may move
+abbrev pub movable : ℕ → List ℕ → List ℕ → List ℕ
+movable held stay order = filter (is_free stay) (drop held order)
+
+-- the place of the job that has this number, from 0, among those that may move
+abbrev pub place_among : (ℕ → Bool) → List ℕ → ℕ → ℕ
+place_among free [] number = number
+place_among free (job ∷ jobs) zero = if free job then 0 else suc (place_among free jobs 0)
+place_among free (job ∷ jobs) (suc number) = suc (place_among free jobs (if free job then number else suc number))
+
+-- the jobs left after each word has removed the one that it names among those that may move
+abbrev pub left_among : (ℕ → Bool) → List ℕ → List ℕ → List ℕ
+left_among free jobs words =
+    fold (λ rest word. remove rest (place_among free rest (place_of (filter free rest) word))) jobs words
+
+-- the order that a round finds by its words after the first: the next `take` words remove jobs that may move, and the
+-- words after them name all jobs in the order in which a pass visits them, but for those that stay
+abbrev pub found : FlowShop → Options → List ℕ → List ℕ → List ℕ → List ℕ
+found shop options stay order words =
     let removing = front options.take words in
-    let list = jobs_taken (all_jobs shop.jobs) (drop options.take words) in
-    let behind = drop options.held order in
-    let left = front options.held order ++ jobs_left behind removing in
-    improved shop options list options.passes
-    (fold (put shop options) (improved shop options list options.partial left) (jobs_taken behind removing))
+    let list = filter (is_free stay) (jobs_taken (all_jobs shop.jobs) (drop options.take words)) in
+    let left = front options.held order ++ left_among (is_free stay) (drop options.held order) removing in
+    improved shop options list options.passes (fold (put shop options) (improved shop options list options.partial left)
+    (jobs_taken (movable options.held stay order) removing))
 
 -- whether a word accepts a new makespan: one that is not greater than the old one always, one that is greater by d with
 -- the chance accept[d] of 2 ^ 32, and none beyond the end of the table
@@ -86,9 +104,9 @@ pub record State : Type 0 where
   pub best : List ℕ
 
 -- the state after a round with these words
-abbrev pub after_round : FlowShop → Options → List ℕ → State → List ℕ → State
-after_round shop options accept state words =
-    let new = found shop options state.current (drop 1 words) in
+abbrev pub after_round : FlowShop → Options → List ℕ → List ℕ → State → List ℕ → State
+after_round shop options accept stay state words =
+    let new = found shop options stay state.current (drop 1 words) in
     let span = makespan shop new in
     record {
       current = if is_accepted accept (makespan shop state.current) span (slice_index words 0)
@@ -101,8 +119,8 @@ abbrev pub words_of_round : FlowShop → Options → ℕ → List ℕ
 words_of_round shop options round = words_after options.seed round 1 (shop.jobs + options.take + 1)
 
 -- the state after a number of rounds from round `first` on, counted from 0
-abbrev pub after_rounds : FlowShop → Options → List ℕ → ℕ → ℕ → State → State
-after_rounds shop options accept first zero state = state
-after_rounds shop options accept first (suc count) state =
-    after_rounds shop options accept (first + 1) count
-    (after_round shop options accept state (words_of_round shop options first))
+abbrev pub after_rounds : FlowShop → Options → List ℕ → List ℕ → ℕ → ℕ → State → State
+after_rounds shop options accept stay first zero state = state
+after_rounds shop options accept stay first (suc count) state =
+    after_rounds shop options accept stay (first + 1) count
+    (after_round shop options accept stay state (words_of_round shop options first))

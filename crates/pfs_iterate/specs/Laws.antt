@@ -8,16 +8,16 @@ use Rattle.pfs_iterate.specs.Iterated.{State, after_round, after_rounds, end_on}
 
 -- rounds in two parts have the state that all of them have at once
 abbrev pub PartsLaw : Type 0
-PartsLaw = (shop : FlowShop) (options : Options) (accept : List ℕ) (first one other : ℕ) (state : State)
-    → after_rounds shop options accept first (one + other) state
-    ≡ after_rounds shop options accept (first + one) other (after_rounds shop options accept first one state)
+PartsLaw = (shop : FlowShop) (options : Options) (accept stay : List ℕ) (first one other : ℕ) (state : State)
+    → after_rounds shop options accept stay first (one + other) state
+    ≡ after_rounds shop options accept stay (first + one) other (after_rounds shop options accept stay first one state)
 
--- with no held jobs, no passes, the rule TIES_FIRST and an empty table a round's current order is the one that a round of
+-- where all jobs may move, with no passes, the rule TIES_FIRST and an empty table a round's current order is the one that a round of
 -- `pfs_search` has, without passes, from the words that remove jobs
 abbrev pub GreedyLaw : Type 0
 GreedyLaw = (shop : FlowShop) (options : Options) (state : State) (word : ℕ) (removing others : List ℕ)
     → options.held ≡ 0 → options.partial ≡ 0 → options.passes ≡ 0 → options.ties ≡ TIES_FIRST → length removing ≡ options.take
-    → (after_round shop options [] state (word ∷ (removing ++ others))).current
+    → (after_round shop options [] [] state (word ∷ (removing ++ others))).current
     ≡ greedy_round shop 0 state.current removing
 
 -- no machine ends earlier than before where a job is inserted before another one, or at the end, so a total delay is

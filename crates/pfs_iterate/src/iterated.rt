@@ -1,8 +1,9 @@
 //! Rounds on two orders, with all their memory.
-ghost use Rattle.std.specs.Prelude.{◌≡◌, IfOk, length, take as front};
+ghost use Rattle.std.specs.Prelude.{◌≡◌, ◌≤◌, IfOk, length, take as front};
 ghost use Rattle.pfs_order.specs.Sequence.{IsSequence};
 ghost use Rattle.pfs_search.specs.Search.{IsSearchOf};
 ghost use Rattle.pfs_base.specs.Paths.{makespan};
+ghost use Rattle.pfs_iterate.specs.Iterated.{movable};
 ghost use Rattle.pfs_iterate.specs.Private.Memory.{IsWorkFor};
 ghost use Rattle.pfs_iterate.specs.Rounds.{CanIterate, IsIterated, IsIteratedFor};
 
@@ -65,15 +66,17 @@ impl Iterated {
 
     /// Makes rounds on a current and a best order, which it overwrites, and returns their makespans.
     ///
-    /// A round removes `take` jobs of the current order behind the first `held`, moves those that are left, and inserts
-    /// the removed ones, each at its best place from `held` on; then it moves all jobs. An order that is longer by
-    /// d is taken where the round's first word is less than `accept[d]`.
+    /// Jobs may move that are behind the first `held` of the current order and have no mark, a number above 0, in `stay`.
+    /// A round removes `take` of these, moves those that are left, and inserts the removed ones, each at its best place
+    /// from `held` on; then it moves all of them. An order that is longer by d is taken where the round's first word is
+    /// less than `accept[d]`.
     pub fn rounds(
         &mut self,
         instance: &Instance,
         search: &mut Search,
         options: &Options,
         accept: &[u32],
+        stay: &[u8],
         current: &mut [u32],
         best: &mut [u32],
     ) -> Makespans
@@ -85,7 +88,8 @@ impl Iterated {
         requires best_all { length best.old ≡ instance.now.shop.jobs }
         requires best { IsSequence instance.now.shop.jobs best.old }
         requires front { front options.now.held best.old ≡ front options.now.held current.old }
-        ensures done { IsIterated instance.now.shop options.now accept.now current.old best.old
+        requires free { options.now.take ≤ length (movable options.now.held stay.now current.old) }
+        ensures done { IsIterated instance.now.shop options.now accept.now stay.now current.old best.old
             current.new result.current best.new result.best }
         ensures still { ⟦<Iterated as OfShop>⟧.is_of self.new instance.now.shop }
         ensures search { ⟦<Search as OfShop>⟧.is_of search.new instance.now.shop }
@@ -98,6 +102,7 @@ impl Iterated {
             search,
             options,
             accept,
+            stay,
             &mut self.words,
             &mut self.current,
             &mut self.best,

@@ -6,7 +6,7 @@ pub fn parts()
     ensures { PartsLaw }
 {}
 
-/// With no held jobs, no passes, the first of equally good places and an empty table a round is one of `pfs_search` on
+/// Where all jobs may move, with no passes, the first of equally good places and an empty table a round is one of `pfs_search` on
 /// the words that remove jobs.
 pub fn greedy()
     ensures { GreedyLaw }

@@ -10,7 +10,9 @@ pub mod laws;
 mod options;
 mod places;
 mod rounds;
+mod stay;
 mod work;
 
 pub use iterated::{Iterated, Makespans};
 pub use options::{Options, TIES_FIRST, TIES_IDLE};
+pub use stay::count_movable;

@@ -3,16 +3,17 @@ ghost use Rattle.std.specs.Prelude.{◌≡◌, ◌+◌, ◌*◌, ◌≤◌, ◌+
 ghost use Rattle.pfs_base.specs.Paths.{makespan};
 ghost use Rattle.pfs_order.specs.Sequence.{IsSequence};
 ghost use Rattle.pfs_search.specs.Search.{IsSearchOf};
-ghost use Rattle.pfs_iterate.specs.Iterated.{after_round, after_rounds, found, is_accepted, put};
+ghost use Rattle.pfs_iterate.specs.Iterated.{after_round, after_rounds, found, is_accepted, movable, put};
 ghost use Rattle.pfs_iterate.specs.Private.Steps.{IsMeasured};
 ghost use Rattle.pfs_iterate.specs.Private.Memory.{IsPlacesFor, IsWorkFor};
-ghost use Rattle.pfs_iterate.specs.Rounds.{CanIterate};
+ghost use Rattle.pfs_iterate.specs.Rounds.{CanIterate, staying};
 
 use crate::destroy::{draw, take_jobs};
 use crate::found::Found;
 use crate::improve::improve;
 use crate::options::Options;
 use crate::places::{Places, put, span_of};
+use crate::stay::keep_free;
 use crate::work::Work;
 use pfs_base::Instance;
 use pfs_order::{Order, Seq};
@@ -65,6 +66,7 @@ fn find(
     instance: &Instance,
     search: &mut Search,
     options: &Options,
+    stay: &[u8],
     order: &Order,
     words: &[u32],
 ) -> u64
@@ -72,18 +74,28 @@ fn find(
     requires search { IsSearchOf instance.now.shop search.old }
     requires options { CanIterate instance.now.shop options.now }
     requires order { length order.now ≡ instance.now.shop.jobs }
+    requires free { options.now.take ≤ length (movable options.now.held stay.now order.now) }
     requires words { length words.now ≡ options.now.take + instance.now.shop.jobs }
-    ensures order { work.new.seq.jobs ≡ found instance.now.shop options.now order.now words.now }
+    ensures order { work.new.seq.jobs ≡ found instance.now.shop options.now stay.now order.now words.now }
     ensures span { result ≡ makespan instance.now.shop work.new.seq.jobs }
     ensures all { length work.new.seq.jobs ≡ instance.now.shop.jobs }
     ensures front { front options.now.held work.new.seq.jobs ≡ front options.now.held order.now }
+    ensures staying { staying stay.now work.new.seq.jobs ≡ staying stay.now order.now }
     ensures work { IsWorkFor instance.now.shop work.new }
     ensures search { IsSearchOf instance.now.shop search.new }
 {
     let held = options.held;
     let (removing, shuffling) = words.split_at(options.take);
-    take_jobs(&work.all, &mut work.seq, &mut work.list, 0, shuffling);
-    take_jobs(order, &mut work.seq, &mut work.removed, held, removing);
+    take_jobs(&work.all, &mut work.seq, &mut work.list, 0, &[], shuffling);
+    keep_free(&mut work.list, stay);
+    take_jobs(
+        order,
+        &mut work.seq,
+        &mut work.removed,
+        held,
+        stay,
+        removing,
+    );
     let places = &mut work.places;
     let seq = &mut work.seq;
     let partial = span_of(instance, search, places, seq);
@@ -117,6 +129,7 @@ fn round(
     search: &mut Search,
     options: &Options,
     accept: &[u32],
+    stay: &[u8],
     words: &[u32],
     current: &mut Found,
     best: &mut Found,
@@ -128,18 +141,30 @@ fn round(
     requires current { IsMeasured instance.now.shop current.old.order current.old.span }
     requires best { IsMeasured instance.now.shop best.old.order best.old.span }
     requires front { front options.now.held best.old.order ≡ front options.now.held current.old.order }
+    requires free { options.now.take ≤ length (movable options.now.held stay.now current.old.order) }
     ensures done { record { current = current.new.order; best = best.new.order }
-        ≡ after_round instance.now.shop options.now accept.now
+        ≡ after_round instance.now.shop options.now accept.now stay.now
         (record { current = current.old.order; best = best.old.order }) words.now }
     ensures current { IsMeasured instance.now.shop current.new.order current.new.span }
     ensures best { IsMeasured instance.now.shop best.new.order best.new.span }
     ensures no_longer { best.new.span ≤ best.old.span }
     ensures current_front { front options.now.held current.new.order ≡ front options.now.held current.old.order }
     ensures best_front { front options.now.held best.new.order ≡ front options.now.held current.old.order }
+    ensures current_staying { staying stay.now current.new.order ≡ staying stay.now current.old.order }
+    ensures best_staying { staying stay.now best.old.order ≡ staying stay.now current.old.order
+        → staying stay.now best.new.order ≡ staying stay.now current.old.order }
     ensures work { IsWorkFor instance.now.shop work.new }
     ensures search { IsSearchOf instance.now.shop search.new }
 {
-    let span = find(work, instance, search, options, &current.order, &words[1..]);
+    let span = find(
+        work,
+        instance,
+        search,
+        options,
+        stay,
+        &current.order,
+        &words[1..],
+    );
     if span < best.span {
         best.order.copy_from(&work.seq);
         best.span = span;
@@ -157,6 +182,7 @@ pub(crate) fn play(
     search: &mut Search,
     options: &Options,
     accept: &[u32],
+    stay: &[u8],
     memory: &mut Vec<u32>,
     current: &mut Found,
     best: &mut Found,
@@ -168,14 +194,18 @@ pub(crate) fn play(
     requires current { IsMeasured instance.now.shop current.old.order current.old.span }
     requires best { IsMeasured instance.now.shop best.old.order best.old.span }
     requires front { front options.now.held best.old.order ≡ front options.now.held current.old.order }
+    requires free { options.now.take ≤ length (movable options.now.held stay.now current.old.order) }
     ensures done { record { current = current.new.order; best = best.new.order }
-        ≡ after_rounds instance.now.shop options.now accept.now options.now.first options.now.count
+        ≡ after_rounds instance.now.shop options.now accept.now stay.now options.now.first options.now.count
         (record { current = current.old.order; best = best.old.order }) }
     ensures current { IsMeasured instance.now.shop current.new.order current.new.span }
     ensures best { IsMeasured instance.now.shop best.new.order best.new.span }
     ensures no_longer { best.new.span ≤ best.old.span }
     ensures current_front { front options.now.held current.new.order ≡ front options.now.held current.old.order }
     ensures best_front { front options.now.held best.new.order ≡ front options.now.held current.old.order }
+    ensures current_staying { staying stay.now current.new.order ≡ staying stay.now current.old.order }
+    ensures best_staying { staying stay.now best.old.order ≡ staying stay.now current.old.order
+        → staying stay.now best.new.order ≡ staying stay.now current.old.order }
     ensures work { IsWorkFor instance.now.shop work.new }
     ensures search { IsSearchOf instance.now.shop search.new }
     ensures long { length memory.new.items ≡ length memory.old.items }
@@ -186,7 +216,7 @@ pub(crate) fn play(
         let words = &mut words[..each];
         draw(words, options.seed, options.first + done);
         round(
-            work, instance, search, options, accept, words, current, best,
+            work, instance, search, options, accept, stay, words, current, best,
         );
     }
 }

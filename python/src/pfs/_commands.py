@@ -35,7 +35,7 @@ from pfs._orders import AFTER_ORDER, FoundOrder, numbers_by_name, order_in, stat
 from pfs._proof import MOST_JOBS, MOST_MACHINES, proved
 from pfs._report import JOBS, rows_of, text_table
 from pfs._schedule import Schedule
-from pfs._search import USUAL, MovedSearch, Search, by_total, insert_after, limit_of, solve
+from pfs._search import USUAL, Search, by_total, insert_after, limit_of, solve
 from pfs._solution import Solution
 from pfs._state import State
 from pfs._tables import Table, described, table_of, write_table
@@ -235,8 +235,8 @@ def plan_search(given: argparse.Namespace, begin: Beginning) -> Search:
         tell(given.order, "left out, as the table has no such jobs", found.gone)
         tell(given.order, "new, and inserted at their best places", [shop.job_name(job) for job in new])
         insert_after(shop, order, len(held), new)
-    options = shop, order if given.order is not None else None, 0, given.take, given.passes, given.seed, held
-    return MovedSearch(*options, new) if given.keep else Search(*options, method=given.method)
+    return Search(shop, order if given.order is not None else None, 0, given.take, given.passes, given.seed, held,
+                  new if given.keep else None, method=given.method)
 
 
 def compare(path: str | None, shop: Instance, other: FoundOrder, best: Solution, clock: Clock | None) -> None:
@@ -410,9 +410,9 @@ def add_method_words(add: Callable[..., object]) -> None:
         add, "no limit", "; without one of rounds a second, and it ends before if the order is optimal",
         "2, and 4 with --method solve",
         "100, which are the most in each round; with --method solve 0, and 1 without --rounds")
-    add("--method", choices=tuple(USUAL),
+    add("--method", choices=tuple(USUAL), default="iterated-greedy",
         help="how the order is searched: iterated-greedy, which also accepts longer orders, or solve, as `pfs solve` "
-        "does it; else iterated-greedy, and solve with --keep")
+        "does it; else iterated-greedy")
     add("--prove", type=seconds_of, metavar="S",
         help="for how many seconds to try to prove after the search that its order is optimal, else 1, and 0 with "
         "--rounds; it isn't tried for an order that is only evaluated, while jobs are held or kept, and beyond 256 "
@@ -615,9 +615,6 @@ def set_limits(given: argparse.Namespace) -> None:
     if given.run is not plan_command:
         given.rounds = c.MOST_ROUNDS if given.rounds is None else given.rounds
         return
-    if given.keep and given.method not in (None, "solve"):
-        raise Misused("--keep needs --method solve")
-    given.method = given.method or ("solve" if given.keep else "iterated-greedy")
     is_by_time = given.rounds is None
     is_changed = given.first or given.hold or given.keep or given.now or given.down
     is_given = given.order is not None and is_by_time and given.seconds is None and not is_changed

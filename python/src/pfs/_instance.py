@@ -19,7 +19,7 @@ from pfs._library import LENGTHS, SHORT, Prepared, quick_insert, quick_insertion
 from pfs._names import frame_names, is_frame, names_of
 from pfs._proof import proved
 from pfs._schedule import Schedule
-from pfs._search import Event, MovedSearch, Progress, Search
+from pfs._search import Event, Progress, Search
 from pfs._solution import Solution, as_order
 from pfs._validate import (BOOLS, MOST_UINT32, Jobs, Order, array_copy, as_uint32, as_uint32_bytes, checked_int,
                            checked_jobs, checked_order, checked_times, jobs_error, layout_number, wrong_job)
@@ -550,8 +550,8 @@ class Instance:
             other jobs begin in the order of ``start``, or where they are best. With ``"solve"``, passes are then made
             as with ``"iterated-greedy"``, and its random numbers are used.
         move : array_like, optional
-            With ``"solve"``, the only jobs, by numbers or names, that rounds and passes move. The others keep their
-            order. The rounds are run in Python, and take ten times as long or more.
+            The only jobs, by numbers or names, that rounds and passes move. The others keep their order. With
+            ``"solve"`` it changes passes and random numbers as ``hold`` does.
         prove : float, optional
             After the search, try for this time in seconds to prove that its order is optimal, as :meth:`optimum` does.
             It needs a search without ``hold`` and ``move``.
@@ -589,13 +589,8 @@ class Instance:
         >>> shop.solve(100, method="iterated-greedy", prove=10).optimal
         True
         """
-        if move is None:
-            search = Search(self, start, first, take, passes, seed, hold, method=method, partial=partial, ties=ties,
-                            temperature=temperature)
-        elif (method, partial, ties, temperature) != ("solve", None, None, None):
-            raise ValueError("move needs method='solve'")
-        else:
-            search = MovedSearch(self, start, first, take, passes, seed, hold, move)
+        search = Search(self, start, first, take, passes, seed, hold, move, method=method, partial=partial, ties=ties,
+                        temperature=temperature)
         seconds = _search.limit_of(prove, "prove")
         if seconds is not None and (search.held or move is not None):
             raise ValueError("prove needs a search without hold and move")

@@ -68,7 +68,7 @@ PROTOTYPES: Final[dict[str, list[type[Any]]]] = {
     "pfs_table": [c_void_p, *LIST, *LIST, *LIST],
     "pfs_neh": [c_void_p, *LIST, c_void_p, c_void_p],
     "pfs_rounds": [c_void_p, c_void_p, *LIST, c_void_p, c_void_p],
-    "pfs_iterate": [c_void_p, c_void_p, *LIST, *LIST, c_void_p, *LIST, c_void_p],
+    "pfs_iterate": [c_void_p, c_void_p, *LIST, *LIST, *LIST, c_void_p, *LIST, c_void_p],
     "pfs_prove": [c_void_p, *LIST, c_uint64, c_void_p, c_void_p, c_void_p],
     "pfs_insert": [c_void_p, *LIST, c_uint32, c_void_p, c_void_p],
     "pfs_insertions": [c_void_p, *LIST, c_uint32, *LIST],

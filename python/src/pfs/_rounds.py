@@ -41,6 +41,7 @@ class Iterating(NamedTuple):
     ties: int
     accept: ctypes.Array[c_uint32]
     held: int = 0
+    stay: bytes = b""
 
 
 def accept_of(temperature: float, total: int, operations: int) -> ctypes.Array[c_uint32]:
@@ -71,9 +72,9 @@ def accept_of(temperature: float, total: int, operations: int) -> ctypes.Array[c
 
 
 def iterating(total: int, operations: int, partial: int = 100, ties: str = "idle", temperature: float = 0.5,
-              held: int = 0) -> Iterating:
-    """Return the options for an instance by the sum and the number of its times."""
-    return Iterating(partial, TIES[ties], accept_of(temperature, total, operations), held)
+              held: int = 0, stay: bytes = b"") -> Iterating:
+    """Return the options for an instance by the sum and the number of its times. `stay` has a byte for each job."""
+    return Iterating(partial, TIES[ties], accept_of(temperature, total, operations), held, stay)
 
 
 class Part:
@@ -138,10 +139,10 @@ class Rounds:
             options = RoundsOptions(part.seed, self.take, first, count, self.passes)
             self.call("pfs_rounds", byref(options), part.order, length, byref(part.makespan), byref(part.cells))
             return
-        partial, ties, accept, held = self.more
+        partial, ties, accept, held, stay = self.more
         longer = IterateOptions(part.seed, self.take, held, first, count, partial, self.passes, ties)
-        self.call("pfs_iterate", byref(longer), accept, c_size_t(len(accept)), part.current, length, byref(c_uint64()),
-                  part.order, length, byref(part.makespan))
+        self.call("pfs_iterate", byref(longer), accept, c_size_t(len(accept)), stay, c_size_t(len(stay)), part.current,
+                  length, byref(c_uint64()), part.order, length, byref(part.makespan))
 
     def keep(self, part: Part) -> None:
         """Make this part the last one."""

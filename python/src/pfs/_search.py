@@ -1,7 +1,6 @@
 """Searches in parts. Between two parts they report their progress and can be interrupted."""
 from __future__ import annotations
 
-import random
 import time
 from collections.abc import Callable, Collection, Sequence
 from ctypes import byref, c_uint64
@@ -57,42 +56,45 @@ def one_of(value: Any, names: Collection[str], what: str) -> str:
     return value
 
 
-def iterating_of(shop: Instance, held: int, method: str = "solve", ties: str | None = None,
+def iterating_of(shop: Instance, held: int, stay: bytes, method: str = "solve", ties: str | None = None,
                  temperature: float | None = None, partial: int | None = None) -> Iterating | None:
     """Return the options of rounds that may accept longer orders, or None for rounds of `pfs solve`. While jobs are
-    held, these are made with the same options, and accept no longer orders."""
+    held or stay, these are made with the same options, and accept no longer orders."""
     options = {"ties": ties, "temperature": temperature, "partial": partial}
     given: dict[str, Any] = {name: value for name, value in options.items() if value is not None}
     if method == "solve":
         if given:
             raise ValueError(f"{next(iter(given))} needs method='iterated-greedy'")
-        return iterating(0, 1, 0, "first", 0, held) if held else None
+        return iterating(0, 1, 0, "first", 0, held, stay) if held or stay else None
     if ties is not None:
         one_of(ties, TIES, "ties")
     if partial is not None:
         given["partial"] = checked_int(partial, "partial", 0, c.MOST_PASSES)
     if temperature is not None:
         given["temperature"] = number_of(temperature, "temperature", 0, MOST_TEMPERATURE)
-    return iterating(int(shop.times.sum()), shop.times.size, held=held, **given)
+    return iterating(int(shop.times.sum()), shop.times.size, held=held, stay=stay, **given)
 
 
 class Search(Rounds):
-    """Iterated greedy on an instance, by a method and its options `more`. The jobs `hold` keep the first places.
-    `solution` returns the best order so far, also after an interruption."""
+    """Iterated greedy on an instance, by a method and its options `more`. The jobs `hold` keep the first places, and
+    all but the jobs `move` their order. `solution` returns the best order so far, also after an interruption."""
 
     def __init__(self, shop: Instance, start: Jobs | None, first: int, take: int | None, passes: int | None, seed: int,
-                 hold: Jobs = (), **more: Any) -> None:
+                 hold: Jobs = (), move: Jobs | None = None, **more: Any) -> None:
         self.shop = shop
         self.held = [] if isinstance(hold, tuple) and not hold else numbers_of(hold, shop, "hold")
-        # Where all jobs but one are held, that one has one place.
-        held = min(len(self.held), shop.jobs - 1)
+        self.moved = set(range(shop.jobs) if move is None else numbers_of(move, shop, "move")) - set(self.held)
+        held, stay = len(self.held), b"" if move is None else bytes(job not in self.moved for job in range(shop.jobs))
+        if not self.moved:
+            # Behind all others, the last job has only one place.
+            held, stay = shop.jobs - 1, b""
         usual = USUAL[one_of(more.get("method", "solve"), USUAL, "method")]
         taken = checked_int(min(usual.take, shop.jobs) if take is None else take, "take", 1, shop.jobs)
         super().__init__(
-            lambda *call: c.done(shop._call(*call)), shop.jobs, min(taken, shop.jobs - held),
+            lambda *call: c.done(shop._call(*call)), shop.jobs, min(taken, len(self.moved) or 1),
             checked_int(usual.passes if passes is None else passes, "passes", 0, c.MOST_PASSES),
             checked_int(seed, "seed", 0, c.MOST_SEED), checked_int(first, "first", 0, c.MOST_ROUNDS),
-            iterating_of(shop, held, **more))
+            iterating_of(shop, held, stay, **more))
         self.start = None if start is None else checked_order(as_order(start, shop, "start"), shop.jobs, "start",
                                                               shop.job_names)
         current = getattr(start, "current", None) if self.more else None
@@ -104,6 +106,8 @@ class Search(Rounds):
         """Compute the start order by NEH, or the makespan of the given one. The held jobs come first."""
         if self.held:
             self.start, self.current = self.after_held(self.start), self.current and self.after_held(self.current)
+        if self.start and self.current and self.staying(self.current) != self.staying(self.start):
+            self.current = None
         self.bound = self.shop.bound()
         if self.start is None:
             super().begin()
@@ -122,6 +126,10 @@ class Search(Rounds):
         else:
             jobs = list(dict.fromkeys([*jobs, *np.frombuffer(order, dtype=np.uint32).tolist()]))
         return np.array(jobs, dtype=np.uint32).tobytes()
+
+    def staying(self, order: bytes) -> list[int]:
+        """Return the jobs that don't move, in their order."""
+        return [job for job in np.frombuffer(order, dtype=np.uint32).tolist() if job not in self.moved]
 
     def first_within(self, before: Part, after: Part, makespan: int) -> Part:
         """Return the part up to the first round with at most this makespan.
@@ -291,7 +299,7 @@ def record_improvements(search: Search, before: Part, target: int, begun: float,
     search.solution()
 
 
-# Searches in which some jobs stay where they are, or in their order
+# The jobs that are held, and orders behind them
 
 def numbers_of(given: Jobs, shop: Instance, what: str) -> list[int]:
     """Return the numbers of distinct jobs, given by number or by name."""
@@ -319,39 +327,3 @@ def by_total(shop: Instance, jobs: Sequence[int]) -> list[int]:
     """Return jobs by decreasing total time, as NEH inserts them."""
     totals = shop.times.sum(axis=1)
     return sorted(jobs, key=lambda job: -int(totals[job]))
-
-
-class MovedSearch(Search):
-    """Iterated greedy in which only the jobs `move` change their places among the others. The library computes the
-    makespan of each place; a round is chosen here."""
-
-    def __init__(self, shop: Instance, start: Jobs | None, first: int, take: int | None, passes: int | None, seed: int,
-                 hold: Jobs, move: Jobs) -> None:
-        super().__init__(shop, start, first, take, passes, seed, hold)
-        self.more = None
-        self.moved = sorted(set(numbers_of(move, shop, "move")) - set(self.held))
-
-    def run_part(self, part: Part, count: int) -> None:
-        """Run the `count` rounds of a part. A round's order is kept unless its makespan is greater."""
-        order: list[int] = list(part.order)
-        makespan = self.shop.makespan(order)
-        for number in range(part.rounds - count, part.rounds) if self.moved else ():
-            tried = list(order)
-            found = self.run_round(tried, random.Random(part.seed << 20 | number))
-            if found <= makespan:
-                order, makespan = tried, found
-        part.order[:] = [*order]
-        part.makespan.value = makespan
-
-    def run_round(self, order: list[int], chance: random.Random) -> int:
-        """Remove jobs and insert each at its best place, and then all that move, once for each pass. Return the
-        makespan."""
-        taken = chance.sample(self.moved, min(self.take, len(self.moved)))
-        for job in taken:
-            order.remove(job)
-        makespan = insert_after(self.shop, order, len(self.held), taken)
-        for _ in range(self.passes):
-            for job in self.moved:
-                order.remove(job)
-                makespan = insert_after(self.shop, order, len(self.held), [job])
-        return makespan

@@ -2,6 +2,7 @@ use Rattle.std.proofs.Common.{◌≡◌, ◌+◌, ◌-◌, ◌≤◌, length, ta
 use Rattle.std.proofs.lemmas.List.{length-take-le}
 use Rattle.pfs_iterate.specs.Iterated.{State, after_round, after_rounds, words_of_round}
 use Rattle.pfs_iterate.proofs.Passes.{rounds_more}
+use Rattle.pfs_iterate.proofs.Taking.{same_count}
 use Rattle.pfs_iterate.proofs.rounds.play.Goals as goal
 
 pub draw-requires : goal.draw-requires
@@ -17,6 +18,7 @@ loop-done-preserved c =
     let shop = c.args.instance.now.shop in
     let options = c.args.options.now in
     let accept = c.args.accept.now in
+    let stay = c.args.stay.now in
     let done = c.loop-done.done in
     let invariant = c.loop-done.invariant in
     let gives = c.round.ensures in
@@ -30,14 +32,23 @@ loop-done-preserved c =
     record {
       work = gives.work;
       search = gives.search;
-      done = ap (after_rounds shop options accept (options.first + (done + 1)) (options.count - (done + 1)))
-          (gives.done ∙ ap (after_round shop options accept before) drawn)
-          ∙ sym (rounds_more shop options accept options.first options.count done before c.loop-done-test.true)
+      done = ap (after_rounds shop options accept stay (options.first + (done + 1)) (options.count - (done + 1)))
+          (gives.done ∙ ap (after_round shop options accept stay before) drawn)
+          ∙ sym (rounds_more shop options accept stay options.first options.count done before c.loop-done-test.true)
           ∙ invariant.done;
       current = gives.current;
       best = gives.best;
       no_longer = omega (arith, gives.no_longer, invariant.no_longer);
       current_front = gives.current_front ∙ invariant.current_front;
       best_front = gives.best_front ∙ invariant.current_front;
+      current_staying = gives.current_staying ∙ invariant.current_staying;
+      best_staying = λ same. gives.best_staying (invariant.best_staying same ∙ sym invariant.current_staying)
+          ∙ invariant.current_staying;
       long = search rules;
     }
+
+pub round-requires-clause-free : goal.round-requires-clause-free
+round-requires-clause-free c =
+    let invariant = c.loop-done.invariant in
+    rw (same_count c.args.options.now.held c.args.stay.now c.args.current.now.order c.loop-done.current.order
+    invariant.current_front invariant.current_staying (invariant.current.all ∙ sym c.requires.current.all)) c.requires.free

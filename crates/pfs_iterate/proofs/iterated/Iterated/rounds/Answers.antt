@@ -20,6 +20,9 @@ returns-clause-done c =
         distinct = subst (λ (n : ℕ). IsSequence n c.play.new.best.order) gives.best.all c.copy_order-2.ensures.sequence;
         front = (rw current at gives.best_front) ∙ sym c.requires.front;
       });
+      current_staying = rw (c.copy_order.ensures.value, ← current) gives.current_staying;
+      best_staying = λ same. rw (c.copy_order-2.ensures.value, ← current)
+          (gives.best_staying (rw (current, best) same));
       current_spanned = rw c.copy_order.ensures.value gives.current.spanned;
       best_spanned = rw c.copy_order-2.ensures.value gives.best.spanned;
       no_longer = rw (← c.start-2.ensures.span) gives.no_longer;
