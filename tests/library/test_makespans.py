@@ -1,4 +1,4 @@
-"""pfs_makespans of the library for C, which computes sixteen makespans at once where all times fit in 16 bits: against
+"""pfs_makespans of the library for C, which computes eight makespans at once where all times fit in 16 bits: against
 the plain recurrence, on each number of sequences up to 33, with times and makespans next to 65,535."""
 import contextlib
 import ctypes

@@ -1,7 +1,7 @@
 -- Lists and rows that a loop fills, place by place.
-use Rattle.std.proofs.Common.{◌≡◌, ℕ, ◌+◌, ◌-◌, ◌<◌, ◌++◌, List, length, get_or, slice_set, ap, ◌∙◌, inl, inr, arith}
-use Rattle.std.proofs.lemmas.Bool.{cases_eq, cases_lt}
-use Rattle.std.proofs.lemmas.List.{length-set, get_or-set_same, get_or-set_other, get_or_append_left, get_or-append_right}
+use Rattle.std.proofs.Common.{◌≡◌, ℕ, ◌+◌, ◌<◌, List, length, get_or, slice_set, ◌∙◌, inl, inr, arith}
+use Rattle.std.proofs.lemmas.Bool.{cases_eq}
+use Rattle.std.proofs.lemmas.List.{length-set, get_or-set_same, get_or-set_other}
 use Rattle.pfs_batch.specs.Private.Ends.{cell, values_of}
 use Rattle.pfs_batch.specs.declared.lanes.Lanes.{Lanes}
 use Rattle.pfs_batch.proofs.RowSteps.{set_here, set_there}
@@ -26,11 +26,11 @@ filled_more count f to xs x so_far lt is =
 -- the first machines of a row of `count` machines have these values
 pub record IsRowFilledTo (count : ℕ) (f : ℕ → ℕ → ℕ) (to : ℕ) (row : List Lanes) : Type 0 where
   pub long : length row ≡ count
-  pub same : (machine lane : ℕ) → machine < to → lane < 16 → cell (values_of row) machine lane ≡ f machine lane
+  pub same : (machine lane : ℕ) → machine < to → lane < 8 → cell (values_of row) machine lane ≡ f machine lane
 
 pub row_filled_more : (count : ℕ) (f : ℕ → ℕ → ℕ) (to : ℕ) (row : List Lanes) (new : Lanes)
     → IsRowFilledTo count f to row → to < count
-    → ((lane : ℕ) → lane < 16 → get_or new.values lane 0 ≡ f to lane)
+    → ((lane : ℕ) → lane < 8 → get_or new.values lane 0 ≡ f to lane)
     → IsRowFilledTo count f (to + 1) (slice_set row to new)
 row_filled_more count f to row new so_far lt is =
     let long = so_far.long in
@@ -41,16 +41,3 @@ row_filled_more count f to row new so_far lt is =
         | inr other ↦ set_there row to new machine lane other ∙ so_far.same machine lane (omega (arith, other)) lane_lt
       ];
     }
-
--- sixteen numbers that are joined of eight and eight
-pub joined_at : (low high : List ℕ) (lane : ℕ) (g : ℕ → ℕ) → length low ≡ 8 → lane < 16
-    → ((j : ℕ) → j < 8 → get_or low j 0 ≡ g (0 + j)) → ((j : ℕ) → j < 8 → get_or high j 0 ≡ g (8 + j))
-    → get_or (low ++ high) lane 0 ≡ g lane
-joined_at low high lane g long lt first second = elim (cases_lt lane 8) [
-  | inl before ↦
-      let same : 0 + lane ≡ lane = omega arith in
-      get_or_append_left low high 0 lane (omega arith) ∙ first lane before ∙ ap g same
-  | inr after ↦
-      let same : 8 + (lane - 8) ≡ lane = omega arith in
-      get_or-append_right low high 8 lane 0 (omega arith) (omega arith) ∙ second (lane - 8) (omega arith) ∙ ap g same
-]

@@ -17,23 +17,23 @@ module _ (weigh : ℕ → ℕ → ℕ) (lane : ℕ) where
   AreHeads machines row ends =
       (machine : ℕ) → machine < machines → cell ends machine lane ≡ capped (head weigh row machine)
 
-  pub next_heads : (machines row : ℕ) (old times new : List (List ℕ)) → lane < 16 → AreHeads machines row old
-      → ((machine : ℕ) → machine < machines → cell times machine lane ≡ weigh row machine)
-      → IsNextRow machines old times new → AreHeads machines (row + 1) new
-  next_heads machines row old times new lt heads time next machine inside =
+  pub next_heads : (machines row : ℕ) (old : List (List ℕ)) (time : ℕ → ℕ → ℕ) (new : List (List ℕ)) → lane < 8 → AreHeads machines row old
+      → ((machine : ℕ) → machine < machines → time machine lane ≡ weigh row machine)
+      → IsNextRow machines old time new → AreHeads machines (row + 1) new
+  next_heads machines row old time new lt heads is next machine inside =
       go machine inside ∙ ap (λ r. capped (head weigh r machine)) (sym (add-one row))
     where
       go : (machine : ℕ) → machine < machines → cell new machine lane ≡ capped (head weigh (suc row) machine)
       go zero inside =
           next zero lane inside lt ∙ capped_step (head weigh row zero) 0 (weigh row zero) (cell old zero lane) 0
-          (cell times zero lane) (head weigh (suc row) zero) (heads zero inside) refl (time zero inside)
+          (time zero lane) (head weigh (suc row) zero) (heads zero inside) refl (is zero inside)
           (head_step weigh row zero)
       go (suc machine) inside =
           next (suc machine) lane inside lt
           ∙ capped_step (head weigh row (suc machine)) (head weigh (suc row) machine) (weigh row (suc machine))
-          (cell old (suc machine) lane) (cell new machine lane) (cell times (suc machine) lane)
+          (cell old (suc machine) lane) (cell new machine lane) (time (suc machine) lane)
           (head weigh (suc row) (suc machine)) (heads (suc machine) inside) (go machine (omega arith))
-          (time (suc machine) inside) (head_step weigh row (suc machine))
+          (is (suc machine) inside) (head_step weigh row (suc machine))
 
 module _ (shop : FlowShop) (rows sequences : List ℕ) (machines len first : ℕ) (same : shop.machines ≡ machines) where
   abbrev jobs : List ℕ

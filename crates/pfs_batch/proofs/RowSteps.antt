@@ -33,18 +33,18 @@ before_kept ends machine new zero lane le = refl
 before_kept ends machine new (suc m) lane le = set_there ends machine new m lane (omega arith)
 
 -- the machines before `machine` have the ends of the next row
-pub record IsRowTo (old times : List Lanes) (machine : ℕ) (ends : List Lanes) (before : List ℕ) : Type 0 where
+pub record IsRowTo (old : List Lanes) (time : ℕ → ℕ → ℕ) (machine : ℕ) (ends : List Lanes) (before : List ℕ) : Type 0 where
   pub long : length ends ≡ length old
-  pub before_is : (lane : ℕ) → lane < 16 → get_or before lane 0 ≡ cell_before (values_of ends) machine lane
-  pub done : IsNextRow machine (values_of old) (values_of times) (values_of ends)
+  pub before_is : (lane : ℕ) → lane < 8 → get_or before lane 0 ≡ cell_before (values_of ends) machine lane
+  pub done : IsNextRow machine (values_of old) time (values_of ends)
   pub to_do : (m lane : ℕ) → machine ≤ m → cell (values_of ends) m lane ≡ cell (values_of old) m lane
 
-pub row_more : (old times : List Lanes) (machine : ℕ) (ends : List Lanes) (before : List ℕ) (new : Lanes)
-    → IsRowTo old times machine ends before → machine < length ends
-    → ((lane : ℕ) → lane < 16 → get_or new.values lane 0 ≡ capped
-    (max (cell (values_of ends) machine lane) (get_or before lane 0) + cell (values_of times) machine lane))
-    → IsRowTo old times (machine + 1) (slice_set ends machine new) new.values
-row_more old times machine ends before new so_far inside is =
+pub row_more : (old : List Lanes) (time : ℕ → ℕ → ℕ) (machine : ℕ) (ends : List Lanes) (before : List ℕ) (new : Lanes)
+    → IsRowTo old time machine ends before → machine < length ends
+    → ((lane : ℕ) → lane < 8 → get_or new.values lane 0 ≡ capped
+    (max (cell (values_of ends) machine lane) (get_or before lane 0) + time machine lane))
+    → IsRowTo old time (machine + 1) (slice_set ends machine new) new.values
+row_more old time machine ends before new so_far inside is =
     let row = values_of (slice_set ends machine new) in
     record {
       long = length-set ends machine new ∙ so_far.long;
@@ -57,15 +57,15 @@ row_more old times machine ends before new so_far inside is =
             let d = so_far.to_do machine lane (omega arith) in
             let e = so_far.before_is lane lane_lt in
             let f = before_kept ends machine new machine lane (omega arith) in
-            a ∙ b ∙ ap (λ x. capped (max x (get_or before lane 0) + cell (values_of times) machine lane)) d
-            ∙ ap (λ x. capped (max (cell (values_of old) machine lane) x + cell (values_of times) machine lane))
+            a ∙ b ∙ ap (λ x. capped (max x (get_or before lane 0) + time machine lane)) d
+            ∙ ap (λ x. capped (max (cell (values_of old) machine lane) x + time machine lane))
             (e ∙ sym f))
         | inr other ↦
             let a = set_there ends machine new m lane other in
             let b = so_far.done m lane (omega (arith, other)) lane_lt in
             let f = before_kept ends machine new m lane (omega arith) in
             a ∙ b
-            ∙ ap (λ x. capped (max (cell (values_of old) m lane) x + cell (values_of times) m lane)) (sym f)
+            ∙ ap (λ x. capped (max (cell (values_of old) m lane) x + time m lane)) (sym f)
       ];
       to_do = λ m lane le. set_there ends machine new m lane (omega arith) ∙ so_far.to_do m lane (omega arith);
     }

@@ -1,4 +1,4 @@
--- Sixteen lanes of 16 bits, as a processor computes them.
+-- Eight lanes of 16 bits, as a processor computes them.
 use Rattle.std.proofs.Common.{◌≡◌, ℕ, ◌-◌, ◌<◌, ◌^◌, max, cond, List, [], ◌∷◌, length, map, get_or, arith, refl, sym}
 use Rattle.std.proofs.lemmas.Int.{ints}
 use Rattle.std.proofs.lemmas.Bool.Decides.{nat_tests}

@@ -14,9 +14,9 @@ use std::alloc::{AllocError, Global};
 use std::marker::Model;
 
 /// The number of sequences that are computed at once.
-pub const WIDTH: usize = 16;
+pub const WIDTH: usize = 8;
 
-/// The times of an instance in 16 bits, and room for a row of sixteen sequences.
+/// The times of an instance in 16 bits, and room for a row of eight sequences.
 #[derive(Drop)]
 pub struct Batch {
     jobs: usize,
@@ -25,7 +25,6 @@ pub struct Batch {
     blocks: usize,
     // The times job by job, and zeros after them, so that the last block of each job can be read whole.
     rows: Vec<u16>,
-    times: Vec<Lanes>,
     ends: Vec<Lanes>,
 }
 
@@ -48,8 +47,7 @@ impl Model for Batch {
       blocks : a.machines ≤ 8 * a.blocks;
       rows : length a.rows.items ≡ a.jobs * a.machines + 8 * a.blocks;
       rest : IsZeroFrom (a.jobs * a.machines) a.rows.items;
-      times : length a.times.items ≡ 8 * a.blocks;
-      ends : length a.ends.items ≡ a.machines;
+      ends : length a.ends.items ≡ 8 * a.blocks;
     } };
 }
 
@@ -82,14 +80,14 @@ fn rows_of(alloc: Global, times: &[u32], rest: usize) -> Result<Vec<u16>, AllocE
 
 // Where the sequence of each lane begins, of `count` sequences from number `first` on. The other lanes repeat the last.
 #[inline(always)]
-fn firsts_of(first: usize, count: usize, len: usize) -> [usize; 16]
-    requires count { (1 ≤ count) × (count ≤ 16) }
+fn firsts_of(first: usize, count: usize, len: usize) -> [usize; 8]
+    requires count { (1 ≤ count) × (count ≤ 8) }
     requires room { (first + count) * len < 2 ^ 63 }
     requires numbers { first + count < 2 ^ 63 }
-    ensures { (lane : ℕ) → lane < 16 → slice_index result lane ≡ (first + min lane (count - 1)) * len }
+    ensures { (lane : ℕ) → lane < 8 → slice_index result lane ≡ (first + min lane (count - 1)) * len }
 {
-    let mut firsts = [0; 16];
-    for lane in 0..16 {
+    let mut firsts = [0; 8];
+    for lane in 0..8 {
         firsts[lane] = (first + lane.min(count - 1)) * len;
     }
     firsts
@@ -108,22 +106,20 @@ impl Batch {
         let (jobs, machines) = (instance.jobs(), instance.machines());
         let blocks = machines.div_ceil(8);
         let rows = rows_of(alloc, instance.times(), 8 * blocks)?;
-        let times = vec![in alloc; Lanes::zeros(); 8 * blocks]?;
-        let ends = vec![in alloc; Lanes::zeros(); machines]?;
+        let ends = vec![in alloc; Lanes::zeros(); 8 * blocks]?;
         Ok(Some(Batch {
             jobs,
             machines,
             blocks,
             rows,
-            times,
             ends,
         }))
     }
 
-    /// The makespans of at most sixteen sequences of a list, from number `first` on, or 65,535 where one is longer. Each
+    /// The makespans of at most eight sequences of a list, from number `first` on, or 65,535 where one is longer. Each
     /// has `len` jobs. Of the result, the first `count` entries are these makespans. It allocates nothing.
-    pub fn spans(&mut self, sequences: &[u32], len: usize, first: usize, count: usize) -> [u16; 16]
-        requires count { (1 ≤ count) × (count ≤ 16) }
+    pub fn spans(&mut self, sequences: &[u32], len: usize, first: usize, count: usize) -> [u16; 8]
+        requires count { (1 ≤ count) × (count ≤ 8) }
         requires number { first + count < 2 ^ 63 }
         requires room { (first + count) * len ≤ length sequences.now }
         requires jobs { (index : ℕ) → index < first + count
@@ -140,7 +136,6 @@ impl Batch {
             &firsts,
             len,
             self.blocks,
-            &mut self.times,
             &mut self.ends,
         );
         spans.values.to_array()

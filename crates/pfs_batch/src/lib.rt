@@ -1,8 +1,7 @@
-//! Makespans of sixteen sequences at once, one in each lane of a vector.
+//! Makespans of eight sequences at once, one in each lane of a vector.
 #![tactic(auto)]
 
 mod batch;
-mod gather;
 mod lanes;
 mod rows;
 mod spans;

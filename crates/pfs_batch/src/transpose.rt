@@ -1,9 +1,8 @@
-//! Eight times of each of sixteen rows, turned so that each vector has the times on one machine.
-ghost use Rattle.std.specs.Prelude.{◌≡◌, ℕ, ◌+◌, ◌<◌, ◌≤◌, [], ◌++◌, length, slice_index};
+//! Eight times of each of eight rows, turned so that each vector has the times on one machine.
+ghost use Rattle.std.specs.Prelude.{◌≡◌, ℕ, ◌+◌, ◌<◌, ◌≤◌, [], length, slice_index};
 ghost use Rattle.std.specs.List.{slice_index_or};
 ghost use Rattle.pfs_batch.specs.Private.Lanes.{columns};
 
-use crate::lanes::Lanes;
 use std::simd::prelude::*;
 
 // What shuffles take of two vectors, whose second one has the numbers from 8 on. LOW_K and HIGH_K take K numbers of the
@@ -20,13 +19,10 @@ const LOW_4: [usize; 8] = [0, 1, 2, 3, 8, 9, 10, 11];
 
 const HIGH_4: [usize; 8] = [4, 5, 6, 7, 12, 13, 14, 15];
 
-// All of the first, and then all of the second one.
-const BOTH: [usize; 16] = [0, 1, 2, 3, 4, 5, 6, 7, 8, 9, 10, 11, 12, 13, 14, 15];
-
 // The times of a lane on eight machines, from the machine `first` on.
 #[inline(always)]
-fn load(rows: &[u16], starts: &[usize; 16], lane: usize, first: usize) -> u16x8
-    requires lane { lane < 16 }
+fn load(rows: &[u16], starts: &[usize; 8], lane: usize, first: usize) -> u16x8
+    requires lane { lane < 8 }
     requires fits { slice_index starts.now lane + first + 8 ≤ length rows.now }
     ensures length { length result ≡ 8 }
     ensures each { (k : ℕ) → k < 8
@@ -80,33 +76,21 @@ fn transposed(
     ]
 }
 
-/// The times of eight lanes, from lane `from` on, on eight machines: a vector for each machine.
+/// The times of eight jobs, which begin at `starts`, on eight machines: a vector for each machine.
 #[inline(always)]
-pub fn eight_of(rows: &[u16], starts: &[usize; 16], from: usize, first: usize) -> [u16x8; 8]
-    requires from { from ≤ 8 }
-    requires fits { (lane : ℕ) → lane < 16 → slice_index starts.now lane + first + 8 ≤ length rows.now }
+pub fn eight_of(rows: &[u16], starts: &[usize; 8], first: usize) -> [u16x8; 8]
+    requires { (lane : ℕ) → lane < 8 → slice_index starts.now lane + first + 8 ≤ length rows.now }
     ensures lengths { (k : ℕ) → k < 8 → length (slice_index_or result k []) ≡ 8 }
     ensures times { (k lane : ℕ) → k < 8 → lane < 8 → slice_index_or (slice_index_or result k []) lane 0
-        ≡ slice_index rows.now (slice_index starts.now (from + lane) + first + k) }
+        ≡ slice_index rows.now (slice_index starts.now lane + first + k) }
 {
-    let a = load(rows, starts, from, first);
-    let b = load(rows, starts, from + 1, first);
-    let c = load(rows, starts, from + 2, first);
-    let d = load(rows, starts, from + 3, first);
-    let e = load(rows, starts, from + 4, first);
-    let f = load(rows, starts, from + 5, first);
-    let g = load(rows, starts, from + 6, first);
-    let h = load(rows, starts, from + 7, first);
+    let a = load(rows, starts, 0, first);
+    let b = load(rows, starts, 1, first);
+    let c = load(rows, starts, 2, first);
+    let d = load(rows, starts, 3, first);
+    let e = load(rows, starts, 4, first);
+    let f = load(rows, starts, 5, first);
+    let g = load(rows, starts, 6, first);
+    let h = load(rows, starts, 7, first);
     transposed(a, b, c, d, e, f, g, h)
-}
-
-/// The first eight lanes and the last eight.
-#[inline(always)]
-pub fn joined(low: u16x8, high: u16x8) -> Lanes
-    requires low { length low ≡ 8 }
-    requires high { length high ≡ 8 }
-    ensures { result.values ≡ low ++ high }
-{
-    let values = low.shuffle(high, BOTH);
-    Lanes { values }
 }

@@ -1,3 +1,4 @@
+pub mod Bits
 pub mod Building
 pub mod FaultLaws
 pub mod HandleSteps

@@ -7,7 +7,7 @@ ghost use Rattle.pfs_base.specs.Lists.{first_some};
 ghost use Rattle.pfs_order.specs.Sequence.{IsSequence};
 ghost use Rattle.pfs_c.specs.Validation.{shop_of, sizes_fault, length_fault, times_fault, shop_fault, unless};
 ghost use Rattle.pfs_c.specs.Validation.{jobs_fault, job_fault};
-ghost use Rattle.pfs_c.specs.Private.Marks.{AreMarked};
+ghost use Rattle.pfs_c.specs.Private.Marks.{AreBits, AreMarked};
 ghost use Rattle.pfs_c.specs.Private.Outcomes.{Validates};
 ghost use Rattle.pfs_c.specs.Texts.{put_in_front};
 
@@ -90,7 +90,7 @@ pub(crate) fn validate_jobs(size: usize, jobs: &[u32]) -> Result<(), CallFault>
 {
     // Only a list that has a fault is searched for the first one.
     if size <= 64 {
-        if is_sequence(size as u32, jobs, &mut [false; 64]) {
+        if is_short_sequence(size as u32, jobs) {
             return Ok(());
         }
     } else if size <= FEW_JOBS {
@@ -213,6 +213,45 @@ fn mark_some(
         marks[job] = true;
     }
     Some(is_repeated)
+}
+
+// Whether the jobs are distinct and below the size. Their marks are the bits of a word.
+#[inline(always)]
+fn is_short_sequence(size: u32, jobs: &[u32]) -> bool
+    requires { size ≤ 64 }
+    ensures { IsTrue result ↔ IsSequence size jobs.now }
+{
+    let fours = jobs.len() / 4;
+    let mut marks = 0;
+    for four in 0..fours {
+        match mark_bits(size, jobs, marks, 4 * four, 4) {
+            Some(more) => marks = more,
+            None => return false,
+        }
+    }
+    match mark_bits(size, jobs, marks, 4 * fours, jobs.len() - 4 * fours) {
+        Some(marks) => marks.count_ones() as usize == jobs.len(),
+        None => false,
+    }
+}
+
+// Marks some jobs from a place on. Returns the marks, or `None` if one of them is not below the size.
+#[inline(always)]
+fn mark_bits(size: u32, jobs: &[u32], mut marks: u64, place: usize, count: usize) -> Option<u64>
+    requires size { size ≤ 64 }
+    requires place { (count ≤ 4) × (place + count ≤ length jobs.now) }
+    requires marked { AreBits size jobs.now marks place }
+    ensures beyond { IfNone result (IsSequence size jobs.now → ⊥) }
+    ensures marked { IfSome result (λ marks. AreBits size jobs.now marks (place + count)) }
+{
+    for next in 0..count {
+        let job = jobs[place + next];
+        if job >= size {
+            return None;
+        }
+        marks |= 1 << job;
+    }
+    Some(marks)
 }
 
 /// Makes an instance of validated times. It allocates once, and its only error is `Memory`.

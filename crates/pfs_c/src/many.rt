@@ -15,7 +15,7 @@ use pfs_base::{Instance, MOST_JOBS};
 use pfs_batch::{Batch, WIDTH};
 
 // Fewer sequences than these are faster one after the other.
-const FEWEST: usize = 8;
+const FEWEST: usize = 3;
 
 /// Validates the length of a list of sequences, and then the sequences one after the other, each from the left.
 pub(crate) fn validate_many(
@@ -66,7 +66,7 @@ pub(crate) fn fill_makespans(
     }
 }
 
-// The makespans of some sequences, up to sixteen, from number `first` on, or 65,535 where one is not known.
+// The makespans of some sequences, up to eight, from number `first` on, or 65,535 where one is not known.
 #[inline(always)]
 fn spans_at(
     batch: &mut Option<Batch>,

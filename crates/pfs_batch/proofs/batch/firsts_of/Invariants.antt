@@ -3,4 +3,4 @@ use Rattle.pfs_batch.proofs.Filled.{IsFilledTo}
 use Rattle.pfs_batch.proofs.batch.firsts_of.Given as goal
 
 abbrev pub invariant-loop-lane : goal.invariant-loop-lane
-invariant-loop-lane l = IsFilledTo 16 (λ lane. (l.first + min lane (l.count - 1)) * l.len) l.lane l.firsts
+invariant-loop-lane l = IsFilledTo 8 (λ lane. (l.first + min lane (l.count - 1)) * l.len) l.lane l.firsts

@@ -9,4 +9,4 @@ loop-machine-preserved c =
     let long = at.invariant.long in
     let inside = c.loop-machine-test.true in
     row_filled_more _ _ at.machine at.ends c.zeros.result at.invariant (omega arith)
-    (λ lane lt. ap (λ v. get_or v lane 0) c.zeros.ensures ∙ get_or-replicate 16 lane 0 0 lt)
+    (λ lane lt. ap (λ v. get_or v lane 0) c.zeros.ensures ∙ get_or-replicate 8 lane 0 0 lt)

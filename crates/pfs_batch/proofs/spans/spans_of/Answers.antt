@@ -1,29 +1,26 @@
-use Rattle.std.proofs.Common.{◌≡◌, ◌+◌, ◌-◌, get_or, refl, ap, ◌∙◌, arith}
+use Rattle.std.proofs.Common.{◌≡◌, ◌+◌, ◌-◌, get_or, ap, ◌∙◌, arith}
 use Rattle.pfs_base.specs.Paths.{operation}
 use Rattle.pfs_base.proofs.Published.Heads.{head}
 use Rattle.pfs_batch.specs.Private.Lanes.{capped}
-use Rattle.pfs_batch.specs.Private.Ends.{sequence_from, values_of}
+use Rattle.pfs_batch.specs.Private.Ends.{sequence_from, time_at, values_of}
 use Rattle.pfs_batch.proofs.Heads.{next_heads, span_is, time_is}
 use Rattle.pfs_batch.proofs.RowSteps.{read_as}
 use Rattle.pfs_batch.proofs.spans.spans_of.Goals as goal
 
 pub loop-place-init : goal.loop-place-init
 loop-place-init c = record {
-  long_times = refl;
-  long_ends = c.clear.ensures.length;
-  heads = λ shop lane p q lt machine inside. c.clear.ensures.zeros machine lane (omega (arith, c.requires.ends)) lt;
+  long = c.clear.ensures.length;
+  heads = λ shop lane p q lt machine inside.
+      c.clear.ensures.zeros machine lane (omega (arith, c.requires.ends, c.requires.blocks)) lt;
 }
 
 pub starts_of-starts-requires-clause-firsts : goal.starts_of-starts-requires-clause-firsts
 starts_of-starts-requires-clause-firsts c lane lt = omega (arith, c.requires.firsts lane lt, c.loop-place-test.true)
 
-pub gather_row-requires-clause-times : goal.gather_row-requires-clause-times
-gather_row-requires-clause-times c = c.loop-place.invariant.long_times ∙ c.requires.times
-
-pub gather_row-requires-clause-fits : goal.gather_row-requires-clause-fits
-gather_row-requires-clause-fits c lane lt =
+pub step_row-requires-clause-fits : goal.step_row-requires-clause-fits
+step_row-requires-clause-fits c lane lt =
     let fits = c.requires.jobs lane c.loop-place.place lt c.loop-place-test.true in
-    omega (arith, fits, c.starts_of-starts.ensures lane lt, c.loop-place.invariant.long_times, c.requires.times)
+    omega (arith, fits, c.starts_of-starts.ensures lane lt, c.loop-place.invariant.long, c.requires.ends)
 
 pub loop-place-preserved : goal.loop-place-preserved
 loop-place-preserved c =
@@ -33,20 +30,17 @@ loop-place-preserved c =
     let rows = c.args.rows.now in
     let sequences = c.args.sequences.now in
     let len = c.args.len in
-    let long_times = at.invariant.long_times in
-    let long_ends = at.invariant.long_ends in
-    let times_long = c.requires.times in
+    let long = at.invariant.long in
     let wide = c.requires.blocks in
     let ends_long = c.requires.ends in
+    let starts = c.starts_of-starts.result in
     record {
-      long_times = c.gather_row.ensures.length ∙ long_times;
-      long_ends = c.step_row.ensures.length ∙ long_ends;
+      long = c.step_row.ensures.length ∙ long;
       heads = λ shop lane p q lt.
           let first = get_or c.args.firsts.now lane 0 in
           next_heads (operation shop (sequence_from sequences len first)) lane machines here (values_of at.ends)
-          (values_of c.gather_row.new.times) (values_of c.step_row.new.ends) lt (at.invariant.heads shop lane p q lt)
-          (λ machine inside. c.gather_row.ensures.times machine lane (omega arith) lt
-          ∙ ap (λ s. get_or rows (s + machine) 0) (c.starts_of-starts.ensures lane lt)
+          (time_at rows starts) (values_of c.step_row.new.ends) lt (at.invariant.heads shop lane p q lt)
+          (λ machine inside. ap (λ s. get_or rows (s + machine) 0) (c.starts_of-starts.ensures lane lt)
           ∙ time_is shop rows sequences machines len first p here machine q c.loop-place-test.true)
           (λ machine l inside l_lt. c.step_row.ensures.ends machine l (omega arith) l_lt);
     }
@@ -59,7 +53,8 @@ returns-clause-spans c shop lane p q lt =
     let sequences = c.args.sequences.now in
     let first = get_or c.args.firsts.now lane 0 in
     let some = c.requires.machines.0 in
-    let long_ends = at.invariant.long_ends in
+    let long = at.invariant.long in
+    let wide = c.requires.blocks in
     let ends_long = c.requires.ends in
     let outside = c.loop-place-test.false in
     let last : at.place ≡ len = omega (arith, at.auto.place-end) in

@@ -3,15 +3,14 @@ use Rattle.pfs_order.proofs.Published.Sequences.{IsSequence-nil}
 use Rattle.pfs_c.proofs.Jobs.{jobs_right, valid_is}
 use Rattle.pfs_c.proofs.given.validate_jobs.Goals as goal
 
+pub returns-then-is_short_sequence-clause-validated : goal.returns-then-is_short_sequence-clause-validated
+returns-then-is_short_sequence-clause-validated c =
+    let right = (jobs_right c.args.size c.args.jobs.now).1 (c.is_short_sequence.ensures.0 c.if-is_short_sequence.true) in
+    rw right refl
+
 pub returns-then-is_sequence-clause-validated : goal.returns-then-is_sequence-clause-validated
 returns-then-is_sequence-clause-validated c =
     let right = (jobs_right c.args.size c.args.jobs.now).1 (c.is_sequence.ensures.sequence.0 c.if-is_sequence.true) in
-    rw right refl
-
-pub returns-then-is_sequence-2-clause-validated : goal.returns-then-is_sequence-2-clause-validated
-returns-then-is_sequence-2-clause-validated c =
-    let right = (jobs_right c.args.size c.args.jobs.now).1
-    (c.is_sequence-then-size-le-FEW_JOBS.ensures.sequence.0 c.if-is_sequence-2.true) in
     rw right refl
 
 pub returns-then-is_long_sequence-clause-validated : goal.returns-then-is_long_sequence-clause-validated
