@@ -5,7 +5,7 @@ use Rattle.std.specs.Prelude.{slice_index, slice_index_or, remove, sum_by, Conta
 use Rattle.pfs_base.specs.FlowShop.{FlowShop, time_of}
 use Rattle.pfs_base.specs.Paths.{heaviest, operation, makespan}
 use Rattle.pfs_order.specs.Sequence.{IsSequence}
-use Rattle.pfs_audit.specs.Bound.{IsLowerBound}
+use Rattle.pfs_audit.specs.Bound.{time_on, IsLowerBound}
 use Rattle.pfs_exact.specs.declared.branch.Work.{Work}
 use Rattle.pfs_exact.specs.declared.children.TheConstants.{CLOSED}
 use Rattle.pfs_exact.specs.declared.ends.Ends.{Ends}
@@ -82,6 +82,17 @@ pub record IsNode (shop : FlowShop) (front back : List ℕ) (node : Node) : Type
   pub starts : AreStarts shop front back node.starts
   pub rests : AreRests shop front back node.rests
   pub left : AreLeft shop front back node.left
+
+-- ---- bounds on two machines
+
+-- the jobs' times on `many` machines, beginning with `first`, are at least these
+abbrev pub AreAcross : FlowShop → ℕ → ℕ → List ℕ → Type 0
+AreAcross shop first many across = (job : ℕ) → slice_index across job ≤ time_on shop first many job
+
+-- from the first start on a machine to the last end on a later one, all jobs take at least this time
+abbrev pub IsThrough : FlowShop → ℕ → ℕ → ℕ → Type 0
+IsThrough shop first second time = (start rest : ℕ) → IsStart shop [] [] first start → IsRest shop [] [] second rest
+    → IsLowerBound shop (start + time + rest)
 
 -- ---- the ends
 
