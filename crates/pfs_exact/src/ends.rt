@@ -6,14 +6,14 @@ use crate::prove::MOST_PROVED_JOBS;
 use pfs_base::Instance;
 use pfs_order::Seq;
 
-// The jobs that an order begins with, and those that it ends with.
+/// The jobs that an order begins with, and those that it ends with.
 #[derive(Drop)]
 pub(crate) struct Ends {
     pub(crate) front: Seq,
     pub(crate) back: Seq,
 }
 
-// Puts a job after the first jobs or before the last.
+/// Puts a job after the first jobs or before the last.
 pub(crate) fn put(ends: &mut Ends, forward: bool, job: usize)
     requires absent { IsOpen ends.old.front.jobs ends.old.back.jobs job }
     requires front_size { job < ends.old.front.size }
@@ -28,7 +28,7 @@ pub(crate) fn put(ends: &mut Ends, forward: bool, job: usize)
     }
 }
 
-// Takes the job that was put last.
+/// Takes the job that was put last.
 pub(crate) fn take(ends: &mut Ends, forward: bool)
     requires { IsSome forward ends.old }
     ensures { ends.new ≡ taken_of forward ends.old }
@@ -41,7 +41,7 @@ pub(crate) fn take(ends: &mut Ends, forward: bool)
     }
 }
 
-// The marks of the jobs at neither end.
+/// The marks of the jobs at neither end.
 pub(crate) fn open_of(instance: &Instance, ends: &Ends) -> [bool; MOST_PROVED_JOBS]
     requires { instance.now.shop.jobs ≤ MOST_PROVED_JOBS }
     ensures { AreOpen instance.now.shop.jobs ends.now result }

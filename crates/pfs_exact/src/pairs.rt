@@ -7,9 +7,9 @@ use crate::node::{Node, plus};
 use crate::prove::{MOST_PROVED_JOBS, MOST_PROVED_MACHINES};
 use pfs_base::Instance;
 
-// The greatest bound of two machines, of the node of all orders: the start on one machine, the least time from there
-// through all jobs to the end on a later one, where each machine between has room for all jobs at once, and the rest
-// (Johnson 1954; Lageweg, Lenstra and Rinnooy Kan 1978).
+/// The greatest bound of two machines, of the node of all orders: the start on one machine, the least time from there
+/// through all jobs to the end on a later one, where each machine between has room for all jobs at once, and the rest
+/// (Johnson 1954; Lageweg, Lenstra and Rinnooy Kan 1978).
 pub(crate) fn bound_of_pairs(instance: &Instance, node: &Node) -> u64
     requires jobs { instance.now.shop.jobs ≤ MOST_PROVED_JOBS }
     requires machines { instance.now.shop.machines ≤ MOST_PROVED_MACHINES }
