@@ -119,6 +119,12 @@ pub record AreEnds (size : ℕ) (ends : Ends) : Type 0 where
   pub back : ends.back.size ≡ size
   pub sequence : IsSequence size (ends.front.jobs ++ ends.back.jobs)
 
+-- the marks are those of before, without those of these jobs
+pub record AreCleared (jobs : List ℕ) (before after : List Bool) : Type 0 where
+  pub kept : (job : ℕ) → (Contains jobs job → ⊥) → slice_index_or after job false ≡ slice_index_or before job false
+  pub cleared : (job : ℕ) → Contains jobs job → slice_index_or after job false ≡ false
+  pub fewer : (job : ℕ) → slice_index_or after job false ≡ true → slice_index_or before job false ≡ true
+
 -- the marks of the jobs at neither end
 pub record AreOpen (size : ℕ) (ends : Ends) (marks : List Bool) : Type 0 where
   pub marked : (job : ℕ) → job < size → IsOpen ends.front.jobs ends.back.jobs job → slice_index_or marks job false ≡ true
