@@ -402,16 +402,13 @@ def test_a_plan_is_proved_optimal(folder: pathlib.Path) -> None:
 
 
 def test_a_plan_that_is_proved_at_once_is_not_searched(folder: pathlib.Path) -> None:
-    """Also from an order, and not where no proof is wanted."""
+    """Also from an order."""
     (folder / "times.csv").write_text(ABOVE_BOUND)
     begun = time.monotonic()
     proved = run(["plan", "times.csv", "--seconds", "50"], folder)
     (folder / "order").write_text(proved)
     assert "\noptimal\n" in proved == run(["plan", "times.csv", "--order", "order", "--seconds", "50"], folder)
     assert time.monotonic() - begun < 20
-    begun = time.monotonic()
-    assert "optimal" not in run(["plan", "times.csv", "--seconds", "0.5", "--prove", "0"], folder)
-    assert time.monotonic() - begun >= 0.5
 
 
 def test_the_methods_of_a_plan(folder: pathlib.Path, monkeypatch: pytest.MonkeyPatch) -> None:
