@@ -88,6 +88,16 @@ def test_a_budget_ends_anywhere(libpfs: Library) -> None:
     assert is_cut > 50 and is_done > 50
 
 
+def test_two_machines_need_no_node(libpfs: Library) -> None:
+    """The bound of a pair of machines is the least makespan if there are no others (Johnson 1954)."""
+    random = Random(4)
+    for _ in range(SHOPS // 3):
+        times = [[random.randint(0, 9) for _ in range(2)] for _ in range(random.randint(1, 6))]
+        orders = sorted(itertools.permutations(range(len(times))), key=lambda order: makespan(times, list(order)))
+        found = prove(libpfs, times, list(orders[-1]), 0)
+        assert found.bound == makespan(times, list(orders[0])) and found.order == list(orders[-1]), times
+
+
 def taillard(jobs: int, machines: int, seed: int) -> list[list[int]]:
     """Taillard's (1993) generator."""
     rows = []

@@ -401,6 +401,16 @@ def test_a_plan_is_proved_optimal(folder: pathlib.Path) -> None:
         assert run([*words[:2], *others], folder).splitlines()[:3] == proved[:3], others
 
 
+def test_a_plan_that_is_proved_at_once_is_not_searched(folder: pathlib.Path) -> None:
+    """Also from an order."""
+    (folder / "times.csv").write_text(ABOVE_BOUND)
+    begun = time.monotonic()
+    proved = run(["plan", "times.csv", "--seconds", "50"], folder)
+    (folder / "order").write_text(proved)
+    assert "\noptimal\n" in proved == run(["plan", "times.csv", "--order", "order", "--seconds", "50"], folder)
+    assert time.monotonic() - begun < 20
+
+
 def test_the_methods_of_a_plan(folder: pathlib.Path, monkeypatch: pytest.MonkeyPatch) -> None:
     (folder / "times.csv").write_text(TABLE)
     (folder / "order").write_text("table\nchair\n")

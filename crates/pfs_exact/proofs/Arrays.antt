@@ -1,8 +1,9 @@
 -- Arrays that a loop fills machine by machine.
-use Rattle.std.proofs.Common.{◌≡◌, ◌≢◌, ℕ, ◌+◌, ◌<◌, ◌≤◌, List, length, get_or, set, arith, inl, inr, ◌∙◌, subst, sym}
+use Rattle.std.proofs.Common.{◌≡◌, ◌≢◌, ℕ, ◌+◌, ◌<◌, ◌≤◌, List, length, get_or, replicate, set, arith, inl, inr, ◌∙◌, subst, sym}
 use Rattle.std.proofs.Math.ListN.{length-set}
 use Rattle.std.proofs.lemmas.Bool.{cases_eq, cases_lt}
-use Rattle.std.proofs.lemmas.List.{get_or-set_same, get_or-set_other, get_or_past}
+use Rattle.std.proofs.lemmas.List.{get_or-replicate, get_or-set_same, get_or-set_other, get_or_past}
+use Rattle.std.proofs.lemmas.List.{length-replicate}
 use Rattle.pfs_exact.specs.Private.Nodes.{Each}
 
 -- before `machine`, each number is as it is wanted, and from there on as it was
@@ -50,4 +51,10 @@ each_set Is machines at x numbers here each = λ k small. elim (cases_eq k at) [
         let now = get_or_past (set numbers at x) k 0 (omega arith) in
         subst (Is k) (was ∙ sym now) (each k small)
   ]
+]
+
+pub all_zero : (many at : ℕ) → ◌≡◌ {A = ℕ} (get_or (replicate many 0) at 0) 0
+all_zero many at = elim (cases_lt at many) [
+  | inl within ↦ get_or-replicate many at 0 0 within
+  | inr past ↦ get_or_past (replicate many 0) at 0 (omega (arith, length-replicate {A = ℕ} many 0))
 ]

@@ -4,3 +4,4 @@ mod Entered
 mod Heads
 mod Machines
 mod Sides
+mod Through

@@ -1,9 +1,11 @@
 -- Orders that begin and end with some jobs, by one more job at an end.
 use Rattle.std.proofs.Common.{◌≡◌, ℕ, zero, suc, Bool, true, false, ◌+◌, ◌-◌, ◌<◌, ◌≤◌, List, [], ◌∷◌, ◌++◌, length}
-use Rattle.std.proofs.Common.{get_or, refl, sym, ap, ◌∙◌, subst, arith, Contains, insert, remove, take, drop, drop-cons}
-use Rattle.std.proofs.Math.Seq.{get_or-append_seam}
+use Rattle.std.proofs.Common.{◌≢◌, set, inl, inr, add-one, get_or, refl, sym, ap, ◌∙◌, subst, arith, Contains, insert, remove, take, drop, drop-cons}
+use Rattle.std.proofs.Math.Seq.{get_or-append_seam, take-suc}
+use Rattle.std.proofs.lemmas.Bool.{cases_eq, true≢false}
+use Rattle.std.proofs.lemmas.List.{get_or-set_same, get_or-set_other}
 use Rattle.std.proofs.lemmas.List.{append_assoc, append-nil, length-append, take-append-drop}
-use Rattle.std.proofs.lemmas.List.Elements.{Contains-append_left, Contains-append_right}
+use Rattle.std.proofs.lemmas.List.Elements.{Contains-append_cases, Contains-append_left, Contains-append_right}
 use Rattle.pfs_base.specs.FlowShop.{FlowShop}
 use Rattle.pfs_base.specs.Paths.{makespan}
 use Rattle.pfs_base.proofs.Published.Lists.{by_push}
@@ -12,7 +14,7 @@ use Rattle.pfs_order.proofs.Published.Sequences.{IsSequence-head, IsSequence-res
 use Rattle.pfs_order.proofs.Published.Sequences.{length-le-size}
 use Rattle.pfs_audit.specs.Bound.{IsLowerBound}
 use Rattle.pfs_exact.specs.declared.ends.Ends.{Ends}
-use Rattle.pfs_exact.specs.Private.Nodes.{AreEnds, IsChild, IsFull, IsOpen, IsSome, NoneShorter, put_of, taken_of}
+use Rattle.pfs_exact.specs.Private.Nodes.{AreCleared, AreEnds, IsChild, IsFull, IsOpen, IsSome, NoneShorter, put_of, taken_of}
 
 -- ---- jobs between
 
@@ -240,3 +242,40 @@ pub ends_all : (size : ℕ) (front back : List ℕ) → IsSequence size (front +
     → length (front ++ back) ≡ size
 ends_all size front back sequence all =
     let long = length-append front back in let few = length-le-size size (front ++ back) sequence in omega arith
+
+-- ---- marks
+
+pub cleared_none : (marks : List Bool) → AreCleared [] marks marks
+cleared_none marks = record {
+  kept = λ job outside. refl;
+  cleared = λ job (at, within, found). absurd (omega arith);
+  fewer = λ job is. is;
+}
+
+pub cleared_more : (jobs : List ℕ) (place x : ℕ) (before marks : List Bool) → place < length jobs → x ≡ get_or jobs place 0
+    → x < length marks → AreCleared (take place jobs) before marks
+    → AreCleared (take (place + 1) jobs) before (set marks x false)
+cleared_more jobs place x before marks inside at_place within are =
+    let more : take (place + 1) jobs ≡ take place jobs ++ x ∷ [] =
+    ap (λ n. take n jobs) (add-one place) ∙ take-suc jobs place 0 inside ∙ ap (λ j. take place jobs ++ j ∷ []) (sym at_place) in
+    let here = get_or-set_same marks x false false within in
+    record {
+      kept = λ job outside.
+          let alone = subst (λ l. Contains l job → ⊥) more outside in
+          let other : job ≢ x = λ is. alone (Contains-append_right (take place jobs) (x ∷ []) job (0, omega arith, sym is)) in
+          get_or-set_other marks x job false false other
+          ∙ are.kept job (λ among. alone (Contains-append_left (take place jobs) (x ∷ []) job among));
+      cleared = λ job among. elim (cases_eq job x) [
+        | inl is ↦ subst (λ j. get_or (set marks x false) j false ≡ false) (sym is) here
+        | inr other ↦ get_or-set_other marks x job false false other
+            ∙ are.cleared job (elim (Contains-append_cases (take place jobs) (x ∷ []) job
+            (subst (λ l. Contains l job) more among)) [
+              | inl earlier ↦ earlier
+              | inr (at, small, found) ↦ let first : at ≡ 0 = omega arith in absurd (other (sym (rw first at found)))
+            ])
+      ];
+      fewer = λ job is. elim (cases_eq job x) [
+        | inl same ↦ absurd (true≢false (sym is ∙ ap (λ j. get_or (set marks x false) j false) same ∙ here))
+        | inr other ↦ are.fewer job (sym (get_or-set_other marks x job false false other) ∙ is)
+      ];
+    }

@@ -11,8 +11,8 @@ use crate::prove::{MOST_PROVED_JOBS, MOST_PROVED_MACHINES};
 use pfs_base::Instance;
 use pfs_order::Seq;
 
-// The ends of a node, the best order of all jobs so far with its makespan, a number that no order is shorter than, and
-// the nodes that are left of the budget. The other sequence is only room.
+/// The ends of a node, the best order of all jobs so far with its makespan, a number that no order is shorter than, and
+/// the nodes that are left of the budget. The other sequence is only room.
 #[derive(Drop)]
 pub(crate) struct Work {
     pub(crate) ends: Ends,
@@ -23,8 +23,8 @@ pub(crate) struct Work {
     pub(crate) left: u64,
 }
 
-// Searches the orders of a node, and returns a number that none of them is shorter than. It is the best makespan, unless
-// the budget is used up.
+/// Searches the orders of a node, and returns a number that none of them is shorter than. It is the best makespan, unless
+/// the budget is used up.
 pub(crate) fn branch(instance: &Instance, work: &mut Work, node: &mut Node) -> u64
     requires jobs { instance.now.shop.jobs ≤ MOST_PROVED_JOBS }
     requires machines { instance.now.shop.machines ≤ MOST_PROVED_MACHINES }
@@ -112,7 +112,7 @@ fn join(whole: &mut Seq, ends: &Ends)
     }
 }
 
-// The makespan of a sequence.
+/// The makespan of a sequence.
 pub(crate) fn span_of(instance: &Instance, seq: &Seq) -> u64
     requires machines { instance.now.shop.machines ≤ MOST_PROVED_MACHINES }
     requires size { seq.now.size ≡ instance.now.shop.jobs }

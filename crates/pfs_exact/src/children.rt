@@ -8,19 +8,19 @@ use crate::node::{Node, least_times, plus, raise};
 use crate::prove::{MOST_PROVED_JOBS, MOST_PROVED_MACHINES};
 use pfs_base::Instance;
 
-// The number of a job that is at an end.
+/// The number of a job that is at an end.
 pub(crate) const CLOSED: u64 = 18_446_744_073_709_551_615;
 
-// Whether the nodes have one more of the first jobs, or of the last; and job by job a number that none of the orders is
-// shorter than.
+/// Whether the nodes have one more of the first jobs, or of the last; and job by job a number that none of the orders is
+/// shorter than.
 #[derive(Clone, Copy)]
 pub(crate) struct Children {
     pub(crate) forward: bool,
     pub(crate) bounds: [u64; MOST_PROVED_JOBS],
 }
 
-// The children of a node that has some, at the end at which fewer of them have the least number (Gmys and others 2020),
-// or else at which their numbers have the greater sum.
+/// The children of a node that has some, at the end at which fewer of them have the least number (Gmys and others 2020),
+/// or else at which their numbers have the greater sum.
 pub(crate) fn children_of(instance: &Instance, ends: &Ends, floor: u64, node: &mut Node) -> Children
     requires jobs { instance.now.shop.jobs ≤ MOST_PROVED_JOBS }
     requires machines { instance.now.shop.machines ≤ MOST_PROVED_MACHINES }

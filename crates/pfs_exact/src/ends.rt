@@ -1,19 +1,19 @@
 //! The jobs that the orders of a node begin and end with.
 ghost use Rattle.std.specs.Prelude.{◌≡◌, ◌<◌, ◌≤◌};
-ghost use Rattle.pfs_exact.specs.Private.Nodes.{AreOpen, IsOpen, IsSome, put_of, taken_of};
+ghost use Rattle.pfs_exact.specs.Private.Nodes.{AreCleared, AreEnds, AreOpen, IsOpen, IsSome, put_of, taken_of};
 
 use crate::prove::MOST_PROVED_JOBS;
 use pfs_base::Instance;
 use pfs_order::Seq;
 
-// The jobs that an order begins with, and those that it ends with.
+/// The jobs that an order begins with, and those that it ends with.
 #[derive(Drop)]
 pub(crate) struct Ends {
     pub(crate) front: Seq,
     pub(crate) back: Seq,
 }
 
-// Puts a job after the first jobs or before the last.
+/// Puts a job after the first jobs or before the last.
 pub(crate) fn put(ends: &mut Ends, forward: bool, job: usize)
     requires absent { IsOpen ends.old.front.jobs ends.old.back.jobs job }
     requires front_size { job < ends.old.front.size }
@@ -28,7 +28,7 @@ pub(crate) fn put(ends: &mut Ends, forward: bool, job: usize)
     }
 }
 
-// Takes the job that was put last.
+/// Takes the job that was put last.
 pub(crate) fn take(ends: &mut Ends, forward: bool)
     requires { IsSome forward ends.old }
     ensures { ends.new ≡ taken_of forward ends.old }
@@ -41,14 +41,25 @@ pub(crate) fn take(ends: &mut Ends, forward: bool)
     }
 }
 
-// The marks of the jobs at neither end.
+/// The marks of the jobs at neither end.
 pub(crate) fn open_of(instance: &Instance, ends: &Ends) -> [bool; MOST_PROVED_JOBS]
-    requires { instance.now.shop.jobs ≤ MOST_PROVED_JOBS }
+    requires jobs { instance.now.shop.jobs ≤ MOST_PROVED_JOBS }
+    requires ends { AreEnds instance.now.shop.jobs ends.now }
     ensures { AreOpen instance.now.shop.jobs ends.now result }
 {
-    let mut marks = [false; MOST_PROVED_JOBS];
-    for job in 0..instance.jobs() {
-        marks[job] = !ends.front.has(job) && !ends.back.has(job);
-    }
+    let _jobs = instance.jobs();
+    let mut marks = [true; MOST_PROVED_JOBS];
+    clear(&ends.front, &mut marks);
+    clear(&ends.back, &mut marks);
     marks
+}
+
+// Clears the marks of the jobs of a sequence.
+fn clear(seq: &Seq, marks: &mut [bool; MOST_PROVED_JOBS])
+    requires { seq.now.size ≤ MOST_PROVED_JOBS }
+    ensures { AreCleared seq.now.jobs marks.old marks.new }
+{
+    for place in 0..seq.len() {
+        marks[seq.at(place)] = false;
+    }
 }

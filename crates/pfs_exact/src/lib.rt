@@ -6,6 +6,7 @@ mod branch;
 mod children;
 mod ends;
 mod node;
+mod pairs;
 mod prove;
 
 pub use prove::{MOST_PROVED_JOBS, MOST_PROVED_MACHINES, Proved, prove_order};

@@ -10,8 +10,8 @@ use crate::ends::Ends;
 use crate::prove::{MOST_PROVED_JOBS, MOST_PROVED_MACHINES};
 use pfs_base::Instance;
 
-// Machine by machine: a time before which the next job does not start; the time from the end of the jobs between to the
-// end of the order, from the last machine on; and the times of the jobs between. Each is a lower bound.
+/// Machine by machine: a time before which the next job does not start; the time from the end of the jobs between to the
+/// end of the order, from the last machine on; and the times of the jobs between. Each is a lower bound.
 #[derive(Clone, Copy)]
 pub(crate) struct Node {
     pub(crate) starts: [u64; MOST_PROVED_MACHINES],
@@ -19,14 +19,14 @@ pub(crate) struct Node {
     pub(crate) left: [u64; MOST_PROVED_MACHINES],
 }
 
-// The sum, or less if it does not fit, as of any lower bounds.
+/// The sum, or less if it does not fit, as of any lower bounds.
 pub(crate) fn plus(one: u64, other: u64) -> u64
     ensures { result ≤ one + other }
 {
     one.wrapping_add(other)
 }
 
-// The node of all orders.
+/// The node of all orders.
 pub(crate) fn root(instance: &Instance) -> Node
     requires { instance.now.shop.machines ≤ MOST_PROVED_MACHINES }
     ensures { IsNode instance.now.shop [] [] result }
@@ -63,7 +63,7 @@ fn load_on(instance: &Instance, machine: usize) -> u64
     load
 }
 
-// The node with one more job at an end.
+/// The node with one more job at an end.
 pub(crate) fn child(instance: &Instance, node: &Node, forward: bool, job: usize) -> Node
     requires machines { instance.now.shop.machines ≤ MOST_PROVED_MACHINES }
     requires job { job < instance.now.shop.jobs }
@@ -127,7 +127,7 @@ fn leave(instance: &Instance, left: &mut [u64; MOST_PROVED_MACHINES], job: usize
     }
 }
 
-// The least times of the jobs between.
+/// The least times of the jobs between.
 pub(crate) fn least_times(
     instance: &Instance,
     ends: &Ends,
@@ -164,7 +164,7 @@ fn least_on(instance: &Instance, marks: &[bool; MOST_PROVED_JOBS], machine: usiz
     least
 }
 
-// Raises a node's times by the least times of the jobs between, of which there is one.
+/// Raises a node's times by the least times of the jobs between, of which there is one.
 pub(crate) fn raise(
     instance: &Instance,
     ends: &Ends,

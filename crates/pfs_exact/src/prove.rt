@@ -3,11 +3,12 @@ ghost use Rattle.std.specs.Prelude.{◌≡◌, ℕ, ◌+◌, ◌<◌, ◌≤◌,
 ghost use Rattle.pfs_base.specs.Paths.{makespan};
 ghost use Rattle.pfs_audit.specs.Bound.{bound_of, IsLowerBound};
 ghost use Rattle.pfs_exact.specs.MostNodes.{most_nodes};
-ghost use Rattle.pfs_exact.specs.Private.Nodes.{IsWork};
+ghost use Rattle.pfs_exact.specs.Private.Nodes.{AreEnds, IsWork};
 
 use crate::branch::{Work, branch, span_of};
-use crate::ends::Ends;
-use crate::node::root;
+use crate::ends::{Ends, open_of};
+use crate::node::{least_times, raise, root};
+use crate::pairs::bound_of_pairs;
 use pfs_audit::bound;
 use pfs_base::Instance;
 use pfs_order::{Order, OrderFault, Seq};
@@ -54,12 +55,11 @@ pub fn prove_order(
     ensures few { IfOk result (λ proved. nodes ≤ proved.left + most_nodes instance.now.shop.jobs) }
     ensures kept { OnErr result (order.new ≡ order.old) }
 {
-    let floor = bound(instance);
-    let Ok(mut work) = work_of(alloc, instance, order, floor, nodes) else {
+    let Ok(mut work) = work_of(alloc, instance, order, nodes) else {
         return Err(AllocError);
     };
-    let mut low = floor;
-    if floor < work.makespan && nodes > 0 {
+    let mut low = work.floor;
+    if low < work.makespan && nodes > 0 {
         let mut node = root(instance);
         low = low.max(branch(instance, &mut work, &mut node));
     }
@@ -76,19 +76,18 @@ fn work_of(
     alloc: Global,
     instance: &Instance,
     order: &Order,
-    floor: u64,
     nodes: u64,
 ) -> Result<Work, OrderFault>
+    requires jobs { instance.now.shop.jobs ≤ MOST_PROVED_JOBS }
     requires machines { instance.now.shop.machines ≤ MOST_PROVED_MACHINES }
     requires full { length order.now ≡ instance.now.shop.jobs }
-    requires floor { IsLowerBound instance.now.shop floor }
     ensures work { IfOk result (λ work. IsWork instance.now.shop work) }
     ensures ends { IfOk result (λ work. work.ends ≡ record {
       front = record { size = instance.now.shop.jobs; jobs = [] };
       back = record { size = instance.now.shop.jobs; jobs = [] };
     }) }
     ensures makespan { IfOk result (λ work. work.makespan ≡ makespan instance.now.shop order.now) }
-    ensures floor { IfOk result (λ work. work.floor ≡ floor) }
+    ensures raised { IfOk result (λ work. bound_of instance.now.shop ≤ work.floor) }
     ensures nodes { IfOk result (λ work. work.left ≡ nodes) }
 {
     let front = Seq::new(alloc, instance.jobs())?;
@@ -97,12 +96,36 @@ fn work_of(
     let mut best = Seq::new(alloc, instance.jobs())?;
     best.copy_from(order.seq());
     let makespan = span_of(instance, &best);
+    let ends = Ends { front, back };
+    let floor = floor_of(instance, &ends, makespan);
     Ok(Work {
-        ends: Ends { front, back },
+        ends,
         best,
         spare,
         makespan,
         floor,
         left: nodes,
     })
+}
+
+// A number that no order is shorter than. Pairs of machines raise it if it is below the makespan.
+fn floor_of(instance: &Instance, ends: &Ends, makespan: u64) -> u64
+    requires jobs { instance.now.shop.jobs ≤ MOST_PROVED_JOBS }
+    requires machines { instance.now.shop.machines ≤ MOST_PROVED_MACHINES }
+    requires ends { AreEnds instance.now.shop.jobs ends.now }
+    requires front { ends.now.front.jobs ≡ [] }
+    requires back { ends.now.back.jobs ≡ [] }
+    ensures low { IsLowerBound instance.now.shop result }
+    ensures raised { bound_of instance.now.shop ≤ result }
+{
+    let _jobs = instance.jobs();
+    let floor = bound(instance);
+    if floor >= makespan {
+        return floor;
+    }
+    let mut node = root(instance);
+    let marks = open_of(instance, ends);
+    let least = least_times(instance, ends, &marks);
+    raise(instance, ends, &least, &mut node);
+    floor.max(bound_of_pairs(instance, &node))
 }

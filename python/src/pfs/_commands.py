@@ -32,7 +32,7 @@ from pfs._names import CLOCK, amount, shown
 from pfs._now import Beginning, beginning
 from pfs._optional import optional
 from pfs._orders import AFTER_ORDER, FoundOrder, numbers_by_name, order_in, stated_end
-from pfs._proof import MOST_JOBS, MOST_MACHINES, proved
+from pfs._proof import EARLY, MOST_JOBS, MOST_MACHINES, proved
 from pfs._report import JOBS, rows_of, text_table
 from pfs._schedule import Schedule
 from pfs._search import USUAL, Search, by_total, insert_after, limit_of, solve
@@ -107,9 +107,16 @@ def clock(seconds: float) -> str:
 
 
 def searched(search: Search, rounds: int | None, seconds: float | None, caught: list[int],
-             keep: Callable[[Solution], None]) -> tuple[Solution, Exception | None]:
+             keep: Callable[[Solution], None], early: float = 0) -> tuple[Solution, Exception | None]:
     """Search up to a round, or without one for some seconds or up to the bound, and call `keep` with the best order at
-    first and after each part. Return the best order, and the error that ended the search early."""
+    first and after each part. Return the best order, and the error that ended the search early. Before, try for `early`
+    seconds to find and prove an optimal order, as is possible at once for many small instances."""
+    if early:
+        start = None if search.start is None else list(memoryview(search.start).cast("I"))
+        with contextlib.suppress(MemoryError):
+            best = search.shop.optimum(early, start=start, stop=SimpleNamespace(is_set=lambda: bool(caught)))
+            if best.optimal:
+                return best, None
     progress = ProgressLine(search, rounds, seconds)
 
     def is_set() -> bool:
@@ -188,9 +195,10 @@ def plan_command(given: argparse.Namespace) -> int:
     search = plan_search(given, begin)
     other = FoundOrder([], {}) if given.compare is None else order_in(given.compare, shop, given.language)
     with signals() as caught:
-        best, fault = searched(search, given.rounds, given.seconds, caught, lambda _: None)
         is_tried = (given.prove and not search.held and not given.keep
                     and shop.jobs <= MOST_JOBS and shop.machines <= MOST_MACHINES)
+        early = min(EARLY, given.prove, given.seconds) if is_tried and given.rounds is None else 0
+        best, fault = searched(search, given.rounds, given.seconds, caught, lambda _: None, early)
         if fault is None and is_tried:
             best, fault = proved_for(given.prove, search, best, caught)
         tell("--prove", "" if is_tried or not given.is_proof_asked else "not tried: jobs are held, the order is only "
@@ -415,8 +423,8 @@ def add_method_words(add: Callable[..., object]) -> None:
         "does it; else iterated-greedy")
     add("--prove", type=seconds_of, metavar="S",
         help="for how many seconds to try to prove after the search that its order is optimal, else 1, and 0 with "
-        "--rounds; it isn't tried for an order that is only evaluated, while jobs are held or kept, and beyond 256 "
-        "jobs or 64 machines")
+        "--rounds; before the search it is tried for up to 0.1 of them; it isn't tried for an order that is only "
+        "evaluated, while jobs are held or kept, and beyond 256 jobs or 64 machines")
 
 
 def words_of_line(plan: argparse.ArgumentParser, line: str) -> list[str]:

@@ -22,6 +22,8 @@ if TYPE_CHECKING:
 MOST_JOBS, MOST_MACHINES = 256, 64
 # The nodes of the first call.
 NODES = 4096
+# For how many seconds a proof is tried before the search of a plan.
+EARLY = 0.1
 # How often a call is looked at, and how much longer than the limit it may take, in seconds.
 LOOK, GRACE = 0.02, 0.1
 

@@ -5,7 +5,7 @@ use Rattle.std.specs.Prelude.{slice_index, slice_index_or, remove, sum_by, Conta
 use Rattle.pfs_base.specs.FlowShop.{FlowShop, time_of}
 use Rattle.pfs_base.specs.Paths.{heaviest, operation, makespan}
 use Rattle.pfs_order.specs.Sequence.{IsSequence}
-use Rattle.pfs_audit.specs.Bound.{IsLowerBound}
+use Rattle.pfs_audit.specs.Bound.{time_on, IsLowerBound}
 use Rattle.pfs_exact.specs.declared.branch.Work.{Work}
 use Rattle.pfs_exact.specs.declared.children.TheConstants.{CLOSED}
 use Rattle.pfs_exact.specs.declared.ends.Ends.{Ends}
@@ -83,6 +83,17 @@ pub record IsNode (shop : FlowShop) (front back : List ℕ) (node : Node) : Type
   pub rests : AreRests shop front back node.rests
   pub left : AreLeft shop front back node.left
 
+-- ---- bounds on two machines
+
+-- the jobs' times on `many` machines, beginning with `first`, are at least these
+abbrev pub AreAcross : FlowShop → ℕ → ℕ → List ℕ → Type 0
+AreAcross shop first many across = (job : ℕ) → slice_index across job ≤ time_on shop first many job
+
+-- from the first start on a machine to the last end on a later one, all jobs take at least this time
+abbrev pub IsThrough : FlowShop → ℕ → ℕ → ℕ → Type 0
+IsThrough shop first second time = (start rest : ℕ) → IsStart shop [] [] first start → IsRest shop [] [] second rest
+    → IsLowerBound shop (start + time + rest)
+
 -- ---- the ends
 
 -- the ends with one more job, after the first jobs or before the last
@@ -107,6 +118,12 @@ pub record AreEnds (size : ℕ) (ends : Ends) : Type 0 where
   pub front : ends.front.size ≡ size
   pub back : ends.back.size ≡ size
   pub sequence : IsSequence size (ends.front.jobs ++ ends.back.jobs)
+
+-- the marks are those of before, without those of these jobs
+pub record AreCleared (jobs : List ℕ) (before after : List Bool) : Type 0 where
+  pub kept : (job : ℕ) → (Contains jobs job → ⊥) → slice_index_or after job false ≡ slice_index_or before job false
+  pub cleared : (job : ℕ) → Contains jobs job → slice_index_or after job false ≡ false
+  pub fewer : (job : ℕ) → slice_index_or after job false ≡ true → slice_index_or before job false ≡ true
 
 -- the marks of the jobs at neither end
 pub record AreOpen (size : ℕ) (ends : Ends) (marks : List Bool) : Type 0 where

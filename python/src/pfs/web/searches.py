@@ -10,21 +10,24 @@ from typing import Any
 
 from pfs._commands import span_text
 from pfs._instance import Instance
+from pfs._proof import EARLY
 from pfs._solution import Solution
 from pfs.web.apart import Wrong
 from pfs.web.plans import field, order_from, quality, shop_from, texts, whole
 
 # Seconds without a question after which a search ends, and the longest search.
 FORGET, MOST_SECONDS = 20.0, 600
-# For how many seconds a proof is tried after a search.
+# For how many seconds a proof is tried after a search that none before it made needless.
 PROOF = 1.0
 # How many searches wait at most, and how many of one address wait or run.
 MOST_WAITING, MOST_OF_ONE = 16, 8
 
 
 def solve(shop: Instance, run: Run, start: list[int] | None) -> Solution:
-    """The search of a plan, and a proof that it is optimal where no job is held."""
+    """The search of a plan, and a proof that it is optimal where no job is held, which is tried before and after it."""
     held = (start or [])[:run.held]
+    if not held and (best := shop.optimum(EARLY, start=start, stop=run)).optimal:
+        return best
     return shop.solve(method="iterated-greedy", seed=run.seed, start=start, hold=held, time_limit=run.seconds,
                       progress=run.progress, stop=run, prove=None if held else PROOF)
 
