@@ -131,12 +131,12 @@ def test_only_the_files_of_the_page_are_served(client: FlaskClient, path: str) -
 
 
 def test_the_page_asks_for_nothing_from_elsewhere_and_makes_no_html_of_texts() -> None:
-    for name in app.STATIC:
-        text = pathlib.Path(app.__file__).with_name(name).read_text("utf-8")
+    for path in pathlib.Path(app.__file__).with_name("static").iterdir():
+        text = path.read_text("utf-8")
         assert re.findall(r"(?:https?:)?//(?!/)[\w.-]+\.\w", re.sub(r"^\s*// .*$", "", text, flags=re.MULTILINE)) == []
         never = r"innerHTML|outerHTML|insertAdjacent|document\.write|\beval\b|new Function|\bon\w+=[\"']"
         assert re.findall(never, text) == []
-        assert re.findall(r"srcdoc = (.*);", text) == ["now.chart"] * (name == "page.js"), "the chart has a policy"
+        assert re.findall(r"srcdoc = (.*);", text) == ["now.chart"] * (path.name == "page.js"), "the chart has a policy"
 
 
 # What isn't a request
@@ -174,7 +174,7 @@ WRONG: dict[str, tuple[str, Any]] = {
 @pytest.mark.parametrize("what", WRONG)
 def test_another_form_is_refused(client: FlaskClient, what: str) -> None:
     path, body = WRONG[what]
-    assert refused(client, path, body) == (400, plans.OTHER_FORM.text)
+    assert refused(client, path, body) == (400, str(plans.OTHER_FORM))
 
 
 REST = {**PLAN, "at": "2026-12-01T10:00"}
@@ -184,14 +184,14 @@ TELLS: dict[str, tuple[str, Any, str]] = {
     "a job twice": ("/api/plan", {**PLAN, "shop": {**SHOP, "jobs": ["a", "a", "b", "c"]}}, "'a' occurs twice"),
     "no such day": ("/api/plan", {**PLAN, "calendar": {**DATES, "begin": "2026-02-30T06:00"}}, "2026-02-30"),
     "another shift": ("/api/plan", {**PLAN, "calendar": {**DATES, "shifts": "6 to 14"}}, "is not a shift"),
-    "shifts alone": ("/api/plan", {**PLAN, "calendar": {**DATES, "begin": ""}}, "shifts need a date"),
+    "shifts alone": ("/api/plan", {**PLAN, "calendar": {**DATES, "begin": ""}}, '"Shifts" needs "Work begins"'),
     "no unit": ("/api/plan", {**PLAN, "shop": {**SHOP, "unit": ""}}, "the times have no unit"),
     "long dates": ("/api/plan", {**PLAN, "calendar": {**DATES, "closed": "2026-12-24," * 2_000}}, "too long"),
-    "calendars without dates": ("/api/file", {**PLAN, "calendar": {}, "kind": "zip"}, "needs a date"),
-    "a rest without dates": ("/api/rest", {**PLAN, "calendar": {}, "at": "2026-12-01T10:00"}, "needs a date"),
-    "before the beginning": ("/api/rest", {**PLAN, "at": "2026-11-29T10:00"}, "before the work begins"),
+    "calendars without dates": ("/api/file", {**PLAN, "calendar": {}, "kind": "zip"}, 'needs "Work begins"'),
+    "a rest without dates": ("/api/rest", {**PLAN, "calendar": {}, "at": "2026-12-01T10:00"}, '"Now" needs "Work'),
+    "before the beginning": ("/api/rest", {**PLAN, "at": "2026-11-29T10:00"}, 'is before "Work begins"'),
     "all is finished": ("/api/rest", {**PLAN, "at": "2027-11-29T10:00"}, "finished"),
-    "no such machine": ("/api/rest", {**REST, "down": {"x": "2026-12-02T10:00"}}, "'x' isn't"),
+    "no such machine": ("/api/rest", {**REST, "down": {"x": "2026-12-02T10:00"}}, "\"down until\": 'x' isn't"),
     "up again": ("/api/rest", {**REST, "down": {"saw": "2026-12-01T09:00"}}, "'saw' is up"),
     "another decimal sign": ("/api/read", {"rows": [], "options": {**OPTIONS, "decimal": "x"}}, "decimal must"),
 }
@@ -245,7 +245,7 @@ def test_no_value_at_any_place_is_a_fault_of_the_server(data: st.DataObject) -> 
     """What is apart is called here, so that it is quick."""
     found = searches.Searches(1)
     with pytest.MonkeyPatch.context() as patch:
-        patch.setattr(apart.Apart, "result", lambda _, call, body, folder: (True, call(body, folder)))
+        patch.setattr(apart.Apart, "result", lambda _, call, body, folder: call(body, folder))
         client = client_of(found)
         for path, body in REQUESTS:
             place = data.draw(st.sampled_from([*leaves(body)]))
@@ -508,10 +508,10 @@ def test_a_search_is_followed_and_ended_with_its_best_order(client: FlaskClient)
 
 
 def test_a_search_that_fails_says_why(client: FlaskClient, monkeypatch: pytest.MonkeyPatch) -> None:
-    def fails(*_: Any) -> None:
+    def fails(*_: Any, **__: Any) -> None:
         raise ValueError("no such search")
 
-    monkeypatch.setattr(searches, "solve", fails)
+    monkeypatch.setattr(pfs.Instance, "solve", fails)
     name = answer(client, "/api/search", LONG)["search"]
     time.sleep(0.2)
     assert refused(client, "/api/plan", {})[0] == 400
@@ -547,9 +547,8 @@ def test_a_search_ends_when_nobody_asks(monkeypatch: pytest.MonkeyPatch) -> None
     names = [answer(client, "/api/search", LONG)["search"] for _ in range(2)]
     monkeypatch.setattr(searches, "FORGET", 0.3)
     end = time.monotonic() + 5
-    while found.running and time.monotonic() < end:
+    while any(run.state == "searching" for run in found.runs.values()) and time.monotonic() < end:
         time.sleep(0.05)
-    assert not found.running
     answer(client, "/api/search/none", method="DELETE")
     assert found.runs == {}
     assert {asked(client, f"/api/search/{name}", method="GET").status_code for name in names} == {404}

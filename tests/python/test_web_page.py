@@ -21,7 +21,7 @@ from selenium.webdriver.common.keys import Keys
 from selenium.webdriver.remote.webelement import WebElement
 from selenium.webdriver.support.ui import Select
 
-WEB = TOP / "python" / "src" / "pfs" / "web"
+WEB = TOP / "python" / "src" / "pfs" / "web" / "static"
 pytestmark = [pytest.mark.seconds(40), pytest.mark.xdist_group("page")]
 SCRIPT = "<img src=x onerror=\"document.title='run'\">"
 # Times that no order of a second makes optimal, and faults as planners make them.
