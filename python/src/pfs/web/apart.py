@@ -37,7 +37,7 @@ class Apart:
         self.slots, self.places = threading.Semaphore(AT_ONCE), threading.Semaphore(AT_ONCE + MOST_WAITING)
 
     def __call__(self, call: Call, given: dict[str, Any]) -> Any:
-        """Return what the call returns, or raise what it raises. It also gets an empty folder, which is then removed."""
+        """Return what the call returns, or raise what it raises. It also gets an empty folder, which is removed."""
         if not self.places.acquire(blocking=False):
             raise Wrong("the server is busy: try again in a minute", 503)
         try:

@@ -39,6 +39,8 @@ def check(names: set[str], token: str) -> None:
     """Reject a request of others. Pages of other sites can send requests too, also under a name that leads here."""
     if request.host.lower() not in names:
         raise Wrong("The server has another name: see --name.", 421)
+    if (request.content_length or 0) > MOST_BODY:
+        raise Wrong("The request is too large.", 413)
     if not request.path.startswith("/api/"):
         return
     origin = request.headers.get("Origin")
@@ -74,7 +76,6 @@ def failed(error: Exception) -> tuple[dict[str, str], int]:
 def made(names: set[str], token: str, searches: Searches) -> Flask:
     """The application, for requests to these names with this token."""
     app, apart, headers = Flask(__name__, static_url_path=""), Apart(), {"Content-Security-Policy": policy(), **HEADERS}
-    app.config["MAX_CONTENT_LENGTH"] = MOST_BODY
     app.register_error_handler(Exception, failed)
     app.before_request(lambda: check(names, token))
     app.add_url_rule("/", "page", lambda: app.send_static_file("page.html"))

@@ -84,8 +84,8 @@ def read_rows(rows: Any, options: dict[str, Any]) -> dict[str, Any]:
     try:
         table = tables.table_in(
             text_from(rows, delimiter).encode(), "table", field(options, "unit", str, ""),
-            field(options, "decimal", str), field(options, "totals", bool, False), machines or None, None,
-            field(options, "decimals", int))
+            field(options, "decimal", str) or None, field(options, "totals", bool, False), machines or None,
+            None, field(options, "decimals", int))
     except TableFault as fault:
         found = [{"line": each.line, "column": each.column, "text": as_controls(each.text)}
                  for each in (fault, *fault.others)]
