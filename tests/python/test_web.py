@@ -111,9 +111,12 @@ def test_the_own_page_may_ask(client: FlaskClient) -> None:
     assert asked(client, "/", method="GET", Sec_Fetch_Site="cross-site", X_Pfs_Token="").status_code == 200
 
 
-@pytest.mark.parametrize("path", ["/", "/page.js", "/lists.js", "/german.js", "/page.css", "/api/search/a", "/nothing"])
+@pytest.mark.parametrize("path", ["/", "/static/page.js", "/static/lists.js", "/static/german.js", "/static/page.css",
+                                  "/api/search/a", "/nothing"])
 def test_each_answer_forbids_what_the_page_does_not_need(client: FlaskClient, path: str) -> None:
-    headers = asked(client, path, method="GET").headers
+    got = asked(client, path, method="GET")
+    assert got.status_code == (404 if path in ("/api/search/a", "/nothing") else 200)
+    headers = got.headers
     policy = dict(part.strip().split(" ", 1) for part in headers["Content-Security-Policy"].split(";"))
     due = {**dict.fromkeys(("default-src", "frame-ancestors", "form-action", "base-uri"), "'none'"),
            "connect-src": "'self'"}
@@ -125,7 +128,8 @@ def test_each_answer_forbids_what_the_page_does_not_need(client: FlaskClient, pa
     assert "Access-Control-Allow-Origin" not in headers and "Set-Cookie" not in headers
 
 
-@pytest.mark.parametrize("path", ["/../app.py", "/app.py", "/__init__.py", "/%2e%2e/_cli.py", "//etc/passwd"])
+@pytest.mark.parametrize("path", ["/../app.py", "/app.py", "/__init__.py", "/%2e%2e/_cli.py", "//etc/passwd",
+                                  "/static/../app.py", "/static/%2e%2e/app.py", "/static//etc/passwd"])
 def test_only_the_files_of_the_page_are_served(client: FlaskClient, path: str) -> None:
     assert asked(client, path, method="GET").status_code in (308, 404)
 
@@ -547,9 +551,9 @@ def test_a_search_ends_when_nobody_asks(monkeypatch: pytest.MonkeyPatch) -> None
     names = [answer(client, "/api/search", LONG)["search"] for _ in range(2)]
     monkeypatch.setattr(searches, "FORGET", 0.3)
     end = time.monotonic() + 5
-    while any(run.state == "searching" for run in found.runs.values()) and time.monotonic() < end:
+    while found.runs and time.monotonic() < end:
         time.sleep(0.05)
-    answer(client, "/api/search/none", method="DELETE")
+        answer(client, "/api/search/none", method="DELETE")
     assert found.runs == {}
     assert {asked(client, f"/api/search/{name}", method="GET").status_code for name in names} == {404}
 

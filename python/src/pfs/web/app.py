@@ -75,7 +75,7 @@ def failed(error: Exception) -> tuple[dict[str, str], int]:
 
 def made(names: set[str], token: str, searches: Searches) -> Flask:
     """The application, for requests to these names with this token."""
-    app, apart, headers = Flask(__name__, static_url_path=""), Apart(), {"Content-Security-Policy": policy(), **HEADERS}
+    app, apart, headers = Flask(__name__), Apart(), {"Content-Security-Policy": policy(), **HEADERS}
     app.register_error_handler(Exception, failed)
     app.before_request(lambda: check(names, token))
     app.add_url_rule("/", "page", lambda: app.send_static_file("page.html"))
