@@ -156,30 +156,46 @@ def test_requests_that_are_half_sent_stop_nobody(server: Server) -> None:
 
 @pytest.mark.seconds(25)
 @pytest.mark.xdist_group("load")
-def test_eight_planners_share_two_slots(server: Server) -> None:
-    """Each searches for 2 s, asks all the while, and gets a response at once. All have an order in the end."""
-    seconds, delays, orders = 2, list[float](), list[list[str]]()
+def test_eight_planners_share_two_slots(server: Server, tmp_path: pathlib.Path) -> None:
+    """Each searches for 2 s, asks all the while, and gets a response within 200 ms, and what a server that does nothing
+    else takes on this machine, which may be busy. All have an order in the end."""
+    seconds, delays, bare, orders = 2, list[float](), list[float](), list[list[str]]()
 
-    def plan() -> None:
+    def timed(asked: Server, path: str, times: list[float]) -> Any:
+        begun = time.monotonic()
+        status, found = asked.ask(path)
+        times.append(time.monotonic() - begun)
+        assert status == 200
+        return found
+
+    def plan(other: Server) -> None:
         name = server.answer("/api/search", {**LONG, "seconds": seconds})["search"]
         told: dict[str, Any] = {}
         while told.get("state") != "done":
-            begun = time.monotonic()
-            told = server.answer(f"/api/search/{name}")
-            delays.append(time.monotonic() - begun)
-            time.sleep(0.3)
+            told = timed(server, f"/api/search/{name}", delays)
+            timed(other, "/", bare)
+            time.sleep(0.1)
         orders.append(told["order"])
 
-    threads, begun = [threading.Thread(target=plan) for _ in range(8)], time.monotonic()
-    for each in threads:
-        each.start()
-    for each in threads:
-        each.join()
-    took = time.monotonic() - begun
+    port = free_port()
+    process = subprocess.Popen([sys.executable, "-m", "http.server", str(port), "--bind", "127.0.0.1"], cwd=tmp_path,
+                               stdout=subprocess.DEVNULL, stderr=subprocess.DEVNULL, text=True)
+    try:
+        wait_until(lambda: answers(port), "the bare server answers")
+        threads = [threading.Thread(target=plan, args=(Server(process, port, ""),)) for _ in range(8)]
+        begun = time.monotonic()
+        for each in threads:
+            each.start()
+        for each in threads:
+            each.join()
+        took = time.monotonic() - begun
+    finally:
+        stop(process)
     assert [sorted(order) for order in orders] == [sorted(SHOP["jobs"])] * 8
     # A proof takes another second. The machine may do other things.
     assert 4 * seconds <= took < 4 * (seconds + 1) + 12, "two at a time"
-    assert statistics.median(delays) < 0.3 and max(delays) < 3
+    assert statistics.median(delays) < 0.05 + 2 * statistics.median(bare)
+    assert max(delays) < 0.2 + 2 * max(bare)
 
 
 # Its end

@@ -39,7 +39,7 @@ const GERMAN = {
   "{jobs} jobs, {machines} machines ({names}), times in {unit}, decimals: {decimals}":
     "{jobs} Aufträge, {machines} Maschinen ({names}), Zeiten in {unit}, Nachkommastellen: {decimals}",
   "no unit": "keiner Einheit", "is a machine": "ist eine Maschine", "leave this row out": "diese Zeile weglassen",
-  "new": "neu", "pasted": "eingefügt",
+  "new": "neu", "pasted": "eingefügt", "forget this plan": "diesen Plan vergessen",
   "waits for a processor, place {place}": "wartet auf einen Prozessor, Platz {place}",
   "{makespan} so far, no order is below {bound}; {left} s left":
     "bisher {makespan}, unter {bound} geht es nicht; noch {left} s",
@@ -51,8 +51,8 @@ const GERMAN = {
   "down until": "steht bis", "hold up to here": "bis hier halten", "earlier": "früher", "later": "später",
   "first after what is held, and hold it": "vorziehen, direkt nach dem Gehaltenen, und halten",
   "finished and left out:": "fertig und weggelassen:", "nothing is finished by then": "bis dahin ist nichts fertig",
-  "job ends": "Auftrag endet", "shown": "gezeigt", "plan": "Plan", "makespan": "Gesamtdauer",
-  "jobs that move": "verschobene Aufträge", "Show": "Zeigen", "forget this plan": "diesen Plan vergessen",
+  "job ends": "Auftrag endet", "shown": "gezeigt", "plan": "Plan", "Plan {number}": "Plan {number}",
+  "makespan": "Gesamtdauer", "jobs that move": "verschobene Aufträge", "Show": "Zeigen",
 };
 const FAULTS = [
   [/^the time is missing: .*/, "die Zeit fehlt: 0, wo ein Auftrag eine Maschine auslässt"],

@@ -45,10 +45,7 @@ function listIn(box, draw, head) {
     body.replaceChildren(space(first), ...rows, space(count - last));
     const found = key !== undefined && focusOn(key);
     // What is being written while a change before it is read again.
-    if (found && found.type === "text") {
-      found.value = typed;
-      found.setSelectionRange(start, end);
-    }
+    if (found && found.type === "text") Object.assign(found, {value: typed, selectionStart: start, selectionEnd: end});
     isDrawing = false;
   }
   box.addEventListener("scroll", () => update(false));

@@ -284,7 +284,8 @@ byId("rest").onclick = doing(async () => {
 
 // Plans side by side
 byId("keep").onclick = doing(() => {
-  const {makespan, end, span, jobs} = now, title = byId("title").value || `${tr("Plan")} ${doc.plans.length + 1}`;
+  const {makespan, end, span, jobs} = now, number = doc.plans.length + 1;
+  const title = byId("title").value || tr("Plan {number}", {number});
   doc.plans.push({title, order: [...doc.order], held: doc.held, calendar: calendar(), makespan, end, span,
                   ends: Object.fromEntries(jobs.map(([name, , last]) => [name, last]))});
   return evaluate();
