@@ -125,6 +125,7 @@ def test_each_answer_forbids_what_the_page_does_not_need(client: FlaskClient, pa
         assert re.fullmatch("'sha256-[A-Za-z0-9+/]{43}=' 'self'", policy[name])
     assert (headers["X-Content-Type-Options"], headers["Referrer-Policy"], headers["Cache-Control"]) \
         == ("nosniff", "no-referrer", "no-store")
+    assert {headers[f"Cross-Origin-{name}-Policy"] for name in ("Opener", "Resource")} == {"same-origin"}
     assert "Access-Control-Allow-Origin" not in headers and "Set-Cookie" not in headers
 
 
@@ -333,6 +334,13 @@ def test_a_bomb_is_refused_within_seconds(client: FlaskClient) -> None:
     assert time.monotonic() - begun < 20
 
 
+def test_a_table_has_a_greatest_number_of_rows(client: FlaskClient) -> None:
+    head, row = b"job;saw\n", b"a;1\n"
+    status, error = refused(client, "/api/read", {"content": content(head + row * _tables.MOST_ROWS)})
+    assert (status, error) == (422, "the table has more than 10,000 rows")
+    assert len(read(client, head + row * (_tables.MOST_ROWS - 1))["rows"]) == _tables.MOST_ROWS
+
+
 PARTS = ["job", "work", "order", "orders", "wo", "no", "n\u00b0", "fa", " ", ".", "x"]
 
 
@@ -410,6 +418,11 @@ def test_a_plan_is_told_as_the_package_has_it(client: FlaskClient) -> None:
     proved = answer(client, "/api/plan", {**PLAN, "order": ["shelf", "chair", "table", "box"], "least": 160})
     assert (proved["bound"], proved["above"]) == ("16.0 h", round(100 * (worse["span"] - 160) / 160, 1))
     assert answer(client, "/api/plan", {**PLAN, "least": 10**9})["bound"] == "15.5 h", "no bound above a makespan"
+    kept = answer(client, "/api/plan", {**PLAN, "kept": [["box", "chair", "shelf", "gone"], ["shelf", *ORDER[:3]]]})
+    assert kept["moved"] == [[], ["shelf"]], "table isn't in the first one"
+    german = answer(client, "/api/plan", {**PLAN, "language": "de"})
+    assert got["heads"][:2] == ["machine", "work"] and german["heads"][:2] == ["Maschine", "Arbeit"]
+    assert all("<title>Week 49</title>" in each["chart"] for each in (got, german))
 
 
 def test_jobs_that_are_gone_or_new_are_told(client: FlaskClient) -> None:
@@ -493,6 +506,18 @@ LONG: dict[str, Any] = {"shop": shop_of(30, 10), "seconds": 600}
 def test_a_search_finds_what_the_package_finds(client: FlaskClient) -> None:
     found = waited(client, answer(client, "/api/search", {"shop": SHOP, "seconds": 5})["search"])
     assert sorted(found["order"]) == sorted(SHOP["jobs"]) and found["makespan"] == "15.5 h" and found["isOptimal"]
+
+
+@pytest.mark.parametrize("held", [0, 1])
+def test_a_proof_is_tried_where_no_job_is_held(client: FlaskClient, held: int, monkeypatch: pytest.MonkeyPatch) -> None:
+    def solve(_: pfs.Instance, **options: Any) -> None:
+        raise ValueError(f"{options['prove']} {options['hold']}")
+
+    monkeypatch.setattr(pfs.Instance, "solve", solve)
+    name = answer(client, "/api/search", {**PLAN, "seconds": 1, "held": held})["search"]
+    time.sleep(0.2)
+    got = asked(client, f"/api/search/{name}", method="GET").json
+    assert got and got["error"] == ("None [3]" if held else f"{searches.PROOF} []")
 
 
 def test_held_jobs_keep_their_places_and_new_ones_come_after_them(client: FlaskClient) -> None:

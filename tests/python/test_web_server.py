@@ -41,10 +41,10 @@ class Server:
         self.process, self.port, self.printed = process, port, printed
         self.token = printed.rpartition("#")[2].split(" ")[0].strip() or TOKEN
 
-    def ask(self, path: str, body: Any = None, method: str = "", timeout: float = 30) -> tuple[int, Any]:
-        with contextlib.closing(http.client.HTTPConnection("127.0.0.1", self.port, timeout=timeout)) as line:
+    def ask(self, path: str, body: Any = None, method: str = "", **headers: str) -> tuple[int, Any]:
+        with contextlib.closing(http.client.HTTPConnection("127.0.0.1", self.port, timeout=30)) as line:
             line.request(method or ("GET" if body is None else "POST"), path, body and json.dumps(body),
-                         {"X-Pfs-Token": self.token, "Content-Type": "application/json"})
+                         {"X-Pfs-Token": self.token, "Content-Type": "application/json", **headers})
             got = line.getresponse()
             text = got.read()
         is_json = got.headers.get("Content-Type", "").startswith("application/json")
@@ -224,6 +224,17 @@ def test_after_it_was_killed_a_new_one_answers_the_same_page(token_file: pathlib
 
 
 # With a proxy
+
+@pytest.mark.parametrize("is_behind", [True, False])
+def test_a_planner_has_the_address_that_the_proxy_names(is_behind: bool) -> None:
+    """Each has searches of its own. Without a proxy nobody chooses an address. The server's name may have capitals."""
+    with served("--name", "Planning.Example", *["--proxy"] * is_behind) as found:
+        def status(address: str) -> int:
+            return found.ask("/api/search", LONG, Host="PLANNING.example", **{"X-Forwarded-For": address})[0]
+
+        assert [status("192.0.2.1") for _ in range(9)] == [200] * 8 + [429]
+        assert [status("192.0.2.2"), status("192.0.2.1")] == [200 if is_behind else 429, 429]
+
 
 def recipe() -> str:
     """The settings of nginx on the page on installing."""

@@ -4,9 +4,9 @@ from __future__ import annotations
 
 import binascii
 import hmac
-import importlib.resources
 import io
 import logging
+from importlib.resources import files
 from typing import Any
 from urllib.parse import urlsplit
 
@@ -29,8 +29,7 @@ CALLS = {"read": plans.read, "plan": plans.told, "rest": plans.rest, "file": pla
 def policy() -> str:
     """What the page may do: run its own scripts, and the chart's in a frame that inherits this. Nothing comes from
     elsewhere, and no text becomes a script."""
-    folder = importlib.resources.files("pfs")
-    style, script = policy_of(folder.joinpath("chart.html").read_text("utf-8")).split("; ")[1:3]
+    style, script = policy_of(files("pfs").joinpath("chart.html").read_text("utf-8")).split("; ")[1:3]
     return (f"default-src 'none'; {script} 'self'; {style} 'self'; connect-src 'self'; img-src data:; "
             "base-uri 'none'; form-action 'none'; frame-ancestors 'none'")
 

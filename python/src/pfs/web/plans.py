@@ -138,14 +138,13 @@ class Plan:
     """A plan of a request: its shop, its order with the greatest bound that is known, and its dates."""
 
     def __init__(self, given: dict[str, Any]) -> None:
-        self.shop, dates = shop_from(given), field(given, "calendar", dict, {})
-        order, self.others = order_from(self.shop, texts(given.get("order")),
-                                        field(given, "held", int, 0, self.shop.jobs))
+        shop = self.shop = shop_from(given)
+        order, self.others = order_from(shop, texts(given.get("order")), field(given, "held", int, 0, shop.jobs))
         self.schedule = self.shop.schedule(order)
         self.best = Solution(self.schedule.order, self.schedule.makespan)
         self.best.bound = min(max(self.shop.bound(), field(given, "least", int, 0, 2**53)), self.best.makespan)
         # A line has a shift; a comma is between days and dates.
-        begin, shifts, days, closed = (field(dates, name, str, "").strip() or ()
+        begin, shifts, days, closed = (field(field(given, "calendar", dict, {}), name, str, "").strip() or ()
                                        for name in ("begin", "shifts", "days", "closed"))
         lines = [line for line in map(str.strip, shifts.split("\n")) if line] if shifts else ()
         self.calendar = calendar_of(Namespace(begin=begin, shift=lines, days=days, closed=closed))

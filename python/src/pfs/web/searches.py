@@ -5,7 +5,7 @@ import logging
 import secrets
 import threading
 import time
-from multiprocessing.pool import ThreadPool
+from queue import SimpleQueue
 from typing import Any
 
 from pfs._commands import span_text
@@ -56,12 +56,10 @@ class Run:
         except Exception as error:
             self.fault = error
         self.state = "done"
-        logging.info("search: %d jobs, %d machines, %.1f s, %d rounds", self.shop.jobs, self.shop.machines,
-                     time.monotonic() - self.begun, self.rounds)
+        logging.info("search: %d jobs, %d machines, %d rounds", self.shop.jobs, self.shop.machines, self.rounds)
 
     def told(self, place: int) -> dict[str, Any]:
         """How far it is. `place` is that in the queue."""
-        self.asked = time.monotonic()
         if self.fault is not None:
             raise self.fault
         found = {"state": self.state, "place": place, "rounds": self.rounds, "limit": self.seconds,
@@ -77,37 +75,41 @@ class Searches:
     """Runs as many searches at once as there are slots."""
 
     def __init__(self, slots: int) -> None:
-        self.slots, self.lock, self.pool = slots, threading.Lock(), ThreadPool(slots)
+        self.slots, self.lock, self.queue = slots, threading.Lock(), SimpleQueue[Run]()
         self.runs: dict[str, Run] = {}
+        for _ in range(slots):
+            threading.Thread(target=self.serve, daemon=True).start()
+
+    def serve(self) -> None:
+        while True:
+            self.queue.get().search()
 
     def active(self) -> list[Run]:
-        """The searches that run, and then those that wait."""
+        """The searches that run, and then those that wait. Those for which nobody asks are dropped."""
+        self.runs = {name: run for name, run in self.runs.items() if run.state == "searching" or not run.is_left()
+                     and (run.state == "done" or not run.ended.is_set())}
         return [run for run in self.runs.values() if run.state != "done"]
 
     def add(self, given: dict[str, Any], client: str) -> dict[str, str]:
         """Let a search wait, and return its name, which nobody can guess."""
         run, name = Run(given, client), secrets.token_urlsafe(18)
         with self.lock:
-            self.forget()
-            if sum(each.client == client for each in self.active()) >= MOST_OF_ONE:
+            active = self.active()
+            if sum(each.client == client for each in active) >= MOST_OF_ONE:
                 raise Wrong(f"{MOST_OF_ONE} searches of this address run or wait: end one of them", 429)
-            if len(self.active()) >= self.slots + MOST_WAITING:
+            if len(active) >= self.slots + MOST_WAITING:
                 raise Wrong("too many searches wait: try again in a minute", 503)
             self.runs[name] = run
-            self.pool.apply_async(run.search)
+            self.queue.put(run)
         return {"search": name}
-
-    def forget(self) -> None:
-        """Drop the searches for which nobody asks, and those that were ended while they waited."""
-        self.runs = {name: run for name, run in self.runs.items() if run.state == "searching" or not run.is_left()
-                     and (run.state == "done" or not run.ended.is_set())}
 
     def told(self, name: str) -> dict[str, Any]:
         """How far the search of this name is."""
         with self.lock:
-            run, active = self.runs.get(name), self.active()
-        if run is None:
-            raise Wrong("this search is over", 404)
+            run = self.runs.get(name)
+            if run is None:
+                raise Wrong("this search is over", 404)
+            run.asked, active = time.monotonic(), self.active()
         return run.told(max(0, active.index(run) + 1 - self.slots) if run in active else 0)
 
     def end(self, name: str) -> dict[str, str]:
@@ -115,7 +117,7 @@ class Searches:
         with self.lock:
             if name in self.runs:
                 self.runs[name].ended.set()
-            self.forget()
+            self.active()
         return {}
 
     def end_all(self) -> None:
