@@ -111,9 +111,12 @@ def test_the_own_page_may_ask(client: FlaskClient) -> None:
     assert asked(client, "/", method="GET", Sec_Fetch_Site="cross-site", X_Pfs_Token="").status_code == 200
 
 
-@pytest.mark.parametrize("path", ["/", "/page.js", "/lists.js", "/german.js", "/page.css", "/api/search/a", "/nothing"])
+@pytest.mark.parametrize("path", ["/", "/static/page.js", "/static/lists.js", "/static/german.js", "/static/page.css",
+                                  "/api/search/a", "/nothing"])
 def test_each_answer_forbids_what_the_page_does_not_need(client: FlaskClient, path: str) -> None:
-    headers = asked(client, path, method="GET").headers
+    got = asked(client, path, method="GET")
+    assert got.status_code == (404 if path in ("/api/search/a", "/nothing") else 200)
+    headers = got.headers
     policy = dict(part.strip().split(" ", 1) for part in headers["Content-Security-Policy"].split(";"))
     due = {**dict.fromkeys(("default-src", "frame-ancestors", "form-action", "base-uri"), "'none'"),
            "connect-src": "'self'"}
@@ -122,21 +125,23 @@ def test_each_answer_forbids_what_the_page_does_not_need(client: FlaskClient, pa
         assert re.fullmatch("'sha256-[A-Za-z0-9+/]{43}=' 'self'", policy[name])
     assert (headers["X-Content-Type-Options"], headers["Referrer-Policy"], headers["Cache-Control"]) \
         == ("nosniff", "no-referrer", "no-store")
+    assert {headers[f"Cross-Origin-{name}-Policy"] for name in ("Opener", "Resource")} == {"same-origin"}
     assert "Access-Control-Allow-Origin" not in headers and "Set-Cookie" not in headers
 
 
-@pytest.mark.parametrize("path", ["/../app.py", "/app.py", "/__init__.py", "/%2e%2e/_cli.py", "//etc/passwd"])
+@pytest.mark.parametrize("path", ["/../app.py", "/app.py", "/__init__.py", "/%2e%2e/_cli.py", "//etc/passwd",
+                                  "/static/../app.py", "/static/%2e%2e/app.py", "/static//etc/passwd"])
 def test_only_the_files_of_the_page_are_served(client: FlaskClient, path: str) -> None:
     assert asked(client, path, method="GET").status_code in (308, 404)
 
 
 def test_the_page_asks_for_nothing_from_elsewhere_and_makes_no_html_of_texts() -> None:
-    for name in app.STATIC:
-        text = pathlib.Path(app.__file__).with_name(name).read_text("utf-8")
+    for path in pathlib.Path(app.__file__).with_name("static").iterdir():
+        text = path.read_text("utf-8")
         assert re.findall(r"(?:https?:)?//(?!/)[\w.-]+\.\w", re.sub(r"^\s*// .*$", "", text, flags=re.MULTILINE)) == []
         never = r"innerHTML|outerHTML|insertAdjacent|document\.write|\beval\b|new Function|\bon\w+=[\"']"
         assert re.findall(never, text) == []
-        assert re.findall(r"srcdoc = (.*);", text) == ["now.chart"] * (name == "page.js"), "the chart has a policy"
+        assert re.findall(r"srcdoc = (.*);", text) == ["now.chart"] * (path.name == "page.js"), "the chart has a policy"
 
 
 # What isn't a request
@@ -174,7 +179,7 @@ WRONG: dict[str, tuple[str, Any]] = {
 @pytest.mark.parametrize("what", WRONG)
 def test_another_form_is_refused(client: FlaskClient, what: str) -> None:
     path, body = WRONG[what]
-    assert refused(client, path, body) == (400, plans.OTHER_FORM.text)
+    assert refused(client, path, body) == (400, str(plans.OTHER_FORM))
 
 
 REST = {**PLAN, "at": "2026-12-01T10:00"}
@@ -184,14 +189,14 @@ TELLS: dict[str, tuple[str, Any, str]] = {
     "a job twice": ("/api/plan", {**PLAN, "shop": {**SHOP, "jobs": ["a", "a", "b", "c"]}}, "'a' occurs twice"),
     "no such day": ("/api/plan", {**PLAN, "calendar": {**DATES, "begin": "2026-02-30T06:00"}}, "2026-02-30"),
     "another shift": ("/api/plan", {**PLAN, "calendar": {**DATES, "shifts": "6 to 14"}}, "is not a shift"),
-    "shifts alone": ("/api/plan", {**PLAN, "calendar": {**DATES, "begin": ""}}, "shifts need a date"),
+    "shifts alone": ("/api/plan", {**PLAN, "calendar": {**DATES, "begin": ""}}, '"Shifts" needs "Work begins"'),
     "no unit": ("/api/plan", {**PLAN, "shop": {**SHOP, "unit": ""}}, "the times have no unit"),
     "long dates": ("/api/plan", {**PLAN, "calendar": {**DATES, "closed": "2026-12-24," * 2_000}}, "too long"),
-    "calendars without dates": ("/api/file", {**PLAN, "calendar": {}, "kind": "zip"}, "needs a date"),
-    "a rest without dates": ("/api/rest", {**PLAN, "calendar": {}, "at": "2026-12-01T10:00"}, "needs a date"),
-    "before the beginning": ("/api/rest", {**PLAN, "at": "2026-11-29T10:00"}, "before the work begins"),
+    "calendars without dates": ("/api/file", {**PLAN, "calendar": {}, "kind": "zip"}, 'needs "Work begins"'),
+    "a rest without dates": ("/api/rest", {**PLAN, "calendar": {}, "at": "2026-12-01T10:00"}, '"Now" needs "Work'),
+    "before the beginning": ("/api/rest", {**PLAN, "at": "2026-11-29T10:00"}, 'is before "Work begins"'),
     "all is finished": ("/api/rest", {**PLAN, "at": "2027-11-29T10:00"}, "finished"),
-    "no such machine": ("/api/rest", {**REST, "down": {"x": "2026-12-02T10:00"}}, "'x' isn't"),
+    "no such machine": ("/api/rest", {**REST, "down": {"x": "2026-12-02T10:00"}}, "\"down until\": 'x' isn't"),
     "up again": ("/api/rest", {**REST, "down": {"saw": "2026-12-01T09:00"}}, "'saw' is up"),
     "another decimal sign": ("/api/read", {"rows": [], "options": {**OPTIONS, "decimal": "x"}}, "decimal must"),
 }
@@ -245,7 +250,7 @@ def test_no_value_at_any_place_is_a_fault_of_the_server(data: st.DataObject) -> 
     """What is apart is called here, so that it is quick."""
     found = searches.Searches(1)
     with pytest.MonkeyPatch.context() as patch:
-        patch.setattr(apart.Apart, "result", lambda _, call, body, folder: (True, call(body, folder)))
+        patch.setattr(apart.Apart, "result", lambda _, call, body, folder: call(body, folder))
         client = client_of(found)
         for path, body in REQUESTS:
             place = data.draw(st.sampled_from([*leaves(body)]))
@@ -329,6 +334,13 @@ def test_a_bomb_is_refused_within_seconds(client: FlaskClient) -> None:
     assert time.monotonic() - begun < 20
 
 
+def test_a_table_has_a_greatest_number_of_rows(client: FlaskClient) -> None:
+    head, row = b"job;saw\n", b"a;1\n"
+    status, error = refused(client, "/api/read", {"content": content(head + row * _tables.MOST_ROWS)})
+    assert (status, error) == (422, "the table has more than 10,000 rows")
+    assert len(read(client, head + row * (_tables.MOST_ROWS - 1))["rows"]) == _tables.MOST_ROWS
+
+
 PARTS = ["job", "work", "order", "orders", "wo", "no", "n\u00b0", "fa", " ", ".", "x"]
 
 
@@ -406,6 +418,11 @@ def test_a_plan_is_told_as_the_package_has_it(client: FlaskClient) -> None:
     proved = answer(client, "/api/plan", {**PLAN, "order": ["shelf", "chair", "table", "box"], "least": 160})
     assert (proved["bound"], proved["above"]) == ("16.0 h", round(100 * (worse["span"] - 160) / 160, 1))
     assert answer(client, "/api/plan", {**PLAN, "least": 10**9})["bound"] == "15.5 h", "no bound above a makespan"
+    kept = answer(client, "/api/plan", {**PLAN, "kept": [["box", "chair", "shelf", "gone"], ["shelf", *ORDER[:3]]]})
+    assert kept["moved"] == [[], ["shelf"]], "table isn't in the first one"
+    german = answer(client, "/api/plan", {**PLAN, "language": "de"})
+    assert got["heads"][:2] == ["machine", "work"] and german["heads"][:2] == ["Maschine", "Arbeit"]
+    assert all("<title>Week 49</title>" in each["chart"] for each in (got, german))
 
 
 def test_jobs_that_are_gone_or_new_are_told(client: FlaskClient) -> None:
@@ -491,6 +508,18 @@ def test_a_search_finds_what_the_package_finds(client: FlaskClient) -> None:
     assert sorted(found["order"]) == sorted(SHOP["jobs"]) and found["makespan"] == "15.5 h" and found["isOptimal"]
 
 
+@pytest.mark.parametrize("held", [0, 1])
+def test_a_proof_is_tried_where_no_job_is_held(client: FlaskClient, held: int, monkeypatch: pytest.MonkeyPatch) -> None:
+    def solve(_: pfs.Instance, **options: Any) -> None:
+        raise ValueError(f"{options['prove']} {options['hold']}")
+
+    monkeypatch.setattr(pfs.Instance, "solve", solve)
+    name = answer(client, "/api/search", {**PLAN, "seconds": 1, "held": held})["search"]
+    time.sleep(0.2)
+    got = asked(client, f"/api/search/{name}", method="GET").json
+    assert got and got["error"] == ("None [3]" if held else f"{searches.PROOF} []")
+
+
 def test_held_jobs_keep_their_places_and_new_ones_come_after_them(client: FlaskClient) -> None:
     body = {**LONG, "seconds": 1, "order": ["J9", "J3", "gone", "J5"], "held": 2}
     found = waited(client, answer(client, "/api/search", body)["search"])
@@ -508,10 +537,10 @@ def test_a_search_is_followed_and_ended_with_its_best_order(client: FlaskClient)
 
 
 def test_a_search_that_fails_says_why(client: FlaskClient, monkeypatch: pytest.MonkeyPatch) -> None:
-    def fails(*_: Any) -> None:
+    def fails(*_: Any, **__: Any) -> None:
         raise ValueError("no such search")
 
-    monkeypatch.setattr(searches, "solve", fails)
+    monkeypatch.setattr(pfs.Instance, "solve", fails)
     name = answer(client, "/api/search", LONG)["search"]
     time.sleep(0.2)
     assert refused(client, "/api/plan", {})[0] == 400
@@ -547,10 +576,9 @@ def test_a_search_ends_when_nobody_asks(monkeypatch: pytest.MonkeyPatch) -> None
     names = [answer(client, "/api/search", LONG)["search"] for _ in range(2)]
     monkeypatch.setattr(searches, "FORGET", 0.3)
     end = time.monotonic() + 5
-    while found.running and time.monotonic() < end:
+    while found.runs and time.monotonic() < end:
         time.sleep(0.05)
-    assert not found.running
-    answer(client, "/api/search/none", method="DELETE")
+        answer(client, "/api/search/none", method="DELETE")
     assert found.runs == {}
     assert {asked(client, f"/api/search/{name}", method="GET").status_code for name in names} == {404}
 

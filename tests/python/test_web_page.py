@@ -10,7 +10,7 @@ from typing import Any
 import pytest
 from support.needs import require_module, tool
 from support.tools import TOP, wait_until
-from test_web_server import Server, served
+from test_web_server import LONG, Server, served
 
 for module in ("flask", "waitress", "selenium", "openpyxl"):
     require_module(module)
@@ -21,7 +21,7 @@ from selenium.webdriver.common.keys import Keys
 from selenium.webdriver.remote.webelement import WebElement
 from selenium.webdriver.support.ui import Select
 
-WEB = TOP / "python" / "src" / "pfs" / "web"
+WEB = TOP / "python" / "src" / "pfs" / "web" / "static"
 pytestmark = [pytest.mark.seconds(40), pytest.mark.xdist_group("page")]
 SCRIPT = "<img src=x onerror=\"document.title='run'\">"
 # Times that no order of a second makes optimal, and faults as planners make them.
@@ -257,6 +257,116 @@ def test_a_search_is_ended_and_what_goes_wrong_is_shown(page: Page) -> None:
     page.browser.execute_script("sessionStorage.setItem('token', 'wrong'); location.reload()")
     page.wait(lambda: "token" in page.text("#message"))
     assert [("403" in each or "422" in each) for each in page.logged()].count(False) == 0
+
+
+# Notes what the page asks. With `late`, the next response on a plan waits for it.
+NOTE = """
+window.noted = [];
+window.late = null;
+const own = window.fetch;
+window.fetch = async (path, given = {}) => {
+  const waits = path === "/api/plan" ? window.late : null;
+  if (waits) window.late = null;
+  noted.push([given.method || "GET", path, given.body ? JSON.parse(given.body) : null]);
+  const answer = await own(path, given);
+  await waits;
+  return answer;
+};"""
+
+
+def test_what_the_page_asks_and_keeps(page: Page) -> None:
+    """After each thing that a planner does, the next request has what is on the page, and nothing of before."""
+    run = page.browser.execute_script
+
+    def asked(path: str) -> Any:
+        return run("return (noted.filter(each => each[1] === arguments[0]).at(-1) || [])[2]", path)
+
+    def press(key: str) -> None:
+        run("arguments[0].click()", page.key(key))
+
+    def change(selector: str, value: str) -> None:
+        run("arguments[0].value = arguments[1]; arguments[0].dispatchEvent(new Event('change', {bubbles: true}))",
+            page.one(selector), value)
+
+    page.open()
+    run(NOTE)
+    page.paste(TABLE)
+    page.wait(lambda: "12 jobs" in page.text("#read"))
+    # The table: machines are chosen and renamed, and a row is added. A field takes what is pasted into it.
+    press("3,machine")
+    page.wait(lambda: "1 machines (saw)" in page.text("#read") and asked("/api/read")["options"]["machines"] == ["saw"])
+    page.write(page.key("1,2"), "band")
+    page.wait(lambda: "1 machines (band)" in page.text("#read"))
+    page.click("#all")
+    page.wait(lambda: "2 machines (band, drill)" in page.text("#read"))
+    page.click("#add")
+    page.wait(lambda: "13 jobs" in page.text("#read"))
+    assert [line for line, _ in asked("/api/read")["rows"]] == [*range(1, 15)]
+    count = run("return noted.length")
+    run("""const data = new DataTransfer();
+        data.setData("text/plain", "x;y");
+        arguments[0].dispatchEvent(new ClipboardEvent("paste", {clipboardData: data, bubbles: true}));""",
+        page.key("3,2"))
+    assert run("return noted.length") == count
+    # Two searches have different seeds. A bound of one table says nothing of another one.
+    Select(page.one("#seconds")).select_by_value("2")
+    planned(page)
+    seed = asked("/api/search")["seed"]
+    planned(page)
+    assert asked("/api/search")["seed"] != seed and run("return doc.least") > 0
+    page.write(page.key("3,2"), "1")
+    page.wait(lambda: asked("/api/read")["rows"][2][1][1] == "1" and asked("/api/plan")["least"] == 0)
+    # Plans that are kept come back with their dates, and the right one is forgotten.
+    for title, begin in (("one", "2026-11-30T06:00"), ("two", "2026-12-07T06:00")):
+        change("#title", title)
+        change("#begin", begin)
+        page.wait(lambda: now_begins(page).startswith(begin[:10]))
+        page.click("#keep")
+    page.wait(lambda: len(page.all("#plans tr")) == 3 and len(asked("/api/plan")["kept"]) == 2)
+    page.click("#plans tr:nth-child(2) button")
+    page.wait(lambda: now_begins(page).startswith("2026-11-30"))
+    press("1,forget")
+    page.wait(lambda: len(page.all("#plans tr")) == 2)
+    assert page.text("#plans tr:nth-child(2) td") == "one"
+    # The third job is held with those before it. A response that comes late replaces no later one.
+    press(f"{page.order()[2]}:hold")
+    page.wait(lambda: len(page.all("#order tr.held")) == 3)
+    before = page.order()
+    run("window.late = new Promise(done => { window.come = done; })")
+    press(f"{before[4]}:up")
+    press(f"{before[9]}:down")
+    moved = [*before[:3], before[4], before[3], *before[5:9], before[10], before[9], *before[11:]]
+    page.wait(lambda: page.order() == moved)
+    run("come()")
+    press(f"{moved[0]}:hold")
+    page.wait(lambda: not page.all("#order tr.held") and page.order() == moved)
+    # A search ends with its tab, and while it waits.
+    page.click("#plan")
+    page.wait(lambda: page.one("#end").is_displayed())
+    run("window.dispatchEvent(new Event('pagehide'))")
+    page.wait(lambda: run("return noted.some(([method, path]) => method === 'DELETE' && path.startsWith('/api/sea'))")
+              and not page.one("#end").is_displayed())
+    names = [page.server.answer("/api/search", LONG)["search"] for _ in range(2)]
+    page.click("#plan")
+    page.wait(lambda: "waits for a processor, place 1" in page.text("#progress"))
+    page.click("#end")
+    page.wait(lambda: page.one("#plan").is_enabled() and not page.one("#end").is_displayed())
+    assert page.text("#message") == ""
+    for name in names:
+        page.server.answer(f"/api/search/{name}", method="DELETE")
+    # A new table has no title of another one. What is too large isn't kept, nor what was kept before.
+    run("Storage.prototype.setItem = () => { throw new Error('full'); }")
+    page.paste(TABLE)
+    page.wait(lambda: "too large to survive" in page.text("#read"))
+    assert run("return [sessionStorage.getItem('document'), document.getElementById('title').value]") == [None, ""]
+    page.browser.refresh()
+    Select(page.one("#language")).select_by_value("de")
+    page.wait(lambda: page.text("h1") == "Flie\u00dffertigung planen" and page.text("#read") == "")
+
+
+def now_begins(page: Page) -> str:
+    """When the first job of the plan that is shown begins."""
+    return str(page.browser.execute_script("return now.jobs[0][1]"))
 
 
 def test_in_german_on_a_phone(page: Page) -> None:

@@ -41,10 +41,10 @@ class Server:
         self.process, self.port, self.printed = process, port, printed
         self.token = printed.rpartition("#")[2].split(" ")[0].strip() or TOKEN
 
-    def ask(self, path: str, body: Any = None, method: str = "", timeout: float = 30) -> tuple[int, Any]:
-        with contextlib.closing(http.client.HTTPConnection("127.0.0.1", self.port, timeout=timeout)) as line:
+    def ask(self, path: str, body: Any = None, method: str = "", **headers: str) -> tuple[int, Any]:
+        with contextlib.closing(http.client.HTTPConnection("127.0.0.1", self.port, timeout=30)) as line:
             line.request(method or ("GET" if body is None else "POST"), path, body and json.dumps(body),
-                         {"X-Pfs-Token": self.token, "Content-Type": "application/json"})
+                         {"X-Pfs-Token": self.token, "Content-Type": "application/json", **headers})
             got = line.getresponse()
             text = got.read()
         is_json = got.headers.get("Content-Type", "").startswith("application/json")
@@ -156,30 +156,46 @@ def test_requests_that_are_half_sent_stop_nobody(server: Server) -> None:
 
 @pytest.mark.seconds(25)
 @pytest.mark.xdist_group("load")
-def test_eight_planners_share_two_slots(server: Server) -> None:
-    """Each searches for 2 s, asks all the while, and gets a response at once. All have an order in the end."""
-    seconds, delays, orders = 2, list[float](), list[list[str]]()
+def test_eight_planners_share_two_slots(server: Server, tmp_path: pathlib.Path) -> None:
+    """Each searches for 2 s, asks all the while, and gets a response within 200 ms, and what a server that does nothing
+    else takes on this machine, which may be busy. All have an order in the end."""
+    seconds, delays, bare, orders = 2, list[float](), list[float](), list[list[str]]()
 
-    def plan() -> None:
+    def timed(asked: Server, path: str, times: list[float]) -> Any:
+        begun = time.monotonic()
+        status, found = asked.ask(path)
+        times.append(time.monotonic() - begun)
+        assert status == 200
+        return found
+
+    def plan(other: Server) -> None:
         name = server.answer("/api/search", {**LONG, "seconds": seconds})["search"]
         told: dict[str, Any] = {}
         while told.get("state") != "done":
-            begun = time.monotonic()
-            told = server.answer(f"/api/search/{name}")
-            delays.append(time.monotonic() - begun)
-            time.sleep(0.3)
+            told = timed(server, f"/api/search/{name}", delays)
+            timed(other, "/", bare)
+            time.sleep(0.1)
         orders.append(told["order"])
 
-    threads, begun = [threading.Thread(target=plan) for _ in range(8)], time.monotonic()
-    for each in threads:
-        each.start()
-    for each in threads:
-        each.join()
-    took = time.monotonic() - begun
+    port = free_port()
+    process = subprocess.Popen([sys.executable, "-m", "http.server", str(port), "--bind", "127.0.0.1"], cwd=tmp_path,
+                               stdout=subprocess.DEVNULL, stderr=subprocess.DEVNULL, text=True)
+    try:
+        wait_until(lambda: answers(port), "the bare server answers")
+        threads = [threading.Thread(target=plan, args=(Server(process, port, ""),)) for _ in range(8)]
+        begun = time.monotonic()
+        for each in threads:
+            each.start()
+        for each in threads:
+            each.join()
+        took = time.monotonic() - begun
+    finally:
+        stop(process)
     assert [sorted(order) for order in orders] == [sorted(SHOP["jobs"])] * 8
     # A proof takes another second. The machine may do other things.
     assert 4 * seconds <= took < 4 * (seconds + 1) + 12, "two at a time"
-    assert statistics.median(delays) < 0.3 and max(delays) < 3
+    assert statistics.median(delays) < 0.05 + 2 * statistics.median(bare)
+    assert max(delays) < 0.2 + 2 * max(bare)
 
 
 # Its end
@@ -208,6 +224,17 @@ def test_after_it_was_killed_a_new_one_answers_the_same_page(token_file: pathlib
 
 
 # With a proxy
+
+@pytest.mark.parametrize("is_behind", [True, False])
+def test_a_planner_has_the_address_that_the_proxy_names(is_behind: bool) -> None:
+    """Each has searches of its own. Without a proxy nobody chooses an address. The server's name may have capitals."""
+    with served("--name", "Planning.Example", *["--proxy"] * is_behind) as found:
+        def status(address: str) -> int:
+            return found.ask("/api/search", LONG, Host="PLANNING.example", **{"X-Forwarded-For": address})[0]
+
+        assert [status("192.0.2.1") for _ in range(9)] == [200] * 8 + [429]
+        assert [status("192.0.2.2"), status("192.0.2.1")] == [200 if is_behind else 429, 429]
+
 
 def recipe() -> str:
     """The settings of nginx on the page on installing."""

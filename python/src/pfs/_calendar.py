@@ -144,6 +144,13 @@ class Calendar:
             worked += stop - start
 
 
+def needed(calendar: Calendar | None, what: str) -> Calendar:
+    """Return the calendar, which this needs."""
+    if calendar is None:
+        raise ValueError(f"{what} needs `begin`, which says when the work begins")
+    return calendar
+
+
 class Clock:
     """The moments of an instance's times. Raises a `ValueError` if its unit isn't one of time."""
 

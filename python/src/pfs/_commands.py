@@ -16,13 +16,12 @@ import time
 import zipfile
 import zlib
 from collections.abc import Callable, Iterable, Iterator, Sequence
-from difflib import SequenceMatcher
 from functools import partial
 from itertools import islice
 from types import SimpleNamespace
 
 from pfs import _library as c, _wording
-from pfs._calendar import Calendar, Clock, begin_of, dates_of, days_of, shifts_of, text_of as date_text
+from pfs._calendar import Calendar, Clock, begin_of, dates_of, days_of, needed, shifts_of, text_of as date_text
 from pfs._chart import ending_of
 from pfs._cli import CommandLine, Misused, ShowVersion, number, report, run, written
 from pfs._faults import Fault
@@ -31,11 +30,11 @@ from pfs._instance import Instance
 from pfs._names import CLOCK, amount, shown
 from pfs._now import Beginning, beginning
 from pfs._optional import optional
-from pfs._orders import AFTER_ORDER, FoundOrder, numbers_by_name, order_in, stated_end
+from pfs._orders import AFTER_ORDER, FoundOrder, filled, moved, numbers_by_name, order_in, stated_end
 from pfs._proof import EARLY, MOST_JOBS, MOST_MACHINES, proved
 from pfs._report import JOBS, rows_of, text_table
 from pfs._schedule import Schedule
-from pfs._search import USUAL, Search, by_total, insert_after, limit_of, solve
+from pfs._search import USUAL, Search, limit_of, solve
 from pfs._solution import Solution
 from pfs._state import State
 from pfs._tables import Table, described, table_of, write_table
@@ -175,8 +174,8 @@ def plan_command(given: argparse.Namespace) -> int:
     """Find an order for a table with names, and print it. It is printed before all other output, so an error doesn't
     lose it."""
     calendar = calendar_of(given)
-    if calendar is None and any(path.lower().endswith(".ics") for path in given.schedule):
-        raise ValueError("a schedule with the ending .ics needs --begin, which says when the work begins")
+    if any(path.lower().endswith(".ics") for path in given.schedule):
+        needed(calendar, "a schedule with the ending .ics")
     check_outputs([given.table, given.order, given.compare], given.schedule, given.chart, given.rest)
     words_of(given.language)
     # As a row of a table, so that a name with a comma may be in quotes.
@@ -238,11 +237,11 @@ def plan_search(given: argparse.Namespace, begin: Beginning) -> Search:
         raise ValueError(f"--first: {unknown!r} isn't the name of a job of the table")
     held = list(dict.fromkeys([*found.jobs[:begin.held], *map(numbers.__getitem__, given.first)]))
     order = list(dict.fromkeys([*held, *found.jobs]))
-    new = by_total(shop, [job for job in range(shop.jobs) if job not in order])
+    new = []
     if given.order is not None:
+        new = filled(shop, order, len(held))
         tell(given.order, "left out, as the table has no such jobs", found.gone)
         tell(given.order, "new, and inserted at their best places", [shop.job_name(job) for job in new])
-        insert_after(shop, order, len(held), new)
     return Search(shop, order if given.order is not None else None, 0, given.take, given.passes, given.seed, held,
                   new if given.keep else None, method=given.method)
 
@@ -254,8 +253,6 @@ def compare(path: str | None, shop: Instance, other: FoundOrder, best: Solution,
     order: list[int] = best.order.tolist()
     stated = stated_end(path)
     tell(path, f"says {stated}" if stated else "")
-    blocks = SequenceMatcher(None, other.jobs, order, autojunk=False).get_matching_blocks()
-    stayed = {job for block in blocks for job in order[block.b:block.b + block.size]}
     if len(other.jobs) == shop.jobs and not other.gone:
         before = Solution(other.jobs, shop.makespan(other.jobs))
         ends = [", ".join(ended_at(shop, each, clock)) for each in (before, best)]
@@ -263,7 +260,7 @@ def compare(path: str | None, shop: Instance, other: FoundOrder, best: Solution,
     tell(path, "not in the plan", other.gone)
     tell(path, "new in the plan", [shop.job_name(job) for job in order if job not in other.jobs])
     tell(path, "moved", [f"{shop.job_name(job)} (place {other.jobs.index(job) + 1} to {order.index(job) + 1})"
-                         for job in order if job in other.jobs and job not in stayed])
+                         for job in moved(order, other.jobs)])
 
 
 def tell(path: str, what: str, names: Iterable[str] | None = None) -> None:
@@ -279,8 +276,7 @@ def write_schedule(shop: Instance, best: Solution, path: str, delimiter: str, ma
     if path.lower().endswith(".xlsx"):
         shop.schedule(best).to_xlsx(path, calendar=calendar, language=language)
     elif path.lower().endswith(".ics"):
-        assert calendar is not None
-        shop.schedule(best).to_ics(path, calendar)
+        shop.schedule(best).to_ics(path, needed(calendar, "a calendar"))
     else:
         shop.schedule(best).to_csv(path, delimiter, mark=mark, calendar=calendar, language=language)
 
@@ -294,11 +290,11 @@ def draw(shop: Instance, best: Solution, chart: str, calendar: Calendar | None, 
 
 def calendar_of(given: argparse.Namespace) -> Calendar | None:
     """The calendar that a plan names, if it does."""
-    if given.begin is not None:
+    if given.begin:
         return Calendar(given.begin, given.shift, given.days, given.closed)
-    option = next((option for option in ("shift", "days", "closed") if getattr(given, option)), None)
-    if option is not None:
-        raise ValueError(f"--{option} needs --begin, which says when the work begins")
+    for option in ("shift", "days", "closed"):
+        if getattr(given, option):
+            needed(None, f"`{option}`")
     return None
 
 

@@ -3,6 +3,8 @@ from __future__ import annotations
 
 import argparse
 import sys
+from collections.abc import Iterable
+from datetime import datetime
 from typing import NamedTuple
 
 import numpy as np
@@ -11,7 +13,7 @@ from pfs._calendar import Calendar, Clock, begin_of, text_of
 from pfs._cli import written
 from pfs._instance import Instance
 from pfs._orders import FoundOrder
-from pfs._rest import begun, rest_of, spans_of
+from pfs._rest import Rest, begun, rest_of, spans_of
 
 
 class Beginning(NamedTuple):
@@ -30,19 +32,26 @@ def beginning(given: argparse.Namespace, shop: Instance, found: FoundOrder, cale
         return Beginning(shop, found, given.hold, calendar)
     if calendar is None or given.order is None and given.now:
         raise ValueError("--now needs --begin and --order, and --down needs --begin")
-    clock, now = Clock(calendar, shop), begin_of(given.now or given.begin)
-    if now < calendar.begin:
-        raise ValueError(f"--now: {now} is before --begin")
-    at = clock.time_at(now)
-    check_gone(given.order, shop, found, at)
-    new = [job for job in range(shop.jobs) if job not in set(found.jobs)]
-    left, held, done = rest_of(shop, found.jobs, at, down_until(given.down, clock, shop, at), new)
-    later = Calendar(calendar.start(clock.worked(at)), given.shift, given.days, given.closed)
-    count = left.jobs - len(new)
+    (left, held, done), moment = left_at(shop, found, calendar, given.now or given.begin, given.down, given.order)
+    later = Calendar(moment, given.shift, given.days, given.closed)
+    count = left.jobs - (shop.jobs - len(found.jobs))
     digits = 0 if later.begin.second else -1
     written(sys.stderr, f"from {text_of(later.begin, digits)} on: {len(done)} finished, {held} held, "
                         f"{left.jobs - held} to plan\n")
     return Beginning(left, FoundOrder([*range(count)], found.gone), max(held, given.hold), later)
+
+
+def left_at(shop: Instance, found: FoundOrder, calendar: Calendar, moment: str, down: Iterable[tuple[str, str]],
+            path: str = "the plan") -> tuple[Rest, datetime]:
+    """What is left of an order at a moment, and after it the jobs that the order lacks; and when work continues.
+    Machines are down until these moments."""
+    clock, now = Clock(calendar, shop), begin_of(moment)
+    if now < calendar.begin:
+        raise ValueError(f"`now`: {now} is before `begin`")
+    at = clock.time_at(now)
+    check_gone(path, shop, found, at)
+    new = [job for job in range(shop.jobs) if job not in set(found.jobs)]
+    return rest_of(shop, found.jobs, at, down_until(down, clock, shop, at), new), calendar.start(clock.worked(at))
 
 
 def check_gone(path: str, shop: Instance, found: FoundOrder, at: int) -> None:
@@ -56,17 +65,17 @@ def check_gone(path: str, shop: Instance, found: FoundOrder, at: int) -> None:
                          "have begun in the table")
 
 
-def down_until(given: list[tuple[str, str]], clock: Clock, shop: Instance, at: int) -> dict[int, int]:
+def down_until(given: Iterable[tuple[str, str]], clock: Clock, shop: Instance, at: int) -> dict[int, int]:
     """Return until when machines are down, by their numbers."""
     numbers = {shop.machine_name(machine).casefold(): machine for machine in range(shop.machines)}
     found: dict[int, int] = {}
     for name, moment in given:
         machine, until = numbers.get(name.strip().casefold()), clock.time_at(begin_of(moment))
         if machine is None:
-            raise ValueError(f"--down: {name!r} isn't the name of a machine of the table")
+            raise ValueError(f"`down`: {name!r} isn't the name of a machine of the table")
         if machine in found:
-            raise ValueError(f"--down: {name!r} is there twice")
+            raise ValueError(f"`down`: {name!r} is there twice")
         if until <= at:
-            raise ValueError(f"--down: {name!r} is up again by then ({moment})")
+            raise ValueError(f"`down`: {name!r} is up again by then ({moment})")
         found[machine] = until
     return found

@@ -4,9 +4,10 @@ from __future__ import annotations
 import csv
 import os
 import re
-from collections.abc import Collection, Iterator
+from bisect import bisect_left
+from collections.abc import Collection, Iterator, Sequence
 from itertools import chain, islice, takewhile
-from typing import NamedTuple
+from typing import NamedTuple, TypeVar
 
 from pfs._atomic import text_cell
 from pfs._faults import TableFault
@@ -15,6 +16,7 @@ from pfs._instance import Instance
 from pfs._names import shown
 from pfs._order_text import numbers_in, words_in
 from pfs._report import OPERATIONS
+from pfs._search import by_total, insert_after
 from pfs._tables import delimiter_of, is_above_names, lines_of, records, text_of
 from pfs._words import words_of
 
@@ -24,6 +26,9 @@ AFTER = (re.compile("optimal"), re.compile(r"end [0-9]{4}-[0-9]{2}-[0-9]{2} [0-9
 # The line after the jobs of a plan, where a report follows.
 AFTER_ORDER = "---"
 PLACED = re.compile(r"[0-9]+(?:[.):;,]\s*|\s+)(.+)")
+
+# A job, by its number or by its name.
+Job = TypeVar("Job", int, str)
 
 
 class FoundOrder(NamedTuple):
@@ -77,6 +82,36 @@ def numbers_by_name(shop: Instance) -> dict[str, int]:
     names = [shop.job_name(job) for job in range(shop.jobs)]
     return {text: job for texts in ([*map(shown, names)], [*map(text_cell, names)], names)
             for job, text in enumerate(texts)}
+
+
+def filled(shop: Instance, order: list[int], held: int) -> list[int]:
+    """Insert the jobs that an order lacks at their best places after the held ones, and return them."""
+    new = by_total(shop, sorted({*range(shop.jobs)} - {*order}))
+    insert_after(shop, order, held, new)
+    return new
+
+
+def moved(order: Sequence[Job], other: Sequence[Job]) -> list[Job]:
+    """Return the jobs of an order that have moved since another one: all that it has too, but for the longest sequence
+    that is in both.
+
+    >>> moved(["a", "b", "c", "new", "d"], ["b", "c", "d", "gone", "a"])
+    ['a']
+    """
+    places = {job: place for place, job in enumerate(other)}
+    # The least last place of a sequence of each length, its last job, and the job before each one.
+    ends: list[int] = []
+    lasts: list[Job] = []
+    befores: dict[Job, Job | None] = {}
+    for job in order:
+        if job in places:
+            at = bisect_left(ends, places[job])
+            ends[at:at + 1], lasts[at:at + 1], befores[job] = [places[job]], [job], lasts[at - 1] if at else None
+    stayed, last = set[Job](), lasts[-1] if lasts else None
+    while last is not None:
+        stayed.add(last)
+        last = befores[last]
+    return [job for job in order if job in places and job not in stayed]
 
 
 def named_jobs(text: str, path: str, numbers: dict[str, int], heads: Collection[tuple[str, ...]]) -> Iterator[

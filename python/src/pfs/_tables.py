@@ -659,22 +659,27 @@ def reject_sums(table: Rows, times: Order) -> None:
             raise table.fault(last, f"the {others.format(last.text)}: leave it out, or allow totals (`allow_totals`)")
 
 
+def text_rows(shop: Instance) -> Iterator[list[str]]:
+    """The rows of a table of times, as texts with decimal points."""
+    yield [f"job [{shop.unit}]" if shop.unit else "job", *map(shop.machine_name, range(shop.machines))]
+    for job, row in enumerate(shop.times.tolist()):
+        yield [shop.job_name(job), *(amount(time, shop.decimals, shop.unit) for time in row)]
+
+
 def write_table(path: str, shop: Instance, delimiter: str, mark: bool) -> None:
     """Write a table of times that `table_of` reads as this instance, as a workbook or as CSV."""
-    head = [f"job [{shop.unit}]" if shop.unit else "job", *map(shop.machine_name, range(shop.machines))]
-    times: list[list[int]] = shop.times.tolist()
+    head, *texts = text_rows(shop)
     if path.lower().endswith(".xlsx"):
         rows = [[shop.job_name(job), *(cell_of(time, shop.decimals, shop.unit) for time in row)]
-                for job, row in enumerate(times)]
+                for job, row in enumerate(shop.times.tolist())]
         write_workbook(path, [("times", [head, *rows])])
         return
     text = io.StringIO()
     writer = csv.writer(text, delimiter=delimiter, lineterminator="\n")
     writer.writerow(map(text_cell, head))
     point = "," if delimiter == ";" else "."
-    for job, row in enumerate(times):
-        writer.writerow([text_cell(shop.job_name(job)),
-                         *(amount(time, shop.decimals, shop.unit).replace(".", point) for time in row)])
+    for name, *row in texts:
+        writer.writerow([text_cell(name), *(time.replace(".", point) for time in row)])
     atomic_write(path, text.getvalue().encode("utf-8-sig" if mark else "utf-8"))
 
 

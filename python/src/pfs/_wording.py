@@ -12,6 +12,12 @@ WORDS = {
     "machines": ("--machines", "the ticks above the columns"),
     "sheet": ("--sheet", "Sheet, above the table"),
     "decimals": ("--decimals", "Decimals, above the table"),
+    "begin": ("--begin", '"Work begins"'),
+    "shift": ("--shift", '"Shifts"'),
+    "days": ("--days", '"Days"'),
+    "closed": ("--closed", '"Holidays"'),
+    "now": ("--now", '"Now"'),
+    "down": ("--down", '"down until"'),
 }
 ARGUMENT = re.compile(f"`({'|'.join(WORDS)})`")
 

@@ -12,7 +12,6 @@ import stat
 import sys
 import tempfile
 import webbrowser
-from typing import NoReturn
 
 from pfs._cli import CommandLine, Misused, ShowVersion, number, run
 from pfs._optional import optional
@@ -54,14 +53,12 @@ def token_in(path: str | None) -> str:
     return text
 
 
-def serve(given: argparse.Namespace) -> NoReturn:
-    """Serve until a signal ends it."""
+def serve(given: argparse.Namespace) -> int:
+    """Serve until a signal ends it, and return the exit status."""
     if given.host != "127.0.0.1" and not (given.name and given.token_file):
         raise Misused("--host needs --name, by which planners open the page, and --token-file")
-    for module in ("flask", "waitress"):
-        optional(module, "pfs-web")
-    import waitress
-
+    optional("flask", "pfs-web")
+    waitress = optional("waitress", "pfs-web")
     from pfs.web.app import MOST_BODY, made
     from pfs.web.searches import Searches
     logging.basicConfig(level=logging.INFO, format="%(asctime)s %(message)s")
@@ -74,13 +71,7 @@ def serve(given: argparse.Namespace) -> NoReturn:
         made(hosts, token, searches), host=given.host, port=given.port, threads=16, ident=None, connection_limit=200,
         channel_timeout=30, max_request_body_size=MOST_BODY, max_request_header_size=16_384,
         clear_untrusted_proxy_headers=True, **proxy)
-
-    def end(*_: object) -> NoReturn:
-        searches.end_all()
-        raise SystemExit(0)
-
-    for each in (signal.SIGINT, signal.SIGTERM):
-        signal.signal(each, end)
+    signal.signal(signal.SIGTERM, signal.default_int_handler)
     address = f"http://{own[0]}:{given.port}/#{token if given.token_file is None else ''}"
     print(address if given.token_file is None else f"{address} and the token in {given.token_file}", flush=True)
     with tempfile.NamedTemporaryFile("w", prefix="pfs-web-", suffix=".html") as file:
@@ -89,7 +80,8 @@ def serve(given: argparse.Namespace) -> NoReturn:
             print(f'<meta http-equiv="refresh" content="0; url={address}">', file=file, flush=True)
             webbrowser.open(pathlib.Path(file.name).as_uri())
         server.run()
-    raise SystemExit(0)
+    searches.end_all()
+    return 0
 
 
 def main() -> int:

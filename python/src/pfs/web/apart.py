@@ -18,12 +18,12 @@ AT_ONCE, MOST_WAITING = 2, 6
 Call = Callable[[dict[str, Any], str], Any]
 
 
-class Wrong(Exception):
+class Wrong(ValueError):
     """A request that is rejected: the message for the planner, and the status of HTTP."""
 
     def __init__(self, text: str, status: int = 422) -> None:
-        super().__init__(text, status)
-        self.text, self.status = text, status
+        super().__init__(text)
+        self.status = status
 
 
 class Apart:
@@ -37,34 +37,34 @@ class Apart:
         self.slots, self.places = threading.Semaphore(AT_ONCE), threading.Semaphore(AT_ONCE + MOST_WAITING)
 
     def __call__(self, call: Call, given: dict[str, Any]) -> Any:
-        """Return what the call returns or raise what it raises. Its second argument is an empty folder, which is
-        removed in any case."""
+        """Return what the call returns, or raise what it raises. It also gets an empty folder, which is removed."""
         if not self.places.acquire(blocking=False):
             raise Wrong("the server is busy: try again in a minute", 503)
         try:
             with self.slots, tempfile.TemporaryDirectory(prefix="pfs-web-") as folder:
-                is_good, found = self.result(call, given, folder)
+                found = self.result(call, given, folder)
         finally:
             self.places.release()
-        if is_good:
-            return found
-        raise found or Wrong("it takes too long or too much memory: use a smaller table")
+        if isinstance(found, Exception):
+            raise found
+        return found
 
-    def result(self, call: Call, given: dict[str, Any], folder: str) -> tuple[bool, Any]:
-        """Run a call in a new process: whether it returned, and what it returned or raised; None if it was ended."""
+    def result(self, call: Call, given: dict[str, Any], folder: str) -> Any:
+        """Run a call in a new process, and return what it returned or raised."""
         here, there = self.context.Pipe(duplex=False)
         process = self.context.Process(target=serve, args=(there, call, given, folder), daemon=True)
         process.start()
         there.close()
         try:
-            is_good, found = here.recv() if here.poll(MOST_SECONDS) else (False, None)
-            return is_good, found
+            if here.poll(MOST_SECONDS):
+                return here.recv()
         except EOFError:
-            return False, None
+            """The process has died."""
         finally:
             process.kill()
             process.join()
             here.close()
+        return Wrong("it takes too long or too much memory: use a smaller table")
 
 
 def serve(there: Connection, call: Call, given: dict[str, Any], folder: str) -> None:
@@ -72,8 +72,8 @@ def serve(there: Connection, call: Call, given: dict[str, Any], folder: str) -> 
     for kind, most in ((resource.RLIMIT_CPU, MOST_WORK), (resource.RLIMIT_AS, MOST_MEMORY), (resource.RLIMIT_CORE, 0)):
         resource.setrlimit(kind, (most, most))
     try:
-        there.send((True, call(given, folder)))
+        there.send(call(given, folder))
     except MemoryError:
         """The pipe is closed without a result."""
     except Exception as error:
-        there.send((False, error))
+        there.send(error)

@@ -3,47 +3,45 @@ are called apart (`pfs.web.apart`)."""
 from __future__ import annotations
 
 import base64
-import binascii
 import csv
 import io
 import pathlib
 import zipfile
+from argparse import Namespace
 from typing import Any
 
 from pfs import _tables as tables
-from pfs._calendar import Calendar, Clock, begin_of, text_of
-from pfs._commands import ended_at, span_text
+from pfs._calendar import Clock, needed, text_of
+from pfs._commands import calendar_of, draw, ended_at, span_text, write_schedule
 from pfs._faults import TableFault
 from pfs._instance import Instance
 from pfs._names import amount
-from pfs._orders import numbers_by_name
+from pfs._now import left_at
+from pfs._orders import FoundOrder, filled, moved, numbers_by_name
 from pfs._report import rows_of
-from pfs._schedule import Schedule
-from pfs._search import by_total, insert_after
 from pfs._solution import Solution
 from pfs._wording import as_controls
+from pfs._words import words_of
 from pfs._workbooks import MOST_ROWS, Workbook
 from pfs.web.apart import Wrong
 
-# The most times of a table, faults that are listed, and letters of a title, a unit, and texts about dates.
-MOST_TIMES, MOST_FAULTS, MOST_TITLE, MOST_LETTERS = 400_000, 2_000, 200, 10_000
+# The most times of a table, faults that are listed, and letters of a text.
+MOST_TIMES, MOST_FAULTS, MOST_LETTERS = 400_000, 2_000, 10_000
+KINDS = ("csv", "html", "pdf", "txt", "xlsx", "zip")
 OTHER_FORM = Wrong("the request has another form than those of this server's page", 400)
 
 
-def field(given: dict[str, Any], name: str, kind: type, default: Any = None) -> Any:
-    """A field of a request, which has this type; the default if it is missing or null."""
-    value = given.get(name)
-    if value is not None and type(value) is not kind:
+def field(given: dict[str, Any], name: str, kind: type[Any], default: Any = None, most: int = MOST_LETTERS) -> Any:
+    """A field of a request, which has this type; the default if it is missing or null. A number is from 0 to `most`,
+    and a text has at most so many letters."""
+    value: Any = given.get(name)
+    if value is None:
+        return default
+    if type(value) is not kind or kind is int and not 0 <= value <= most:
         raise OTHER_FORM
-    return default if value is None else value
-
-
-def text(given: dict[str, Any], name: str, most: int = MOST_TITLE) -> str:
-    """A text, empty by default, which has at most this length."""
-    found: str = field(given, name, str, "")
-    if len(found) > most:
+    if kind is str and len(texts([value])[0]) > most:
         raise Wrong(f"a text is too long: {most:,} letters are the most")
-    return texts([found])[0]
+    return value
 
 
 def texts(given: Any) -> list[str]:
@@ -54,14 +52,6 @@ def texts(given: Any) -> list[str]:
     return given
 
 
-def whole(given: dict[str, Any], name: str, most: int) -> int:
-    """A whole number from 0 on, 0 by default."""
-    number: int = field(given, name, int, 0)
-    if not 0 <= number <= most:
-        raise OTHER_FORM
-    return number
-
-
 # Tables
 
 def read(given: dict[str, Any], folder: str) -> dict[str, Any]:
@@ -69,13 +59,9 @@ def read(given: dict[str, Any], folder: str) -> dict[str, Any]:
     options = field(given, "options", dict, {})
     if "content" not in given:
         return read_rows(given.get("rows"), options)
-    try:
-        content = base64.b64decode(field(given, "content", str, ""), validate=True)
-    except binascii.Error:
-        raise OTHER_FORM from None
-    name, sheet = text(given, "name", MOST_LETTERS), text(options, "sheet")
-    faults: list[TableFault] = []
-    sheets: list[str] = []
+    content = base64.b64decode(field(given, "content", str, "", 2**23), validate=True)
+    name, sheet = field(given, "name", str, ""), field(options, "sheet", str)
+    faults, sheets = list[TableFault](), list[str]()
     if content.startswith(tables.ARCHIVE):
         book = Workbook(content, name)
         sheets, sheet = book.names, sheet if sheet in book.names else book.first
@@ -92,20 +78,23 @@ def read(given: dict[str, Any], folder: str) -> dict[str, Any]:
 
 def read_rows(rows: Any, options: dict[str, Any]) -> dict[str, Any]:
     """The shop of a table, or its faults by their cells."""
-    machines, delimiter = field(options, "machines", list), field(options, "delimiter", str, ",")
+    machines, delimiter = texts(field(options, "machines", list, [])), field(options, "delimiter", str, ",")
     if delimiter not in (",", ";", "\t"):
         raise OTHER_FORM
     try:
         table = tables.table_in(
-            text_from(rows, delimiter).encode(), "table", text(options, "unit"), field(options, "decimal", str),
-            field(options, "totals", bool, False), None if machines is None else texts(machines), None,
-            field(options, "decimals", int))
+            text_from(rows, delimiter).encode(), "table", field(options, "unit", str, ""),
+            field(options, "decimal", str) or None, field(options, "totals", bool, False), machines or None,
+            None, field(options, "decimals", int))
     except TableFault as fault:
         found = [{"line": each.line, "column": each.column, "text": as_controls(each.text)}
                  for each in (fault, *fault.others)]
         return {"faults": found[:MOST_FAULTS], "more": len(found[MOST_FAULTS:]),
                 "suggested": tables.likely_machines(rows)}
-    return {"faults": [], "more": 0, "suggested": [], "shop": fields_of(table.shop), "rounded": table.rounded}
+    shop = table.shop
+    return {"faults": [], "more": 0, "suggested": [], "rounded": table.rounded,
+            "shop": {"jobs": shop.job_names, "machines": shop.machine_names, "unit": shop.unit,
+                     "decimals": shop.decimals, "times": shop.times.tolist()}}
 
 
 def text_from(rows: Any, delimiter: str) -> str:
@@ -122,12 +111,6 @@ def text_from(rows: Any, delimiter: str) -> str:
     return out.getvalue()
 
 
-def fields_of(shop: Instance) -> dict[str, Any]:
-    """A shop as the page has it and sends it back."""
-    return {"jobs": [shop.job_name(job) for job in range(shop.jobs)], "unit": shop.unit, "decimals": shop.decimals,
-            "machines": [shop.machine_name(machine) for machine in range(shop.machines)], "times": shop.times.tolist()}
-
-
 def shop_from(given: dict[str, Any]) -> Instance:
     """The shop of a request."""
     fields = field(given, "shop", dict, {})
@@ -136,51 +119,54 @@ def shop_from(given: dict[str, Any]) -> Instance:
         raise OTHER_FORM
     if sum(map(len, times)) > MOST_TIMES:
         raise Wrong(f"the table has more than {MOST_TIMES:,} times")
-    return Instance(times, name=text(given, "title"), job_names=jobs, machine_names=machines,
-                    unit=text(fields, "unit"), decimals=whole(fields, "decimals", 9))
+    return Instance(times, name=field(given, "title", str, ""), job_names=jobs, machine_names=machines,
+                    unit=field(fields, "unit", str, ""), decimals=field(fields, "decimals", int, 0, 9))
 
 
 # Plans
 
-def order_from(shop: Instance, names: list[str], held: int) -> tuple[list[int], list[str], list[int]]:
-    """The order with these names, the names that the table lacks, and the jobs that the names lack, which are inserted
+def order_from(shop: Instance, names: list[str], held: int) -> tuple[list[int], dict[str, list[str]]]:
+    """The order with these names, the names that the table lacks, and those that the names lack, which are inserted
     where they are best after the first ones."""
     numbers = numbers_by_name(shop)
     order = list(dict.fromkeys(numbers[name] for name in names if name in numbers))
-    new = by_total(shop, sorted({*range(shop.jobs)} - {*order}))
-    insert_after(shop, order, min(held, len(order)), new)
-    return order, [name for name in names if name not in numbers], new
+    new = filled(shop, order, min(held, len(order)))
+    return order, {"gone": [name for name in names if name not in numbers], "new": [*map(shop.job_name, new)]}
 
 
-def plan_from(given: dict[str, Any]) -> tuple[Schedule, Calendar | None, dict[str, list[str]]]:
-    """The schedule of a request, its dates, and the names of jobs that its order or its table lacks."""
-    shop = shop_from(given)
-    order, gone, new = order_from(shop, texts(given.get("order")), whole(given, "held", shop.jobs))
-    return shop.schedule(order), calendar_from(given), {"gone": gone, "new": [shop.job_name(job) for job in new]}
+class Plan:
+    """A plan of a request: its shop, its order with the greatest bound that is known, and its dates."""
 
+    def __init__(self, given: dict[str, Any]) -> None:
+        shop = self.shop = shop_from(given)
+        order, self.others = order_from(shop, texts(given.get("order")), field(given, "held", int, 0, shop.jobs))
+        self.schedule = self.shop.schedule(order)
+        self.best = Solution(self.schedule.order, self.schedule.makespan)
+        self.best.bound = min(max(self.shop.bound(), field(given, "least", int, 0, 2**53)), self.best.makespan)
+        # A line has a shift; a comma is between days and dates.
+        begin, shifts, days, closed = (field(field(given, "calendar", dict, {}), name, str, "").strip() or ()
+                                       for name in ("begin", "shifts", "days", "closed"))
+        lines = [line for line in map(str.strip, shifts.split("\n")) if line] if shifts else ()
+        self.calendar = calendar_of(Namespace(begin=begin, shift=lines, days=days, closed=closed))
+        # It can't name a file.
+        self.language = "de" if field(given, "language", str) == "de" else "en"
 
-def calendar_from(given: dict[str, Any]) -> Calendar | None:
-    """When there is work. A line has a shift; a comma is between days and dates."""
-    fields = field(given, "calendar", dict, {})
-    begin, shifts, days, closed = (text(fields, name, MOST_LETTERS).strip()
-                                   for name in ("begin", "shifts", "days", "closed"))
-    if not begin and (shifts or days or closed):
-        raise Wrong("shifts need a date and time at which the work begins")
-    lines = [line for line in map(str.strip, shifts.split("\n")) if line]
-    return Calendar(begin, lines, days or (), closed or ()) if begin else None
+    def draw(self, path: pathlib.Path) -> None:
+        draw(self.shop, self.best, str(path), self.calendar, self.shop.name or True, self.language)
 
 
 def told(given: dict[str, Any], folder: str) -> dict[str, Any]:
-    """What a plan comes to, with its chart."""
-    schedule, calendar, others = plan_from(given)
-    shop, report, span = schedule.instance, schedule.report(), schedule._texts(calendar)
-    best, chart = Solution(schedule.order, schedule.makespan), pathlib.Path(folder, "chart.html")
-    _, *end = ended_at(shop, best, None if calendar is None else Clock(calendar, shop))
-    _, *machines = rows_of(report, lambda time: amount(time, shop.decimals, shop.unit))
-    draw(schedule, chart, given, calendar)
-    best.bound = min(max(shop.bound(), whole(given, "least", 2**53)), best.makespan)
-    return {**quality(shop, best), **others, "end": end[0].removeprefix("end ") if end else "", "machines": machines,
-            "bottleneck": report.bottleneck, "jobs": [[each.name, *span(each.start, each.end)] for each in report.jobs],
+    """What a plan comes to, with its chart, and the jobs that have moved from orders that were kept."""
+    plan, chart = Plan(given), pathlib.Path(folder, "chart.html")
+    shop, report, span = plan.shop, plan.schedule.report(), plan.schedule._texts(plan.calendar)
+    _, *end = ended_at(shop, plan.best, None if plan.calendar is None else Clock(plan.calendar, shop))
+    heads, *machines = rows_of(report, lambda time: amount(time, shop.decimals, shop.unit))
+    plan.draw(chart)
+    return {**quality(shop, plan.best), **plan.others,
+            "end": end[0].removeprefix("end ") if end else "", "bottleneck": report.bottleneck, "machines": machines,
+            "heads": [*map(words_of(plan.language), heads)],
+            "moved": [moved([job.name for job in report.jobs], texts(each)) for each in field(given, "kept", list, [])],
+            "jobs": [[each.name, *span(each.start, each.end)] for each in report.jobs],
             "chart": chart.read_text("utf-8")}
 
 
@@ -190,56 +176,31 @@ def quality(shop: Instance, best: Solution) -> dict[str, Any]:
             "isOptimal": best.optimal, "above": round(100 * (best.makespan - best.bound) / max(1, best.bound), 1)}
 
 
-def language_of(given: dict[str, Any]) -> str:
-    """The language of charts and lists. It can't name a file."""
-    return "de" if text(given, "language") == "de" else "en"
-
-
-def draw(schedule: Schedule, path: pathlib.Path, given: dict[str, Any], calendar: Calendar | None) -> None:
-    schedule.plot(path, critical=True, bound=True, calendar=calendar, title=text(given, "title") or True,
-                  language=language_of(given))
-
-
 def file(given: dict[str, Any], folder: str) -> bytes:
     """A plan as a file of this kind."""
-    schedule, calendar, _ = plan_from(given)
-    kind, path = given["kind"], pathlib.Path(folder, f"plan.{given['kind']}")
+    if (kind := given.get("kind")) not in KINDS:
+        raise OTHER_FORM
+    plan, path = Plan(given), pathlib.Path(folder, f"plan.{kind}")
     if kind == "txt":
-        names = map(schedule.instance.job_name, schedule.order.tolist())
-        path.write_text("".join(f"{name}\n" for name in names), "utf-8")
-    elif kind == "csv":
-        schedule.to_csv(path, ";", mark=True, calendar=calendar, language=language_of(given))
-    elif kind == "xlsx":
-        schedule.to_xlsx(path, calendar=calendar, language=language_of(given))
-    elif kind == "zip":
-        if calendar is None:
-            raise Wrong("a calendar needs a date and time at which the work begins")
-        with zipfile.ZipFile(path, "w", zipfile.ZIP_DEFLATED) as archive:
-            for each in schedule.to_ics(pathlib.Path(folder, "plan.ics"), calendar):
-                archive.write(each, pathlib.Path(each).name)
+        path.write_text("".join(f"{job.name}\n" for job in plan.schedule.report().jobs), "utf-8")
+    elif kind in ("html", "pdf"):
+        plan.draw(path)
+    elif kind != "zip":
+        write_schedule(plan.shop, plan.best, str(path), ";", True, plan.calendar, plan.language)
     else:
-        draw(schedule, path, given, calendar)
+        with zipfile.ZipFile(path, "w", zipfile.ZIP_DEFLATED) as archive:
+            for each in plan.schedule.to_ics(pathlib.Path(folder, "plan.ics"), needed(plan.calendar, "a calendar")):
+                archive.write(each, pathlib.Path(each).name)
     return path.read_bytes()
 
 
 def rest(given: dict[str, Any], folder: str) -> dict[str, Any]:
     """The table of what is left of a plan at a moment, with its order and the date from which on it is planned."""
-    schedule, calendar, _ = plan_from(given)
-    if calendar is None:
-        raise Wrong("a plan from now on needs a date and time at which the work begins")
-    now, clock = begin_of(text(given, "at")), Clock(calendar, schedule.instance)
-    if now < calendar.begin:
-        raise Wrong(f"{now} is before the work begins")
-    at, machines = clock.time_at(now), field(given, "down", dict, {})
-    down = {machine: clock.time_at(begin_of(text(machines, machine))) for machine in machines}
-    late = next((machine for machine, until in down.items() if until <= at), None)
-    if late is not None:
-        raise Wrong(f"{late!r} is up again by then")
-    left, held, done = schedule.rest(at, down)
-    shop = fields_of(left)
-    rows = [[1, [f"job [{left.unit}]", *shop["machines"]]],
-            *([line, [name, *(amount(time, left.decimals, left.unit) for time in times)]]
-              for line, (name, times) in enumerate(zip(shop["jobs"], shop["times"]), 2))]
-    return {"rows": rows, "delimiter": ",", "order": shop["jobs"], "held": held, "done": done,
-            "begin": text_of(calendar.start(clock.worked(at)), 0).replace(" ", "T"),
-            **read_rows(rows, {"totals": True, "machines": shop["machines"]})}
+    plan, down = Plan(given), field(given, "down", dict, {})
+    until = [(machine, field(down, machine, str, "")) for machine in down]
+    (left, held, done), begin = left_at(plan.shop, FoundOrder(plan.best.order.tolist(), {}),
+                                        needed(plan.calendar, "`now`"), field(given, "at", str, ""), until)
+    rows: list[Any] = [[line, row] for line, row in enumerate(tables.text_rows(left), 1)]
+    return {"rows": rows, "delimiter": ",", "order": left.job_names, "held": held, "done": done,
+            "begin": text_of(begin, 0).replace(" ", "T"),
+            **read_rows(rows, {"totals": True, "machines": rows[0][1][1:]})}

@@ -39,7 +39,7 @@ const GERMAN = {
   "{jobs} jobs, {machines} machines ({names}), times in {unit}, decimals: {decimals}":
     "{jobs} Aufträge, {machines} Maschinen ({names}), Zeiten in {unit}, Nachkommastellen: {decimals}",
   "no unit": "keiner Einheit", "is a machine": "ist eine Maschine", "leave this row out": "diese Zeile weglassen",
-  "new": "neu", "pasted": "eingefügt",
+  "new": "neu", "pasted": "eingefügt", "forget this plan": "diesen Plan vergessen",
   "waits for a processor, place {place}": "wartet auf einen Prozessor, Platz {place}",
   "{makespan} so far, no order is below {bound}; {left} s left":
     "bisher {makespan}, unter {bound} geht es nicht; noch {left} s",
@@ -47,15 +47,12 @@ const GERMAN = {
   "at most {above} % above the shortest: no order is below {bound}":
     "höchstens {above} % über der kürzesten: unter {bound} geht es nicht",
   "left out, as the table lacks them:": "weggelassen, da nicht in der Tabelle:",
-  "new, and inserted where they are best:": "neu und dort eingefügt, wo sie am besten sind:", "machine": "Maschine",
-  "work": "Arbeit", "used %": "genutzt %", "waits before": "wartet davor", "between": "dazwischen", "after": "danach",
-  "critical %": "kritisch %", "down until": "steht bis", "hold up to here": "bis hier halten", "place": "Platz",
-  "earlier": "früher", "later": "später",
+  "new, and inserted where they are best:": "neu und dort eingefügt, wo sie am besten sind:", "place": "Platz",
+  "down until": "steht bis", "hold up to here": "bis hier halten", "earlier": "früher", "later": "später",
   "first after what is held, and hold it": "vorziehen, direkt nach dem Gehaltenen, und halten",
-  "Say in “Dates and shifts” when the work begins.": "Bitte bei „Termine und Schichten“ den Arbeitsbeginn eintragen.",
   "finished and left out:": "fertig und weggelassen:", "nothing is finished by then": "bis dahin ist nichts fertig",
-  "job ends": "Auftrag endet", "shown": "gezeigt", "plan": "Plan", "makespan": "Gesamtdauer",
-  "jobs that move": "verschobene Aufträge", "Show": "Zeigen", "forget this plan": "diesen Plan vergessen",
+  "job ends": "Auftrag endet", "shown": "gezeigt", "plan": "Plan", "Plan {number}": "Plan {number}",
+  "makespan": "Gesamtdauer", "jobs that move": "verschobene Aufträge", "Show": "Zeigen",
 };
 const FAULTS = [
   [/^the time is missing: .*/, "die Zeit fehlt: 0, wo ein Auftrag eine Maschine auslässt"],
@@ -67,7 +64,8 @@ const FAULTS = [
   [/^the (?:job|machine) '(.*)' is in (\w+) too/, "'$1' steht auch in $2"],
   [/^the (?:job|machine) has no name.*/, "der Name fehlt"],
   [/^'(.*)' may be (\d+), or have decimals.*/, "'$1' kann $2 sein oder Nachkommastellen haben: Dezimalzeichen wählen"],
-  [/^the server is busy.*|^too many searches.*/, "der Server ist ausgelastet: bitte in einer Minute noch einmal"],
+  [/.* needs "Work begins", .*/, "Bitte bei „Termine und Schichten“ den Arbeitsbeginn eintragen."],
+  [/^(the server (is busy|has too)|too many searches).*/, "der Server ist ausgelastet: bitte bald noch einmal"],
   [/^The token is missing or wrong.*/, "In der Adresse fehlt das Kennwort: die Adresse öffnen, die der Server nennt."],
 ];
 const language = localStorage.getItem("language") || (navigator.language.startsWith("de") ? "de" : "en");
@@ -80,17 +78,14 @@ function fault(text) {
   const found = language === "de" && FAULTS.find(([pattern]) => pattern.test(text));
   return found ? text.trim().replace(...found) : text;
 }
-function translatePage() {
-  document.documentElement.lang = language;
-  const texts = document.createTreeWalker(document.documentElement, NodeFilter.SHOW_TEXT);
-  while (texts.nextNode()) {
-    const own = texts.currentNode.data, known = own.trim().replace(/\s+/g, " ");
-    if (GERMAN[known]) texts.currentNode.data = own.replace(own.trim(), tr(known));
-  }
-  for (const name of ["aria-label", "title"])
-    for (const each of document.querySelectorAll(`[${name}]`)) each.setAttribute(name, tr(each.getAttribute(name)));
-  const choice = document.getElementById("language");
-  choice.value = language;
-  choice.onchange = () => { localStorage.setItem("language", choice.value); location.reload(); };
+document.documentElement.lang = language;
+const texts = document.createTreeWalker(document.documentElement, NodeFilter.SHOW_TEXT);
+while (texts.nextNode()) {
+  const own = texts.currentNode.data, known = own.trim().replace(/\s+/g, " ");
+  if (GERMAN[known]) texts.currentNode.data = own.replace(own.trim(), tr(known));
 }
-translatePage();
+for (const name of ["aria-label", "title"])
+  for (const each of document.querySelectorAll(`[${name}]`)) each.setAttribute(name, tr(each.getAttribute(name)));
+const choice = document.getElementById("language");
+choice.value = language;
+choice.onchange = () => { localStorage.setItem("language", choice.value); location.reload(); };

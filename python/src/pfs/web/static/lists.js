@@ -8,9 +8,8 @@ function made(kind, text, parent, properties) {
 }
 // A control, with a label for those who don't see it, and a key by which it gets the focus again.
 function control(kind, key, label, parent, properties) {
-  const element = made(kind, null, parent, {title: label, ...properties});
+  const element = made(kind, null, parent, {title: label, ariaLabel: label, ...properties});
   element.dataset.key = key;
-  element.setAttribute("aria-label", label);
   return element;
 }
 // A row of a table. The cells after the first one have this class.
@@ -25,11 +24,12 @@ let isDrawing = false;
 function listIn(box, draw, head) {
   const table = made("table", null, box), top = made("thead", null, table), body = made("tbody", null, table);
   let count = 0, from = -1, to = -1;
-  const space = rows => {
-    const row = made("tr", null, null, {className: "space"});
-    row.style.height = `${rows * HIGH}px`;
-    return row;
-  };
+  const space = rows => made("tr", null, null, {className: "space", style: `height: ${rows * HIGH}px`});
+  function focusOn(key) {
+    const found = box.querySelector(`[data-key="${CSS.escape(key)}"]`);
+    if (found) found.focus({preventScroll: true});
+    return found;
+  }
   function update(isNew) {
     const first = Math.max(0, Math.floor(box.scrollTop / HIGH) - MORE);
     const last = Math.min(count, first + Math.ceil((box.clientHeight || 400) / HIGH) + 2 * MORE);
@@ -40,27 +40,19 @@ function listIn(box, draw, head) {
     if (key !== undefined && !isNew) own.blur();
     [from, to] = [first, last];
     const rows = Array.from({length: last - first}, (_, at) => draw(first + at));
+    rows.forEach((row, at) => { row.ariaRowIndex = first + at + 1; });
     isDrawing = true;
     body.replaceChildren(space(first), ...rows, space(count - last));
     const found = key !== undefined && focusOn(key);
     // What is being written while a change before it is read again.
-    if (found && found.type === "text") {
-      found.value = typed;
-      found.setSelectionRange(start, end);
-    }
+    if (found && found.type === "text") Object.assign(found, {value: typed, selectionStart: start, selectionEnd: end});
     isDrawing = false;
-  }
-  function focusOn(key) {
-    const found = [...box.querySelectorAll("[data-key]")].find(each => each.dataset.key === key);
-    if (found) found.focus({preventScroll: true});
-    return found;
   }
   box.addEventListener("scroll", () => update(false));
   return {
     show(rows) {
       box.hidden = !rows;
-      count = rows;
-      table.setAttribute("aria-rowcount", rows);
+      count = table.ariaRowCount = rows;
       top.replaceChildren(...head ? [head()] : []);
       update(true);
     },
@@ -72,22 +64,6 @@ function listIn(box, draw, head) {
       return focusOn(key);
     },
   };
-}
-// The jobs of two orders that stay: the longest sequence that both have. All others have moved.
-function stayed(one, two) {
-  const places = new Map(two.map((job, at) => [job, at])), ends = [], before = new Map();
-  for (const job of one.filter(each => places.has(each))) {
-    let low = 0, high = ends.length;
-    while (low < high) {
-      const middle = (low + high) >> 1;
-      if (places.get(ends[middle]) < places.get(job)) low = middle + 1; else high = middle;
-    }
-    before.set(job, ends[low - 1]);
-    ends[low] = job;
-  }
-  const found = new Set();
-  for (let job = ends.at(-1); job !== undefined; job = before.get(job)) found.add(job);
-  return found;
 }
 // The name of a cell, as spreadsheets have it.
 function letters(column) {
