@@ -31,7 +31,7 @@ from pfs._names import CLOCK, amount, shown
 from pfs._now import Beginning, beginning
 from pfs._optional import optional
 from pfs._orders import AFTER_ORDER, FoundOrder, filled, moved, numbers_by_name, order_in, stated_end
-from pfs._proof import EARLY, MOST_JOBS, MOST_MACHINES, proved
+from pfs._proof import EARLY, MOST_JOBS, MOST_MACHINES, is_small, proved
 from pfs._report import JOBS, rows_of, text_table
 from pfs._schedule import Schedule
 from pfs._search import USUAL, Search, limit_of, solve
@@ -194,8 +194,7 @@ def plan_command(given: argparse.Namespace) -> int:
     search = plan_search(given, begin)
     other = FoundOrder([], {}) if given.compare is None else order_in(given.compare, shop, given.language)
     with signals() as caught:
-        is_tried = (given.prove and not search.held and not given.keep
-                    and shop.jobs <= MOST_JOBS and shop.machines <= MOST_MACHINES)
+        is_tried = given.prove and not search.held and not given.keep and is_small(shop)
         early = min(EARLY, given.prove, given.seconds) if is_tried and given.rounds is None else 0
         best, fault = searched(search, given.rounds, given.seconds, caught, lambda _: None, early)
         if fault is None and is_tried:

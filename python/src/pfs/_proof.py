@@ -28,6 +28,11 @@ EARLY = 0.1
 LOOK, GRACE = 0.02, 0.1
 
 
+def is_small(shop: Instance) -> bool:
+    """Whether a proof can be tried."""
+    return shop.jobs <= MOST_JOBS and shop.machines <= MOST_MACHINES
+
+
 class Call(threading.Thread):
     """A call of the library with a number of nodes. It can't be stopped, and doesn't keep the program from ending."""
 
@@ -57,7 +62,7 @@ class Proof:
     def run(self, seconds: float, is_stopped: Callable[[], bool]) -> None:
         """Search until it is proved, for at most some seconds."""
         end, nodes = time.monotonic() + seconds, NODES
-        if self.shop.jobs > MOST_JOBS or self.shop.machines > MOST_MACHINES:
+        if not is_small(self.shop):
             return
         while nodes and not self.best.optimal and not is_stopped() and (begun := time.monotonic()) < end:
             call = Call(self.shop, self.best.order.astype(np.uint32).tobytes(), nodes)

@@ -9,7 +9,7 @@ from queue import SimpleQueue
 from typing import Any
 
 from pfs._commands import span_text
-from pfs._proof import EARLY
+from pfs._proof import EARLY, is_small
 from pfs._solution import Solution
 from pfs.web.apart import Wrong
 from pfs.web.plans import field, order_from, quality, shop_from, texts
@@ -53,7 +53,7 @@ class Run:
         try:
             start = order_from(self.shop, self.names, self.held)[0] if self.names else None
             held = (start or [])[:self.held]
-            best = None if held else self.shop.optimum(EARLY, start=start, stop=self)
+            best = None if held or not is_small(self.shop) else self.shop.optimum(EARLY, start=start, stop=self)
             self.best = best if best and best.optimal else self.shop.solve(
                 method="iterated-greedy", seed=self.seed, start=start, hold=held, stop=self, time_limit=self.seconds,
                 progress=self.progress, prove=None if held else PROOF)
