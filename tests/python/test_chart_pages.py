@@ -660,3 +660,30 @@ def test_the_page_tells_the_times_of_the_csv(unit: str, decimals: int, calendar:
     seen = seen_of(chromium, made, tmp_path, script, calendar=calendar)["spans"]
     assert {(job, machine): seen["xyz".index(machine)]["abcde".index(job)] for job, machine, *_ in rows} \
         == {(job, machine): times for job, machine, *times in rows}
+
+
+def test_sheets_have_their_days_and_their_paper_and_a_tip_stays_in_the_window(chromium: str,
+                                                                              tmp_path: pathlib.Path) -> None:
+    """A sheet has the stretch of its day, also the last one, and A3 is wider than A4 by the root of two."""
+    script = """
+    const seen = {}, own = draw;
+    draw = () => { own(); seen[paper.value].push([from, to, width]); };
+    for (const size of ["A4", "A3"]) {
+      seen[size] = [];
+      paper.value = size;
+      print.value = "days";
+      beginPrint();
+      endPrint();
+    }
+    draw = own;
+    send("pointermove", PointerEvent, width - RIGHT - 2, yOf(machines - 1) + ROW / 2, {pointerId: 1});
+    const {right} = tip.getBoundingClientRect();
+    tell({...seen, tip: tip.textContent, isInside: right <= window.innerWidth});
+    """
+    made = plan([f"{name} {name * 20}" for name in NAMES])
+    seen = seen_of(chromium, made, tmp_path, script, calendar=DATES)
+    days = range(-(-made.makespan // 240))
+    assert [each[:2] for each in seen["A4"]][:len(days)] \
+        == [[240 * day, min(240 * (day + 1), made.makespan)] for day in days]
+    assert 1.3 < seen["A3"][0][2] / seen["A4"][0][2] < 1.5
+    assert NAMES[int(made.order[-1])] * 20 in seen["tip"] and seen["isInside"]
