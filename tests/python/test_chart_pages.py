@@ -678,7 +678,8 @@ def test_sheets_have_their_days_and_their_paper_and_a_tip_stays_in_the_window(ch
     draw = own;
     send("pointermove", PointerEvent, width - RIGHT - 2, yOf(machines - 1) + ROW / 2, {pointerId: 1});
     const {right} = tip.getBoundingClientRect();
-    tell({...seen, tip: tip.textContent, isInside: right <= window.innerWidth});
+    tell({...seen, tip: tip.textContent, isInside: right <= window.innerWidth,
+          isOpen: places.open});
     """
     made = plan([f"{name} {name * 20}" for name in NAMES])
     seen = seen_of(chromium, made, tmp_path, script, calendar=DATES)
@@ -686,4 +687,4 @@ def test_sheets_have_their_days_and_their_paper_and_a_tip_stays_in_the_window(ch
     assert [each[:2] for each in seen["A4"]][:len(days)] \
         == [[240 * day, min(240 * (day + 1), made.makespan)] for day in days]
     assert 1.3 < seen["A3"][0][2] / seen["A4"][0][2] < 1.5
-    assert NAMES[int(made.order[-1])] * 20 in seen["tip"] and seen["isInside"]
+    assert NAMES[int(made.order[-1])] * 20 in seen["tip"] and seen["isInside"] and not seen["isOpen"]
