@@ -644,3 +644,47 @@ def test_the_lists_are_there_without_scripts(tmp_path: pathlib.Path) -> None:
     rows = re.findall(r"<tr>(?:<td[^>]*>([^<]*))(?:<td[^>]*>([^<]*))(?:<td[^>]*>([^<]*))(?:<td[^>]*>([^<]*))", lists)
     assert rows[0] == ("1", "&lt;b&gt;", "06:00", "Sat 2026-12-05 08:40")
     assert '<div id="drawn" hidden>' in text and "<noscript>" in text and "<h1>KW &lt;48&gt;</h1>" in text
+
+
+@pytest.mark.parametrize(("unit", "decimals", "calendar"), [
+    ("h:mm", 0, None), ("h", 1, None), ("min", 0, pfs.Calendar("2026-11-27T12:00", "06:00-14:00", "mon-fri")),
+    ("min", 2, pfs.Calendar("2026-11-27T12:00", ["06:00-14:00", "fri:22:00-02:00"], "mon-fri", "2026-11-30"))])
+def test_the_page_tells_the_times_of_the_csv(unit: str, decimals: int, calendar: pfs.Calendar | None, chromium: str,
+                                             tmp_path: pathlib.Path) -> None:
+    """With minutes below ten, decimals, operations that end with a shift, others that take no time, and later weeks."""
+    times = [[120, 0, 5], [480, 485, 475], [960, 1, 2400], [0, 2400, 9_999], [7, 7, 1]]
+    made = pfs.Instance(times, job_names=[*"abcde"], machine_names=[*"xyz"], unit=unit, decimals=decimals).schedule(
+        range(5))
+    script = "tell({spans: table.machines.map((_, machine) => table.jobs.map((_, place) => spanOf(machine, place)))})"
+    rows = [line.split(",") for line in str(made.to_csv(calendar=calendar)).splitlines()[1:]]
+    seen = seen_of(chromium, made, tmp_path, script, calendar=calendar)["spans"]
+    assert {(job, machine): seen["xyz".index(machine)]["abcde".index(job)] for job, machine, *_ in rows} \
+        == {(job, machine): times for job, machine, *times in rows}
+
+
+def test_sheets_have_their_days_and_their_paper_and_a_tip_stays_in_the_window(chromium: str,
+                                                                              tmp_path: pathlib.Path) -> None:
+    """A sheet has the stretch of its day, also the last one, and A3 is wider than A4 by the root of two."""
+    script = """
+    const seen = {}, own = draw;
+    draw = () => { own(); seen[paper.value].push([from, to, width]); };
+    for (const size of ["A4", "A3"]) {
+      seen[size] = [];
+      paper.value = size;
+      print.value = "days";
+      beginPrint();
+      endPrint();
+    }
+    draw = own;
+    send("pointermove", PointerEvent, width - RIGHT - 2, yOf(machines - 1) + ROW / 2, {pointerId: 1});
+    const {right} = tip.getBoundingClientRect();
+    tell({...seen, tip: tip.textContent, isInside: right <= window.innerWidth,
+          isOpen: places.open});
+    """
+    made = plan([f"{name} {name * 20}" for name in NAMES])
+    seen = seen_of(chromium, made, tmp_path, script, calendar=DATES)
+    days = range(-(-made.makespan // 240))
+    assert [each[:2] for each in seen["A4"]][:len(days)] \
+        == [[240 * day, min(240 * (day + 1), made.makespan)] for day in days]
+    assert 1.3 < seen["A3"][0][2] / seen["A4"][0][2] < 1.5
+    assert NAMES[int(made.order[-1])] * 20 in seen["tip"] and seen["isInside"] and not seen["isOpen"]

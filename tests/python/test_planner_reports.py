@@ -1,9 +1,11 @@
-"""Reports of plans: by hand, against the schedule, in workbooks and in print."""
+"""Reports of plans: by hand, against the schedule, in workbooks and in print; and the jobs that have moved."""
+import itertools
 import pathlib
 
 import pfs
 import pytest
-from hypothesis import given
+from hypothesis import given, strategies as st
+from pfs._orders import moved
 from support import plainly
 from support.commands import ended
 
@@ -72,3 +74,14 @@ def test_a_workbook_has_the_report(folder: pathlib.Path) -> None:
     assert [*book["machines"].values][1:] == MACHINES and [*book["jobs"].values][1:] == JOBS
     pfs.Instance([[90, 5]], unit="h:mm").schedule([0]).to_xlsx(folder / "plan.xlsx")
     assert openpyxl.load_workbook(folder / "plan.xlsx")["machines"]["B2"].number_format == "[h]:mm"
+
+
+@given(st.permutations("abcdef"), st.lists(st.sampled_from("abcdefgh"), unique=True))
+def test_as_few_jobs_as_possible_have_moved(order: list[str], other: list[str]) -> None:
+    """All others are in both orders one after the other, and no more jobs are so."""
+    def both(jobs: set[str]) -> bool:
+        return [job for job in order if job in jobs] == [job for job in other if job in jobs]
+
+    found, common = moved(order, other), {*order} & {*other}
+    assert {*found} <= common and both(common - {*found})
+    assert not any(both({*jobs}) for jobs in itertools.combinations(common, len(common) - len(found) + 1))

@@ -556,6 +556,8 @@ def test_searches_wait_in_a_queue_and_are_limited(monkeypatch: pytest.MonkeyPatc
     try:
         names = [answer(client, "/api/search", LONG)["search"] for _ in range(3)]
         assert [answer(client, f"/api/search/{name}", method="GET")["place"] for name in names] == [0, 1, 2]
+        waited(client, names[0], lambda told: told["rounds"] > 0)
+        assert [run.state for run in found.runs.values()] == ["searching", "waiting", "waiting"]
         assert refused(client, "/api/search", LONG)[0] == 429
         monkeypatch.setattr(searches, "MOST_OF_ONE", 9)
         names.append(answer(client, "/api/search", LONG)["search"])

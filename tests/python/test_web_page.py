@@ -416,6 +416,10 @@ def test_five_thousand_jobs(page: Page) -> None:
     Select(page.one("#seconds")).select_by_value("2")
     planned(page)
     assert len(page.all("#table tbody tr")) < 100 and len(page.all("#order tbody tr")) < 100
+    page.browser.execute_script("const box = byId('order'); box.scrollIntoView(); box.scrollTop = 2000 * 32")
+    row = """const {left, top} = byId("order").getBoundingClientRect();
+        return document.elementFromPoint(left + 300, top + 40).closest("tr").ariaRowIndex"""
+    page.wait(lambda: page.browser.execute_script(row) in ("2001", "2002", "2003"), "the rows of this place are drawn")
     page.browser.execute_script("const box = document.getElementById('order'); box.scrollTop = box.scrollHeight")
     page.wait(lambda: any(each.get_attribute("value") == "5000" for each in page.all("#order input[type=number]")))
     assert page.logged() == []

@@ -271,11 +271,18 @@ def test_the_recipe_for_nginx_serves_the_page_by_tls(token_file: pathlib.Path, t
             stop(proxy)
 
 
-def test_the_unit_is_one_that_systemd_reads(tmp_path: pathlib.Path) -> None:
+def test_the_unit_is_one_that_systemd_reads_and_has_few_rights(tmp_path: pathlib.Path) -> None:
+    """Each right that it has counts, up to 100 for all. The page on installing writes the files that it reads."""
     analyze = shutil.which("systemd-analyze")
     if analyze is None:
         pytest.skip("systemd isn't installed")
     unit = tmp_path / "pfs-web.service"
-    unit.write_text((TOP / "debian" / "pfs-web.service").read_text().replace("/usr/bin/pfs-web", "/bin/true"))
+    text = re.sub("^#.*", "", (TOP / "debian" / "pfs-web.service").read_text(), flags=re.MULTILINE)
+    unit.write_text(text.replace("/usr/bin/pfs-web", "/bin/true"))
     done = run_tool([analyze, "verify", "--man=no", unit], tmp_path)
     assert "pfs-web" not in done.stderr, done.stderr
+    done = run_tool([analyze, "security", "--no-pager", "--offline=true", "--threshold=16", unit], tmp_path)
+    assert done.status == 0, done.stdout
+    files = [set(re.findall(r"/etc/(?:[\w/.-]*token|default/pfs-web)\b", each))
+             for each in (text, (TOP / "docs" / "INSTALL.md").read_text())]
+    assert files[0] == files[1] and len(files[0]) == 2

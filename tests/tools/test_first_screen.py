@@ -12,7 +12,7 @@ case $* in
     echo '0 upgraded, 55 newly installed, 0 to remove and 3 not upgraded.'
     echo 'Need to get 60.5 MB of archives.'
     exit 1 ;;
-*' -y '*) exit {status} ;;
+*' -y --no-install-recommends nosuch') exit {status} ;;
 esac
 """
 

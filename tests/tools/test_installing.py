@@ -137,6 +137,7 @@ def test_a_program_is_built_by_pkg_config_and_by_cmake(prefix: pathlib.Path, fol
 @pytest.mark.parametrize(("name", "is_built"), [
     ("crates.txt", True), ("crates/pfs/stdin", True), ("crates/pfs/src/main.rt", True),
     ("crates/pfs_base/src/lib.rt", True), ("crates/pfs_layout/specs/Block.antt", True),
+    ("crates/pfs_layout/proofs/Computing.antt", True),
     (PROGRAM, True), ("share/pfs.1", False), ("README.md", False), ("crates/pfs_tests/src/lib.rt", False)])
 def test_a_program_that_is_older_than_a_source_or_missing_is_built(name: str, is_built: bool, copy: Copy,
                                                                    folder: pathlib.Path) -> None:
@@ -153,6 +154,17 @@ def test_a_program_that_is_older_than_a_source_or_missing_is_built(name: str, is
         os.utime(path, (OLD, OLD))
         for made in (copy.top / PROGRAM, library):
             os.utime(made, (NEW, NEW))
+
+
+@pytest.mark.parametrize(("name", "is_old"), [
+    ("lib/pfs_text.c", 1), ("lib/pfs.h", 1), ("crates/pfs_c/src/lib.rt", 1),
+    ("crates/pfs_layout/proofs/Computing.antt", 1), ("crates/pfs_desk/src/lib.rt", 0), ("README.md", 0)])
+def test_a_library_that_is_older_than_a_source_would_be_built(name: str, is_old: int, copy: Copy) -> None:
+    os.utime(copy.top / name, (NEW + 1, NEW + 1))
+    try:
+        assert copy.make("lib/out/" + SHARED, "-q").status == is_old
+    finally:
+        os.utime(copy.top / name, (OLD, OLD))
 
 
 # What the program needs
