@@ -443,7 +443,7 @@ def test_two_libraries_agree_on_random_instances(libpfs: Library) -> None:
     for _ in range(SHOPS):
         for name, arguments in searches(random, shop_of(random)):
             assert assert_same(libpfs, name, arguments) == 0, (name, arguments)
-            for wrong in [spoilt(random, arguments) for _ in range(6)]:
+            for wrong in [spoilt(random, arguments) for _ in range(9)]:
                 if is_quick(name, wrong):
                     numbers.add(assert_same(libpfs, name, wrong))
     assert numbers == {0, *range(2, 10), 16, 17}
