@@ -1,4 +1,4 @@
-#!/usr/bin/env python3
+#!/usr/bin/python3
 """Changes one place of the package for Python at a time, in a copy of the checkout, and runs the tests that run this
 place, the quickest first: do they find it? Prints the changes that no test finds, and the share that is found, in all
 and by module. tests/equivalent.txt lists changes that mean the same, each with its reason. They aren't tried.
@@ -20,13 +20,15 @@ import subprocess
 import sys
 import tempfile
 from collections import Counter, defaultdict
+from typing import Any
 
 sys.dont_write_bytecode = True
-from support.changes import PACKAGE, Change, Source
-from support.tools import TOP
+from support.changes import PACKAGE, TOP, Change, Source
 
 MADE = TOP / "out" / "mutants"
 PYTEST = ["/usr/bin/python3", "-B", "-m", "pytest", "-q"]
+# Those of the package but for the page for planners in a browser, which shows few lines of it.
+TESTS = ["tests/python", "--ignore=tests/python/test_web_page.py"]
 # Seconds that the tests of a change took when they were noted, and that a run may take; bytes of its memory.
 MOST_TESTS, MOST_SECONDS, MOST_MEMORY = 40, 120, 12 << 30
 # What a run kills is in the run, and ends with it.
@@ -36,11 +38,8 @@ APART = ["unshare", "--pid", "--fork", "--kill-child", "--mount-proc", "sh", "-c
 class Map:
     """Which tests run a line, and how many seconds each takes."""
 
-    def __init__(self, files: list[Source]) -> None:
+    def __init__(self, files: list[Source], kept: dict[str, Any]) -> None:
         self.files = {source.name: source for source in files}
-        kept = json.loads((MADE / "map").read_text())
-        if kept["sources"] != checksum():
-            sys.exit("mutants: the package or its tests have changed: `tests/mutants.py --map` runs them again")
         self.seconds: dict[str, float] = kept["seconds"]
         self.lines: dict[str, dict[str, list[str]]] = kept["lines"]
 
@@ -69,13 +68,20 @@ def checksum() -> str:
     return found.hexdigest()
 
 
+def is_noted() -> bool:
+    """Whether the tests were noted since the package or a test has changed."""
+    return (MADE / "map").is_file() and json.loads((MADE / "map").read_text())["sources"] == checksum()
+
+
 def make_map(words: list[str]) -> int:
     """Run the tests, and keep which lines of the package each that passes runs, also in processes that it starts."""
     import coverage
     shutil.rmtree(MADE, ignore_errors=True)
     site = MADE / "user/lib" / f"python{sys.version_info.major}.{sys.version_info.minor}/site-packages"
     site.mkdir(parents=True)
-    (site / "measured.pth").write_text("import coverage; coverage.process_startup()\n")
+    found = pathlib.Path(coverage.__file__).parents[1]
+    (site / "measured.pth").write_text(f"import sys; sys.path.append('{found}'); import coverage; sys.path.pop(); "
+                                       "coverage.process_startup()\n")
     (MADE / "settings").write_text(f"[run]\nbranch = true\nparallel = true\nsigterm = true\nsource = {PACKAGE}\n"
                                    f"data_file = {MADE}/data\ncontext = ${{PFS_CONTEXT-}}\n")
     env = os.environ | {"PYTHONUSERBASE": str(MADE / "user"), "COVERAGE_PROCESS_START": str(MADE / "settings")}
@@ -155,8 +161,10 @@ def main() -> int:
         parser.add_argument(f"--{name}", type=int, default=default)
     parser.add_argument("--only", default="")
     given = parser.parse_args()
+    if not is_noted():
+        make_map(["-n", str(given.jobs), *TESTS])
     files = [Source(path) for path in sorted(PACKAGE.rglob("*.py"))]
-    noted, copies = Map(files), queue.SimpleQueue[pathlib.Path]()
+    noted, copies = Map(files, json.loads((MADE / "map").read_text())), queue.SimpleQueue[pathlib.Path]()
     tried, seen = Counter[str](), Counter[str]()
 
     def run(pair: tuple[Source, Change]) -> tuple[Source, Change, int, str]:
