@@ -86,6 +86,13 @@ def make_map(words: list[str]) -> int:
                                    f"data_file = {MADE}/data\ncontext = ${{PFS_CONTEXT-}}\n")
     env = os.environ | {"PYTHONUSERBASE": str(MADE / "user"), "COVERAGE_PROCESS_START": str(MADE / "settings")}
     status = subprocess.run([*PYTEST, *words], cwd=TOP, env=env).returncode
+    keep_map()
+    return status
+
+
+def keep_map() -> None:
+    """Keep which tests run a line, and the seconds of each test, from what their processes have noted."""
+    import coverage
     measured = coverage.Coverage(config_file=str(MADE / "settings"))
     measured.combine()
     noted = [json.loads(line) for line in (MADE / "tests").read_text().splitlines()]
@@ -101,7 +108,6 @@ def make_map(words: list[str]) -> int:
         line: sorted({test for name in contexts for test in shared.get(name, (name,)) if test in seconds})
         for line, contexts in data.contexts_by_lineno(file).items()} for file in data.measured_files()}
     (MADE / "map").write_text(json.dumps({"sources": checksum(), "seconds": seconds, "lines": lines}))
-    return status
 
 
 def copied(folder: pathlib.Path) -> pathlib.Path:
