@@ -7,14 +7,12 @@ usage: tests/mutants.py [--seed N] [--jobs N] [--least PERCENT] [--only WORD] [C
        tests/mutants.py --map [WORDS..]   runs pytest with these words, and keeps which test runs which lines"""
 import argparse
 import concurrent.futures
-import hashlib
 import json
 import os
 import pathlib
 import queue
 import random
 import resource
-import shutil
 import signal
 import subprocess
 import sys
@@ -24,11 +22,8 @@ from typing import Any
 
 sys.dont_write_bytecode = True
 from support.changes import PACKAGE, TOP, Change, Source
+from support.noted import MADE, PYTEST, TESTS, is_noted, make_map
 
-MADE = TOP / "out" / "mutants"
-PYTEST = ["/usr/bin/python3", "-B", "-m", "pytest", "-q"]
-# Those of the package but for the page for planners in a browser, which shows few lines of it.
-TESTS = ["tests/python", "--ignore=tests/python/test_web_page.py"]
 # Seconds that the tests of a change took when they were noted, and that a run may take; bytes of its memory.
 MOST_TESTS, MOST_SECONDS, MOST_MEMORY = 40, 120, 12 << 30
 # What a run kills is in the run, and ends with it.
@@ -57,57 +52,6 @@ class Map:
                 break
             chosen.append(test)
         return chosen
-
-
-def checksum() -> str:
-    """Of the package and its tests."""
-    found = hashlib.sha256()
-    for path in sorted([*PACKAGE.rglob("*.*"), *(TOP / "tests").rglob("*.py")]):
-        if path.suffix != ".pyc" and path.name != pathlib.Path(__file__).name:
-            found.update(str(path).encode() + path.read_bytes())
-    return found.hexdigest()
-
-
-def is_noted() -> bool:
-    """Whether the tests were noted since the package or a test has changed."""
-    return (MADE / "map").is_file() and json.loads((MADE / "map").read_text())["sources"] == checksum()
-
-
-def make_map(words: list[str]) -> int:
-    """Run the tests, and keep which lines of the package each that passes runs, also in processes that it starts."""
-    import coverage
-    shutil.rmtree(MADE, ignore_errors=True)
-    site = MADE / "user/lib" / f"python{sys.version_info.major}.{sys.version_info.minor}/site-packages"
-    site.mkdir(parents=True)
-    found = pathlib.Path(coverage.__file__).parents[1]
-    (site / "measured.pth").write_text(f"import sys; sys.path.append('{found}'); import coverage; sys.path.pop(); "
-                                       "coverage.process_startup()\n")
-    (MADE / "settings").write_text(f"[run]\nbranch = true\nparallel = true\nsigterm = true\nsource = {PACKAGE}\n"
-                                   f"data_file = {MADE}/data\ncontext = ${{PFS_CONTEXT-}}\n")
-    env = os.environ | {"PYTHONUSERBASE": str(MADE / "user"), "COVERAGE_PROCESS_START": str(MADE / "settings")}
-    status = subprocess.run([*PYTEST, *words], cwd=TOP, env=env).returncode
-    keep_map()
-    return status
-
-
-def keep_map() -> None:
-    """Keep which tests run a line, and the seconds of each test, from what their processes have noted."""
-    import coverage
-    measured = coverage.Coverage(config_file=str(MADE / "settings"))
-    measured.combine()
-    noted = [json.loads(line) for line in (MADE / "tests").read_text().splitlines()]
-    failed = {name for name, passed, *_ in noted if not passed}
-    seconds, shared = Counter[str](), defaultdict(set)
-    for name, _, took, fixtures in noted:
-        if name not in failed and "chromium" not in fixtures and "page" not in fixtures:
-            seconds[name] += took
-            for fixture in fixtures:
-                shared[f"={fixture}"].add(name)
-    data = measured.get_data()
-    lines = {str(pathlib.Path(file).relative_to(PACKAGE)): {
-        line: sorted({test for name in contexts for test in shared.get(name, (name,)) if test in seconds})
-        for line, contexts in data.contexts_by_lineno(file).items()} for file in data.measured_files()}
-    (MADE / "map").write_text(json.dumps({"sources": checksum(), "seconds": seconds, "lines": lines}))
 
 
 def copied(folder: pathlib.Path) -> pathlib.Path:
@@ -146,7 +90,7 @@ def found(source: Source, change: Change, tests: list[str], copy: pathlib.Path) 
 def equivalent() -> set[str]:
     """The changes that mean the same."""
     blocks = (TOP / "tests/equivalent.txt").read_text().split("\n\n")[1:]
-    return {block.split("\n# ")[0] for block in blocks}
+    return {block.partition("\n# ")[0] for block in blocks}
 
 
 def chosen(files: list[Source], seed: int, count: int) -> list[tuple[Source, Change]]:
@@ -171,7 +115,7 @@ def main() -> int:
         make_map(["-n", str(given.jobs), *TESTS])
     files = [Source(path) for path in sorted(PACKAGE.rglob("*.py"))]
     noted, copies = Map(files, json.loads((MADE / "map").read_text())), queue.SimpleQueue[pathlib.Path]()
-    tried, seen = Counter[str](), Counter[str]()
+    tried, seen, late = Counter[str](), Counter[str](), 0
 
     def run(pair: tuple[Source, Change]) -> tuple[Source, Change, int, str]:
         source, change = pair
@@ -183,18 +127,22 @@ def main() -> int:
     with tempfile.TemporaryDirectory(prefix="pfs-mutants-") as folder:
         for number in range(given.jobs):
             copies.put(copied(pathlib.Path(folder) / str(number)))
+        quickest = sorted(noted.seconds, key=noted.seconds.__getitem__)[:100]
+        if found(files[0], Change(files[0].name, "", range(0)), quickest, pathlib.Path(folder) / "0"):
+            sys.exit("mutants: tests fail without a change")
         with concurrent.futures.ThreadPoolExecutor(given.jobs) as workers:
             pairs = chosen([source for source in files if given.only in source.name], given.seed, given.count)
             for source, change, tests, how in workers.map(run, pairs):
                 tried[source.name] += 1
                 seen[source.name] += bool(how)
+                late += how == "time"
                 if not how:
                     line = source.text.count(b"\n", 0, change.start) + 1
                     print(f"not found by {tests} tests, line {line} of\n{source.shown(change)}\n", flush=True)
     for name in sorted(tried):
         print(f"{seen[name]:4} of {tried[name]:4}  {name}")
     share = 100 * seen.total() / max(1, tried.total())
-    print(f"{seen.total():4} of {tried.total():4}  in all: {share:.1f} %, seed {given.seed}")
+    print(f"{seen.total():4} of {tried.total():4}  in all: {share:.1f} %, {late} by the time limit, seed {given.seed}")
     return int(share < given.least)
 
 

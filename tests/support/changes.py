@@ -1,5 +1,6 @@
-"""Plausible slips in a Python file, one place at a time: another sign, a value that is one more, a condition negated, an
-argument swapped or left out, a copy that isn't made, a statement left out, the value of another `return`."""
+"""Plausible slips in a Python file, one place at a time: another sign, a value by one, a condition negated, an argument
+swapped or left out, a copy that isn't made, a statement left out, an exception swallowed, the value of another
+`return`."""
 import ast
 import contextlib
 import pathlib
