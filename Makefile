@@ -5,6 +5,8 @@
 ## make check      what to run before each commit: layout, types, scripts and pages, in less than a minute
 ## make test       proves and tests all that a change has to pass but the mutants (tools/test; times: docs/TESTS.md)
 ## make fuzz       compares the built program with a second program on random input, for MINUTES (5)
+## make mutants    changes the package for Python in COUNT (300) places, one after the other, and prints the changes that
+##                 no test finds (tests/mutants.py)
 ## make install    installs the program, its manual page, the completions and the pages below PREFIX, an absolute path
 ##                 (and that below DESTDIR), and the library for C if `make lib` has built it. It proves and builds the
 ##                 program first if it is missing or older than a source. The package for Python is apart: make wheel
@@ -15,8 +17,9 @@
 ##                 archive for apt, with an SPDX list and sums, which SIGN=KEY signs. It proves and builds them first
 ## make wheel      the wheel of the package for Python alone, in the folder DIST
 ## make taillard   writes Taillard's 120 instances into experiments/out/taillard
-.PHONY: help try run check test fuzz install uninstall docs dist wheel taillard
+.PHONY: help try run check test fuzz mutants install uninstall docs dist wheel taillard
 MINUTES = 5
+COUNT = 300
 PYTEST = /usr/bin/python3 -m pytest
 DIST = dist
 PREFIX = /usr/local
@@ -76,6 +79,9 @@ test:
 
 fuzz: run
 	tests/fuzz.py --seconds $$((60 * $(MINUTES)))
+
+mutants: $(PROGRAM) $(LIBRARY)
+	tests/mutants.py $(COUNT)
 
 $(PROGRAM): crates.txt $(shell find crates \( -name out -o -name must-fail -o -name pfs_c -o -name pfs_calls \
     -o -name pfs_tests \) -prune -o -type f -print)

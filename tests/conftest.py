@@ -18,6 +18,8 @@ from support.tools import TOP
 
 pytest_plugins = ["support.needs", "support.tools", "support.servers",
                   "support.experiments", "support.growths", "support.office", "support.installed"]
+if "COVERAGE_PROCESS_START" in os.environ:
+    pytest_plugins.append("support.contexts")
 
 PACKAGE = TOP / "tests" / "python"
 # Examples are the same in each run, and none is too slow for a machine that runs other programs too.
@@ -78,7 +80,8 @@ def pytest_collection_modifyitems(items: list[pytest.Item]) -> None:
             item.add_marker("calls")
         if needs_nothing_built(item) and item.get_closest_marker("long") is None:
             item.add_marker("check")
-    items.sort(key=seconds_of, reverse=True)
+    if "PFS_MUTANT" not in os.environ:  # whose tests come in the order of the command line
+        items.sort(key=seconds_of, reverse=True)
 
 
 def needs_nothing_built(item: pytest.Item) -> bool:

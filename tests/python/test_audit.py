@@ -147,6 +147,7 @@ def test_tables_that_are_unclear(change: dict[str, Any], said: str) -> None:
 
 @pytest.mark.parametrize(("text", "line", "said"), [
     ("instance,makespan,order\nsmall,10,2,1,3\n", 2, "5 cells for 3 columns: quote an order"),
+    ("instance,makespan,order\nsmall,10,2,1\n", 2, "4 cells for 3 columns: quote an order"),
     ("instance makespan order\n", 1, "no column instance (or problem), makespan (or Cmax), order (or sequence, "),
     ("", 1, "the table is empty"), ("instance;makespan;order\n", 1, "only its first line"),
     ("instance;makespan\nsmall;10\n", 1, "no column order (or sequence, permutation, Reihenfolge), but 'instance', 'm"),
@@ -193,6 +194,10 @@ def test_names(tmp_path: pathlib.Path) -> None:
     rows += [{"instance": name, "makespan": makespan(shop, range(20)), "order": order, "block": ""} for name, shop in
              (("ta001", blocks[0]), ("tai20_5:2", blocks[1]), ("ta002", pfs.taillard(2)))]
     assert [each.valid for each in pfs.audit(rows, tmp_path)] == [True] * 7
+    # Taillard's instance has its best known makespan, also where the file has none.
+    pfs.Instance(pfs.taillard(1).times, seed=pfs.taillard(1).seed).write(tmp_path / "plain")
+    [found] = pfs.audit([{"instance": "plain", "makespan": 1278, "order": order}], tmp_path)
+    assert "that is the best known makespan" in found.why
     for name, said in (("two", "its file has 2 blocks, so write two:1"), ("two:3", "no instance 'two:3'")):
         with pytest.raises(ValueError, match=said):
             pfs.audit([{**rows[0], "instance": name}], tmp_path, strict=True)

@@ -222,6 +222,14 @@ def test_what_is_read_as_the_same_calendar() -> None:
     assert not pfs.Calendar("2026-11-30T06:00", closed="2026-12-24").is_always
 
 
+def test_days_from_one_to_another() -> None:
+    """Also over the end of the week."""
+    for first, count in itertools.product(range(7), range(2, 8)):
+        days = [DAYS[(first + at) % 7] for at in range(count)]
+        one, other = (pfs.Calendar("2026-11-30", "06:00-14:00", words) for words in (f"{days[0]}-{days[-1]}", days))
+        assert one.spans == other.spans
+
+
 NEEDED = "which dates need: write min, h, s or d in brackets into the first cell of the table, as in 'job [min]', or " \
          "set "
 

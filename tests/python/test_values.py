@@ -156,6 +156,23 @@ def test_returned_arrays_are_read_only() -> None:
             setattr(shop, name, getattr(shop, name))
 
 
+def test_a_result_stays_as_it_is() -> None:
+    """After another call on the same object, and the same call has the same result after the caller has changed it."""
+    shop, one, other = pfs.taillard(1), [*range(20)], [*range(20)][::-1]
+    calls: list[Callable[[list[int]], Any]] = [
+        shop.heads, shop.tails, lambda own: shop.places(own[1:], own[0]), lambda own: shop.makespans([own, own[::-1]]),
+        lambda own: shop.schedule(own).starts, lambda own: shop.schedule(own).ends,
+        lambda own: shop.schedule(own).idle(), lambda own: shop.insert_all(own[:9], own[9:]).jobs,
+        lambda own: shop.local_search(own).jobs, lambda own: shop.solve(2, start=own).order]
+    for call in calls:
+        found = call(one)
+        before = found.tolist()
+        assert call(other).tolist() != before and found.tolist() == before
+        if found.flags.writeable:
+            found[:] = 0
+        assert call(one).tolist() == before
+
+
 # Each parameter of a class whose objects are compared, with two values. The first ones make an object in which no
 # attribute has its default.
 INSTANCES: dict[str, tuple[Any, Any]] = {

@@ -1,0 +1,150 @@
+#!/usr/bin/python3
+"""Changes one place of the package for Python at a time, in a copy of the checkout, and runs the tests that run this
+place, the quickest first: do they find it? Prints the changes that no test finds, and the share that is found, in all
+and by module. tests/equivalent.txt lists changes that mean the same, each with its reason. They aren't tried.
+
+usage: tests/mutants.py [--seed N] [--jobs N] [--least PERCENT] [--only WORD] [COUNT]
+       tests/mutants.py --map [WORDS..]   runs pytest with these words, and keeps which test runs which lines"""
+import argparse
+import concurrent.futures
+import json
+import os
+import pathlib
+import queue
+import random
+import resource
+import signal
+import subprocess
+import sys
+import tempfile
+from collections import Counter, defaultdict
+from typing import Any
+
+sys.dont_write_bytecode = True
+from support.changes import PACKAGE, TOP, Change, Source
+from support.noted import MADE, PYTEST, TESTS, is_noted, make_map
+
+# Seconds that the tests of a change took when they were noted, and that a run may take; bytes of its memory.
+MOST_TESTS, MOST_SECONDS, MOST_MEMORY = 40, 120, 12 << 30
+# What a run kills is in the run, and ends with it.
+APART = ["unshare", "--pid", "--fork", "--kill-child", "--mount-proc", "sh", "-c", '"$@"; exit $?', "sh"]
+
+
+class Map:
+    """Which tests run a line, and how many seconds each takes."""
+
+    def __init__(self, files: list[Source], kept: dict[str, Any]) -> None:
+        self.files = {source.name: source for source in files}
+        self.seconds: dict[str, float] = kept["seconds"]
+        self.lines: dict[str, dict[str, list[str]]] = kept["lines"]
+
+    def tests(self, change: Change) -> list[str]:
+        """Those that may find it, the quickest first."""
+        used = [(name, line) for name, source in self.files.items() for word in change.names
+                for line in source.uses[word]]
+        found: set[str] = set()
+        for name, line in used or [(change.file, line) for line in change.lines]:
+            found.update(self.lines.get(name, {}).get(str(line), ()))
+        left, chosen = float(MOST_TESTS), list[str]()
+        for test in sorted(found, key=lambda test: (self.seconds[test], test)):
+            left -= self.seconds[test]
+            if chosen and left < 0:
+                break
+            chosen.append(test)
+        return chosen
+
+
+def copied(folder: pathlib.Path) -> pathlib.Path:
+    """A copy of the checkout, with what is built."""
+    files = subprocess.run(["git", "ls-files", "-z", "--cached", "--others", "--exclude-standard"], cwd=TOP, check=True,
+                           capture_output=True).stdout
+    subprocess.run(["rsync", "-a", "-0", "--files-from=-", "--ignore-missing-args", f"{TOP}/", folder], input=files,
+                   check=True)
+    return folder
+
+
+def found(source: Source, change: Change, tests: list[str], copy: pathlib.Path) -> str:
+    """How the tests find a change in a copy; nothing if they don't."""
+    path = copy / PACKAGE.relative_to(TOP) / change.file
+    path.write_bytes(source.changed(change))
+    env = os.environ | {"PYTHONDONTWRITEBYTECODE": "1", "TMPDIR": f"{copy}.tmp", "CI": "false", "PFS_MUTANT": "1"}
+    pathlib.Path(f"{copy}.tmp").mkdir(exist_ok=True)
+    built = [f"--pfs={TOP}/crates/pfs/out/pfs", f"--libpfs={TOP}/lib/out/libpfs.so.1"]
+    words = [*APART, *PYTEST, "-x", "-n0", f"--basetemp={copy}.tmp/pytest", *built, *tests]
+    process = subprocess.Popen(words, cwd=copy, env=env, stdin=subprocess.DEVNULL, stdout=subprocess.PIPE,
+                               stderr=subprocess.STDOUT, start_new_session=True, text=True, errors="replace",
+                               preexec_fn=lambda: resource.setrlimit(resource.RLIMIT_AS, (MOST_MEMORY, MOST_MEMORY)))
+    try:
+        output, _ = process.communicate(timeout=MOST_SECONDS)
+    except subprocess.TimeoutExpired:
+        os.killpg(process.pid, signal.SIGKILL)
+        process.communicate()
+        return "time"
+    finally:
+        path.write_bytes(source.text)
+    if process.returncode in (0, 1, 2):
+        return "tests" if process.returncode else ""
+    raise SystemExit(f"mutants: {words} ended with status {process.returncode}: {output}")
+
+
+def equivalent() -> set[str]:
+    """The changes that mean the same."""
+    blocks = (TOP / "tests/equivalent.txt").read_text().split("\n\n")[1:]
+    return {block.partition("\n# ")[0] for block in blocks}
+
+
+def chosen(files: list[Source], seed: int, count: int) -> list[tuple[Source, Change]]:
+    """Changes of as many lines, drawn at random."""
+    same, rng, places = equivalent(), random.Random(seed), defaultdict(list)
+    for source in files:
+        for change in source.changes:
+            places[change.file, source.text.count(b"\n", 0, change.start)].append((source, change))
+    drawn = [rng.choice(places[place]) for place in rng.sample(sorted(places), len(places))]
+    good = (pair for pair in drawn if pair[0].is_program(pair[1]) and pair[0].shown(pair[1]) not in same)
+    return [pair for pair, _ in zip(good, range(count))]
+
+
+def main() -> int:
+    parser = argparse.ArgumentParser(usage="".join(__doc__.partition("usage: ")[2]))
+    parser.add_argument("count", nargs="?", type=int, default=300)
+    for name, default in (("seed", 1), ("jobs", len(os.sched_getaffinity(0))), ("least", 0)):
+        parser.add_argument(f"--{name}", type=int, default=default)
+    parser.add_argument("--only", default="")
+    given = parser.parse_args()
+    if not is_noted():
+        make_map(["-n", str(given.jobs), *TESTS])
+    files = [Source(path) for path in sorted(PACKAGE.rglob("*.py"))]
+    noted, copies = Map(files, json.loads((MADE / "map").read_text())), queue.SimpleQueue[pathlib.Path]()
+    tried, seen, late = Counter[str](), Counter[str](), 0
+
+    def run(pair: tuple[Source, Change]) -> tuple[Source, Change, int, str]:
+        source, change = pair
+        tests, copy = noted.tests(change), copies.get()
+        how = found(source, change, tests, copy) if tests else ""
+        copies.put(copy)
+        return source, change, len(tests), how
+
+    with tempfile.TemporaryDirectory(prefix="pfs-mutants-") as folder:
+        for number in range(given.jobs):
+            copies.put(copied(pathlib.Path(folder) / str(number)))
+        quickest = sorted(noted.seconds, key=noted.seconds.__getitem__)[:100]
+        if found(files[0], Change(files[0].name, "", range(0)), quickest, pathlib.Path(folder) / "0"):
+            sys.exit("mutants: tests fail without a change")
+        with concurrent.futures.ThreadPoolExecutor(given.jobs) as workers:
+            pairs = chosen([source for source in files if given.only in source.name], given.seed, given.count)
+            for source, change, tests, how in workers.map(run, pairs):
+                tried[source.name] += 1
+                seen[source.name] += bool(how)
+                late += how == "time"
+                if not how:
+                    line = source.text.count(b"\n", 0, change.start) + 1
+                    print(f"not found by {tests} tests, line {line} of\n{source.shown(change)}\n", flush=True)
+    for name in sorted(tried):
+        print(f"{seen[name]:4} of {tried[name]:4}  {name}")
+    share = 100 * seen.total() / max(1, tried.total())
+    print(f"{seen.total():4} of {tried.total():4}  in all: {share:.1f} %, {late} by the time limit, seed {given.seed}")
+    return int(share < given.least)
+
+
+if __name__ == "__main__":
+    sys.exit(make_map(sys.argv[2:]) if sys.argv[1:2] == ["--map"] else main())
