@@ -1,6 +1,6 @@
 -- Jobs whose marks are bits of a word.
-use Rattle.std.proofs.Common.{◌≡◌, ◌↔◌, ℕ, zero, ◌+◌, ◌*◌, ◌/◌, ◌%◌, ◌^◌, ◌<◌, ◌≤◌, Bool, true, false, cond, List, [], ◌∷◌}
-use Rattle.std.proofs.Common.{◌++◌, length, take, get_or, nat_eq, bit_or, count_ones, Contains, sym, ◌∙◌, ap, inl, inr, refl}
+use Rattle.std.proofs.Common.{◌≡◌, ◌↔◌, ℕ, ◌+◌, ◌*◌, ◌/◌, ◌%◌, ◌^◌, ◌<◌, ◌≤◌, cond, List, [], ◌∷◌}
+use Rattle.std.proofs.Common.{◌++◌, length, take, get_or, nat_eq, bit_or, count_ones, sym, ◌∙◌, ap, inl, inr}
 use Rattle.std.proofs.Common.{w64, arith}
 use Rattle.std.proofs.Math.Bool.{or-false, or-true}
 use Rattle.std.proofs.Math.Nat.{mod-eq_of_lt, zero-mul}
@@ -89,8 +89,7 @@ one_more_bit size jobs marks place h small within below =
     elim (cases_Bool (list_any (nat_eq job) before)) [
       | inl again ↦
           let same = ap count_ones (set_again marks job fits (at ∙ ap (λ b. cond b 1 0) again)) in
-          let among = Contains-from_any eqb-true job before again in
-          (
+          let among = Contains-from_any eqb-true job before again in (
             omega (arith, same, few),
             (
               λ all. absurd (omega (arith, same, few, all)),
@@ -98,8 +97,7 @@ one_more_bit size jobs marks place h small within below =
             ),
           )
       | inr first ↦
-          let more = ones_more marks job fits (at ∙ ap (λ b. cond b 1 0) first) in
-          (
+          let more = ones_more marks job fits (at ∙ ap (λ b. cond b 1 0) first) in (
             omega (arith, more, few),
             (
               λ all. joined size (job ∷ []) before (IsSequence-cons size job before below
