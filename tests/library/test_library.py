@@ -337,7 +337,7 @@ def searches(random: Random, shop: Instance) -> list[Call]:
                         *list32(jobs), out64(), out64()]),
         ("pfs_prove", [*given(shop), *list32(jobs), Number(0), out64(), out64(), out64()]),
         ("pfs_iterate", [*given(shop), Memory(ITERATE_OPTIONS.pack(
-            random.choice(fuzz.SEEDS[:-1]), random.randint(1, len(moving)), held, first, random.randint(0, 4),
+            random.choice(fuzz.SEEDS[:-1]), random.choice([1, len(moving)]), held, first, random.randint(0, 4),
             random.choice([0, 1, 2, 100]), random.choice([0, 1, 2, 100]), random.randint(0, 1))),
                          *list32([random.getrandbits(32) for _ in range(random.choice([0, 1, 2, 9]))]), *text(stay),
                          *list32(jobs), out64(), *list32(jobs[:held] + jobs[held:][::-1]), out64()]),
