@@ -446,7 +446,8 @@ def test_two_libraries_agree_on_random_instances(libpfs: Library) -> None:
             for wrong in [spoilt(random, arguments) for _ in range(9)]:
                 if is_quick(name, wrong):
                     numbers.add(assert_same(libpfs, name, wrong))
-    assert numbers == {0, *range(2, 10), 16, 17}
+    # Other held jobs (16) are rare here; the test of ties has them.
+    assert numbers | {16} == {0, *range(2, 10), 16, 17}
 
 
 @pytest.mark.seconds(10)
@@ -468,6 +469,8 @@ def test_two_libraries_break_ties_alike(libpfs: Library) -> None:
                          *list32(jobs), out64()]
             assert assert_same(libpfs, "pfs_iterate", arguments) == 0
             kept.append(libpfs.call("pfs_iterate", *arguments))
+            other = [*arguments[:-3], *list32(jobs[::-1]), out64()]
+            assert assert_same(libpfs, "pfs_iterate", other) == (16 if held else 0)
         differ += kept[0].memory[3:] != kept[1].memory[3:]
     assert differ > TIED // 4
 
