@@ -337,7 +337,7 @@ def searches(random: Random, shop: Instance) -> list[Call]:
                         *list32(jobs), out64(), out64()]),
         ("pfs_prove", [*given(shop), *list32(jobs), Number(0), out64(), out64(), out64()]),
         ("pfs_iterate", [*given(shop), Memory(ITERATE_OPTIONS.pack(
-            random.choice(fuzz.SEEDS[:-1]), random.randint(1, len(moving)), held, first, random.randint(0, 4),
+            random.choice(fuzz.SEEDS[:-1]), random.choice([1, len(moving)]), held, first, random.randint(0, 4),
             random.choice([0, 1, 2, 100]), random.choice([0, 1, 2, 100]), random.randint(0, 1))),
                          *list32([random.getrandbits(32) for _ in range(random.choice([0, 1, 2, 9]))]), *text(stay),
                          *list32(jobs), out64(), *list32(jobs[:held] + jobs[held:][::-1]), out64()]),
@@ -446,7 +446,8 @@ def test_two_libraries_agree_on_random_instances(libpfs: Library) -> None:
             for wrong in [spoilt(random, arguments) for _ in range(9)]:
                 if is_quick(name, wrong):
                     numbers.add(assert_same(libpfs, name, wrong))
-    assert numbers == {0, *range(2, 10), 16, 17}
+    # Other held jobs (16) are rare here; the test of ties has them.
+    assert numbers | {16} == {0, *range(2, 10), 16, 17}
 
 
 @pytest.mark.seconds(10)
@@ -468,6 +469,8 @@ def test_two_libraries_break_ties_alike(libpfs: Library) -> None:
                          *list32(jobs), out64()]
             assert assert_same(libpfs, "pfs_iterate", arguments) == 0
             kept.append(libpfs.call("pfs_iterate", *arguments))
+            other = [*arguments[:-3], *list32(jobs[::-1]), out64()]
+            assert assert_same(libpfs, "pfs_iterate", other) == (16 if held else 0)
         differ += kept[0].memory[3:] != kept[1].memory[3:]
     assert differ > TIED // 4
 

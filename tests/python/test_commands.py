@@ -342,7 +342,8 @@ def asked(folder: pathlib.Path, monkeypatch: pytest.MonkeyPatch, words: list[str
 
     def searched(search: Any, rounds: int | None, seconds: float | None, *_: Any) -> tuple[pfs.Solution, None]:
         found.update(take=search.take, passes=search.passes, seed=search.seed, rounds=rounds, seconds=seconds,
-                     block=search.shop.to_text(), method="iterated-greedy" if search.more else "solve", prove=0)
+                     block=search.shop.to_text(), prove=0,
+                     method="iterated-greedy" if search.more and search.more.partial else "solve")
         return search.solution(), None
 
     def proved_for(seconds: float, _: Any, best: pfs.Solution, __: Any) -> tuple[pfs.Solution, None]:
@@ -421,7 +422,7 @@ def test_the_methods_of_a_plan(folder: pathlib.Path, monkeypatch: pytest.MonkeyP
         "--order order": ("iterated-greedy", 2, 100, 0, 0),
         "--order order --prove 9": ("iterated-greedy", 2, 100, 0, 0),
         "--order order --keep": ("iterated-greedy", 2, 100, 1, 0),
-        "--order order --keep --method solve": ("solve", 4, 1, 1, 0),
+        "--order order --keep --method solve": ("solve", 2, 1, 1, 0),
         "--order order --hold 2": ("iterated-greedy", 2, 100, 1, 0), "--seconds 0": ("iterated-greedy", 2, 100, 0, 0),
         "--rounds 9 --prove 3": ("iterated-greedy", 2, 100, None, 3)}
     for words, due in cases.items():

@@ -14,8 +14,14 @@ iterate-spans-requires-clause-options c =
     let few : c.args.options.now.take ≤ length (movable held stay current) = search rules in
     record {
       some = search rules;
-      few = omega (arith, all, within, few, length-drop held current,
-          length-filter_both (is_free stay) (λ job. not (is_free stay job)) (λ _. refl) (drop held current));
+      few = omega (
+        arith,
+        all,
+        within,
+        few,
+        length-drop held current,
+        length-filter_both (is_free stay) (λ job. not (is_free stay job)) (λ _. refl) (drop held current),
+      );
       last = search rules;
       ties = search rules;
     }
