@@ -59,6 +59,7 @@ def test_a_table_that_is_written_is_read_again(folder: pathlib.Path, shop: pfs.I
 def test_a_workbook_that_is_written_is_read_again(folder: pathlib.Path, shop: pfs.Instance) -> None:
     pytest.importorskip("openpyxl")
     assert_is_read_again(folder / "table.xlsx", shop, ",", False)
+    assert (folder / "table.xlsx").read_bytes().startswith(b"PK")
 
 
 @st.composite
