@@ -379,7 +379,8 @@ def test_workbooks_are_read_and_written(tmp_path: pathlib.Path) -> None:
                                                      datetime.datetime(2026, 11, 30, 8, 30)]
     clock = pfs.Instance([[90]], unit="h:mm")
     clock.schedule([0]).to_xlsx(tmp_path / "out.xlsx")
-    assert openpyxl.load_workbook(tmp_path / "out.xlsx").active["D2"].number_format == "[h]:mm"
+    cell = openpyxl.load_workbook(tmp_path / "out.xlsx").active["D2"]
+    assert (cell.value, cell.number_format) == (datetime.timedelta(minutes=90), "[h]:mm")
 
 
 @pytest.mark.parametrize("content", [b"PK\x03\x04\x14\0rest", "bomb"])
