@@ -5,8 +5,7 @@
 ## make check      what to run before each commit: layout, types, scripts and pages, in less than a minute
 ## make test       proves and tests all that a change has to pass but the mutants (tools/test; times: docs/TESTS.md)
 ## make fuzz       compares the built program with a second program on random input, for MINUTES (5)
-## make mutants    changes the package for Python in COUNT (300) places, one after the other, and prints the changes that
-##                 no test finds (tests/mutants.py)
+## make mutants    changes the package for Python in COUNT (300) places, one at a time, and prints what no test finds
 ## make install    installs the program, its manual page, the completions and the pages below PREFIX, an absolute path
 ##                 (and that below DESTDIR), and the library for C if `make lib` has built it. It proves and builds the
 ##                 program first if it is missing or older than a source. The package for Python is apart: make wheel

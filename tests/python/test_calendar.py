@@ -222,6 +222,16 @@ def test_what_is_read_as_the_same_calendar() -> None:
     assert not pfs.Calendar("2026-11-30T06:00", closed="2026-12-24").is_always
 
 
+@pytest.mark.parametrize(("unit", "seconds", "end", "most"), [
+    ("h", 3600, 3, 6), ("d", 86_400, 1, 12), ("min", 60, 2, 8)])
+def test_a_mark_between_whole_times_has_its_own_time_of_day(unit: str, seconds: int, end: int, most: int) -> None:
+    marks = clock_of("2026-11-30T06:00", ALWAYS, unit).marks(end, most)
+    begin = datetime.datetime(2026, 11, 30, 6)
+    assert any(at % 1 for at, _ in marks) and marks[-1][0] == end
+    for at, text in marks:
+        assert text.startswith(f"{begin + datetime.timedelta(seconds=at * seconds):%H:%M}"), at
+
+
 def test_days_from_one_to_another() -> None:
     """Also over the end of the week."""
     for first, count in itertools.product(range(7), range(2, 8)):

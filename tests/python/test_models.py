@@ -13,8 +13,8 @@ from pfs._orders import order_in
 from pfs._tables import table_of, write_table
 from support import plainly
 
-# Of names: capitals, blanks, letters outside ASCII, commas and quotes. A name begins with a letter. Semicolons and tabs in
-# most names would be taken for the separator.
+# Of names: capitals, blanks, letters outside ASCII, commas and quotes. A name begins with a letter. Semicolons and tabs
+# in most names would be taken for the separator.
 SIGNS = st.text("aBß Äé1.,\"'=-/#@", max_size=8)
 NAMES = st.builds(lambda first, rest: f"{first}{rest}".strip(), st.sampled_from("xYÖñ"), SIGNS)
 
@@ -59,6 +59,7 @@ def test_a_table_that_is_written_is_read_again(folder: pathlib.Path, shop: pfs.I
 def test_a_workbook_that_is_written_is_read_again(folder: pathlib.Path, shop: pfs.Instance) -> None:
     pytest.importorskip("openpyxl")
     assert_is_read_again(folder / "table.xlsx", shop, ",", False)
+    assert (folder / "table.xlsx").read_bytes().startswith(b"PK")
 
 
 @st.composite

@@ -76,7 +76,8 @@ BAD_TABLES |= {f"the time {cell}": (f"job,saw\na,{cell}\n", 2, 2, "the time is a
 BAD_TABLES |= {
     "an older workbook": (b"\xd0\xcf\x11\xe0\xa1\xb1\x1a\xe1", 1, 0,
                           f"is a spreadsheet's own file: {SAVE_AS}, or as .xlsx"),
-    "another encoding": (b"job,saw\nb\xe4r,3\n", 2, 0, f"isn't text in UTF-8: {SAVE_AS}")}
+    "another encoding": (b"job,saw\nb\xe4r,3\n", 2, 0, f"isn't text in UTF-8: {SAVE_AS}"),
+    "a byte of no letter": (b"job,saw\nb\x81r,3\n", 2, 0, f"isn't text in UTF-8: {SAVE_AS}")}
 # Tables that would be read as another plan, and where and why they are rejected; perhaps with options.
 
 WRONG_TABLES: dict[str, tuple[Any, ...]] = {
@@ -362,6 +363,10 @@ def test_workbooks_are_read_and_written(tmp_path: pathlib.Path) -> None:
         book.active.append(row)
     book.save(tmp_path / "hours.xlsx")
     assert pfs.read_csv(tmp_path / "hours.xlsx").times.tolist() == [[90, 100800], [0, 5], [1800, 0]]
+    book.active["B2"] = datetime.time(1, 30, 20)
+    book.save(tmp_path / "hours.xlsx")
+    with pytest.raises(pfs.TableFault, match="cell B2, column 'saw': '1:30:20' isn't hours and minutes"):
+        pfs.read_csv(tmp_path / "hours.xlsx")
     shop = pfs.Instance([[15, 10]], job_names=["=1+1"], machine_names=["saw", "a\x1b"], unit="h", decimals=1)
     shop.schedule([0]).to_xlsx(tmp_path / "out.xlsx")
     sheet = openpyxl.load_workbook(tmp_path / "out.xlsx").active
@@ -374,7 +379,8 @@ def test_workbooks_are_read_and_written(tmp_path: pathlib.Path) -> None:
                                                      datetime.datetime(2026, 11, 30, 8, 30)]
     clock = pfs.Instance([[90]], unit="h:mm")
     clock.schedule([0]).to_xlsx(tmp_path / "out.xlsx")
-    assert openpyxl.load_workbook(tmp_path / "out.xlsx").active["D2"].number_format == "[h]:mm"
+    cell = openpyxl.load_workbook(tmp_path / "out.xlsx").active["D2"]
+    assert (cell.value, cell.number_format) == (datetime.timedelta(minutes=90), "[h]:mm")
 
 
 @pytest.mark.parametrize("content", [b"PK\x03\x04\x14\0rest", "bomb"])

@@ -156,6 +156,12 @@ def test_returned_arrays_are_read_only() -> None:
             setattr(shop, name, getattr(shop, name))
 
 
+def test_a_frame_has_decimals() -> None:
+    pytest.importorskip("pandas")
+    frame = pfs.Instance([[25, 5]], decimals=1).schedule([0]).to_frame()
+    assert (frame["start"].tolist(), frame["end"].tolist()) == ([0, 2.5], [2.5, 3])
+
+
 def test_a_result_stays_as_it_is() -> None:
     """After another call on the same object, and the same call has the same result after the caller has changed it."""
     shop, one, other = pfs.taillard(1), [*range(20)], [*range(20)][::-1]

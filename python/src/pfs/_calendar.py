@@ -208,7 +208,7 @@ class Clock:
         found: list[tuple[float, str]] = []
         before = ""
         for at in range(int(end // step) + 1):
-            moment = self.calendar.start(self.worked(round(at * step)))
+            moment = self.calendar.start(round(at * step * self.tick / self.scale))
             clock, day = text_of(moment, digits).partition(" ")[2], day_of(moment, self.say)
             found.append((at * step, f"{clock}\n{day}" if day != before else clock))
             before = day
