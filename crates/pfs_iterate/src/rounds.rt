@@ -1,9 +1,10 @@
 //! Rounds.
-ghost use Rattle.std.specs.Prelude.{◌≡◌, ◌+◌, ◌*◌, ◌≤◌, ◌++◌, length, take as front, fold};
+ghost use Rattle.std.specs.Prelude.{◌≡◌, ◌+◌, ◌*◌, ◌≤◌, ◌++◌, length, take as front, drop, fold};
 ghost use Rattle.pfs_base.specs.Paths.{makespan};
 ghost use Rattle.pfs_order.specs.Sequence.{IsSequence};
 ghost use Rattle.pfs_search.specs.Search.{IsSearchOf};
-ghost use Rattle.pfs_iterate.specs.Iterated.{after_round, after_rounds, found, is_accepted, movable, put};
+ghost use Rattle.pfs_search.specs.Greedy.{jobs_taken};
+ghost use Rattle.pfs_iterate.specs.Iterated.{after_round, after_rounds, found, is_accepted, is_free, left_among, movable, put};
 ghost use Rattle.pfs_iterate.specs.Private.Steps.{IsMeasured};
 ghost use Rattle.pfs_iterate.specs.Private.Memory.{IsPlacesFor, IsWorkFor};
 ghost use Rattle.pfs_iterate.specs.Rounds.{CanIterate, staying};
@@ -60,6 +61,50 @@ fn accepts(accept: &[u32], old: u64, new: u64, word: u32) -> bool
     longer < accept.len() as u64 && word < accept[longer as usize]
 }
 
+// Makes the sequence of `work` the order with some jobs removed and inserted again, and returns its makespan.
+fn rebuild(
+    work: &mut Work,
+    instance: &Instance,
+    search: &mut Search,
+    options: &Options,
+    stay: &[u8],
+    order: &Order,
+    words: &[u32],
+) -> u64
+    requires work { IsWorkFor instance.now.shop work.old }
+    requires search { IsSearchOf instance.now.shop search.old }
+    requires options { CanIterate instance.now.shop options.now }
+    requires order { length order.now ≡ instance.now.shop.jobs }
+    requires free { options.now.take ≤ length (movable options.now.held stay.now order.now) }
+    requires words { length words.now ≡ options.now.take }
+    ensures order { work.new.seq.jobs ≡ fold (put instance.now.shop options.now)
+        (front options.now.held order.now ++ left_among (is_free stay.now) (drop options.now.held order.now) words.now)
+        (jobs_taken (movable options.now.held stay.now order.now) words.now) }
+    ensures span { result ≡ makespan instance.now.shop work.new.seq.jobs }
+    ensures all { length work.new.seq.jobs ≡ instance.now.shop.jobs }
+    ensures front { front options.now.held work.new.seq.jobs ≡ front options.now.held order.now }
+    ensures staying { staying stay.now work.new.seq.jobs ≡ staying stay.now order.now }
+    ensures work { IsWorkFor instance.now.shop work.new }
+    ensures search { IsSearchOf instance.now.shop search.new }
+{
+    take_jobs(
+        order,
+        &mut work.seq,
+        &mut work.removed,
+        options.held,
+        stay,
+        words,
+    );
+    insert_all(
+        instance,
+        search,
+        &mut work.places,
+        &mut work.seq,
+        options,
+        &work.removed,
+    )
+}
+
 // Makes the sequence of `work` the order that a round finds by its words after the first, and returns its makespan.
 fn find(
     work: &mut Work,
@@ -84,8 +129,11 @@ fn find(
     ensures work { IsWorkFor instance.now.shop work.new }
     ensures search { IsSearchOf instance.now.shop search.new }
 {
-    let held = options.held;
     let (removing, shuffling) = words.split_at(options.take);
+    if options.partial == 0 && options.passes == 0 {
+        return rebuild(work, instance, search, options, stay, order, removing);
+    }
+    let held = options.held;
     take_jobs(&work.all, &mut work.seq, &mut work.list, 0, &[], shuffling);
     keep_free(&mut work.list, stay);
     take_jobs(
