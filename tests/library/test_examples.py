@@ -209,9 +209,9 @@ def test_a_plan_runs_and_audits_the_search_with_temperature(built: pathlib.Path,
         (shop / "plan.toml").write_text(plan.replace("out/ig_temperature {", f"out/{name} {{"))
         got = run_tool([scripts / "pfs-experiments", "run", "--pfs", pfs.path, "plan.toml", f"{name}.csv"], shop,
                        env=env)
-        assert got == Done(0, "", f"{name}.csv: 2 runs, 0 of them failed, 0 still to run\n")
+        assert got == Done(0, "", f"{name}.csv: 3 runs, 0 of them failed, 0 still to run\n")
         rows = csv_rows(shop / f"{name}.csv")
-        assert [row["method"] for row in rows] == ["IG with temperature", "pfs"]
+        assert [row["method"] for row in rows] == ["IG with temperature", "pfs", "iterated-greedy"]
         assert {(row["instance"], row["makespan"], row["status"]) for row in rows} == {
             ("out/taillard/ta001", "1278", "ok")}
 

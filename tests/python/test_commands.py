@@ -945,8 +945,8 @@ def test_a_table_whose_name_is_not_utf_8(folder: pathlib.Path, ending: str) -> N
 
 
 def test_a_plan_that_is_interrupted(folder: pathlib.Path) -> None:
-    rows = [[f"job {at}", *(str(time) for time in row)] for at, row in enumerate(pfs.generate(60, 10, 4).times)]
-    text = "\n".join(",".join(row) for row in [["job", *(f"machine {at}" for at in range(10))], *rows])
+    rows = [[f"job {at}", *(str(time) for time in row)] for at, row in enumerate(pfs.generate(60, 20, 4).times)]
+    text = "\n".join(",".join(row) for row in [["job", *(f"machine {at}" for at in range(20))], *rows])
     (folder / "times.csv").write_text(text + "\n")
     child = start(["plan", "times.csv", "--seconds", "100", "--schedule", "out.csv"], folder)
     wait_until(lambda: catches(child.pid, signal.SIGTERM), "the search handles the signal")
@@ -956,8 +956,8 @@ def test_a_plan_that_is_interrupted(folder: pathlib.Path) -> None:
     assert (child.returncode, without_summary(got.decode())) == (128 + signal.SIGTERM, "")
     order = [int(job) for job in re.findall(r"^\d+ job (\d+)$", printed.decode(), re.MULTILINE)]
     assert sorted(order) == list(range(60))
-    assert printed.decode().startswith(f"makespan {pfs.generate(60, 10, 4).makespan(order)}\n")
-    assert len((folder / "out.csv").read_text().splitlines()) == 601
+    assert printed.decode().startswith(f"makespan {pfs.generate(60, 20, 4).makespan(order)}\n")
+    assert len((folder / "out.csv").read_text().splitlines()) == 1201
 
 
 # The console program pfs-plan

@@ -12,6 +12,7 @@ import tempfile
 import time
 import zipfile
 from collections.abc import Callable, Iterator
+from types import SimpleNamespace
 from typing import Any
 
 import pfs
@@ -494,13 +495,13 @@ def waited(client: FlaskClient, name: str, until: Callable[[Any], Any] = lambda 
 
 
 def shop_of(jobs: int, machines: int) -> dict[str, Any]:
-    """A shop of which no search finds an order as short as the bound."""
+    """A shop of which nothing proves an order optimal in a minute."""
     made = pfs.generate(jobs, machines, 7)
     return {**SHOP, "jobs": [f"J{job}" for job in range(jobs)], "machines": [f"M{each}" for each in range(machines)],
             "times": made.times.tolist()}
 
 
-LONG: dict[str, Any] = {"shop": shop_of(30, 10), "seconds": 600}
+LONG: dict[str, Any] = {"shop": shop_of(30, 20), "seconds": 600}
 
 
 def test_a_search_finds_what_the_package_finds(client: FlaskClient) -> None:
@@ -510,8 +511,10 @@ def test_a_search_finds_what_the_package_finds(client: FlaskClient) -> None:
 
 @pytest.mark.parametrize("held", [0, 1])
 def test_a_proof_is_tried_where_no_job_is_held(client: FlaskClient, held: int, monkeypatch: pytest.MonkeyPatch) -> None:
-    def solve(_: pfs.Instance, **options: Any) -> None:
-        raise ValueError(f"{options['prove']} {options['hold']}")
+    def solve(_: pfs.Instance, rounds: int | None = None, **options: Any) -> SimpleNamespace:
+        if rounds is None:
+            raise ValueError(f"{options['prove']} {options['hold']}")
+        return SimpleNamespace(optimal=False)
 
     monkeypatch.setattr(pfs.Instance, "solve", solve)
     name = answer(client, "/api/search", {**PLAN, "seconds": 1, "held": held})["search"]

@@ -28,8 +28,8 @@ for module in ("flask", "waitress"):
 COMMAND = [sys.executable, "-m", "pfs.web"]
 TOKEN = "A-token_of_24_characters"
 TABLE = "job [h];saw;drill\ntable;3;2\nchair;2;5\n"
-TIMES = pfs.generate(30, 10, 7).times.tolist()
-SHOP: dict[str, Any] = {"jobs": [f"J{job}" for job in range(30)], "machines": [f"M{each}" for each in range(10)],
+TIMES = pfs.generate(30, 20, 7).times.tolist()
+SHOP: dict[str, Any] = {"jobs": [f"J{job}" for job in range(30)], "machines": [f"M{each}" for each in range(20)],
                         "unit": "min", "times": TIMES}
 LONG: dict[str, Any] = {"shop": SHOP, "seconds": 600}
 

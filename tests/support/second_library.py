@@ -2,6 +2,7 @@
 function as pfs.h describes them, over the second program. Each function has the parameters of pfs.h, with a bytearray
 for each pointer and an `Instance` for a prepared one, and computes its results before it writes an output."""
 import contextlib
+import itertools
 import re
 import struct
 from collections.abc import Callable, Collection, Iterator, Sequence
@@ -191,8 +192,22 @@ def pfs_prove(shop: Instance, order: bytearray, length: int, nodes: int, span: b
     given = distinct(shop.jobs, read32(order)[:length])
     expect(shop.jobs <= 256 and shop.machines <= 64, SIZE)
     put64(span, makespan(shop, given))
-    put64(bound, second_program.lower_bound(shop))
+    put64(bound, max([second_program.lower_bound(shop), *bounds_of_pairs(shop)]))
     put64(left, nodes)
+
+
+def bounds_of_pairs(shop: Instance) -> Iterator[int]:
+    """Of each pair of machines the least makespan with the lags between them, by Johnson's rule (1954), and the least
+    time of any job on each machine before and after them."""
+    least = [min(row) for row in shop.times]
+    for one, other in itertools.combinations(range(shop.machines), 2):
+        first, second = shop.times[one], shop.times[other]
+        lags = [sum(row[job] for row in shop.times[one + 1:other]) for job in range(shop.jobs)]
+        order = sorted(range(shop.jobs), key=lambda job: (0, first[job] + lags[job]) if first[job] <= second[job]
+                       else (1, -second[job] - lags[job]))
+        yield sum(least[:one]) + sum(least[other + 1:]) + max(
+            sum(first[each] for each in order[:at + 1]) + lags[job] + sum(second[each] for each in order[at:])
+            for at, job in enumerate(order))
 
 
 # How `struct pfs_iterate_options` lies in memory: the seed, `take`, `held`, `first`, `count`, `partial`, `passes` and
