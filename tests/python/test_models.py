@@ -54,6 +54,13 @@ def test_a_table_that_is_written_is_read_again(folder: pathlib.Path, shop: pfs.I
     assert order_in(folder / "order", shop) == (order, {})
 
 
+@pytest.mark.parametrize("delimiter", ";,\t")
+def test_three_decimals_are_read_again(folder: pathlib.Path, delimiter: str) -> None:
+    """Also where no time has fewer, so that the sign before them could separate thousands."""
+    shop = pfs.Instance([[1125, 2375], [3625, 1001]], job_names=["a", "b"], machine_names=["x", "y"], decimals=3)
+    assert_is_read_again(folder / "table", shop, delimiter, False)
+
+
 @settings(max_examples=5)
 @given(tables())
 def test_a_workbook_that_is_written_is_read_again(folder: pathlib.Path, shop: pfs.Instance) -> None:

@@ -678,8 +678,10 @@ def write_table(path: str, shop: Instance, delimiter: str, mark: bool) -> None:
     writer = csv.writer(text, delimiter=delimiter, lineterminator="\n")
     writer.writerow(map(text_cell, head))
     point = "," if delimiter == ";" else "."
+    # The sign before three decimals alone could separate thousands, so they get another zero.
+    more = "0" if shop.decimals == 3 and delimiter != "," else ""
     for name, *row in texts:
-        writer.writerow([text_cell(name), *(time.replace(".", point) for time in row)])
+        writer.writerow([text_cell(name), *(time.replace(".", point) + more for time in row)])
     atomic_write(path, text.getvalue().encode("utf-8-sig" if mark else "utf-8"))
 
 
