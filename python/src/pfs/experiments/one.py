@@ -1,13 +1,13 @@
 #!/usr/bin/env python3
 """Runs of an experiment, in the folder of copies, which may be on another machine: needs Python alone. The arguments
 are the numbers of the runs, each of which is a line of `runs.tsv`, with the values of `Run`; a hyphen is none. In 3,1,2
-the runs 1 and 2 are what run 3 had found by their times. `commands.json` has for a method its command, or the options of
-a search that only the library makes. Else it searches with the program `pfs`, or with the library if the run has a
-limit of time and no rounds. Audits the order. As soon as a run ends, prints the length of its result in bytes, on a line, and
-the result: the order file, and then one line of CSV with the run's number, makespan, bound, cells, processor seconds of
-the search, `ok` or an error, the rounds of a search by time, how many processes a command has left, and the trajectory,
-`SECONDS:MAKESPAN` for each better makespan. Without an order it is only this line. The exit status is 0 even if a
-search or an audit fails."""
+the runs 1 and 2 are what run 3 had found by their times. `commands.json` has for a method its command, or the options
+of a search that only the library makes. Else it searches with the program `pfs`, or with the library if the run has a
+limit of time and no rounds. Audits the order. As soon as a run ends, prints the length of its result in bytes, on a
+line, and the result: the order file, and then one line of CSV with the run's number, makespan, bound, cells, processor
+seconds of the search, `ok` or an error, the rounds of a search by time, how many processes a command has left, and the
+trajectory, `SECONDS:MAKESPAN` for each better makespan. Without an order it is only this line. The exit status is 0
+even if a search or an audit fails."""
 from __future__ import annotations
 
 import contextlib

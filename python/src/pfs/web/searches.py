@@ -45,8 +45,7 @@ class Run:
         self.rounds, self.makespan = rounds, makespan
 
     def search(self) -> None:
-        """Search in a thread. Where no job is held, try to prove that an order is optimal, before and after. An error is
-        kept."""
+        """Search in a thread, and try to prove that the order is optimal where no job is held. An error is kept."""
         if self.is_set():
             return
         self.state, self.begun = "searching", time.monotonic()
