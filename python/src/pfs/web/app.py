@@ -54,8 +54,7 @@ def check(names: set[str], token: str) -> None:
 
 def given() -> dict[str, Any]:
     """What a request says."""
-    found: dict[str, Any] = plans.field({"body": request.get_json()}, "body", dict, {})
-    return found
+    return dict(plans.field({"body": request.get_json()}, "body", dict, {}))
 
 
 def failed(error: Exception) -> tuple[dict[str, str], int]:

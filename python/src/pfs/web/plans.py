@@ -27,15 +27,13 @@ from pfs.web.apart import Wrong
 
 # The most times of a table, faults that are listed, and letters of a text.
 MOST_TIMES, MOST_FAULTS, MOST_LETTERS = 400_000, 2_000, 10_000
-KINDS = ("csv", "html", "pdf", "txt", "xlsx", "zip")
 OTHER_FORM = Wrong("the request has another form than those of this server's page", 400)
 
 
 def field(given: dict[str, Any], name: str, kind: type[Any], default: Any = None, most: int = MOST_LETTERS) -> Any:
     """A field of a request, which has this type; the default if it is missing or null. A number is from 0 to `most`,
     and a text has at most so many letters."""
-    value: Any = given.get(name)
-    if value is None:
+    if (value := given.get(name)) is None:
         return default
     if type(value) is not kind or kind is int and not 0 <= value <= most:
         raise OTHER_FORM
@@ -178,7 +176,7 @@ def quality(shop: Instance, best: Solution) -> dict[str, Any]:
 
 def file(given: dict[str, Any], folder: str) -> bytes:
     """A plan as a file of this kind."""
-    if (kind := given.get("kind")) not in KINDS:
+    if (kind := given.get("kind")) not in ("csv", "html", "pdf", "txt", "xlsx", "zip"):
         raise OTHER_FORM
     plan, path = Plan(given), pathlib.Path(folder, f"plan.{kind}")
     if kind == "txt":

@@ -78,8 +78,7 @@ class Searches:
     """Runs as many searches at once as there are slots."""
 
     def __init__(self, slots: int) -> None:
-        self.slots, self.lock, self.queue = slots, threading.Lock(), SimpleQueue[Run]()
-        self.runs: dict[str, Run] = {}
+        self.slots, self.lock, self.queue, self.runs = slots, threading.Lock(), SimpleQueue[Run](), dict[str, Run]()
         for _ in range(slots):
             threading.Thread(target=self.serve, daemon=True).start()
 

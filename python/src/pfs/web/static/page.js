@@ -7,7 +7,7 @@ const MOST = 6e6, TOO_LARGE = tr("The table is too large: 6 MB are the most.");
 // The document, which survives a reload. What the server said of its table and of its plan, and the search that runs.
 const blank = name => ({name, delimiter: ",", rows: [], machines: [], order: null, held: 0, least: 0, plans: [],
                         seed: 0, controls: {}});
-let doc = blank(""), content = null, read = null, now = null, running = null, asked = 0;
+let doc = blank(""), content = null, read = null, now = null, running = null, asked = 0, readings = 0;
 
 async function ask(path, body, method = body ? "POST" : "GET") {
   const headers = {"X-Pfs-Token": token, ...(body && {"Content-Type": "application/json"})};
@@ -52,12 +52,16 @@ const take = doing(async file => {
 });
 async function open() {
   doc.machines = [];
-  const found = await ask("/api/read", {content, name: doc.name, options: options()});
+  const turn = ++readings, found = await ask("/api/read", {content, name: doc.name, options: options()});
+  if (turn !== readings) return;
   doc = {...doc, rows: found.rows, delimiter: found.delimiter, order: null, held: 0};
   byId("sheet").replaceChildren(...found.sheets.map(name => new Option(name, name, false, name === found.sheet)));
   show(found);
 }
-async function again() { show(await ask("/api/read", {rows: doc.rows, options: options()})); await evaluate(); }
+async function again() {
+  const turn = ++readings, found = await ask("/api/read", {rows: doc.rows, options: options()});
+  if (turn === readings) { show(found); await evaluate(); }
+}
 function show(found) {
   // What was proved of another table says nothing of this one.
   if (read && JSON.stringify(read.shop) !== JSON.stringify(found.shop)) doc.least = 0;
@@ -137,7 +141,7 @@ byId("add").onclick = doing(async () => {
   const used = read.head ? read.head[1] : [""], line = (doc.rows.at(-1) || [0])[0] + 1;
   doc.rows.push([line, used.map((text, at) => at === 0 ? `${tr("new")} ${line}` : text ? "0" : "")]);
   await again();
-  cells.reach(doc.rows.length - 1, `${line},1`).select();
+  cells.reach(doc.rows.length - 1, `${line},1`)?.select();
 });
 byId("options").onchange = doing(event => event.target.id === "sheet" ? open() : again());
 byId("file").onchange = async event => { await take(event.target.files[0]); event.target.value = ""; };
@@ -201,8 +205,7 @@ async function evaluate() {
   if (!doc.order || !read.shop) return;
   const turn = ++asked, found = await ask("/api/plan", plan());
   if (turn !== asked) return;
-  now = found;
-  doc.order = now.jobs.map(([name]) => name);
+  [now, doc.order] = [found, found.jobs.map(([name]) => name)];
   doc.held = Math.min(doc.held, doc.order.length);
   byId("three").hidden = false;
   const others = [[now.gone, tr("left out, as the table lacks them:")],
@@ -276,6 +279,7 @@ byId("rest").onclick = doing(async () => {
   restore({unit: "", decimal: "", decimals: "", begin: found.begin, totals: true, now: ""});
   doc = {...doc, rows: found.rows, delimiter: found.delimiter, machines: [], order: found.order, held: found.held};
   content = null;
+  readings += 1;
   show(found);
   await evaluate();
   byId("ends").textContent += `; ${found.done.length ? `${tr("finished and left out:")} ${found.done.join(", ")}`
