@@ -265,7 +265,7 @@ window.noted = [];
 window.late = null;
 const own = window.fetch;
 window.fetch = async (path, given = {}) => {
-  const waits = path === "/api/plan" ? window.late : null;
+  const waits = ["/api/plan", "/api/read"].includes(path) ? window.late : null;
   if (waits) window.late = null;
   noted.push([given.method || "GET", path, given.body ? JSON.parse(given.body) : null]);
   const answer = await own(path, given);
@@ -308,6 +308,13 @@ def test_what_the_page_asks_and_keeps(page: Page) -> None:
         arguments[0].dispatchEvent(new ClipboardEvent("paste", {clipboardData: data, bubbles: true}));""",
         page.key("3,2"))
     assert run("return noted.length") == count
+    # A table that comes late replaces no later one.
+    run("window.late = new Promise(done => { window.come = done; })")
+    page.write(page.key("3,2"), "2")
+    page.write(page.key("3,3"), "4")
+    page.wait(lambda: run("return read.shop.times[1].join()") == "2,4")
+    page.browser.execute_async_script("come(); setTimeout(arguments[0], 100)")
+    assert run("return read.shop.times[1].join()") == "2,4"
     # Two searches have different seeds. A bound of one table says nothing of another one.
     Select(page.one("#seconds")).select_by_value("2")
     planned(page)
