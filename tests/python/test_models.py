@@ -13,9 +13,8 @@ from pfs._orders import order_in
 from pfs._tables import table_of, write_table
 from support import plainly
 
-# Of names: capitals, blanks, letters outside ASCII, commas and quotes. A name begins with a letter. Semicolons and tabs
-# in most names would be taken for the separator.
-SIGNS = st.text("aBß Äé1.,\"'=-/#@", max_size=8)
+# Of names: capitals, blanks, letters outside ASCII, separators and quotes. A name begins with a letter.
+SIGNS = st.text("aBß Äé1.,;\t\"'=-/#@", max_size=8)
 NAMES = st.builds(lambda first, rest: f"{first}{rest}".strip(), st.sampled_from("xYÖñ"), SIGNS)
 
 

@@ -1,12 +1,15 @@
 """Atomic writes: after an interruption a file has either its old content or all of the new content. And cells of CSVs
-that no spreadsheet takes for formulas."""
+that no spreadsheet takes for formulas, and no reader for others."""
 from __future__ import annotations
 
 import contextlib
+import csv
 import os
 import re
 import secrets
 import stat
+from collections.abc import Iterable
+from typing import Literal
 
 FORMULA = re.compile(r"\s*[=+@-]|[\t\r]")
 
@@ -15,6 +18,11 @@ def text_cell(text: str) -> str:
     """Return a text with an apostrophe before it if a spreadsheet would interpret it as a formula, perhaps after
     removing blanks."""
     return f"'{text}" if FORMULA.match(text) else text
+
+
+def quoting_of(names: Iterable[str]) -> Literal[0, 1]:
+    """Return how the cells of CSV are quoted: all of them if a name has the separator of another table."""
+    return csv.QUOTE_ALL if {";", "\t"} & set().union(*names) else csv.QUOTE_MINIMAL
 
 
 def atomic_write(path: str | os.PathLike[str], data: bytes, temporary: str | None = None) -> None:

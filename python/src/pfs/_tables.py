@@ -14,7 +14,7 @@ from typing import NamedTuple
 import numpy as np
 
 from pfs import _library as c
-from pfs._atomic import atomic_write, text_cell
+from pfs._atomic import atomic_write, quoting_of, text_cell
 from pfs._faults import TableFault, cell_name
 from pfs._files import content_of
 from pfs._instance import Instance
@@ -25,6 +25,7 @@ from pfs._workbooks import OPTIONS_SHEET, Workbook, cell_of, write_workbook
 # The most cells of a row, as in spreadsheets, and the most rows, with titles.
 MOST_CELLS, MOST_ROWS = 16_384, 10_000
 LINE = re.compile(r"[^\r\n]*(?:\r\n?|\n)|[^\r\n]+")
+QUOTED = re.compile(r'(?:^|(?<=[,;\t\r])) *(?:"[^"]*")+', re.MULTILINE)
 # A unit in brackets at the end of a name.
 UNIT = re.compile(r"[\[(]([^\[\]()]+)[\])]\Z")
 NUMBER = re.compile(r"([0-9]{1,20})(?:([.,])([0-9]{1,20}))?\Z", re.ASCII)
@@ -319,9 +320,9 @@ def lines_of(text: str) -> Iterator[str]:
 
 def delimiter_of(text: str) -> str:
     """Return the separator of the columns: the one that the first line names, or `;` or tab if it is in more than half
-    of the lines, else a comma."""
+    of the lines, outside of cells in quotes, else a comma."""
     count, counts = 0, {";": 0, "\t": 0}
-    for line in islice(filter(str.strip, lines_of(text)), 10 * MOST_ROWS):
+    for line in islice(filter(str.strip, lines_of(QUOTED.sub("x", text))), 10 * MOST_ROWS):
         named = re.fullmatch(r"sep=(.)\s*", line)
         if named and not count:
             return named[1]
@@ -675,7 +676,8 @@ def write_table(path: str, shop: Instance, delimiter: str, mark: bool) -> None:
         write_workbook(path, [("times", [head, *rows])])
         return
     text = io.StringIO()
-    writer = csv.writer(text, delimiter=delimiter, lineterminator="\n")
+    names = [*head, *(name for name, *_ in texts)]
+    writer = csv.writer(text, delimiter=delimiter, lineterminator="\n", quoting=quoting_of(names))
     writer.writerow(map(text_cell, head))
     point = "," if delimiter == ";" else "."
     # The sign before three decimals alone could separate thousands, so they get another zero.
