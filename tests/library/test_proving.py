@@ -131,10 +131,10 @@ def test_the_limits(libpfs: Library) -> None:
 
 
 def test_the_greatest_search_fits_a_small_stack(libpfs: Library) -> None:
-    """256 jobs on 64 machines, as deep as the search goes, on a thread's stack of 2 MiB."""
+    """256 jobs on 64 machines, as deep as the search goes, on a thread's stack of 512 KiB."""
     random, found = Random(3), list[Proved]()
     times = [[random.randint(1, 99) for _ in range(64)] for _ in range(256)]
-    threading.stack_size(2 * 2**20)
+    threading.stack_size(2**19)
     try:
         thread = threading.Thread(target=lambda: found.append(prove(libpfs, times, list(range(256)), 3_000)))
         thread.start()

@@ -4,7 +4,7 @@ ghost use Rattle.pfs_base.specs.Paths.{makespan};
 ghost use Rattle.pfs_exact.specs.MostNodes.{most_nodes};
 ghost use Rattle.pfs_exact.specs.Private.Nodes.{AreEnds, AreHeads, IsNode, IsWork, NoneShorter};
 
-use crate::children::{CLOSED, Children, children_of};
+use crate::children::{CLOSED, Room, children_of};
 use crate::ends::{Ends, put, take};
 use crate::node::{Node, child};
 use crate::prove::{MOST_PROVED_JOBS, MOST_PROVED_MACHINES};
@@ -24,12 +24,19 @@ pub(crate) struct Work {
 }
 
 /// Searches the orders of a node, and returns a number that none of them is shorter than. It is the best makespan, unless
-/// the budget is used up.
-pub(crate) fn branch(instance: &Instance, work: &mut Work, node: &mut Node) -> u64
+/// the budget is used up. There is a room for each job between.
+pub(crate) fn branch(
+    instance: &Instance,
+    work: &mut Work,
+    node: &mut Node,
+    rooms: &mut [Room],
+) -> u64
     requires jobs { instance.now.shop.jobs ≤ MOST_PROVED_JOBS }
     requires machines { instance.now.shop.machines ≤ MOST_PROVED_MACHINES }
     requires work { IsWork instance.now.shop work.old }
     requires some { 1 ≤ work.old.left }
+    requires rooms { instance.now.shop.jobs
+        ≤ length work.old.ends.front.jobs + length work.old.ends.back.jobs + length rooms.old }
     requires node { IsNode instance.now.shop work.old.ends.front.jobs work.old.ends.back.jobs node.old }
     ensures work { IsWork instance.now.shop work.new }
     ensures ends { work.new.ends ≡ work.old.ends }
@@ -45,34 +52,36 @@ pub(crate) fn branch(instance: &Instance, work: &mut Work, node: &mut Node) -> u
         finish(instance, work);
         return work.makespan;
     }
-    let mut children = children_of(instance, &work.ends, work.floor, node);
+    let (own, below) = rooms.split_at_mut(1);
+    let room = &mut own[0];
+    let forward = children_of(instance, &work.ends, work.floor, node, room);
     'each: loop {
-        let job = least_of(&children, instance.jobs());
-        let number = children.bounds[job];
+        let job = least_of(&room.bounds, instance.jobs());
+        let number = room.bounds[job];
         if number >= work.makespan {
             return work.makespan;
         }
         if work.left == 0 {
             return number;
         }
-        let mut next = child(instance, node, children.forward, job);
-        put(&mut work.ends, children.forward, job);
-        children.bounds[job] = branch(instance, work, &mut next);
-        take(&mut work.ends, children.forward);
+        child(instance, node, forward, job, &mut room.child);
+        put(&mut work.ends, forward, job);
+        room.bounds[job] = branch(instance, work, &mut room.child, below);
+        take(&mut work.ends, forward);
     }
 }
 
 // The job with the least number.
-fn least_of(children: &Children, jobs: usize) -> usize
+fn least_of(bounds: &[u64; MOST_PROVED_JOBS], jobs: usize) -> usize
     requires some { 1 ≤ jobs }
     requires few { jobs ≤ MOST_PROVED_JOBS }
     ensures within { result < jobs }
     ensures least { (job : ℕ) → job < jobs
-        → slice_index children.now.bounds result ≤ slice_index children.now.bounds job }
+        → slice_index bounds.now result ≤ slice_index bounds.now job }
 {
     let mut least = 0;
     for job in 1..jobs {
-        if children.bounds[job] < children.bounds[least] {
+        if bounds[job] < bounds[least] {
             least = job;
         }
     }

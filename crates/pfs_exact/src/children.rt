@@ -3,25 +3,35 @@ ghost use Rattle.std.specs.Prelude.{◌≡◌, ℕ, ◌+◌, ◌<◌, ◌≤◌,
 ghost use Rattle.pfs_audit.specs.Bound.{IsLowerBound};
 ghost use Rattle.pfs_exact.specs.Private.Nodes.{AreBounds, AreEnds, AreLeast, IsNode, NoneShorter};
 
-use crate::ends::{Ends, open_of};
-use crate::node::{Node, least_times, plus, raise};
+use crate::ends::{Ends, mark_open};
+use crate::node::{Node, copy, least_times, plus, raise};
 use crate::prove::{MOST_PROVED_JOBS, MOST_PROVED_MACHINES};
 use pfs_base::Instance;
 
 /// The number of a job that is at an end.
 pub(crate) const CLOSED: u64 = 18_446_744_073_709_551_615;
 
-/// Whether the nodes have one more of the first jobs, or of the last; and job by job a number that none of the orders is
-/// shorter than.
+/// The room of a node: the marks of the jobs between and their least times; job by job a number that none of the orders
+/// with one more job is shorter than; and the child that is searched. `others` are the numbers of the other end.
 #[derive(Clone, Copy)]
-pub(crate) struct Children {
-    pub(crate) forward: bool,
+pub(crate) struct Room {
+    pub(crate) marks: [bool; MOST_PROVED_JOBS],
+    pub(crate) least: [u64; MOST_PROVED_MACHINES],
     pub(crate) bounds: [u64; MOST_PROVED_JOBS],
+    pub(crate) others: [u64; MOST_PROVED_JOBS],
+    pub(crate) child: Node,
 }
 
-/// The children of a node that has some, at the end at which fewer of them have the least number (Gmys and others 2020),
-/// or else at which their numbers have the greater sum.
-pub(crate) fn children_of(instance: &Instance, ends: &Ends, floor: u64, node: &mut Node) -> Children
+/// Finds the numbers of the children of a node that has some, and returns whether these have one more of the first jobs,
+/// and not of the last: at the end at which fewer of them have the least number (Gmys and others 2020), or else at which
+/// their numbers have the greater sum.
+pub(crate) fn children_of(
+    instance: &Instance,
+    ends: &Ends,
+    floor: u64,
+    node: &mut Node,
+    room: &mut Room,
+) -> bool
     requires jobs { instance.now.shop.jobs ≤ MOST_PROVED_JOBS }
     requires machines { instance.now.shop.machines ≤ MOST_PROVED_MACHINES }
     requires ends { AreEnds instance.now.shop.jobs ends.now }
@@ -29,30 +39,25 @@ pub(crate) fn children_of(instance: &Instance, ends: &Ends, floor: u64, node: &m
     requires node { IsNode instance.now.shop ends.now.front.jobs ends.now.back.jobs node.old }
     requires floor { IsLowerBound instance.now.shop floor }
     ensures node { IsNode instance.now.shop ends.now.front.jobs ends.now.back.jobs node.new }
-    ensures bounds { AreBounds instance.now.shop ends.now result.forward instance.now.shop.jobs result.bounds }
+    ensures bounds { AreBounds instance.now.shop ends.now result instance.now.shop.jobs room.new.bounds }
 {
-    let marks = open_of(instance, ends);
-    let least = least_times(instance, ends, &marks);
-    raise(instance, ends, &least, node);
-    let mut ahead = [CLOSED; MOST_PROVED_JOBS];
-    let mut behind = [CLOSED; MOST_PROVED_JOBS];
+    mark_open(instance, ends, &mut room.marks);
+    least_times(instance, ends, &room.marks, &mut room.least);
+    raise(instance, ends, &room.least, node);
     for job in 0..instance.jobs() {
-        if marks[job] {
-            ahead[job] = bound_ahead(instance, node, &least, floor, job);
-            behind[job] = bound_behind(instance, node, &least, floor, job);
+        if room.marks[job] {
+            room.bounds[job] = bound_ahead(instance, node, &room.least, floor, job);
+            room.others[job] = bound_behind(instance, node, &room.least, floor, job);
+        } else {
+            room.bounds[job] = CLOSED;
+            room.others[job] = CLOSED;
         }
     }
-    if is_forward(&ahead, &behind, instance.jobs()) {
-        Children {
-            forward: true,
-            bounds: ahead,
-        }
-    } else {
-        Children {
-            forward: false,
-            bounds: behind,
-        }
+    if is_forward(&room.bounds, &room.others, instance.jobs()) {
+        return true;
     }
+    copy(&room.others, &mut room.bounds, instance.jobs());
+    false
 }
 
 // Which end to grow. The search is right either way.

@@ -41,17 +41,16 @@ pub(crate) fn take(ends: &mut Ends, forward: bool)
     }
 }
 
-/// The marks of the jobs at neither end.
-pub(crate) fn open_of(instance: &Instance, ends: &Ends) -> [bool; MOST_PROVED_JOBS]
+/// Marks the jobs at neither end.
+pub(crate) fn mark_open(instance: &Instance, ends: &Ends, marks: &mut [bool; MOST_PROVED_JOBS])
     requires jobs { instance.now.shop.jobs ≤ MOST_PROVED_JOBS }
     requires ends { AreEnds instance.now.shop.jobs ends.now }
-    ensures { AreOpen instance.now.shop.jobs ends.now result }
+    ensures { AreOpen instance.now.shop.jobs ends.now marks.new }
 {
     let _jobs = instance.jobs();
-    let mut marks = [true; MOST_PROVED_JOBS];
-    clear(&ends.front, &mut marks);
-    clear(&ends.back, &mut marks);
-    marks
+    *marks = [true; MOST_PROVED_JOBS];
+    clear(&ends.front, marks);
+    clear(&ends.back, marks);
 }
 
 // Clears the marks of the jobs of a sequence.

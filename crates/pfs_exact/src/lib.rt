@@ -1,5 +1,6 @@
 //! A search that proves how short an order of all jobs can be. Orders grow from both ends, depth first; a bound of each
-//! machine ends them early.
+//! machine ends them early. Before the first node, pairs of machines raise the bound of all orders (Johnson's rule with
+//! lags: Johnson 1954; Lageweg, Lenstra and Rinnooy Kan 1978).
 #![tactic(auto)]
 
 mod branch;

@@ -63,29 +63,45 @@ fn load_on(instance: &Instance, machine: usize) -> u64
     load
 }
 
-/// The node with one more job at an end.
-pub(crate) fn child(instance: &Instance, node: &Node, forward: bool, job: usize) -> Node
+/// Makes `next` the node with one more job at an end.
+pub(crate) fn child(instance: &Instance, node: &Node, forward: bool, job: usize, next: &mut Node)
     requires machines { instance.now.shop.machines ≤ MOST_PROVED_MACHINES }
     requires job { job < instance.now.shop.jobs }
     ensures { (ends : Ends) → IsNode instance.now.shop ends.front.jobs ends.back.jobs node.now
-        → IsNode instance.now.shop (put_of forward ends job).front.jobs (put_of forward ends job).back.jobs result }
+        → IsNode instance.now.shop (put_of forward ends job).front.jobs (put_of forward ends job).back.jobs next.new }
 {
-    let mut next = *node;
     if forward {
-        grow_front(instance, &mut next.starts, job);
+        grow_front(instance, &node.starts, job, &mut next.starts);
+        copy(&node.rests, &mut next.rests, instance.machines());
     } else {
-        grow_back(instance, &mut next.rests, job);
+        copy(&node.starts, &mut next.starts, instance.machines());
+        grow_back(instance, &node.rests, job, &mut next.rests);
     }
-    leave(instance, &mut next.left, job);
-    next
+    leave(instance, &node.left, job, &mut next.left);
+}
+
+/// Copies the first numbers.
+pub(crate) fn copy(from: &[u64], to: &mut [u64], many: usize)
+    requires from { many ≤ length from.now }
+    requires to { many ≤ length to.old }
+    ensures { (at : ℕ) → at < many → slice_index to.new at ≡ slice_index from.now at }
+{
+    for at in 0..many {
+        to[at] = from[at];
+    }
 }
 
 // The starts after one more of the first jobs.
-fn grow_front(instance: &Instance, starts: &mut [u64; MOST_PROVED_MACHINES], job: usize)
+fn grow_front(
+    instance: &Instance,
+    starts: &[u64; MOST_PROVED_MACHINES],
+    job: usize,
+    next: &mut [u64; MOST_PROVED_MACHINES],
+)
     requires machines { instance.now.shop.machines ≤ MOST_PROVED_MACHINES }
     requires job { job < instance.now.shop.jobs }
-    ensures { (front back : List ℕ) → AreStarts instance.now.shop front back starts.old
-        → AreStarts instance.now.shop (front ++ job ∷ []) back starts.new }
+    ensures { (front back : List ℕ) → AreStarts instance.now.shop front back starts.now
+        → AreStarts instance.now.shop (front ++ job ∷ []) back next.new }
 {
     let mut before: u64 = 0;
     for machine in 0..instance.machines() {
@@ -93,16 +109,21 @@ fn grow_front(instance: &Instance, starts: &mut [u64; MOST_PROVED_MACHINES], job
             before.max(starts[machine]),
             u64::from(instance.time(job, machine)),
         );
-        starts[machine] = before;
+        next[machine] = before;
     }
 }
 
 // The rests before one more of the last jobs.
-fn grow_back(instance: &Instance, rests: &mut [u64; MOST_PROVED_MACHINES], job: usize)
+fn grow_back(
+    instance: &Instance,
+    rests: &[u64; MOST_PROVED_MACHINES],
+    job: usize,
+    next: &mut [u64; MOST_PROVED_MACHINES],
+)
     requires machines { instance.now.shop.machines ≤ MOST_PROVED_MACHINES }
     requires job { job < instance.now.shop.jobs }
-    ensures { (front back : List ℕ) → AreRests instance.now.shop front back rests.old
-        → AreRests instance.now.shop front (job ∷ back) rests.new }
+    ensures { (front back : List ℕ) → AreRests instance.now.shop front back rests.now
+        → AreRests instance.now.shop front (job ∷ back) next.new }
 {
     let machines = instance.machines();
     let mut after: u64 = 0;
@@ -111,41 +132,46 @@ fn grow_back(instance: &Instance, rests: &mut [u64; MOST_PROVED_MACHINES], job: 
             after.max(rests[turn]),
             u64::from(instance.time(job, machines - 1 - turn)),
         );
-        rests[turn] = after;
+        next[turn] = after;
     }
 }
 
 // The times of the jobs between without a job.
-fn leave(instance: &Instance, left: &mut [u64; MOST_PROVED_MACHINES], job: usize)
+fn leave(
+    instance: &Instance,
+    left: &[u64; MOST_PROVED_MACHINES],
+    job: usize,
+    next: &mut [u64; MOST_PROVED_MACHINES],
+)
     requires machines { instance.now.shop.machines ≤ MOST_PROVED_MACHINES }
     requires job { job < instance.now.shop.jobs }
     ensures { (machine : ℕ) → machine < instance.now.shop.machines
-        → slice_index left.new machine ≤ slice_index left.old machine - time_of instance.now.shop job machine }
+        → slice_index next.new machine ≤ slice_index left.now machine - time_of instance.now.shop job machine }
 {
     for machine in 0..instance.machines() {
-        left[machine] = left[machine].saturating_sub(u64::from(instance.time(job, machine)));
+        next[machine] = left[machine].saturating_sub(u64::from(instance.time(job, machine)));
     }
 }
 
-/// The least times of the jobs between.
+/// Finds the least times of the jobs between.
 pub(crate) fn least_times(
     instance: &Instance,
     ends: &Ends,
     marks: &[bool; MOST_PROVED_JOBS],
-) -> [u64; MOST_PROVED_MACHINES]
+    least: &mut [u64; MOST_PROVED_MACHINES],
+)
     requires jobs { instance.now.shop.jobs ≤ MOST_PROVED_JOBS }
     requires machines { instance.now.shop.machines ≤ MOST_PROVED_MACHINES }
     requires ends { AreEnds instance.now.shop.jobs ends.now }
     requires marks { AreOpen instance.now.shop.jobs ends.now marks.now }
-    ensures { AreLeast instance.now.shop ends.now.front.jobs ends.now.back.jobs result }
+    ensures { AreLeast instance.now.shop ends.now.front.jobs ends.now.back.jobs least.new }
 {
-    let mut least = [0; MOST_PROVED_MACHINES];
+    *least = [0; MOST_PROVED_MACHINES];
     if ends.front.len() + ends.back.len() + 1 < instance.jobs() {
         for machine in 0..instance.machines() {
             least[machine] = least_on(instance, marks, machine);
         }
     }
-    least
 }
 
 // The least time of the jobs between on a machine.

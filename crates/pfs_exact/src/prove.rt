@@ -1,13 +1,14 @@
 //! The search of a user.
-ghost use Rattle.std.specs.Prelude.{◌≡◌, ℕ, ◌+◌, ◌<◌, ◌≤◌, [], length, IfOk, OnErr};
+ghost use Rattle.std.specs.Prelude.{◌≡◌, ℕ, ◌+◌, ◌<◌, ◌≤◌, [], length, IfOk, OnErr, vec_len};
 ghost use Rattle.pfs_base.specs.Paths.{makespan};
 ghost use Rattle.pfs_audit.specs.Bound.{bound_of, IsLowerBound};
 ghost use Rattle.pfs_exact.specs.MostNodes.{most_nodes};
 ghost use Rattle.pfs_exact.specs.Private.Nodes.{AreEnds, IsWork};
 
 use crate::branch::{Work, branch, span_of};
-use crate::ends::{Ends, open_of};
-use crate::node::{least_times, raise, root};
+use crate::children::Room;
+use crate::ends::{Ends, mark_open};
+use crate::node::{Node, least_times, raise, root};
 use crate::pairs::bound_of_pairs;
 use pfs_audit::bound;
 use pfs_base::Instance;
@@ -35,7 +36,7 @@ pub struct Proved {
 /// 2005; Gmys, Mezmaz, Melab and Tuyttens 2020). A node is a set of orders that begin with some jobs and end with some; at
 /// most `nodes` of them are searched. Unless all of these are used, the order that was found is optimal. A search has at
 /// most as many nodes as there are sequences of distinct jobs, of any length: 9,864,101 for 10 jobs. The only error is that
-/// memory for four sequences could not be allocated, before the search begins; then the order is as it was.
+/// memory could not be allocated, before the search begins; then the order is as it was.
 pub fn prove_order(
     alloc: Global,
     instance: &Instance,
@@ -61,7 +62,8 @@ pub fn prove_order(
     let mut low = work.floor;
     if low < work.makespan && nodes > 0 {
         let mut node = root(instance);
-        low = low.max(branch(instance, &mut work, &mut node));
+        let mut rooms = rooms_of(alloc, instance.jobs(), node)?;
+        low = low.max(branch(instance, &mut work, &mut node, &mut rooms));
     }
     order.copy_from(&work.best);
     Ok(Proved {
@@ -71,7 +73,21 @@ pub fn prove_order(
     })
 }
 
-// All memory of a search that begins with an order.
+// A room for each job.
+fn rooms_of(alloc: Global, jobs: usize, child: Node) -> Result<Vec<Room>, AllocError>
+    ensures { IfOk result (λ rooms. vec_len rooms ≡ jobs) }
+{
+    let room = Room {
+        marks: [false; MOST_PROVED_JOBS],
+        least: [0; MOST_PROVED_MACHINES],
+        bounds: [0; MOST_PROVED_JOBS],
+        others: [0; MOST_PROVED_JOBS],
+        child,
+    };
+    vec![in alloc; room; jobs]
+}
+
+// What a search works with that begins with an order.
 fn work_of(
     alloc: Global,
     instance: &Instance,
@@ -124,8 +140,10 @@ fn floor_of(instance: &Instance, ends: &Ends, makespan: u64) -> u64
         return floor;
     }
     let mut node = root(instance);
-    let marks = open_of(instance, ends);
-    let least = least_times(instance, ends, &marks);
+    let mut marks = [false; MOST_PROVED_JOBS];
+    let mut least = [0; MOST_PROVED_MACHINES];
+    mark_open(instance, ends, &mut marks);
+    least_times(instance, ends, &marks, &mut least);
     raise(instance, ends, &least, &mut node);
     floor.max(bound_of_pairs(instance, &node))
 }

@@ -135,12 +135,12 @@ abbrev pub IsChild : FlowShop → Ends → Bool → ℕ → ℕ → Type 0
 IsChild shop ends forward job number =
     NoneShorter shop (put_of forward ends job).front.jobs (put_of forward ends job).back.jobs number
 
--- such a number for each of `many` jobs at neither end; those of all others are `CLOSED`
+-- such a number for each of `many` jobs that is at neither end; those of the others are `CLOSED`
 pub record AreBounds (shop : FlowShop) (ends : Ends) (forward : Bool) (many : ℕ) (bounds : List ℕ) : Type 0 where
   pub every : shop.jobs ≤ length bounds
   pub low : (job : ℕ) → job < many → IsOpen ends.front.jobs ends.back.jobs job
       → IsChild shop ends forward job (slice_index bounds job)
-  pub closed : (job : ℕ) → job < shop.jobs → slice_index bounds job < CLOSED
+  pub closed : (job : ℕ) → job < many → slice_index bounds job < CLOSED
       → IsOpen ends.front.jobs ends.back.jobs job
 
 -- ---- the search

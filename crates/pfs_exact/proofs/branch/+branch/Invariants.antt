@@ -13,10 +13,10 @@ invariant-each l = record {
   ends : l.work.ends ≡ l.fn.work.ends;
   no_longer : l.work.makespan ≤ l.fn.work.makespan;
   left : l.work.left < l.fn.work.left;
-  bounds : AreBounds l.instance.shop l.fn.work.ends l.children.forward l.instance.shop.jobs l.children.bounds;
+  bounds : AreBounds l.instance.shop l.fn.work.ends l.forward l.instance.shop.jobs l.room.bounds;
   entered : (entered : List ℕ) × AreEntered l.instance.shop.jobs
       (l.instance.shop.jobs - (length l.fn.work.ends.front.jobs + length l.fn.work.ends.back.jobs))
-      (l.fn.work.ends.front.jobs ++ l.fn.work.ends.back.jobs) l.children.bounds l.work.makespan l.fn.work.left l.work.left
+      (l.fn.work.ends.front.jobs ++ l.fn.work.ends.back.jobs) l.room.bounds l.work.makespan l.fn.work.left l.work.left
       entered;
 }
 

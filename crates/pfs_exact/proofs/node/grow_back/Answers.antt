@@ -21,7 +21,6 @@ loop-turn-preserved c =
     let machine : ℕ = shop.machines - 1 - turn in
     let invariant = c.loop-turn.invariant in
     let rest = get_or c.args.rests.now turn 0 in
-    let read = invariant.rests.to_do turn (omega arith) in
     let time = ap (λ m. time_of shop job (m - 1 - turn)) c.machines-machines.ensures.value in
     let plus = c.plus-after.ensures in
     let after = λ (front back : List ℕ) (are : AreRests shop front back c.args.rests.now).
@@ -36,7 +35,7 @@ loop-turn-preserved c =
           (subst (λ m. IsAfter shop front job back m (max c.loop-turn.after rest)) step (after front back are));
       rests = partly_more (λ t time. (front back : List ℕ) → AreRests shop front back c.args.rests.now
           → IsRest shop front (job ∷ back) (shop.machines - 1 - t) time) shop.machines turn c.plus-after.result
-          c.args.rests.now c.loop-turn.rests (omega arith) invariant.rests
+          c.args.next.now c.loop-turn.next (omega arith) invariant.rests
           (λ front back are. back_rest shop front job back machine (max c.loop-turn.after rest) c.plus-after.result (omega arith)
           (after front back are));
     }

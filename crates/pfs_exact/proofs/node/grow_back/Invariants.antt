@@ -8,8 +8,8 @@ abbrev pub invariant-loop-turn : goal.invariant-loop-turn
 invariant-loop-turn l =
     let shop = l.instance.shop in
     record {
-      after : l.turn < shop.machines → (front back : List ℕ) → AreRests shop front back l.fn.rests
+      after : l.turn < shop.machines → (front back : List ℕ) → AreRests shop front back l.rests
           → IsAfter shop front l.job back (shop.machines - 1 - l.turn) l.after;
-      rests : Partly (λ turn time. (front back : List ℕ) → AreRests shop front back l.fn.rests
-          → IsRest shop front (l.job ∷ back) (shop.machines - 1 - turn) time) shop.machines l.turn l.fn.rests l.rests;
+      rests : Partly (λ turn time. (front back : List ℕ) → AreRests shop front back l.rests
+          → IsRest shop front (l.job ∷ back) (shop.machines - 1 - turn) time) shop.machines l.turn l.fn.next l.next;
     }

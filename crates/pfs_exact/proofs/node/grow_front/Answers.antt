@@ -16,7 +16,6 @@ loop-machine-preserved c =
     let job = c.args.job in
     let machine = c.loop-machine.machine in
     let invariant = c.loop-machine.invariant in
-    let read = invariant.starts.to_do machine (omega arith) in
     let plus = c.plus-before.ensures in
     let end = λ (front back : List ℕ) (are : AreStarts shop front back c.args.starts.now).
     end_at shop front job back machine c.loop-machine.before (get_or c.args.starts.now machine 0) c.plus-before.result
@@ -25,7 +24,7 @@ loop-machine-preserved c =
       before = λ front back are. subst (λ m. IsBefore shop front job back m c.plus-before.result) (sym (add-one machine))
           (before_on shop front job back machine c.plus-before.result (end front back are));
       starts = partly_more (λ m time. (front back : List ℕ) → AreStarts shop front back c.args.starts.now
-          → IsEnd shop front job back m time) shop.machines machine c.plus-before.result c.args.starts.now c.loop-machine.starts
+          → IsEnd shop front job back m time) shop.machines machine c.plus-before.result c.args.next.now c.loop-machine.next
           (omega arith) invariant.starts end;
     }
 

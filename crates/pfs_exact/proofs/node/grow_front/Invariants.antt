@@ -8,8 +8,8 @@ abbrev pub invariant-loop-machine : goal.invariant-loop-machine
 invariant-loop-machine l =
     let shop = l.instance.shop in
     record {
-      before : (front back : List ℕ) → AreStarts shop front back l.fn.starts
+      before : (front back : List ℕ) → AreStarts shop front back l.starts
           → IsBefore shop front l.job back l.machine l.before;
-      starts : Partly (λ machine time. (front back : List ℕ) → AreStarts shop front back l.fn.starts
-          → IsEnd shop front l.job back machine time) shop.machines l.machine l.fn.starts l.starts;
+      starts : Partly (λ machine time. (front back : List ℕ) → AreStarts shop front back l.starts
+          → IsEnd shop front l.job back machine time) shop.machines l.machine l.fn.next l.next;
     }

@@ -10,9 +10,8 @@ pub loop-machine-preserved : goal.loop-machine-preserved
 loop-machine-preserved c =
     let shop = c.args.instance.now.shop in
     let machine = c.loop-machine.machine in
-    let read = c.loop-machine.invariant.to_do machine (omega arith) in
     partly_more (λ m time. time ≤ get_or c.args.left.now m 0 - time_of shop c.args.job m) shop.machines machine _
-    c.args.left.now c.loop-machine.left (omega arith) c.loop-machine.invariant (omega arith)
+    c.args.next.now c.loop-machine.next (omega arith) c.loop-machine.invariant (omega arith)
 
 pub returns : goal.returns
 returns c = λ machine small. c.loop-machine.invariant.done machine (omega arith)

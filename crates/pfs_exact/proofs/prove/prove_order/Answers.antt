@@ -3,14 +3,14 @@ use Rattle.pfs_exact.specs.declared.ends.Ends.{Ends}
 use Rattle.pfs_exact.specs.Private.Nodes.{NoneShorter}
 use Rattle.pfs_exact.proofs.Sides.{from_none}
 use Rattle.pfs_exact.proofs.prove.prove_order.Goals as goal
-use Rattle.pfs_exact.proofs.prove.prove_order.Goals.{then-low-work+then-nodes-gt0, else-low-work}
+use Rattle.pfs_exact.proofs.prove.prove_order.Goals.{then-low-work+then-nodes-gt0+in_ok-rooms, else-low-work}
 
 pub returns-clause-low : goal.returns-clause-low
 returns-clause-low c = λ order sequence full.
     let shop = c.args.instance.now.shop in
     let floor = c.in-Ok.ensures.work.floor order sequence full in
     elim c.if-low-work.branch [
-      | then-low-work+then-nodes-gt0 w ↦
+      | then-low-work+then-nodes-gt0+in_ok-rooms w ↦
           let is = w.low-is in
           let most = w.max-low.ensures in
           let number = w.branch-instance.result in

@@ -2,7 +2,7 @@ use Rattle.std.proofs.Common.{sym, ◌∙◌, true, false, arith}
 use Rattle.std.proofs.lemmas.List.{get_or-replicate}
 use Rattle.pfs_exact.specs.declared.prove.TheConstants.{MOST_PROVED_JOBS}
 use Rattle.std.proofs.lemmas.Bool.{true≢false}
-use Rattle.pfs_exact.proofs.ends.open_of.Goals as goal
+use Rattle.pfs_exact.proofs.ends.mark_open.Goals as goal
 
 pub returns : goal.returns
 returns c =
