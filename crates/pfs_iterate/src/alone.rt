@@ -40,14 +40,8 @@ impl Iterated {
         let work = &mut self.work;
         work.seq.set(sequence);
         let options = by_ties(ties);
-        put(
-            instance,
-            search,
-            &mut work.places,
-            &mut work.seq,
-            &options,
-            job,
-        )
+        let places = &mut work.places;
+        put(instance, search, places, &mut work.seq, &options, job)
     }
 
     /// Inserts more jobs after one another into the first `count` of `order`, each at its place by a rule for equally
