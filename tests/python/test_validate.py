@@ -170,7 +170,8 @@ REJECTED: dict[Callable[[Any], object], list[tuple[Any, type[Exception], str]]] 
         (([1, 1], {}), ValueError, "jobs: job 1 occurs twice"),
         (({"passes": 101},), ValueError, "passes must be from 0 to 100"), (([0], 1, {}), TypeError, "positional"),
         (({"passes": True},), TypeError, "passes must be an integer"),
-        (({"ties": "last"},), ValueError, "ties must be 'first' or 'idle', not 'last'"), (({"ties": 1},), TypeError, "ties")],
+        (({"ties": "last"},), ValueError, "ties must be 'first' or 'idle', not 'last'"),
+        (({"ties": 1},), TypeError, "ties must be")],
     lambda given: [SHOP.best_place([0], 1, ties=given), SHOP.insert_all([0], [1], ties=given)]: [
         ("last", ValueError, "ties must be 'first' or 'idle', not 'last'"), (None, TypeError, "ties must be")],
     pfs.from_frame: [(frame, TypeError, "frame must be a pandas DataFrame, not ") for frame in ([[1]], None)],

@@ -1,6 +1,6 @@
 -- Passes make no sequence longer.
 use Rattle.std.proofs.Common.{◌≡◌, ℕ, zero, suc, ◌+◌, ◌-◌, ◌<◌, ◌≤◌, List, [], ◌∷◌, length, get_or, drop, fold, insert, remove}
-use Rattle.std.proofs.Common.{Contains, true, false, nat_eq, refl, ap, sym, ◌∙◌, inl, inr, arith}
+use Rattle.std.proofs.Common.{nat_eq, ap, sym, ◌∙◌, inl, inr, arith}
 use Rattle.std.specs.List.{list_any}
 use Rattle.std.proofs.lemmas.Bool.{cases_Bool, cases_lt, cases_order, eqb-true, le-ltb, lt-ltb}
 use Rattle.std.proofs.lemmas.List.{get_or-drop, get_or_default, length-drop}

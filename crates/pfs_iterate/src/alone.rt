@@ -75,6 +75,8 @@ impl Iterated {
         let places = &mut work.places;
         let seq = &mut work.seq;
         let start = insert_more(instance, search, places, seq, &options, &work.removed);
+        // Called for its contract, which says that the jobs of a sequence are distinct.
+        let _size = seq.size();
         let span = improve(
             instance, search, places, seq, &options, &work.list, passes, start,
         );
