@@ -425,6 +425,23 @@ int pfs_iterate(struct pfs_instance *instance, const struct pfs_iterate_options 
 int pfs_insert(struct pfs_instance *instance, const uint32_t *sequence, size_t sequence_length, uint32_t job,
                size_t *place, uint64_t *makespan) PFS_CHECKED;
 
+/** @brief Finds the best place of a job as pfs_insert does, by a rule for equally good places. Time O(km).
+ *
+ * Of the places that give the least makespan, `ties` says which one is the best, as for pfs_iterate. With
+ * PFS_TIES_FIRST it is the place that pfs_insert finds. Since version 2.1.0.
+ *
+ * @param[in,out] instance the instance
+ * @param[in] ties PFS_TIES_FIRST or PFS_TIES_IDLE
+ * @param[in] sequence distinct jobs, without the job to insert
+ * @param[in] sequence_length number of jobs in the sequence
+ * @param[in] job the job to insert
+ * @param[out] place the best place, from 0 to sequence_length
+ * @param[out] makespan makespan with the job at this place
+ * @return PFS_OK, or the first fault that pfs_insert returns, or PFS_TIES (ties)
+ */
+int pfs_insert_ties(struct pfs_instance *instance, uint32_t ties, const uint32_t *sequence, size_t sequence_length,
+                    uint32_t job, size_t *place, uint64_t *makespan) PFS_CHECKED;
+
 /** @brief Computes the makespan with a job at each place of a sequence of other jobs. Time O(km).
  *
  * makespans[place] is the makespan with the job before the one at this place, and makespans[sequence_length] that with
@@ -480,6 +497,26 @@ int pfs_heads_tails(struct pfs_instance *instance, const uint32_t *sequence, siz
 int pfs_construct(struct pfs_instance *instance, const uint32_t *sequence, size_t sequence_length, const uint32_t *more,
                   size_t more_length, uint32_t *order, size_t order_length, uint64_t *makespan) PFS_CHECKED;
 
+/** @brief Inserts jobs as pfs_construct does, by a rule for equally good places. Time O(nm) for each.
+ *
+ * The best place is the one that pfs_insert_ties finds. With PFS_TIES_FIRST the order is that of pfs_construct. Since
+ * version 2.1.0.
+ *
+ * @param[in,out] instance the instance
+ * @param[in] ties PFS_TIES_FIRST or PFS_TIES_IDLE
+ * @param[in] sequence distinct jobs, to which the others are added
+ * @param[in] sequence_length number of jobs in the sequence
+ * @param[in] more jobs to insert, in this order; they are distinct, and not in the sequence
+ * @param[in] more_length number of jobs to insert
+ * @param[out] order the sequence with all of these jobs
+ * @param[in] order_length length of the order, which is sequence_length + more_length
+ * @param[out] makespan makespan of the order
+ * @return PFS_OK, or the first fault that pfs_construct returns, or PFS_TIES (ties)
+ */
+int pfs_construct_ties(struct pfs_instance *instance, uint32_t ties, const uint32_t *sequence, size_t sequence_length,
+                       const uint32_t *more, size_t more_length, uint32_t *order, size_t order_length,
+                       uint64_t *makespan) PFS_CHECKED;
+
 /** @brief Improves a sequence by passes over a list of its jobs. Time O(km) for each job and pass.
  *
  * In a pass, each job of the list is removed and inserted at its best place, which is the one that pfs_insert finds.
@@ -498,6 +535,28 @@ int pfs_construct(struct pfs_instance *instance, const uint32_t *sequence, size_
  */
 int pfs_local_search(struct pfs_instance *instance, const uint32_t *list, size_t list_length, uint32_t passes,
                      uint32_t *sequence, size_t sequence_length, uint64_t *makespan) PFS_CHECKED;
+
+/** @brief Improves a sequence by passes until no job of a list improves it, by a rule for equally good places. Time
+ * O(km) for each job and pass.
+ *
+ * In a pass, each job of the list is removed and inserted at its best place, which is the one that pfs_insert_ties
+ * finds. Passes end early after one that makes the sequence no shorter: in it no job found a place with a shorter
+ * makespan, though jobs may have moved to equally good places. With PFS_MOST_PASSES that is so at the end, unless each
+ * of these passes made the sequence shorter. The result is never longer than the sequence. One pass with
+ * PFS_TIES_FIRST is that of pfs_local_search. Since version 2.1.0.
+ *
+ * @param[in,out] instance the instance
+ * @param[in] ties PFS_TIES_FIRST or PFS_TIES_IDLE
+ * @param[in] list distinct jobs of the sequence, in the order in which they are removed and inserted
+ * @param[in] list_length number of jobs in the list
+ * @param[in] passes the most passes, from 0 to PFS_MOST_PASSES
+ * @param[in,out] sequence distinct jobs; the sequence to start from, then the sequence after the passes
+ * @param[in] sequence_length number of jobs in the sequence
+ * @param[out] makespan makespan of the sequence after the passes
+ * @return PFS_OK, or the first fault that pfs_local_search returns, or PFS_TIES (ties)
+ */
+int pfs_local_search_ties(struct pfs_instance *instance, uint32_t ties, const uint32_t *list, size_t list_length,
+                          uint32_t passes, uint32_t *sequence, size_t sequence_length, uint64_t *makespan) PFS_CHECKED;
 
 /** @brief What a size line of Taillard's layout contains besides the sizes. Nothing is computed from it. */
 struct pfs_notes {

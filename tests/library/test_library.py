@@ -22,8 +22,8 @@ from support.tools import output_of
 
 CALLS = SUPPORT / "library_calls.c"
 # The functions that allocate nothing once their instance is prepared, those that do, and those that need none.
-QUIET = ["sizes", "faulty_job", "makespan", "makespans", "bound", "neh", "rounds", "iterate", "insert", "insertions",
-         "heads_tails", "construct", "local_search"]
+QUIET = ["sizes", "faulty_job", "makespan", "makespans", "bound", "neh", "rounds", "iterate", "insert", "insert_ties",
+         "insertions", "heads_tails", "construct", "construct_ties", "local_search", "local_search_ties"]
 LOUD = ["table", "prove", "write"]
 OTHERS = ["random", "generate", "read", "read_order", "write_order"]
 FUNCTIONS = [*QUIET, *LOUD, *OTHERS, "prepare", "release"]
@@ -32,7 +32,7 @@ NAMES = {f"pfs_{name}" for name in FUNCTIONS} | TEXTS
 # The arguments of library_calls: the functions, and calls on a larger instance.
 NAMED = [*QUIET, *LOUD, *OTHERS, "prepare", "prepare_again", "prepare_large", "insert_large", "makespans_large",
          "search_large"]
-ALL_CALLS = Ran(b"192 calls, 0 failures\n", b"", 0)
+ALL_CALLS = Ran(b"223 calls, 0 failures\n", b"", 0)
 # No call makes as many allocations.
 MOST_GROWTHS = 200
 SHOPS = 200
@@ -324,6 +324,7 @@ def searches(random: Random, shop: Instance) -> list[Call]:
     first = random.choice([0, 0, 1, 7, second_program.MOST_JOBS])
     count, length = random.randint(0, 5), random.randint(0, shop.jobs)
     sequences = [job for _ in range(count) for job in random.sample(jobs, length)]
+    ties = Number(random.randint(0, 1), 32)
     return [
         ("pfs_sizes", [*given(shop), out64(), out64()]),
         ("pfs_faulty_job", [*given(shop), *list32(some), out64()]),
@@ -342,6 +343,7 @@ def searches(random: Random, shop: Instance) -> list[Call]:
                          *list32([random.getrandbits(32) for _ in range(random.choice([0, 1, 2, 9]))]), *text(stay),
                          *list32(jobs), out64(), *list32(jobs[:held] + jobs[held:][::-1]), out64()]),
         ("pfs_insert", [*given(shop), *list32(some), Number(jobs[-1], 32), out64(), out64()]),
+        ("pfs_insert_ties", [*given(shop), ties, *list32(some), Number(jobs[-1], 32), out64(), out64()]),
         ("pfs_insertions", [*given(shop), *list32(some), Number(jobs[-1], 32), *list64([PATTERN] * (len(some) + 1))]),
         ("pfs_heads_tails", [*given(shop), *list32(some), *list64([PATTERN] * (len(some) * shop.machines)),
                              *list64([PATTERN] * (len(some) * shop.machines))]),
@@ -349,6 +351,10 @@ def searches(random: Random, shop: Instance) -> list[Call]:
                            out64()]),
         ("pfs_local_search", [*given(shop), *list32(random.sample(jobs, length)), Number(random.randint(0, 2), 32),
                               *list32(jobs), out64()]),
+        ("pfs_construct_ties", [*given(shop), ties, *list32(some), *list32(jobs[len(some):]),
+                                *list32([PATTERN] * shop.jobs), out64()]),
+        ("pfs_local_search_ties", [*given(shop), ties, *list32(random.sample(jobs, length)),
+                                   Number(random.choice([0, 1, 2, 100]), 32), *list32(jobs), out64()]),
         ("pfs_random", [Number(random.choice(fuzz.SEEDS[:-1])), Number(random.randint(0, 9)),
                         *list32([PATTERN] * count)]),
     ]
@@ -415,6 +421,8 @@ def is_quick(name: str, arguments: Arguments) -> bool:
         take, passes = take + numbers[1], sum(each)
     elif name == "pfs_local_search":
         take, first, count, passes = 1, 0, 1, numbers[4]
+    elif name == "pfs_local_search_ties":
+        take, first, count, passes = 1, 0, 1, numbers[5]
     else:
         return True
     if max(first + count, take, passes) > second_library.MOST_ROUNDS:
@@ -450,16 +458,43 @@ def test_two_libraries_agree_on_random_instances(libpfs: Library) -> None:
     assert numbers | {16} == {0, *range(2, 10), 16, 17}
 
 
+def tied(random: Random) -> tuple[Instance, list[int]]:
+    """A random instance with many equal sums, and an order of its jobs."""
+    shop = Instance(random.choice([1, 2, 5, 9, 12]), random.choice([1, 2, 5]), [0, 0, 0])
+    shop.times = [[random.randint(0, random.choice([0, 1, 3, 3])) for _ in range(shop.jobs)] for _ in shop.times]
+    return shop, random.sample(range(shop.jobs), shop.jobs)
+
+
+@pytest.mark.seconds(10)
+def test_two_libraries_insert_and_move_by_a_rule_alike(libpfs: Library) -> None:
+    """On instances with many equal sums, of which the rules, and more passes, leave different sequences."""
+    random = Random(4)
+    differ = [0, 0, 0, 0, 0]
+    for _ in range(TIED):
+        shop, jobs = tied(random)
+        left = random.randint(0, shop.jobs - 1)
+        room = [*list32([PATTERN] * shop.jobs), out64()]
+        calls: list[tuple[str, Arguments]] = [
+            ("insert", [*list32(jobs[:-1]), Number(jobs[-1], 32), out64(), out64()]),
+            ("construct", [*list32(jobs[:left]), *list32(jobs[left:]), *room]),
+            *(("local_search", [*list32(jobs), Number(passes, 32), *list32(jobs), out64()]) for passes in (1, 100))]
+        found = []
+        for name, arguments in calls:
+            each: list[Arguments] = [[*given(shop), Number(ties, 32), *arguments] for ties in (0, 1)]
+            assert [assert_same(libpfs, f"pfs_{name}_ties", one) for one in each] == [0, 0]
+            found.append([libpfs.call(f"pfs_{name}_ties", *one).memory[1:] for one in each])
+        for at, (one, other) in enumerate([*found, (found[2], found[3])]):
+            differ[at] += one != other
+    assert min(differ) > TIED // 12
+
+
 @pytest.mark.seconds(10)
 def test_two_libraries_break_ties_alike(libpfs: Library) -> None:
     """By both rules, on small instances with many equal sums, of which the rules leave different orders."""
     random = Random(3)
     differ = 0
     for _ in range(TIED):
-        shop = Instance(random.choice([1, 2, 5, 9, 12]), random.choice([1, 2, 5]), [0, 0, 0])
-        shop.times = [[random.randint(0, random.choice([0, 1, 3, 3])) for _ in range(shop.jobs)] for _ in shop.times]
-        jobs = list(range(shop.jobs))
-        random.shuffle(jobs)
+        shop, jobs = tied(random)
         seed, take = random.choice(fuzz.SEEDS[:-1]), random.randint(1, shop.jobs)
         held = random.choice([0, shop.jobs - take])
         kept = list[Answer]()

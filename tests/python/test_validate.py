@@ -169,7 +169,11 @@ REJECTED: dict[Callable[[Any], object], list[tuple[Any, type[Exception], str]]] 
         (([2], {}), ValueError, "^job 2 is not in the sequence"),
         (([1, 1], {}), ValueError, "jobs: job 1 occurs twice"),
         (({"passes": 101},), ValueError, "passes must be from 0 to 100"), (([0], 1, {}), TypeError, "positional"),
-        (({"passes": True},), TypeError, "passes must be an integer")],
+        (({"passes": True},), TypeError, "passes must be an integer"),
+        (({"ties": "last"},), ValueError, "ties must be 'first' or 'idle', not 'last'"),
+        (({"ties": 1},), TypeError, "ties must be")],
+    lambda given: [SHOP.best_place([0], 1, ties=given), SHOP.insert_all([0], [1], ties=given)]: [
+        ("last", ValueError, "ties must be 'first' or 'idle', not 'last'"), (None, TypeError, "ties must be")],
     pfs.from_frame: [(frame, TypeError, "frame must be a pandas DataFrame, not ") for frame in ([[1]], None)],
     SHOP.to_text: [("csv", ValueError, "layout must be 'taillard' or 'orlib', not 'csv'")],
     lambda words: pfs.read("x", *words): [
@@ -310,6 +314,9 @@ def call_everywhere(shop: pfs.Instance) -> dict[str, Callable[[], Any]]:
         "pfs_prepare": lambda: pfs.Instance(TIMES).bound(), "pfs_makespan": lambda: shop.makespan([0, 1, 2]),
         "pfs_bound": shop.bound, "pfs_neh": shop.neh,
         "pfs_table": lambda: shop.schedule([0, 1, 2]), "pfs_rounds": lambda: shop.solve(1, start=[0, 1, 2]),
+        "pfs_insert_ties": lambda: shop.best_place([0, 1], 2, ties="idle"),
+        "pfs_construct_ties": lambda: shop.insert_all([0], [1]),
+        "pfs_local_search_ties": lambda: shop.local_search([0, 1]),
         "pfs_insert": lambda: shop.best_place([0, 1], 2), "pfs_generate": lambda: pfs.generate(2, 2, 1),
         "pfs_read": lambda: pfs.read(io.BytesIO(b"1 1 0 0 0\n1\n"), "taillard"), "pfs_write": shop.to_text,
         "pfs_insertions": lambda: shop.places([0, 1], 2), "pfs_makespans": lambda: shop.makespans([[0, 1, 2]]),

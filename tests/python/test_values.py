@@ -16,7 +16,7 @@ import pfs
 import pytest
 from hypothesis import given
 from hypothesis import strategies as st
-from support import plainly
+from support import plainly, second_library, second_program
 
 
 @pytest.mark.quick
@@ -350,6 +350,29 @@ def test_building_blocks(data: st.DataObject, case: tuple[plainly.Table, list[in
     for found, inserted in calls:
         due = moved(times, sequence, inserted)
         assert (found.jobs.tolist(), found.makespan) == (due, plainly.makespan(times, due))
+
+
+@given(st.data(), plainly.shops_and_sequences(), st.integers(0, 3), st.sampled_from(["first", "idle"]))
+def test_building_blocks_by_a_rule_for_ties(data: st.DataObject, case: tuple[plainly.Table, list[int]], passes: int,
+                                            ties: str) -> None:
+    """A pass is an improvement of at most one pass; without a number of passes there are up to 100."""
+    times, sequence = case
+    shop, plain, rule = pfs.Instance(times), second_program.instance_of(times), int(ties == "idle")
+    more = data.draw(st.permutations(sorted({*range(shop.jobs)} - {*sequence})))
+    due = sequence
+    for job in more:
+        best = shop.best_place(due, job, ties=ties)
+        due = second_library.placed(plain, due, 0, job, rule)
+        assert best == (due.index(job), plainly.makespan(times, due))
+    order, makespan = shop.insert_all(sequence, more, ties=ties)
+    assert (order.tolist(), makespan) == (due, plainly.makespan(times, due))
+    jobs = data.draw(st.permutations(due))
+    once = due
+    for _ in range(passes):
+        once = second_library.improved(plain, once, 0, jobs, 1, rule)
+    for count, found in ((passes, once), (None, second_library.improved(plain, due, 0, jobs, 100, rule))):
+        got = shop.local_search(due, jobs, passes=count, ties=ties)
+        assert (got.jobs.tolist(), got.makespan) == (found, plainly.makespan(times, found))
 
 
 def test_a_sequence_is_taken_where_an_order_is() -> None:

@@ -63,7 +63,8 @@ def read32(memory: bytes) -> list[int]:
 # The functions that work on a prepared instance.
 ON_SHOP = {f"pfs_{name}" for name in (
     "sizes", "faulty_job", "makespan", "makespans", "bound", "table", "neh", "rounds", "iterate", "prove", "insert",
-    "insertions", "heads_tails", "construct", "local_search", "write")}
+    "insert_ties", "insertions", "heads_tails", "construct", "construct_ties", "local_search", "local_search_ties",
+    "write")}
 
 
 class Library:

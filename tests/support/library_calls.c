@@ -148,6 +148,9 @@ static int call_named(const char *name) {
     }
     if (IS("insert"))
         return due.place = 2, due.makespan = 10, pfs_insert(shop, BEST, 2, 2, &out.place, &out.makespan);
+    if (IS("insert_ties"))
+        return due.place = 2, due.makespan = 10,
+               pfs_insert_ties(shop, PFS_TIES_IDLE, BEST, 2, 2, &out.place, &out.makespan);
     if (IS("insertions"))
         return memcpy(due.makespans, (uint64_t[]){13, 11, 10}, 24), pfs_insertions(shop, BEST, 2, 2, out.makespans, 3);
     if (IS("heads_tails"))
@@ -155,8 +158,14 @@ static int call_named(const char *name) {
                pfs_heads_tails(shop, (uint32_t[]){2, 0}, 2, out.starts, 4, out.ends, 4);
     if (IS("construct"))
         return finds_best(pfs_construct(shop, NUMBERED + 2, 1, NUMBERED, 2, out.list, 3, &out.makespan));
+    if (IS("construct_ties"))
+        return finds_best(
+            pfs_construct_ties(shop, PFS_TIES_IDLE, NUMBERED + 2, 1, NUMBERED, 2, out.list, 3, &out.makespan));
     if (IS("local_search"))
         return finds_best(pfs_local_search(shop, (uint32_t[]){1}, 1, 1, in_place(NUMBERED), 3, &out.makespan));
+    if (IS("local_search_ties"))
+        return finds_best(pfs_local_search_ties(shop, PFS_TIES_IDLE, (uint32_t[]){1}, 1, PFS_MOST_PASSES,
+                                                in_place(NUMBERED), 3, &out.makespan));
     if (IS("write"))
         return DUE_TEXT(BY_JOB), pfs_write(shop, &BLOCK.notes, PFS_ORLIB, out.text, sizeof out.text, &out.length);
     if (IS("generate"))
@@ -194,10 +203,10 @@ static int call_named(const char *name) {
 }
 
 static const char *const NAMES[] = {"sizes", "faulty_job", "makespan",    "makespans",  "bound",        "table", "neh",
-                                    "rounds", "iterate",   "prove",       "insert",     "insertions",   "heads_tails",
-                                    "construct", "local_search", "write", "generate",   "random",       "read",
-                                    "read_order", "write_order"};
-enum { ON_SHOP = 16 };
+                                    "rounds", "iterate",   "prove",       "insert",     "insert_ties",  "insertions",
+                                    "heads_tails", "construct", "construct_ties", "local_search", "local_search_ties",
+                                    "write", "generate",   "random",      "read",       "read_order",   "write_order"};
+enum { ON_SHOP = 19 };
 
 /* What is wrong in a call on an instance, after the instance itself. */
 static void wrong_calls(void) {
@@ -229,14 +238,23 @@ static void wrong_calls(void) {
     CALL(PFS_TIES, iterate(both(BEST, BEST), 3, PFS_MOST_ROUNDS, 2, 1, 100, PFS_TIES_IDLE + 1));
     CALL(PFS_JOB, pfs_insert(shop, OUTSIDE, 3, 9, &out.place, &out.makespan));
     CALL(PFS_REPEATED, pfs_insert(shop, BEST, 2, 0, &out.place, &out.makespan));
+    CALL(PFS_JOB, pfs_insert_ties(shop, 2, OUTSIDE, 3, 9, &out.place, &out.makespan));
+    CALL(PFS_REPEATED, pfs_insert_ties(shop, 2, BEST, 2, 0, &out.place, &out.makespan));
+    CALL(PFS_TIES, pfs_insert_ties(shop, 2, BEST, 2, 2, &out.place, &out.makespan));
     CALL(PFS_LENGTH, pfs_insertions(shop, OUTSIDE, 2, 9, out.makespans, 2));
     CALL(PFS_JOB, pfs_insertions(shop, BEST, 2, UINT32_MAX, out.makespans, 3));
     CALL(PFS_LENGTH, pfs_heads_tails(shop, OUTSIDE, 2, out.starts, 4, out.ends, 6));
     CALL(PFS_JOB, pfs_heads_tails(shop, OUTSIDE, 2, out.starts, 4, out.ends, 4));
     CALL(PFS_LENGTH, pfs_construct(shop, OUTSIDE, 2, OUTSIDE, 1, out.list, 2, &out.makespan));
     CALL(PFS_REPEATED, pfs_construct(shop, BEST, 2, (uint32_t[]){0, 3}, 2, out.list, 4, &out.makespan));
+    CALL(PFS_LENGTH, pfs_construct_ties(shop, 2, OUTSIDE, 2, OUTSIDE, 1, out.list, 2, &out.makespan));
+    CALL(PFS_REPEATED, pfs_construct_ties(shop, 2, BEST, 2, (uint32_t[]){0, 3}, 2, out.list, 4, &out.makespan));
+    CALL(PFS_TIES, pfs_construct_ties(shop, 2, BEST, 2, BEST + 2, 1, out.list, 3, &out.makespan));
     CALL(PFS_JOB, pfs_local_search(shop, OUTSIDE, 3, 999, in_place(BEST), 2, &out.makespan));
     CALL(PFS_PASSES, pfs_local_search(shop, BEST, 3, PFS_MOST_PASSES + 1, in_place(BEST), 3, &out.makespan));
+    CALL(PFS_JOB, pfs_local_search_ties(shop, 2, OUTSIDE, 3, 999, in_place(BEST), 2, &out.makespan));
+    CALL(PFS_PASSES, pfs_local_search_ties(shop, 2, BEST, 3, PFS_MOST_PASSES + 1, in_place(BEST), 3, &out.makespan));
+    CALL(PFS_TIES, pfs_local_search_ties(shop, UINT32_MAX, BEST, 3, PFS_MOST_PASSES, in_place(BEST), 3, &out.makespan));
     CALL(PFS_LAYOUT, pfs_write(shop, &BLOCK.notes, 2, out.text, 0, &out.length));
     CALL(PFS_ROOM, (due.length = 47, pfs_write(shop, &BLOCK.notes, PFS_ORLIB, out.text, 46, &out.length)));
 }
@@ -275,6 +293,8 @@ static void no_lists(void) {
     CALL(PFS_OK, pfs_heads_tails(shop, NULL, 0, NULL, 0, NULL, 0));
     CALL(PFS_OK, (due.makespan = 0, pfs_construct(shop, NULL, 0, NULL, 0, NULL, 0, &out.makespan)));
     CALL(PFS_OK, (due.makespan = 0, pfs_local_search(shop, NULL, 0, 1, NULL, 0, &out.makespan)));
+    CALL(PFS_OK, (due.makespan = 0, pfs_construct_ties(shop, 1, NULL, 0, NULL, 0, NULL, 0, &out.makespan)));
+    CALL(PFS_OK, (due.makespan = 0, pfs_local_search_ties(shop, 1, NULL, 0, 1, NULL, 0, &out.makespan)));
     CALL(PFS_OK, pfs_random(7, 3, NULL, 0));
     CALL(PFS_LENGTH, pfs_prepare(NULL, 0, 3, 2, shop));
 }

@@ -1,6 +1,7 @@
-/* Compares pfs_insert with pfs_insertions, and rounds of pfs_rounds and pfs_iterate with the same on a new instance: on
- * random instances of many sizes, in the orders of a random walk, and after faults. All instances are prepared in the
- * same struct, most of them while it holds the one before.
+/* Compares pfs_insert with pfs_insertions, rounds of pfs_rounds and pfs_iterate with the same on a new instance, and
+ * calls by the first of equally good places with those that take no rule: on random instances of many sizes, in the
+ * orders of a random walk, and after faults. All instances are prepared in the same struct, most of them while it holds
+ * the one before.
  *
  * usage: prepared_calls COUNT SEED     COUNT instances; prints the number of calls
  *        prepared_calls threads COUNT  the same in four threads at once, with a struct for each */
@@ -135,6 +136,53 @@ static void iterate_step(struct walk *walk) {
     }
 }
 
+/* What is found by the calls that take a rule for equally good places, or a pass by those that take none. */
+struct found {
+    uint32_t order[MOST];
+    uint64_t spans[3];
+    size_t place;
+};
+
+static int by_ties(const struct walk *walk, struct pfs_instance *instance, uint32_t ties, size_t left,
+                   struct found *to) {
+    const uint32_t *jobs = walk->order;
+    size_t all = walk->jobs;
+    return pfs_insert_ties(instance, ties, jobs, left, jobs[left], &to->place, &to->spans[0]) == PFS_OK
+           && pfs_construct_ties(instance, ties, jobs, left, jobs + left, all - left, to->order, all, &to->spans[1])
+                  == PFS_OK
+           && pfs_local_search_ties(instance, ties, jobs + left, all - left, 1, to->order, all, &to->spans[2])
+                  == PFS_OK;
+}
+
+static int by_none(const struct walk *walk, struct pfs_instance *instance, size_t left, struct found *to) {
+    const uint32_t *jobs = walk->order;
+    size_t all = walk->jobs;
+    return pfs_insert(instance, jobs, left, jobs[left], &to->place, &to->spans[0]) == PFS_OK
+           && pfs_construct(instance, jobs, left, jobs + left, all - left, to->order, all, &to->spans[1]) == PFS_OK
+           && pfs_local_search(instance, jobs + left, all - left, 1, to->order, all, &to->spans[2]) == PFS_OK;
+}
+
+/* Inserts the last jobs again and moves them: on the instance and on a new one, where the first rule is that of the
+ * calls that take none. */
+static void ties_step(struct walk *walk) {
+    static const struct found none = {{0}, {77}, 77};
+    struct found found = none, due = none;
+    struct pfs_instance fresh = {NULL};
+    uint32_t ties = draw(walk, 2);
+    size_t left = walk->jobs - 1 - draw(walk, walk->jobs < 4 ? (uint32_t)walk->jobs : 4);
+    int is_done =
+        prepare(walk, &fresh) == PFS_OK && by_ties(walk, &walk->instance, ties, left, &found)
+        && (ties == PFS_TIES_FIRST ? by_none(walk, &fresh, left, &due) : by_ties(walk, &fresh, ties, left, &due));
+    pfs_release(&fresh);
+    ++walk->calls;
+    ++walk->done;
+    if (!is_done || memcmp(&found, &due, sizeof due) != 0) {
+        ++walk->wrong;
+        printf("%zu jobs, %zu machines, rule %u: other insertions\n", walk->jobs, walk->machines, ties);
+    }
+    memcpy(walk->order, found.order, walk->jobs * sizeof *walk->order);
+}
+
 static void on_instance(struct walk *walk) {
     size_t size;
     uint32_t longest = ONE_OF(walk, LONGEST);
@@ -151,10 +199,11 @@ static void on_instance(struct walk *walk) {
     if (prepare(walk, &walk->instance) != PFS_OK)
         exit(2);
     for (int made = 0; made < STEPS; ++made)
-        switch (draw(walk, 6)) {
+        switch (draw(walk, 7)) {
         case 0: spoilt_step(walk); break;
         case 1: search_step(walk); break;
         case 2: iterate_step(walk); break;
+        case 3: ties_step(walk); break;
         default: step(walk);
         }
     free(walk->times);

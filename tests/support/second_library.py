@@ -307,6 +307,15 @@ def pfs_insert(shop: Instance, sequence: bytearray, length: int, job: int, place
     put64(span, makespan(shop, order))
 
 
+def pfs_insert_ties(shop: Instance, ties: int, sequence: bytearray, length: int, job: int, place: bytearray,
+                    span: bytearray) -> None:
+    others = others_of(shop, sequence, length, job)
+    expect(ties <= 1, TIES)
+    order = placed(shop, others, 0, job, ties)
+    put64(place, order.index(job))
+    put64(span, makespan(shop, order))
+
+
 def pfs_insertions(shop: Instance, sequence: bytearray, length: int, job: int, spans: bytearray, count: int) -> None:
     expect(count == length + 1, LENGTH)
     others = others_of(shop, sequence, length, job)
@@ -329,24 +338,57 @@ def machines_from(shop: Instance, machine: int) -> Instance:
     return rest
 
 
+def to_construct(shop: Instance, sequence: bytearray, length: int, more: bytearray, more_length: int,
+                 order_length: int) -> tuple[list[int], list[int]]:
+    """The sequence to begin with, and the jobs to insert."""
+    expect(order_length == length + more_length, LENGTH)
+    jobs = distinct(shop.jobs, read32(sequence)[:length])
+    return jobs, distinct(shop.jobs, [*jobs, *read32(more)[:more_length]], length)[length:]
+
+
 def pfs_construct(shop: Instance, sequence: bytearray, length: int, more: bytearray, more_length: int, order: bytearray,
                   order_length: int, span: bytearray) -> None:
-    expect(order_length == length + more_length, LENGTH)
-    made = distinct(shop.jobs, read32(sequence)[:length])
-    for job in distinct(shop.jobs, [*made, *read32(more)[:more_length]], length)[length:]:
+    made, inserted = to_construct(shop, sequence, length, more, more_length, order_length)
+    for job in inserted:
         made = second_program.inserted(shop, made, job)
     put32(order, made)
     put64(span, makespan(shop, made))
 
 
-def pfs_local_search(shop: Instance, moved: bytearray, moved_length: int, passes: int, sequence: bytearray,
-                     length: int, span: bytearray) -> None:
+def pfs_construct_ties(shop: Instance, ties: int, sequence: bytearray, length: int, more: bytearray, more_length: int,
+                       order: bytearray, order_length: int, span: bytearray) -> None:
+    made, inserted = to_construct(shop, sequence, length, more, more_length, order_length)
+    expect(ties <= 1, TIES)
+    for job in inserted:
+        made = placed(shop, made, 0, job, ties)
+    put32(order, made)
+    put64(span, makespan(shop, made))
+
+
+def to_move(shop: Instance, moved: bytearray, moved_length: int, passes: int, sequence: bytearray,
+            length: int) -> tuple[list[int], list[int]]:
+    """The sequence to begin with, and the jobs of a pass."""
     made = distinct(shop.jobs, read32(sequence)[:length])
     each = distinct(shop.jobs, read32(moved)[:moved_length])
     expect(set(each) <= set(made), JOB)
     expect(passes <= MOST_PASSES, PASSES)
+    return made, each
+
+
+def pfs_local_search(shop: Instance, moved: bytearray, moved_length: int, passes: int, sequence: bytearray,
+                     length: int, span: bytearray) -> None:
+    made, each = to_move(shop, moved, moved_length, passes, sequence, length)
     for job in each * passes:
         made = second_program.inserted(shop, [other for other in made if other != job], job)
+    put32(sequence, made)
+    put64(span, makespan(shop, made))
+
+
+def pfs_local_search_ties(shop: Instance, ties: int, moved: bytearray, moved_length: int, passes: int,
+                          sequence: bytearray, length: int, span: bytearray) -> None:
+    made, each = to_move(shop, moved, moved_length, passes, sequence, length)
+    expect(ties <= 1, TIES)
+    made = improved(shop, made, 0, each, passes, ties)
     put32(sequence, made)
     put64(span, makespan(shop, made))
 

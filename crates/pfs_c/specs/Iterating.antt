@@ -19,6 +19,10 @@ held_fault held current best = unless (pointwise nat_eq (take held best) (take h
 abbrev pub ties_fault : ℕ → Option CallFault
 ties_fault ties = unless (nat_le ties TIES_IDLE) Ties
 
+-- the first fault of other arguments, and then that of `ties`
+abbrev pub or_ties_fault : Option CallFault → ℕ → Option CallFault
+or_ties_fault fault ties = first_some (fault ∷ ties_fault ties ∷ [])
+
 abbrev pub iterate_fault : FlowShop → List ℕ → List ℕ → List ℕ → Options → Option CallFault
 iterate_fault shop stay current best options =
     first_some (length_fault (length current) shop.jobs ∷ length_fault (length best) shop.jobs

@@ -1,17 +1,19 @@
 //! What is prepared: an instance, and the memory of the calls on it.
-ghost use Rattle.std.specs.Prelude.{◌≡◌, ◌<◌, ◌≤◌, length, take, filter, not, nat_eq, Contains, IfOk, IfErr};
+ghost use Rattle.std.specs.Prelude.{◌≡◌, ◌+◌, ◌<◌, ◌≤◌, ◌++◌, length, take, filter, not, nat_eq, Contains, IfOk, IfErr};
 ghost use Rattle.std.specs.List.{All};
 ghost use Rattle.pfs_base.specs.FlowShop.{IsWithin};
 ghost use Rattle.pfs_base.specs.Limits.{limits};
 ghost use Rattle.pfs_base.specs.Paths.{makespan};
 ghost use Rattle.pfs_insert.specs.Inserter.{IsBestPlace};
 ghost use Rattle.pfs_order.specs.Sequence.{IsSequence};
+ghost use Rattle.pfs_iterate.specs.Alone.{IsBuilt, IsChosen};
 ghost use Rattle.pfs_iterate.specs.Iterated.{movable};
 ghost use Rattle.pfs_iterate.specs.Rounds.{CanIterate, IsIterated};
 ghost use Rattle.pfs_search.specs.Search.{IsSearchOf};
 ghost use Rattle.pfs_search.specs.Solution.{IsImproved, IsNeh};
 ghost use Rattle.pfs_search.specs.Greedy.{pass_over, passes_over};
 ghost use Rattle.pfs_c.specs.Inserting.{AreInsertions, insertions_fault};
+ghost use Rattle.pfs_c.specs.Iterating.{or_ties_fault};
 ghost use Rattle.pfs_c.specs.Many.{AreMakespans, makespans_fault};
 ghost use Rattle.pfs_c.specs.Searching.{rounds_fault};
 ghost use Rattle.pfs_c.specs.Validation.{insertion_fault};
@@ -24,7 +26,7 @@ use crate::rows::span_of;
 use crate::searching::RoundsOptions;
 use pfs_base::{Bench, Instance, MOST_JOBS, MOST_PASSES, MOST_ROUNDS};
 use pfs_batch::Batch;
-use pfs_iterate::{Iterated, Makespans, Options};
+use pfs_iterate::{Iterated, Makespans, Options, TIES_IDLE};
 use pfs_order::Seq;
 use pfs_search::{Rounds, Search};
 use std::alloc::Global;
@@ -233,6 +235,65 @@ impl Kept {
         *place = best.place;
         *span = bench.reveal(best.span);
         Ok(())
+    }
+
+    /// Writes the best place for a job in a sequence by a rule for equally good places, and the makespan with the job
+    /// there.
+    pub(crate) fn choose(
+        &mut self,
+        ties: u32,
+        sequence: &[u32],
+        job: u32,
+        place: &mut usize,
+        span: &mut u64,
+    ) -> Result<(), CallFault>
+        ensures validated { Validates result (or_ties_fault (insertion_fault self.old sequence.now job) ties) }
+        ensures chosen { IfOk result (λ _. IsChosen self.old ties sequence.now job place.new span.new) }
+        ensures shop { self.new ≡ self.old }
+        ensures kept_place { IfErr result (λ _. place.new ≡ place.old) }
+        ensures kept_span { IfErr result (λ _. span.new ≡ span.old) }
+    {
+        validate_insertion(self.instance.jobs(), sequence, job)?;
+        validate(ties <= TIES_IDLE, CallFault::Ties)?;
+        self.is_span_known = false;
+        let job = job as usize;
+        let found = self
+            .iterated
+            .choose(&self.instance, &mut self.search, ties, sequence, job);
+        *place = found.place;
+        *span = found.span;
+        Ok(())
+    }
+
+    /// Inserts more jobs into the first `count` of `order`, and makes passes over a list of jobs until one makes the
+    /// sequence no shorter, at most `passes`, each by a rule for equally good places. Overwrites `order` with the
+    /// sequence, and returns the makespan.
+    pub(crate) fn build(
+        &mut self,
+        ties: u32,
+        more: &[u32],
+        list: &[u32],
+        passes: u32,
+        order: &mut [u32],
+        count: usize,
+    ) -> u64
+        requires long { length order.old ≡ count + length more.now }
+        requires together { IsSequence self.old.jobs (more.now ++ take count order.old) }
+        requires list { IsSequence self.old.jobs list.now }
+        ensures built { IsBuilt self.old ties (take count order.old) more.now list.now passes order.new result }
+        ensures shop { self.new ≡ self.old }
+    {
+        self.is_span_known = false;
+        self.iterated.build(
+            &self.instance,
+            &mut self.search,
+            ties,
+            more,
+            list,
+            passes,
+            order,
+            count,
+        )
     }
 
     /// Writes the makespan with a job at each place of a sequence.

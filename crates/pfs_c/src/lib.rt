@@ -18,3 +18,4 @@ mod rows;
 mod searching;
 mod spans;
 mod texts;
+mod ties;

@@ -190,8 +190,8 @@ fn local_search_in(
     Ok(())
 }
 
-// Validates that each job of a list is in a sequence: `Job` if one is not.
-fn validate_members(sequence: &[u32], list: &[u32]) -> Result<(), CallFault>
+/// Validates that each job of a list is in a sequence: `Job` if one is not.
+pub(crate) fn validate_members(sequence: &[u32], list: &[u32]) -> Result<(), CallFault>
     ensures validated { Validates result (members_fault sequence.now list.now) }
     ensures members { IfOk result (λ done. All (λ job. Contains sequence.now job) list.now) }
 {

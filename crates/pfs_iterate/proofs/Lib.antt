@@ -6,5 +6,6 @@ mod Least
 mod Passes
 mod Rearranging
 mod RoundLaws
+mod Shorter
 mod Staying
 mod Taking

@@ -6,12 +6,13 @@ use Rattle.std.proofs.lemmas.Bool.{cases_Bool, le-ltb}
 use Rattle.std.proofs.Math.Nat.{zero-add, suc-add, add-zero}
 use Rattle.std.proofs.lemmas.List.{take-append-le, take_all}
 use Rattle.pfs_base.specs.FlowShop.{FlowShop}
-use Rattle.pfs_insert.specs.Insertion.{makespan_with, with_job}
+use Rattle.pfs_insert.specs.Insertion.{best_place, makespan_with, with_job}
 use Rattle.pfs_search.specs.Greedy.{jobs_left, jobs_taken, place_of}
 use Rattle.pfs_search.specs.Neh.{with_jobs}
-use Rattle.pfs_iterate.specs.Laws.{PartsLaw, GreedyLaw}
+use Rattle.pfs_iterate.specs.Alone.{by_ties}
+use Rattle.pfs_iterate.specs.Laws.{PartsLaw, GreedyLaw, FirstLaw}
 use Rattle.pfs_iterate.specs.declared.options.Options.{Options}
-use Rattle.pfs_iterate.specs.Iterated.{after_round, first_best, found, is_accepted, is_free, left_among, put, tie_break}
+use Rattle.pfs_iterate.specs.Iterated.{after_round, chosen, first_best, found, is_accepted, is_free, left_among, put, tie_break}
 use Rattle.pfs_iterate.specs.Iterated.{words_of_round}
 use Rattle.pfs_iterate.specs.declared.options.TheConstants.{TIES_FIRST}
 use Rattle.pfs_iterate.proofs.Among.{all_free, among_all}
@@ -34,11 +35,14 @@ accepted_none old new word =
 
 -- with no held job and the first of equally good places, a job is put at its best place
 module _ (shop : FlowShop) (options : Options) (held : options.held ≡ 0) (ties : options.ties ≡ TIES_FIRST) where
-  put_is : (jobs : List ℕ) (job : ℕ) → put shop options jobs job ≡ with_job shop jobs job
-  put_is jobs job = ap (λ place. insert jobs place job)
-      (ap (λ from. first_best (makespan_with shop jobs job) (tie_break shop options.ties jobs job) from (length jobs + 1)) held
+  chosen_is : (jobs : List ℕ) (job : ℕ) → chosen shop options jobs job ≡ best_place shop jobs job
+  chosen_is jobs job =
+      ap (λ from. first_best (makespan_with shop jobs job) (tie_break shop options.ties jobs job) from (length jobs + 1)) held
       ∙ first_best-none (makespan_with shop jobs job) (tie_break shop options.ties jobs job) (length jobs + 1)
-      (λ place. rw ties refl))
+      (λ place. rw ties refl)
+
+  put_is : (jobs : List ℕ) (job : ℕ) → put shop options jobs job ≡ with_job shop jobs job
+  put_is jobs job = ap (λ place. insert jobs place job) (chosen_is jobs job)
 
   all_put : (jobs more : List ℕ) → fold (put shop options) jobs more ≡ with_jobs shop jobs more
   all_put jobs [] = refl
@@ -63,3 +67,9 @@ greedy_law shop options state word removing others held partial passes ties long
     let all : front options.take (removing ++ others) ≡ removing =
     take-append-le options.take removing others (omega arith) ∙ take_all options.take removing (omega arith) in
     rw (found_is shop options held ties state.current removing others partial passes all, accepted_none) refl
+
+pub first_law : FirstLaw
+first_law shop jobs more job = (
+  chosen_is shop (by_ties TIES_FIRST) refl refl jobs job,
+  all_put shop (by_ties TIES_FIRST) refl refl jobs more,
+)

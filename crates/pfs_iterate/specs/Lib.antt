@@ -1,3 +1,4 @@
+pub mod Alone
 pub mod Iterated
 pub mod Laws
 pub mod Private

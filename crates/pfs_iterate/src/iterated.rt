@@ -30,7 +30,7 @@ pub struct Makespans {
 /// The memory of rounds of an instance.
 #[derive(Drop)]
 pub struct Iterated {
-    work: Work,
+    pub(crate) work: Work,
     words: Vec<u32>,
     current: Found,
     best: Found,

@@ -1,6 +1,7 @@
 //! Rounds of iterated greedy that also accept longer orders, by a table of chances.
 #![tactic(auto)]
 
+mod alone;
 mod destroy;
 mod found;
 mod heads;

@@ -20,8 +20,8 @@ use pfs_base::Instance;
 use pfs_order::{Order, Seq};
 use pfs_search::Search;
 
-// Inserts jobs one after another, each at its first best place from `held` on, and returns the makespan.
-fn insert_all(
+/// Inserts jobs one after another, each at its first best place from `held` on, and returns the makespan.
+pub(crate) fn insert_all(
     instance: &Instance,
     search: &mut Search,
     places: &mut Places,

@@ -19,7 +19,7 @@ from pfs._library import LENGTHS, SHORT, Prepared, quick_insert, quick_insertion
 from pfs._names import frame_names, is_frame, names_of
 from pfs._proof import proved
 from pfs._schedule import Schedule
-from pfs._search import Event, Progress, Search
+from pfs._search import Event, Progress, Search, rule_of
 from pfs._solution import Solution, as_order
 from pfs._validate import (BOOLS, MOST_UINT32, Jobs, Order, array_copy, as_uint32, as_uint32_bytes, checked_int,
                            checked_jobs, checked_order, checked_times, jobs_error, layout_number, wrong_job)
@@ -309,8 +309,8 @@ class Instance:
         search.begin()
         return search.solution()
 
-    def best_place(self, sequence: Jobs, job: int) -> Place:
-        """Return the first place with the least makespan for a job in a partial sequence, and that makespan.
+    def best_place(self, sequence: Jobs, job: int, *, ties: str = "first") -> Place:
+        """Return the best place with the least makespan for a job in a partial sequence, and that makespan.
 
         Parameters
         ----------
@@ -318,15 +318,21 @@ class Instance:
             Distinct jobs, counted from 0.
         job : int
             The job, which isn't in the sequence. ``sequence.insert(place, job)`` inserts it.
+        ties : str
+            Which of equally good places is the best one: ``"first"``, or ``"idle"``, the first of those with the least
+            total delay, as for :meth:`solve`.
 
         Examples
         --------
-        >>> pfs.Instance([[3, 2], [2, 5], [4, 1]]).best_place([0, 2], 1)
-        Place(place=0, makespan=10)
+        >>> shop = pfs.Instance([[3, 2], [2, 5], [4, 1]])
+        >>> shop.best_place([0, 2], 1), shop.best_place([], 1, ties="idle")
+        (Place(place=0, makespan=10), Place(place=0, makespan=7))
         """
         jobs, count = as_uint32_bytes(sequence, "sequence")
         if type(job) is not int or not 0 <= job < self.jobs:
             job = checked_int(job, "job", 0, self.jobs - 1)
+        if ties != "first":
+            return self._place_by(rule_of(ties), jobs, count, job)
         prepared = self._taken()
         number = quick_insert(prepared.address, jobs, LENGTHS[count] if count < SHORT else c_size_t(count), job,
                               prepared.to_place, prepared.to_makespan)
@@ -335,6 +341,13 @@ class Instance:
         if number:
             raise self._insertion_error(number, jobs, np.uint32(job).tobytes())
         return best
+
+    def _place_by(self, rule: int, jobs: bytes, count: int, job: int) -> Place:
+        place, makespan = c_size_t(), c_uint64()
+        number = self._call("pfs_insert_ties", rule, jobs, count, job, byref(place), byref(makespan))
+        if number:
+            raise self._insertion_error(number, jobs, np.uint32(job).tobytes())
+        return Place(place.value, makespan.value)
 
     def places(self, sequence: Jobs, job: int) -> Order:
         """Return the makespans for all places of a job in a partial sequence, as an array of int64. Element ``p`` is
@@ -386,7 +399,7 @@ class Instance:
             raise jobs_error(number, self.jobs, jobs, "sequence")
         return heads, tails
 
-    def insert_all(self, sequence: Jobs, jobs: Jobs) -> Sequence:
+    def insert_all(self, sequence: Jobs, jobs: Jobs, *, ties: str = "first") -> Sequence:
         """Insert jobs into a partial sequence one after the other, each at its best place. Return the longer sequence.
 
         From an empty sequence and all jobs by decreasing total processing time, it finds the order of :meth:`neh`.
@@ -397,6 +410,8 @@ class Instance:
             Distinct jobs, counted from 0. It isn't changed.
         jobs : array_like
             The jobs to insert, in this order; they are distinct, and none is in the sequence.
+        ties : str
+            Which of equally good places is the best one, as for :meth:`best_place`.
 
         Examples
         --------
@@ -407,12 +422,14 @@ class Instance:
         more, many = as_uint32_bytes(jobs, "jobs")
         found = np.empty(min(count + many, 2 * c.MOST_JOBS), dtype=np.uint32)
         makespan = c_uint64()
-        number = self._call("pfs_construct", given, count, more, many, found.ctypes.data, found.size, byref(makespan))
+        number = self._call("pfs_construct_ties", rule_of(ties), given, count, more, many, found.ctypes.data,
+                            found.size, byref(makespan))
         if number:
             raise self._insertion_error(number, given, more)
         return Sequence(found.astype(np.int64), makespan.value)
 
-    def local_search(self, sequence: Jobs, jobs: Jobs | None = None, *, passes: int = 1) -> Sequence:
+    def local_search(self, sequence: Jobs, jobs: Jobs | None = None, *, passes: int | None = 1,
+                     ties: str = "first") -> Sequence:
         """Improve a sequence of jobs: in a pass, each of some jobs is removed and inserted at its best place. Return
         the new sequence, which is never longer.
 
@@ -423,24 +440,34 @@ class Instance:
         jobs : array_like, optional
             Distinct jobs of the sequence, in the order in which they are removed. By default all of them by their
             numbers, as in the passes of :meth:`solve`.
-        passes : int
-            The number of passes, 0 to 100.
+        passes : int or None
+            The number of passes, 0 to 100. With None, passes end after one in which no job found a place with a shorter
+            makespan, at the latest after 100.
+        ties : str
+            Which of equally good places is the best one, as for :meth:`best_place`.
 
         Examples
         --------
         >>> pfs.Instance([[3, 2], [2, 5], [4, 1]]).local_search([2, 1, 0])
         Sequence(jobs=array([1, 0, 2]), makespan=10)
+        >>> shop = pfs.taillard(1)
+        >>> shop.local_search(range(20), passes=None).makespan <= shop.local_search(range(20)).makespan
+        True
         """
-        passes = checked_int(passes, "passes", 0, c.MOST_PASSES)
+        # A call ends early; one with a pass does not.
+        calls = [c.MOST_PASSES] if passes is None else [1] * checked_int(passes, "passes", 0, c.MOST_PASSES) or [0]
+        rule = rule_of(ties)
         if jobs is None:
             jobs = np.sort(checked_jobs(sequence, "sequence"))
         given, _ = as_uint32_bytes(sequence, "sequence")
         moved, many = as_uint32_bytes(jobs, "jobs")
         found = np.frombuffer(bytearray(given), dtype=np.uint32)
         makespan = c_uint64()
-        number = self._call("pfs_local_search", moved, many, passes, found.ctypes.data, found.size, byref(makespan))
-        if number:
-            raise self._insertion_error(number, given, moved, is_in=False)
+        for most in calls:
+            number = self._call("pfs_local_search_ties", rule, moved, many, most, found.ctypes.data, found.size,
+                                byref(makespan))
+            if number:
+                raise self._insertion_error(number, given, moved, is_in=False)
         return Sequence(found.astype(np.int64), makespan.value)
 
     def _insertion_error(self, number: int, given: bytes, moved: bytes, *, is_in: bool = True) -> Exception:

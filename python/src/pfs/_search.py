@@ -56,6 +56,11 @@ def one_of(value: Any, names: Collection[str], what: str) -> str:
     return value
 
 
+def rule_of(ties: str) -> int:
+    """Return the number of a rule for equally good places."""
+    return TIES[one_of(ties, TIES, "ties")]
+
+
 def iterating_of(shop: Instance, held: int, stay: bytes, method: str = "solve", ties: str | None = None,
                  temperature: float | None = None, partial: int | None = None) -> Iterating | None:
     """Return the options of rounds that may accept longer orders, or None for rounds of `pfs solve`. While jobs are

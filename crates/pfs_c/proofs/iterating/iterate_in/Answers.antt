@@ -1,4 +1,4 @@
-use Rattle.std.proofs.Common.{◌≡◌, ◌+◌, ◌≤◌, length, not, drop, refl, rules, arith}
+use Rattle.std.proofs.Common.{◌≡◌, ◌≤◌, length, not, drop, refl, rules, arith}
 use Rattle.std.proofs.lemmas.List.{length-drop}
 use Rattle.std.proofs.lemmas.List.Filters.{length-filter_both}
 use Rattle.pfs_iterate.specs.Iterated.{is_free, movable}
