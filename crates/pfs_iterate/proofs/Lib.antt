@@ -8,3 +8,4 @@ mod Rearranging
 mod RoundLaws
 mod Staying
 mod Taking
+mod Words

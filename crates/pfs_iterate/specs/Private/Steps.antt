@@ -1,8 +1,15 @@
 -- What the steps of a round find and keep.
-use Rattle.std.specs.Prelude.{◌≡◌, ℕ, ◌<◌, ◌≤◌, ◌++◌, List, length, take}
+use Rattle.std.specs.Prelude.{◌≡◌, ℕ, ◌*◌, ◌<◌, ◌≤◌, ◌++◌, List, length, take}
+use Rattle.rand_core.specs.Pcg32Seed.{pcg32_seed}
+use Rattle.rand_pcg.specs.Lcg.{Lcg, advance}
+use Rattle.rand_pcg.specs.Pcg.{multiplier_64, pcg32_of_seed}
 use Rattle.pfs_base.specs.FlowShop.{FlowShop}
 use Rattle.pfs_base.specs.Paths.{makespan}
 use Rattle.pfs_order.specs.Sequence.{IsSequence, Sequence}
+
+-- the generator of a seed after a number of rounds of `each` words
+abbrev pub generator : ℕ → ℕ → ℕ → Lcg
+generator seed rounds each = advance 64 multiplier_64 (rounds * each) (pcg32_of_seed (pcg32_seed 16 seed))
 
 -- a place from `held` on and below `count`, whose value is at most that of each of these places, and less than that of
 -- each of these before it and of each after `last`

@@ -1,5 +1,5 @@
 use Rattle.std.proofs.Common.{◌≡◌, ℕ, ◌++◌, ap, sym, ◌∙◌, arith, refl, true, take as front, drop}
-use Rattle.pfs_order.specs.Sequence.{Sequence, all_jobs}
+use Rattle.pfs_order.specs.Sequence.{all_jobs}
 use Rattle.std.proofs.lemmas.List.Elements.{filter_passes, recursion_from_All}
 use Rattle.pfs_search.specs.Greedy.{jobs_taken}
 use Rattle.pfs_iterate.specs.Iterated.{is_free, left_among, movable}
@@ -15,7 +15,7 @@ take_jobs-requires-clause-size c =
 pub take_jobs-requires-clause-few : goal.take_jobs-requires-clause-few
 take_jobs-requires-clause-few c =
     let n = c.args.instance.now.shop.jobs in
-    rw (c.requires.work.all, all_free (all_jobs n)) (omega (arith, length-all_jobs n, c.split_at.ensures.back_len, c.requires.words))
+    rw (c.requires.work.all, all_free (all_jobs n)) (omega (arith, length-all_jobs n, c.split_at.ensures.back_len, c.requires.few))
 
 pub returns-clause-order : goal.returns-clause-order
 returns-clause-order c =
@@ -32,10 +32,9 @@ returns-clause-order c =
     let removed : c.take_jobs-2.new.taken.items ≡ jobs_taken (movable held stay order) (front take words) =
     rw c.split_at.ensures.front at c.take_jobs-2.ensures.taken in
     rw (
-      c.improve-2.ensures.jobs,
-      c.insert_all-rebuilt.ensures.jobs,
       c.improve.ensures.jobs,
-      ap (λ (s : Sequence). s.jobs) c.span_of-partial.ensures.jobs,
+      c.insert_all-rebuilt.ensures.jobs,
+      c.improve_left.ensures.jobs,
       left,
       c.deref-3.ensures.value,
       c.deref-2.ensures.value,
@@ -59,10 +58,9 @@ returns-clause-staying c =
     (rw c.keep_free.ensures.items (filter_passes (is_free stay) c.take_jobs.new.taken.items)) in
     let removed = recursion_from_All IsFree taken c.take_jobs-2.ensures.free in
     rw (
-      c.improve-2.ensures.jobs,
-      c.insert_all-rebuilt.ensures.jobs,
       c.improve.ensures.jobs,
-      ap (λ (s : Sequence). s.jobs) c.span_of-partial.ensures.jobs,
+      c.insert_all-rebuilt.ensures.jobs,
+      c.improve_left.ensures.jobs,
       c.deref-3.ensures.value,
       c.deref-2.ensures.value,
       c.deref.ensures.value,
