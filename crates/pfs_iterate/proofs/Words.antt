@@ -8,7 +8,7 @@ use Rattle.rand_pcg.specs.Pcg.{pcg32}
 use Rattle.pfs_base.specs.FlowShop.{FlowShop}
 use Rattle.pfs_base.specs.Paths.{makespan}
 use Rattle.pfs_search.specs.Solution.{words_after}
-use Rattle.pfs_search.proofs.Published.Words.{after_are, later, later-add, length-first_words, words-add}
+use Rattle.pfs_search.proofs.Published.Words.{after_are, later, later-add, length-first_words, of_seed, words-add}
 use Rattle.pfs_iterate.specs.declared.options.Options.{Options}
 use Rattle.pfs_iterate.specs.Iterated.{State, after_round, found, is_accepted}
 use Rattle.pfs_iterate.specs.Private.Steps.{generator}
@@ -26,10 +26,16 @@ unfolding state_after
 later_more count g = later-add count 1 g
 
 -- the generator after a round
-pub generator_more : (seed rounds each : ℕ) → generator seed (rounds + 1) each ≡ later each (generator seed rounds each)
-generator_more seed rounds each =
-    let more : (rounds + 1) * each ≡ rounds * each + each = omega arith in
-    rw more (later-add (rounds * each) each (generator seed 0 each))
+pub generator_more : (seed first done each : ℕ)
+    → generator seed (first + (done + 1)) each ≡ later each (generator seed (first + done) each)
+generator_more seed first done each =
+    let more : (first + (done + 1)) * each ≡ (first + done) * each + each = omega arith in
+    rw more (later-add ((first + done) * each) each (of_seed seed))
+
+pub length-round : (seed rounds each : ℕ) → length (words_after seed rounds 1 each) ≡ each
+length-round seed rounds each =
+    let one : 1 * each ≡ each = omega arith in
+    ap length (after_are seed rounds 1 each) ∙ length-first_words pcg32 (1 * each) (generator seed rounds each) ∙ one
 
 -- the first words of a round
 pub first_of_round : (seed rounds each used : ℕ) → used ≤ each
@@ -40,9 +46,9 @@ first_of_round seed rounds each used few =
     let long = length-first_words pcg32 used g in
     let all : 1 * each ≡ used + (each - used) = omega arith in
     sym (
-      ap (front used) (after_are seed rounds 1 each ∙ ap (λ n. first_words pcg32 n g) all ∙ words-add used (each - used) g)
-      ∙ take-append-le used firsts (first_words pcg32 (each - used) (later used g)) (omega arith)
-      ∙ take_all used firsts (omega arith)
+    ap (front used) (after_are seed rounds 1 each ∙ ap (λ n. first_words pcg32 n g) all ∙ words-add used (each - used) g)
+    ∙ take-append-le used firsts (first_words pcg32 (each - used) (later used g)) (omega arith)
+    ∙ take_all used firsts (omega arith)
     )
 
 -- ---- words that decide nothing

@@ -259,8 +259,7 @@ pub(crate) fn play(
     requires current { IsMeasured instance.now.shop current.old.order current.old.span }
     requires best { IsMeasured instance.now.shop best.old.order best.old.span }
     requires front { front options.now.held best.old.order ≡ front options.now.held current.old.order }
-    requires count { count ≡ length (movable options.now.held stay.now current.old.order) }
-    requires free { options.now.take ≤ count }
+    requires free { options.now.take ≤ length (movable options.now.held stay.now current.old.order) }
     ensures done { record { current = current.new.order; best = best.new.order }
         ≡ after_rounds instance.now.shop options.now accept.now stay.now options.now.first options.now.count
         (record { current = current.old.order; best = best.old.order }) }

@@ -19,8 +19,8 @@ remove_at-job-requires c =
     let jobs = c.loop-word.seq.jobs in
     let invariant = c.loop-word.invariant in
     let some : 0 < length (movable held stay jobs) =
-    omega (arith, c.requires.few, invariant.count, invariant.free, c.loop-word-test.true) in
-    rw (rw (c.as_slice-in-loop-word.ensures.value, invariant.count) at c.place_among-place.ensures)
+    omega (arith, c.requires.few, c.requires.count, invariant.count, invariant.free, c.loop-word-test.true) in
+    rw (rw (c.as_slice.ensures.value, invariant.count) at c.place_among-place.ensures)
     (place_within held stay (get_or c.args.words.now c.loop-word.word-index 0) jobs some)
 
 pub loop-word-preserved : goal.loop-word-preserved
@@ -35,11 +35,11 @@ loop-word-preserved c =
     let jobs = c.loop-word.seq.jobs in
     let invariant = c.loop-word.invariant in
     let some : 0 < length (movable held stay jobs) =
-    omega (arith, c.requires.few, invariant.count, invariant.free, c.loop-word-test.true) in
+    omega (arith, c.requires.few, c.requires.count, invariant.count, invariant.free, c.loop-word-test.true) in
     let place = held + among held stay word jobs some in
     let within : place < length jobs = place_within held stay word jobs some in
     let here : c.place_among-place.result ≡ place =
-    rw (c.as_slice-in-loop-word.ensures.value, invariant.count) at c.place_among-place.ensures in
+    rw (c.as_slice.ensures.value, invariant.count) at c.place_among-place.ensures in
     let left : c.remove_at-job.new.self.jobs ≡ remove jobs place =
     rw here at (ap (λ (s : Sequence). s.jobs) c.remove_at-job.ensures.rest) in
     let job = c.remove_at-job.result in
