@@ -17,7 +17,7 @@ use rand_core::SeedableRng;
 use rand_core::utils::NextWord;
 use rand_pcg::Pcg32;
 
-/// The generator of a seed before the words of a round, if each round has as many.
+/// The generator of a seed before the random words of a round, if each round has as many.
 pub(crate) fn generator(seed: u64, round: u32, each: usize) -> Pcg32
     requires few { each < 2 ^ 32 }
     ensures { result ≡ generator seed round each }

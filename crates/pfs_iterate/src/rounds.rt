@@ -61,7 +61,7 @@ fn accepts(accept: &[u32], old: u64, new: u64, word: u32) -> bool
     longer < accept.len() as u64 && word < accept[longer as usize]
 }
 
-// Lists the jobs that a pass visits, in the order in which the words name all jobs.
+// Lists the jobs that a pass visits, in the order in which random words name all jobs.
 fn list_jobs(work: &mut Work, stay: &[u8], words: &[u32])
     requires all { work.old.all ≡ all_jobs work.old.seq.size }
     requires few { length words.now ≤ work.old.seq.size }
