@@ -162,7 +162,7 @@ fn evaluate(instance: &Instance, search: &mut Search, seq: &Seq, job: usize, spa
     search.insertions(&mut instance.metered(), seq.as_slice(), job, spans);
 }
 
-// The best of all places, if it is behind the held jobs and the rule for ties takes the first one. Few held jobs seldom
+// The best of all places, if it is after the held jobs and the rule for ties takes the first one. Few held jobs seldom
 // have the best place among them.
 #[inline(always)]
 fn best_of_all(
