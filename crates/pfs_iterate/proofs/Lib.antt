@@ -4,6 +4,7 @@ mod Fronts
 mod HeadRows
 mod Least
 mod Passes
+mod Ranks
 mod Rearranging
 mod RoundLaws
 mod Staying

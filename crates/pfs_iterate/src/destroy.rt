@@ -11,7 +11,7 @@ ghost use Rattle.pfs_iterate.specs.Iterated.{is_free, left_among, movable};
 ghost use Rattle.pfs_iterate.specs.Private.Steps.{generator};
 ghost use Rattle.pfs_iterate.specs.Rounds.{staying};
 
-use crate::stay::place_among;
+use crate::stay::{rank_staying, take_place};
 use pfs_order::{Order, Seq};
 use rand_core::SeedableRng;
 use rand_core::utils::NextWord;
@@ -39,22 +39,21 @@ pub(crate) fn draw(rng: &mut Pcg32, words: &mut [u32], each: usize)
     rng.advance((each - words.len()) as u64);
 }
 
-/// Copies an order, and removes from the copy the jobs that the words name among those that may move, of which there are
-/// `count`.
+/// Copies an order, and removes from the copy the jobs that the words name among those that may move.
 pub(crate) fn take_jobs(
     order: &Order,
     seq: &mut Seq,
     taken: &mut Vec<usize>,
+    ranks: &mut Vec<usize>,
     held: usize,
     stay: &[u8],
-    count: usize,
     words: &[u32],
 )
     requires size { seq.old.size ≡ length order.now }
     requires held { held ≤ length order.now }
-    requires count { count ≡ length (movable held stay.now order.now) }
-    requires few { length words.now ≤ count }
+    requires few { length words.now ≤ length (movable held stay.now order.now) }
     requires room { length words.now ≤ vec_capacity taken.old }
+    requires ranks { length order.now ≤ vec_capacity ranks.old }
     ensures taken { taken.new.items ≡ jobs_taken (movable held stay.now order.now) words.now }
     ensures free { All (λ job. is_free stay.now job ≡ true) taken.new.items }
     ensures left { seq.new.jobs ≡ front held order.now ++ left_among (is_free stay.now) (drop held order.now) words.now }
@@ -65,13 +64,15 @@ pub(crate) fn take_jobs(
     ensures staying { staying stay.now seq.new.jobs ≡ staying stay.now order.now }
     ensures size { seq.new.size ≡ seq.old.size }
     ensures room { vec_capacity taken.old ≤ vec_capacity taken.new }
+    ensures ranks { vec_capacity ranks.old ≤ vec_capacity ranks.new }
 {
     seq.copy_from(order.seq());
     taken.clear();
-    let mut count = count;
+    let mut count = rank_staying(seq.as_slice(), held, stay, ranks);
+    let ranks = ranks.as_mut_slice();
     for word in words {
-        let place = place_among(seq.as_slice(), held, stay, *word as usize % count);
-        let job = seq.remove_at(place);
+        let place = take_place(ranks, *word as usize % count);
+        let job = seq.remove_at(held + place);
         taken.push_reserved(job);
         count -= 1;
     }

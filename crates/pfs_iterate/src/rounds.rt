@@ -14,7 +14,7 @@ use crate::found::Found;
 use crate::improve::improve;
 use crate::options::Options;
 use crate::places::{Places, put, span_of};
-use crate::stay::{count_movable, keep_free};
+use crate::stay::keep_free;
 use crate::work::Work;
 use pfs_base::Instance;
 use pfs_order::{Order, Seq};
@@ -66,24 +66,25 @@ fn list_jobs(work: &mut Work, stay: &[u8], words: &[u32])
     requires all { work.old.all ≡ all_jobs work.old.seq.size }
     requires few { length words.now ≤ work.old.seq.size }
     requires room { work.old.seq.size ≤ vec_capacity work.old.list }
+    requires ranks { work.old.seq.size ≤ vec_capacity work.old.ranks }
     ensures list { work.new.list.items
         ≡ filter (is_free stay.now) (jobs_taken (all_jobs work.old.seq.size) words.now) }
-    ensures rest { work.new ≡ record work.old { seq = work.new.seq; list = work.new.list } }
+    ensures rest { work.new ≡ record work.old { seq = work.new.seq; list = work.new.list; ranks = work.new.ranks } }
     ensures size { work.new.seq.size ≡ work.old.seq.size }
     ensures room { vec_capacity work.old.list ≤ vec_capacity work.new.list }
+    ensures ranks { vec_capacity work.old.ranks ≤ vec_capacity work.new.ranks }
 {
     if words.is_empty() {
         work.list.clear();
         return;
     }
-    let count = work.all.len();
     take_jobs(
         &work.all,
         &mut work.seq,
         &mut work.list,
+        &mut work.ranks,
         0,
         &[],
-        count,
         words,
     );
     keep_free(&mut work.list, stay);
@@ -122,7 +123,6 @@ fn find(
     search: &mut Search,
     options: &Options,
     stay: &[u8],
-    count: usize,
     order: &Order,
     words: &[u32],
 ) -> u64
@@ -130,8 +130,7 @@ fn find(
     requires search { IsSearchOf instance.now.shop search.old }
     requires options { CanIterate instance.now.shop options.now }
     requires order { length order.now ≡ instance.now.shop.jobs }
-    requires count { count ≡ length (movable options.now.held stay.now order.now) }
-    requires free { options.now.take ≤ count }
+    requires free { options.now.take ≤ length (movable options.now.held stay.now order.now) }
     requires some { options.now.take ≤ length words.now }
     requires few { length words.now ≤ options.now.take + instance.now.shop.jobs }
     ensures order { work.new.seq.jobs ≡ found instance.now.shop options.now stay.now order.now words.now }
@@ -148,9 +147,9 @@ fn find(
         order,
         &mut work.seq,
         &mut work.removed,
+        &mut work.ranks,
         options.held,
         stay,
-        count,
         removing,
     );
     let places = &mut work.places;
@@ -177,7 +176,6 @@ fn round(
     options: &Options,
     accept: &[u32],
     stay: &[u8],
-    count: usize,
     words: &[u32],
     current: &mut Found,
     best: &mut Found,
@@ -190,8 +188,7 @@ fn round(
     requires current { IsMeasured instance.now.shop current.old.order current.old.span }
     requires best { IsMeasured instance.now.shop best.old.order best.old.span }
     requires front { front options.now.held best.old.order ≡ front options.now.held current.old.order }
-    requires count { count ≡ length (movable options.now.held stay.now current.old.order) }
-    requires free { options.now.take ≤ count }
+    requires free { options.now.take ≤ length (movable options.now.held stay.now current.old.order) }
     ensures done { record { current = current.new.order; best = best.new.order }
         ≡ after_round instance.now.shop options.now accept.now stay.now
         (record { current = current.old.order; best = best.old.order }) words.now }
@@ -212,7 +209,6 @@ fn round(
         search,
         options,
         stay,
-        count,
         &current.order,
         &words[1..],
     );
@@ -278,14 +274,12 @@ pub(crate) fn play(
     let words = memory.as_mut_slice();
     let each = instance.jobs() + options.take + 1;
     let used = words_used(options, each);
-    // A round changes neither the held jobs nor the order of those that stay, so as many may move in each.
-    let count = count_movable(current.order.seq().as_slice(), options.held, stay);
     let mut rng = generator(options.seed, options.first, each);
     for _done in 0..options.count {
         let words = &mut words[..used];
         draw(&mut rng, words, each);
         round(
-            work, instance, search, options, accept, stay, count, words, current, best,
+            work, instance, search, options, accept, stay, words, current, best,
         );
     }
 }

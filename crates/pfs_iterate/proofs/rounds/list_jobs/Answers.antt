@@ -7,20 +7,14 @@ use Rattle.pfs_iterate.proofs.rounds.list_jobs.Goals as goal
 pub take_jobs-requires-clause-size : goal.take_jobs-requires-clause-size
 take_jobs-requires-clause-size c = rw c.requires.all (sym (length-all_jobs c.args.work.now.seq.size))
 
-pub take_jobs-requires-clause-count : goal.take_jobs-requires-clause-count
-take_jobs-requires-clause-count c =
-    let n = c.args.work.now.seq.size in
-    c.len-count.ensures.value ∙ ap length (rw c.requires.all (sym (all_free (all_jobs n))))
-
 pub take_jobs-requires-clause-few : goal.take_jobs-requires-clause-few
 take_jobs-requires-clause-few c =
-    omega (
-      arith,
-      c.requires.few,
-      c.len-count.ensures.value,
-      ap length c.requires.all,
-      length-all_jobs c.args.work.now.seq.size,
-    )
+    let n = c.args.work.now.seq.size in
+    rw (c.requires.all, all_free (all_jobs n)) (omega (arith, length-all_jobs n, c.requires.few))
+
+pub take_jobs-requires-clause-ranks : goal.take_jobs-requires-clause-ranks
+take_jobs-requires-clause-ranks c =
+    omega (arith, c.requires.ranks, ap length c.requires.all, length-all_jobs c.args.work.now.seq.size)
 
 pub returns-clause-list : goal.returns-clause-list
 returns-clause-list c =

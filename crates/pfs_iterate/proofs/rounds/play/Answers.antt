@@ -1,6 +1,5 @@
 use Rattle.std.proofs.Common.{◌≡◌, ◌+◌, ◌-◌, ◌≤◌, ◌⊎◌, inl, inr, length, take as front, ap, sym, ◌∙◌, arith, rules}
 use Rattle.std.proofs.lemmas.List.{length-take-le}
-use Rattle.pfs_order.specs.Sequence.{Sequence}
 use Rattle.pfs_search.specs.Solution.{words_after}
 use Rattle.pfs_search.proofs.Published.Words.{later}
 use Rattle.pfs_iterate.specs.Iterated.{State, after_round, after_rounds, words_of_round}
@@ -77,9 +76,8 @@ loop-done-preserved c =
           ∙ sym (generator_more options.seed options.first done each);
     }
 
-pub round-requires-clause-count : goal.round-requires-clause-count
-round-requires-clause-count c =
+pub round-requires-clause-free : goal.round-requires-clause-free
+round-requires-clause-free c =
     let invariant = c.loop-done.invariant in
     rw (same_count c.args.options.now.held c.args.stay.now c.args.current.now.order c.loop-done.current.order
-    invariant.current_front invariant.current_staying (invariant.current.all ∙ sym c.requires.current.all))
-    (rw (c.as_slice.ensures.value ∙ ap (λ (s : Sequence). s.jobs) c.seq.ensures.value) at c.count_movable-count.ensures)
+    invariant.current_front invariant.current_staying (invariant.current.all ∙ sym c.requires.current.all)) c.requires.free
