@@ -1,7 +1,7 @@
 -- How many jobs that may move come before each job that stays.
 use Rattle.std.proofs.Common.{◌≡◌, ℕ, zero, suc, ◌+◌, ◌-◌, ◌<◌, Bool, true, false, List, [], ◌∷◌, ◌++◌, length, get_or, take, remove}
 use Rattle.std.proofs.Common.{inl, inr, append-nil, arith, refl, sym, ap, ◌∙◌}
-use Rattle.std.specs.Prelude.{filter, if◌then◌else◌, map, nat_le}
+use Rattle.std.specs.Prelude.{filter, map, nat_le}
 use Rattle.std.proofs.lemmas.Bool.{cases_Bool, cases_lt, le-leb, lt-leb}
 use Rattle.std.proofs.lemmas.List.{length-append, map-append, take_more}
 use Rattle.std.proofs.lemmas.List.Elements.{filter-append}

@@ -28,7 +28,7 @@ pub fn count_movable(jobs: &[u32], held: usize, stay: &[u8]) -> usize
     count
 }
 
-/// Writes for each job behind the first `held` that stays how many of those before it may move, and returns how many may.
+/// Writes how many jobs that may move are before each one that stays, from place `held` on, and returns how many may.
 pub(crate) fn rank_staying(jobs: &[u32], held: usize, stay: &[u8], ranks: &mut Vec<usize>) -> usize
     requires held { held ≤ length jobs.now }
     requires room { length jobs.now ≤ vec_capacity ranks.old }

@@ -1,5 +1,5 @@
 use Rattle.std.proofs.Common.{◌≡◌, ℕ, ◌+◌, ◌-◌, length, ap, sym, ◌∙◌, refl, arith}
-use Rattle.std.proofs.lemmas.List.{take_all, take_more_set}
+use Rattle.std.proofs.lemmas.List.{take_more_set}
 use Rattle.rand_core.specs.Steps.{first_words}
 use Rattle.rand_pcg.specs.Lcg.{Lcg, state_after}
 use Rattle.rand_pcg.specs.Pcg.{pcg32}
@@ -33,7 +33,9 @@ pub returns-clause-rest : goal.returns-clause-rest
 returns-clause-rest c =
     let i = c.loop-place.place in
     let rng = c.args.rng.now in
-    let left : c.args.each - length c.loop-place.words ≡ c.args.each - i = omega (arith, c.loop-place-test.false, c.loop-place.auto.place-end) in
-    let all : i + (c.args.each - i) ≡ c.args.each = omega (arith, c.requires.few, c.loop-place.auto.place-end, c.loop-place.auto.words) in
+    let left : c.args.each - length c.loop-place.words ≡ c.args.each - i =
+    omega (arith, c.loop-place-test.false, c.loop-place.auto.place-end) in
+    let all : i + (c.args.each - i) ≡ c.args.each =
+    omega (arith, c.requires.few, c.loop-place.auto.place-end, c.loop-place.auto.words) in
     c.advance.ensures ∙ ap (λ n. later n c.loop-place.rng) left ∙ ap (later (c.args.each - i)) c.loop-place.invariant.rng
     ∙ sym (later-add i (c.args.each - i) rng) ∙ ap (λ n. later n rng) all

@@ -1,4 +1,4 @@
-use Rattle.std.proofs.Common.{◌≡◌, length, ap, sym, ◌∙◌, refl, arith}
+use Rattle.std.proofs.Common.{length, ap, sym, refl, arith}
 use Rattle.pfs_order.specs.Sequence.{all_jobs}
 use Rattle.pfs_order.proofs.Published.Sequences.{length-all_jobs}
 use Rattle.pfs_iterate.proofs.Among.{all_free}
