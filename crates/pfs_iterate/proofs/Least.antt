@@ -1,7 +1,7 @@
 -- The first of the places from one on that is the best.
 use Rattle.std.proofs.Common.{◌≡◌, ℕ, ◌+◌, ◌-◌, ◌<◌, ◌≤◌, Bool, true, false, get_or, eqb, leb, if◌then◌else◌, ◌∙◌, arith}
 use Rattle.std.proofs.Common.{inl, inr, List, [], ◌∷◌, refl, sym, add-zero}
-use Rattle.pfs_insert.specs.Insertion.{first_least}
+use Rattle.pfs_insert.specs.Insertion.{IsFirstLeast, first_least}
 use Rattle.std.specs.List.{list_all, position_or_len, range_with_len}
 use Rattle.std.proofs.lemmas.Bool.{cases_eq, cases_lt, cases_order, eq-eqb, le-leb, lt-leb, ne_eqb}
 use Rattle.std.proofs.lemmas.List.FromFn.{length-range_with_len, get_or-range_with_len}
@@ -75,6 +75,17 @@ module _ (value tie : ℕ → ℕ) where
     least = is.least;
     tied = λ other behind small same. omega (arith, none place);
     first = λ other behind before same. absurd (omega (arith, is.first other behind before));
+  }
+
+  -- the first of all places of the least value, where it is from `held` on and no `tie` decides
+  pub behind_best : (held count place : ℕ) → IsFirstLeast value count place → held ≤ place → ((p : ℕ) → tie p ≡ 0)
+      → IsBestFrom value tie held count place
+  behind_best held count place is behind none = record {
+    from = behind;
+    within = is.within;
+    least = λ other from small. is.least other small;
+    tied = λ other from small same. omega (arith, none place);
+    first = λ other from before same. absurd (omega (arith, is.first other before));
   }
 
   -- the best place so far, with one more place

@@ -4,8 +4,10 @@ mod Fronts
 mod HeadRows
 mod Least
 mod Passes
+mod Ranks
 mod Rearranging
 mod RoundLaws
 mod Shorter
 mod Staying
 mod Taking
+mod Words

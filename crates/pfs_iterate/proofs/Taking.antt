@@ -8,7 +8,9 @@ use Rattle.std.proofs.lemmas.List.Filters.{length-filter_both}
 use Rattle.pfs_search.specs.Greedy.{jobs_taken}
 use Rattle.pfs_iterate.specs.Iterated.{is_free, left_among, movable, place_among}
 use Rattle.pfs_iterate.specs.Rounds.{staying}
+use Rattle.pfs_iterate.specs.Private.Steps.{before, ranks_of, ranks_without}
 use Rattle.pfs_iterate.proofs.Among.{IsAmong, is_among}
+use Rattle.pfs_iterate.proofs.Ranks.{place_by_ranks, ranks_removed}
 use Rattle.pfs_iterate.proofs.Fronts.{drop-remove, take-remove}
 
 staying_parts : (held : ℕ) (stay jobs : List ℕ) → staying stay jobs ≡ staying stay (take held jobs) ++ staying stay (drop held jobs)
@@ -78,6 +80,14 @@ module _ (held : ℕ) (stay : List ℕ) (word : ℕ) (jobs : List ℕ) (some : 0
       → (done ++ job ∷ []) ++ jobs_taken (movable held stay (remove jobs (held + among))) rest
       ≡ done ++ jobs_taken (movable held stay jobs) (word ∷ rest)
   taken_behind done rest job at = rw (movable_left, append_assoc, at, job_named) refl
+
+  -- the ranks say where it is, and what they are without it
+  pub by_ranks : among ≡ number + before number (ranks_of (is_free stay) (drop held jobs))
+  by_ranks = place_by_ranks (is_free stay) (drop held jobs) number (omega (arith, some))
+
+  pub ranks_left : ranks_of (is_free stay) (drop held (remove jobs (held + among)))
+      ≡ ranks_without number (ranks_of (is_free stay) (drop held jobs))
+  ranks_left = rw gone (ranks_removed (is_free stay) (drop held jobs) number (omega (arith, some)))
 
   pub staying_left : staying stay (remove jobs (held + among)) ≡ staying stay jobs
   staying_left =

@@ -3,33 +3,40 @@ ghost use Rattle.std.specs.Prelude.{◌≡◌, ◌+◌, ◌<◌, ◌≤◌, ◌^
 ghost use Rattle.std.specs.Prelude.{vec_capacity};
 ghost use Rattle.std.specs.List.{All};
 ghost use Rattle.pfs_order.specs.Sequence.{IsSequence};
-ghost use Rattle.pfs_search.specs.Greedy.{jobs_taken, words_of};
-ghost use Rattle.pfs_search.specs.Solution.{words_after};
+ghost use Rattle.rand_core.specs.Steps.{first_words};
+ghost use Rattle.rand_pcg.specs.Lcg.{advance};
+ghost use Rattle.rand_pcg.specs.Pcg.{multiplier_64, pcg32};
+ghost use Rattle.pfs_search.specs.Greedy.{jobs_taken};
 ghost use Rattle.pfs_iterate.specs.Iterated.{is_free, left_among, movable};
+ghost use Rattle.pfs_iterate.specs.Private.Steps.{generator};
 ghost use Rattle.pfs_iterate.specs.Rounds.{staying};
 
-use crate::stay::{count_movable, place_among};
+use crate::stay::{rank_staying, take_place};
 use pfs_order::{Order, Seq};
-use rand_core::{Rng, SeedableRng};
+use rand_core::SeedableRng;
+use rand_core::utils::NextWord;
 use rand_pcg::Pcg32;
 
-// Writes the next random words of a generator.
-fn fill<R: Rng>(rng: &mut R, words: &mut [u32])
-    ensures { words.new ≡ words_of (length words.old) (R.stream rng.old) }
-{
-    for place in 0..words.len() {
-        words[place] = rng.next_u32();
-    }
-}
-
-/// Writes the random words of a round of a seed, if each round has as many.
-pub(crate) fn draw(words: &mut [u32], seed: u64, round: u32)
-    requires few { length words.old < 2 ^ 32 }
-    ensures { words.new ≡ words_after seed round 1 (length words.old) }
+/// The generator of a seed before the random words of a round, if each round has as many.
+pub(crate) fn generator(seed: u64, round: u32, each: usize) -> Pcg32
+    requires few { each < 2 ^ 32 }
+    ensures { result ≡ generator seed round each }
 {
     let mut rng = Pcg32::seed_from_u64(seed);
-    rng.advance(round as u64 * words.len() as u64);
-    fill(&mut rng, words);
+    rng.advance(round as u64 * each as u64);
+    rng
+}
+
+/// Writes the first words of a round that has `each`, and skips the others.
+pub(crate) fn draw(rng: &mut Pcg32, words: &mut [u32], each: usize)
+    requires few { length words.old ≤ each }
+    ensures words { words.new ≡ first_words pcg32 (length words.old) rng.old }
+    ensures rest { rng.new ≡ advance 64 multiplier_64 each rng.old }
+{
+    for place in 0..words.len() {
+        words[place] = rng.next_word();
+    }
+    rng.advance((each - words.len()) as u64);
 }
 
 /// Copies an order, and removes from the copy the jobs that the words name among those that may move.
@@ -37,6 +44,7 @@ pub(crate) fn take_jobs(
     order: &Order,
     seq: &mut Seq,
     taken: &mut Vec<usize>,
+    ranks: &mut Vec<usize>,
     held: usize,
     stay: &[u8],
     words: &[u32],
@@ -45,6 +53,7 @@ pub(crate) fn take_jobs(
     requires held { held ≤ length order.now }
     requires few { length words.now ≤ length (movable held stay.now order.now) }
     requires room { length words.now ≤ vec_capacity taken.old }
+    requires ranks { length order.now ≤ vec_capacity ranks.old }
     ensures taken { taken.new.items ≡ jobs_taken (movable held stay.now order.now) words.now }
     ensures free { All (λ job. is_free stay.now job ≡ true) taken.new.items }
     ensures left { seq.new.jobs ≡ front held order.now ++ left_among (is_free stay.now) (drop held order.now) words.now }
@@ -55,13 +64,15 @@ pub(crate) fn take_jobs(
     ensures staying { staying stay.now seq.new.jobs ≡ staying stay.now order.now }
     ensures size { seq.new.size ≡ seq.old.size }
     ensures room { vec_capacity taken.old ≤ vec_capacity taken.new }
+    ensures ranks { vec_capacity ranks.old ≤ vec_capacity ranks.new }
 {
     seq.copy_from(order.seq());
     taken.clear();
-    let mut count = count_movable(seq.as_slice(), held, stay);
+    let mut count = rank_staying(seq.as_slice(), held, stay, ranks);
+    let ranks = ranks.as_mut_slice();
     for word in words {
-        let place = place_among(seq.as_slice(), held, stay, *word as usize % count);
-        let job = seq.remove_at(place);
+        let place = take_place(ranks, *word as usize % count);
+        let job = seq.remove_at(held + place);
         taken.push_reserved(job);
         count -= 1;
     }

@@ -1,5 +1,6 @@
 //! The makespans with a job at each place, and the best one of the places that may change.
-ghost use Rattle.std.specs.Prelude.{◌≡◌, ℕ, ◌+◌, ◌<◌, ◌≤◌, length, take as front, Contains, insert, slice_index, IfOk};
+ghost use Rattle.std.specs.Prelude.{◌≡◌, ℕ, ◌+◌, ◌<◌, ◌≤◌, length, take as front, Contains, insert, slice_index};
+ghost use Rattle.std.specs.Prelude.{IfOk, IfSome};
 ghost use Rattle.std.specs.List.{slice_index_or};
 ghost use Rattle.pfs_base.specs.Paths.{makespan};
 ghost use Rattle.pfs_insert.specs.Insertion.{makespan_with};
@@ -9,12 +10,15 @@ ghost use Rattle.pfs_iterate.specs.Private.Steps.{IsBestFrom, IsLeastFrom};
 ghost use Rattle.pfs_iterate.specs.Private.Memory.{AreHeads, IsPlacesFor};
 
 use crate::heads::Heads;
-use crate::options::{Options, TIES_IDLE};
+use crate::options::{Options, TIES_FIRST, TIES_IDLE};
 use pfs_base::Instance;
 use pfs_insert::Placed;
 use pfs_order::Seq;
 use pfs_search::Search;
 use std::alloc::{AllocError, Global};
+
+// Which part of a sequence few held jobs are, at most: the others evaluate all places once instead of twice.
+const FEW_HELD: usize = 8;
 
 /// What a place is chosen with: the makespans with a job at each place, and heads.
 #[derive(Drop)]
@@ -159,6 +163,75 @@ fn evaluate(instance: &Instance, search: &mut Search, seq: &Seq, job: usize, spa
     search.insertions(&mut instance.metered(), seq.as_slice(), job, spans);
 }
 
+// The best of all places, if it is after the held jobs and the rule for ties takes the first one. Few held jobs seldom
+// have the best place among them.
+#[inline(always)]
+fn best_of_all(
+    instance: &Instance,
+    search: &mut Search,
+    seq: &Seq,
+    options: &Options,
+    job: usize,
+) -> Option<Placed<u64>>
+    requires search { IsSearchOf instance.now.shop search.old }
+    requires size { seq.now.size ≡ instance.now.shop.jobs }
+    requires job { job < instance.now.shop.jobs }
+    requires absent { Contains seq.now.jobs job → ⊥ }
+    ensures chosen { IfSome result (λ best. best.place ≡ chosen instance.now.shop options.now seq.now.jobs job) }
+    ensures from { IfSome result (λ best. options.now.held ≤ best.place) }
+    ensures within { IfSome result (λ best. best.place ≤ length seq.now.jobs) }
+    ensures span { IfSome result (λ best.
+        best.span ≡ makespan_with instance.now.shop seq.now.jobs job best.place) }
+    ensures search { IsSearchOf instance.now.shop search.new }
+{
+    // Called for its contract, which says that no place before the best one is as good.
+    pfs_insert::laws::best_place();
+    if options.ties != TIES_FIRST || options.held > seq.len() / FEW_HELD {
+        return None;
+    }
+    let mut bench = instance.metered();
+    let best = search.best(&mut bench, seq.as_slice(), job);
+    if best.place < options.held {
+        return None;
+    }
+    Some(Placed {
+        place: best.place,
+        span: bench.reveal(best.span),
+    })
+}
+
+// The chosen place for a job, and the makespan with the job there.
+#[inline(always)]
+fn find_place(
+    instance: &Instance,
+    search: &mut Search,
+    places: &mut Places,
+    seq: &Seq,
+    options: &Options,
+    job: usize,
+) -> Placed<u64>
+    requires search { IsSearchOf instance.now.shop search.old }
+    requires places { IsPlacesFor instance.now.shop places.old }
+    requires size { seq.now.size ≡ instance.now.shop.jobs }
+    requires held { options.now.held ≤ length seq.now.jobs }
+    requires job { job < instance.now.shop.jobs }
+    requires absent { Contains seq.now.jobs job → ⊥ }
+    ensures chosen { result.place ≡ chosen instance.now.shop options.now seq.now.jobs job }
+    ensures from { options.now.held ≤ result.place }
+    ensures within { result.place ≤ length seq.now.jobs }
+    ensures span { result.span ≡ makespan_with instance.now.shop seq.now.jobs job result.place }
+    ensures search { IsSearchOf instance.now.shop search.new }
+    ensures places { IsPlacesFor instance.now.shop places.new }
+{
+    let len = seq.len();
+    if let Some(best) = best_of_all(instance, search, seq, options, job) {
+        return best;
+    }
+    evaluate(instance, search, seq, job, &mut places.spans);
+    let spans = &places.spans[..len + 1];
+    choose(instance, &mut places.heads, spans, seq, job, options)
+}
+
 /// Inserts a job at its best place, and returns the place and the makespan.
 #[inline(always)]
 pub(crate) fn put(
@@ -183,10 +256,7 @@ pub(crate) fn put(
     ensures search { IsSearchOf instance.now.shop search.new }
     ensures places { IsPlacesFor instance.now.shop places.new }
 {
-    let len = seq.len();
-    evaluate(instance, search, seq, job, &mut places.spans);
-    let spans = &places.spans[..len + 1];
-    let best = choose(instance, &mut places.heads, spans, seq, job, options);
+    let best = find_place(instance, search, places, seq, options, job);
     seq.insert_at(best.place, job);
     best
 }

@@ -1,15 +1,16 @@
 //! Rounds.
-ghost use Rattle.std.specs.Prelude.{◌≡◌, ◌+◌, ◌*◌, ◌≤◌, ◌++◌, length, take as front, drop, fold};
+ghost use Rattle.std.specs.Prelude.{◌≡◌, ◌+◌, ◌≤◌, ◌++◌, ◌⊎◌, filter, length, take as front, fold, vec_capacity};
 ghost use Rattle.pfs_base.specs.Paths.{makespan};
-ghost use Rattle.pfs_order.specs.Sequence.{IsSequence};
+ghost use Rattle.pfs_order.specs.Sequence.{IsSequence, all_jobs};
 ghost use Rattle.pfs_search.specs.Search.{IsSearchOf};
 ghost use Rattle.pfs_search.specs.Greedy.{jobs_taken};
-ghost use Rattle.pfs_iterate.specs.Iterated.{after_round, after_rounds, found, is_accepted, is_free, left_among, movable, put};
-ghost use Rattle.pfs_iterate.specs.Private.Steps.{IsMeasured};
+ghost use Rattle.pfs_iterate.specs.Iterated.{after_round, after_rounds, found, improved};
+ghost use Rattle.pfs_iterate.specs.Iterated.{is_accepted, is_free, movable, put};
+ghost use Rattle.pfs_iterate.specs.Private.Steps.{IsMeasured, IsRearranged};
 ghost use Rattle.pfs_iterate.specs.Private.Memory.{IsPlacesFor, IsWorkFor};
 ghost use Rattle.pfs_iterate.specs.Rounds.{CanIterate, staying};
 
-use crate::destroy::{draw, take_jobs};
+use crate::destroy::{draw, generator, take_jobs};
 use crate::found::Found;
 use crate::improve::improve;
 use crate::options::Options;
@@ -61,48 +62,59 @@ fn accepts(accept: &[u32], old: u64, new: u64, word: u32) -> bool
     longer < accept.len() as u64 && word < accept[longer as usize]
 }
 
-// Makes the sequence of `work` the order with some jobs removed and inserted again, and returns its makespan.
-fn rebuild(
-    work: &mut Work,
-    instance: &Instance,
-    search: &mut Search,
-    options: &Options,
-    stay: &[u8],
-    order: &Order,
-    words: &[u32],
-) -> u64
-    requires work { IsWorkFor instance.now.shop work.old }
-    requires search { IsSearchOf instance.now.shop search.old }
-    requires options { CanIterate instance.now.shop options.now }
-    requires order { length order.now ≡ instance.now.shop.jobs }
-    requires free { options.now.take ≤ length (movable options.now.held stay.now order.now) }
-    requires words { length words.now ≡ options.now.take }
-    ensures order { work.new.seq.jobs ≡ fold (put instance.now.shop options.now)
-        (front options.now.held order.now ++ left_among (is_free stay.now) (drop options.now.held order.now) words.now)
-        (jobs_taken (movable options.now.held stay.now order.now) words.now) }
-    ensures span { result ≡ makespan instance.now.shop work.new.seq.jobs }
-    ensures all { length work.new.seq.jobs ≡ instance.now.shop.jobs }
-    ensures front { front options.now.held work.new.seq.jobs ≡ front options.now.held order.now }
-    ensures staying { staying stay.now work.new.seq.jobs ≡ staying stay.now order.now }
-    ensures work { IsWorkFor instance.now.shop work.new }
-    ensures search { IsSearchOf instance.now.shop search.new }
+// Lists the jobs that a pass visits, in the order in which random words name all jobs.
+fn list_jobs(work: &mut Work, stay: &[u8], words: &[u32])
+    requires all { work.old.all ≡ all_jobs work.old.seq.size }
+    requires few { length words.now ≤ work.old.seq.size }
+    requires room { work.old.seq.size ≤ vec_capacity work.old.list }
+    requires ranks { work.old.seq.size ≤ vec_capacity work.old.ranks }
+    ensures list { work.new.list.items
+        ≡ filter (is_free stay.now) (jobs_taken (all_jobs work.old.seq.size) words.now) }
+    ensures rest { work.new ≡ record work.old { seq = work.new.seq; list = work.new.list; ranks = work.new.ranks } }
+    ensures size { work.new.seq.size ≡ work.old.seq.size }
+    ensures room { vec_capacity work.old.list ≤ vec_capacity work.new.list }
+    ensures ranks { vec_capacity work.old.ranks ≤ vec_capacity work.new.ranks }
 {
+    if words.is_empty() {
+        work.list.clear();
+        return;
+    }
     take_jobs(
-        order,
+        &work.all,
         &mut work.seq,
-        &mut work.removed,
-        options.held,
-        stay,
+        &mut work.list,
+        &mut work.ranks,
+        0,
+        &[],
         words,
     );
-    insert_all(
-        instance,
-        search,
-        &mut work.places,
-        &mut work.seq,
-        options,
-        &work.removed,
-    )
+    keep_free(&mut work.list, stay);
+}
+
+// Makes the passes over the jobs that are left after a removal.
+fn improve_left(
+    instance: &Instance,
+    search: &mut Search,
+    places: &mut Places,
+    seq: &mut Seq,
+    options: &Options,
+    list: &[usize],
+)
+    requires search { IsSearchOf instance.now.shop search.old }
+    requires size { seq.old.size ≡ instance.now.shop.jobs }
+    requires held { options.now.held ≤ length seq.old.jobs }
+    requires places { IsPlacesFor instance.now.shop places.old }
+    ensures jobs { seq.new.jobs ≡ improved instance.now.shop options.now list.now options.now.partial seq.old.jobs }
+    ensures kept { IsRearranged options.now.held seq.old seq.new }
+    ensures search { IsSearchOf instance.now.shop search.new }
+    ensures places { IsPlacesFor instance.now.shop places.new }
+{
+    if options.partial == 0 {
+        return;
+    }
+    let span = span_of(instance, search, places, seq);
+    let passes = options.partial;
+    improve(instance, search, places, seq, options, list, passes, span);
 }
 
 // Makes the sequence of `work` the order that a round finds by its words after the first, and returns its makespan.
@@ -120,7 +132,8 @@ fn find(
     requires options { CanIterate instance.now.shop options.now }
     requires order { length order.now ≡ instance.now.shop.jobs }
     requires free { options.now.take ≤ length (movable options.now.held stay.now order.now) }
-    requires words { length words.now ≡ options.now.take + instance.now.shop.jobs }
+    requires some { options.now.take ≤ length words.now }
+    requires few { length words.now ≤ options.now.take + instance.now.shop.jobs }
     ensures order { work.new.seq.jobs ≡ found instance.now.shop options.now stay.now order.now words.now }
     ensures span { result ≡ makespan instance.now.shop work.new.seq.jobs }
     ensures all { length work.new.seq.jobs ≡ instance.now.shop.jobs }
@@ -130,33 +143,19 @@ fn find(
     ensures search { IsSearchOf instance.now.shop search.new }
 {
     let (removing, shuffling) = words.split_at(options.take);
-    if options.partial == 0 && options.passes == 0 {
-        return rebuild(work, instance, search, options, stay, order, removing);
-    }
-    let held = options.held;
-    take_jobs(&work.all, &mut work.seq, &mut work.list, 0, &[], shuffling);
-    keep_free(&mut work.list, stay);
+    list_jobs(work, stay, shuffling);
     take_jobs(
         order,
         &mut work.seq,
         &mut work.removed,
-        held,
+        &mut work.ranks,
+        options.held,
         stay,
         removing,
     );
     let places = &mut work.places;
     let seq = &mut work.seq;
-    let partial = span_of(instance, search, places, seq);
-    improve(
-        instance,
-        search,
-        places,
-        seq,
-        options,
-        &work.list,
-        options.partial,
-        partial,
-    );
+    improve_left(instance, search, places, seq, options, &work.list);
     let rebuilt = insert_all(instance, search, places, seq, options, &work.removed);
     improve(
         instance,
@@ -185,7 +184,8 @@ fn round(
     requires work { IsWorkFor instance.now.shop work.old }
     requires search { IsSearchOf instance.now.shop search.old }
     requires options { CanIterate instance.now.shop options.now }
-    requires words { length words.now ≡ instance.now.shop.jobs + options.now.take + 1 }
+    requires some { options.now.take + 1 ≤ length words.now }
+    requires few { length words.now ≤ instance.now.shop.jobs + options.now.take + 1 }
     requires current { IsMeasured instance.now.shop current.old.order current.old.span }
     requires best { IsMeasured instance.now.shop best.old.order best.old.span }
     requires front { front options.now.held best.old.order ≡ front options.now.held current.old.order }
@@ -220,6 +220,20 @@ fn round(
     if accepts(accept, current.span, span, words[0]) {
         current.order.copy_from(&work.seq);
         current.span = span;
+    }
+}
+
+// How many words of a round decide: where no pass is made, none of those that name the jobs that it visits.
+fn words_used(options: &Options, each: usize) -> usize
+    requires { options.now.take + 1 ≤ each }
+    ensures some { options.now.take + 1 ≤ result }
+    ensures few { result ≤ each }
+    ensures all { (result ≡ each) ⊎ ((options.now.partial ≡ 0) × (options.now.passes ≡ 0)) }
+{
+    if options.partial == 0 && options.passes == 0 {
+        options.take + 1
+    } else {
+        each
     }
 }
 
@@ -260,9 +274,11 @@ pub(crate) fn play(
 {
     let words = memory.as_mut_slice();
     let each = instance.jobs() + options.take + 1;
-    for done in 0..options.count {
-        let words = &mut words[..each];
-        draw(words, options.seed, options.first + done);
+    let used = words_used(options, each);
+    let mut rng = generator(options.seed, options.first, each);
+    for _done in 0..options.count {
+        let words = &mut words[..used];
+        draw(&mut rng, words, each);
         round(
             work, instance, search, options, accept, stay, words, current, best,
         );

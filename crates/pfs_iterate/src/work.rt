@@ -16,6 +16,8 @@ pub(crate) struct Work {
     pub(crate) all: Order,
     // The jobs that a round removes.
     pub(crate) removed: Vec<usize>,
+    // How many jobs that may move come before each one that stays.
+    pub(crate) ranks: Vec<usize>,
     // All jobs in the order in which a pass visits them.
     pub(crate) list: Vec<usize>,
     // What places are chosen with.
@@ -35,6 +37,7 @@ impl Work {
             seq,
             all,
             removed: Vec::with_capacity(alloc, size)?,
+            ranks: Vec::with_capacity(alloc, size)?,
             list: Vec::with_capacity(alloc, size)?,
             places: Places::new(alloc, instance)?,
         })

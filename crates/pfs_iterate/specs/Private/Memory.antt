@@ -32,5 +32,6 @@ pub record IsWorkFor (shop : FlowShop) (work : Work) : Type 0 where
   pub seq : work.seq.size ≡ shop.jobs
   pub all : work.all ≡ all_jobs shop.jobs
   pub removed : shop.jobs ≤ vec_capacity work.removed
+  pub ranks : shop.jobs ≤ vec_capacity work.ranks
   pub list : shop.jobs ≤ vec_capacity work.list
   pub places : IsPlacesFor shop work.places

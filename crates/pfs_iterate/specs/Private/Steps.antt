@@ -1,8 +1,32 @@
 -- What the steps of a round find and keep.
-use Rattle.std.specs.Prelude.{◌≡◌, ℕ, ◌<◌, ◌≤◌, ◌++◌, List, length, take}
+use Rattle.std.specs.Prelude.{◌≡◌, ℕ, suc, ◌-◌, ◌*◌, ◌<◌, ◌≤◌, ◌++◌, Bool, List, [], ◌∷◌, filter, length, map, nat_le, take}
+use Rattle.std.specs.Prelude.{if◌then◌else◌}
+use Rattle.rand_core.specs.Pcg32Seed.{pcg32_seed}
+use Rattle.rand_pcg.specs.Lcg.{Lcg, advance}
+use Rattle.rand_pcg.specs.Pcg.{multiplier_64, pcg32_of_seed}
 use Rattle.pfs_base.specs.FlowShop.{FlowShop}
 use Rattle.pfs_base.specs.Paths.{makespan}
 use Rattle.pfs_order.specs.Sequence.{IsSequence, Sequence}
+
+-- the generator of a seed after a number of rounds of `each` words
+abbrev pub generator : ℕ → ℕ → ℕ → Lcg
+generator seed rounds each = advance 64 multiplier_64 (rounds * each) (pcg32_of_seed (pcg32_seed 16 seed))
+
+-- for each job that stays, how many of the jobs before it may move
+abbrev pub ranks_of : (ℕ → Bool) → List ℕ → List ℕ
+ranks_of free [] = []
+ranks_of free (job ∷ jobs) = if free job then map suc (ranks_of free jobs) else 0 ∷ ranks_of free jobs
+
+-- how many jobs that stay come before the one that has this number among those that may move
+abbrev pub before : ℕ → List ℕ → ℕ
+before number ranks = length (filter (λ rank. nat_le rank number) ranks)
+
+-- the ranks after that one is removed
+abbrev pub lowered : ℕ → ℕ → ℕ
+lowered number rank = if nat_le rank number then rank else rank - 1
+
+abbrev pub ranks_without : ℕ → List ℕ → List ℕ
+ranks_without number ranks = map (lowered number) ranks
 
 -- a place from `held` on and below `count`, whose value is at most that of each of these places, and less than that of
 -- each of these before it and of each after `last`

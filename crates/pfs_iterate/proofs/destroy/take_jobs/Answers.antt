@@ -9,7 +9,7 @@ use Rattle.pfs_search.specs.Greedy.{jobs_taken}
 use Rattle.pfs_iterate.specs.Iterated.{is_free, left_among, movable}
 use Rattle.pfs_search.proofs.Published.Taking.{taken_more}
 use Rattle.pfs_iterate.proofs.Fronts.{take-remove}
-use Rattle.pfs_iterate.proofs.Taking.{among, count_left, is_free_job, left_behind, place_within, staying_left, taken_behind}
+use Rattle.pfs_iterate.proofs.Taking.{among, by_ranks, count_left, is_free_job, left_behind, place_within, ranks_left, staying_left, taken_behind}
 use Rattle.pfs_iterate.proofs.destroy.take_jobs.Goals as goal
 
 pub remove_at-job-requires : goal.remove_at-job-requires
@@ -20,8 +20,23 @@ remove_at-job-requires c =
     let invariant = c.loop-word.invariant in
     let some : 0 < length (movable held stay jobs) =
     omega (arith, c.requires.few, invariant.count, invariant.free, c.loop-word-test.true) in
-    rw (rw (c.as_slice-in-loop-word.ensures.value, invariant.count) at c.place_among-place.ensures)
-    (place_within held stay (get_or c.args.words.now c.loop-word.word-index 0) jobs some)
+    let is = rw (invariant.ranks, invariant.count) at c.take_place-place.ensures.place
+    ∙ sym (by_ranks held stay (get_or c.args.words.now c.loop-word.word-index 0) jobs some) in
+    rw is (place_within held stay (get_or c.args.words.now c.loop-word.word-index 0) jobs some)
+
+pub overflow_add-held : goal.overflow_add-held
+overflow_add-held c =
+    let held = c.args.held in
+    let stay = c.args.stay.now in
+    let jobs = c.loop-word.seq.jobs in
+    let invariant = c.loop-word.invariant in
+    let some : 0 < length (movable held stay jobs) =
+    omega (arith, c.requires.few, invariant.count, invariant.free, c.loop-word-test.true) in
+    let is = rw (invariant.ranks, invariant.count) at c.take_place-place.ensures.place
+    ∙ sym (by_ranks held stay (get_or c.args.words.now c.loop-word.word-index 0) jobs some) in
+    let within : held + c.take_place-place.result < length jobs =
+    rw is (place_within held stay (get_or c.args.words.now c.loop-word.word-index 0) jobs some) in
+    omega (arith, within, invariant.jobs, c.seq.ensures.accepted.few)
 
 pub loop-word-preserved : goal.loop-word-preserved
 loop-word-preserved c =
@@ -38,8 +53,9 @@ loop-word-preserved c =
     omega (arith, c.requires.few, invariant.count, invariant.free, c.loop-word-test.true) in
     let place = held + among held stay word jobs some in
     let within : place < length jobs = place_within held stay word jobs some in
-    let here : c.place_among-place.result ≡ place =
-    rw (c.as_slice-in-loop-word.ensures.value, invariant.count) at c.place_among-place.ensures in
+    let is = rw (invariant.ranks, invariant.count) at c.take_place-place.ensures.place
+    ∙ sym (by_ranks held stay word jobs some) in
+    let here : held + c.take_place-place.result ≡ place = ap (λ p. held + p) is in
     let left : c.remove_at-job.new.self.jobs ≡ remove jobs place =
     rw here at (ap (λ (s : Sequence). s.jobs) c.remove_at-job.ensures.rest) in
     let job = c.remove_at-job.result in
@@ -59,6 +75,9 @@ loop-word-preserved c =
           ∙ sym (at_drop_more (left_among (is_free stay) (drop held jobs)) words i 0 c.loop-word-test.true)
           ∙ invariant.left);
       front = rw left (take-remove held place jobs (omega arith) ∙ invariant.front);
+      ranks = rw left (rw (invariant.ranks, invariant.count) at c.take_place-place.ensures.ranks
+          ∙ sym (ranks_left held stay word jobs some));
+      ranks_few = first_of (search rules, grind (arith, common_steps));
       staying = rw left (staying_left held stay word jobs some ∙ invariant.staying);
       together = rw (c.push_reserved.ensures.items, left) (taken_more size done jobs place job within at
           invariant.together);

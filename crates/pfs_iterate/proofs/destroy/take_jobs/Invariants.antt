@@ -3,6 +3,7 @@ use Rattle.std.specs.List.{All}
 use Rattle.pfs_order.specs.Sequence.{IsSequence}
 use Rattle.pfs_search.specs.Greedy.{jobs_taken}
 use Rattle.pfs_iterate.specs.Iterated.{is_free, left_among, movable}
+use Rattle.pfs_iterate.specs.Private.Steps.{ranks_of}
 use Rattle.pfs_iterate.specs.Rounds.{staying}
 use Rattle.pfs_iterate.proofs.destroy.take_jobs.Given as goal
 
@@ -18,6 +19,8 @@ invariant-loop-word l = record {
   left : left_among (is_free l.stay) (drop l.held l.seq.jobs) (drop l.word-index l.words)
       ≡ left_among (is_free l.stay) (drop l.held l.order) l.words;
   front : take l.held l.seq.jobs ≡ take l.held l.order;
+  ranks : l.ranks ≡ ranks_of (is_free l.stay) (drop l.held l.seq.jobs);
+  ranks_few : length l.ranks ≤ length l.order;
   staying : staying l.stay l.seq.jobs ≡ staying l.stay l.order;
   together : IsSequence (length l.order) (l.taken.items ++ l.seq.jobs);
   long : length l.taken.items ≡ l.word-index;

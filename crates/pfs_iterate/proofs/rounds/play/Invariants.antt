@@ -2,7 +2,7 @@ use Rattle.std.proofs.Common.{◌≡◌, ◌+◌, ◌-◌, ◌≤◌, length, ta
 use Rattle.pfs_search.specs.Search.{IsSearchOf}
 use Rattle.pfs_iterate.specs.Iterated.{after_rounds}
 use Rattle.pfs_iterate.specs.Rounds.{staying}
-use Rattle.pfs_iterate.specs.Private.Steps.{IsMeasured}
+use Rattle.pfs_iterate.specs.Private.Steps.{IsMeasured, generator}
 use Rattle.pfs_iterate.specs.Private.Memory.{IsWorkFor}
 use Rattle.pfs_iterate.proofs.rounds.play.Given as goal
 
@@ -13,7 +13,7 @@ invariant-loop-done l =
     record {
       work : IsWorkFor shop l.work;
       search : IsSearchOf shop l.search;
-      done : after_rounds shop options l.accept l.stay (options.first + l.done) (options.count - l.done)
+      done : after_rounds shop options l.accept l.stay (options.first + l._done) (options.count - l._done)
           (record { current = l.current.order; best = l.best.order })
           ≡ after_rounds shop options l.accept l.stay options.first options.count
           (record { current = l.fn.current.order; best = l.fn.best.order });
@@ -26,4 +26,5 @@ invariant-loop-done l =
       best_staying : staying l.stay l.fn.best.order ≡ staying l.stay l.fn.current.order
           → staying l.stay l.best.order ≡ staying l.stay l.fn.current.order;
       long : length l.words ≡ length l.initial.words;
+      rng : l.rng ≡ generator options.seed (options.first + l._done) l.each;
     }
