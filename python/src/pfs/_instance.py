@@ -422,8 +422,10 @@ class Instance:
         more, many = as_uint32_bytes(jobs, "jobs")
         found = np.empty(min(count + many, 2 * c.MOST_JOBS), dtype=np.uint32)
         makespan = c_uint64()
-        number = self._call("pfs_construct_ties", rule_of(ties), given, count, more, many, found.ctypes.data,
-                            found.size, byref(makespan))
+        # The form without a rule is faster.
+        rule = [rule_of(ties)] if ties != "first" else []
+        name = "pfs_construct_ties" if rule else "pfs_construct"
+        number = self._call(name, *rule, given, count, more, many, found.ctypes.data, found.size, byref(makespan))
         if number:
             raise self._insertion_error(number, given, more)
         return Sequence(found.astype(np.int64), makespan.value)
@@ -454,18 +456,18 @@ class Instance:
         >>> shop.local_search(range(20), passes=None).makespan <= shop.local_search(range(20)).makespan
         True
         """
-        # A call ends early; one with a pass does not.
-        calls = [c.MOST_PASSES] if passes is None else [1] * checked_int(passes, "passes", 0, c.MOST_PASSES) or [0]
-        rule = rule_of(ties)
+        # The form without a rule is faster. A call of the other one ends after a pass that gains nothing.
+        rule = [rule_of(ties)] if ties != "first" or passes is None else []
+        name = "pfs_local_search_ties" if rule else "pfs_local_search"
+        counts = [c.MOST_PASSES] if passes is None else [1] * checked_int(passes, "passes", 0, c.MOST_PASSES) or [0]
         if jobs is None:
             jobs = np.sort(checked_jobs(sequence, "sequence"))
         given, _ = as_uint32_bytes(sequence, "sequence")
         moved, many = as_uint32_bytes(jobs, "jobs")
         found = np.frombuffer(bytearray(given), dtype=np.uint32)
         makespan = c_uint64()
-        for most in calls:
-            number = self._call("pfs_local_search_ties", rule, moved, many, most, found.ctypes.data, found.size,
-                                byref(makespan))
+        for count in counts:
+            number = self._call(name, *rule, moved, many, count, found.ctypes.data, found.size, byref(makespan))
             if number:
                 raise self._insertion_error(number, given, moved, is_in=False)
         return Sequence(found.astype(np.int64), makespan.value)
