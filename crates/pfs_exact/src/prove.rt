@@ -15,7 +15,7 @@ use pfs_base::Instance;
 use pfs_order::{Order, OrderFault, Seq};
 use std::alloc::{AllocError, Global};
 
-/// The greatest number of jobs: the search calls itself once for each job of an order, on a stack of 2 MiB.
+/// The greatest number of jobs: the search calls itself once for each job of an order, on a stack of 512 KiB.
 pub const MOST_PROVED_JOBS: usize = 256;
 
 /// The greatest number of machines.
