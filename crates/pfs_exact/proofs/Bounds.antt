@@ -1,9 +1,9 @@
 -- The numbers of the children, one by one.
-use Rattle.std.proofs.Common.{◌≢◌, ℕ, Bool, true, false, ◌+◌, ◌<◌, ◌≤◌, length, List, get_or, set, replicate, inl, inr, sym}
-use Rattle.std.proofs.Common.{◌≡◌, subst, arith, ap, ◌∙◌}
+use Rattle.std.proofs.Common.{◌≢◌, ℕ, Bool, true, false, ◌<◌, ◌≤◌, length, List, get_or, set, inl, inr, sym}
+use Rattle.std.proofs.Common.{subst, arith, ap, ◌∙◌}
 use Rattle.std.proofs.Math.ListN.{length-set}
 use Rattle.std.proofs.lemmas.Bool.{cases_eq}
-use Rattle.std.proofs.lemmas.List.{get_or-replicate, get_or-set_same, get_or-set_other, length-replicate}
+use Rattle.std.proofs.lemmas.List.{get_or-set_same, get_or-set_other}
 use Rattle.pfs_base.specs.FlowShop.{FlowShop}
 use Rattle.pfs_exact.specs.declared.children.TheConstants.{CLOSED}
 use Rattle.pfs_exact.specs.declared.children.Room.{Room}
