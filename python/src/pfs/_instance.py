@@ -310,7 +310,7 @@ class Instance:
         return search.solution()
 
     def best_place(self, sequence: Jobs, job: int, *, ties: str = "first") -> Place:
-        """Return the best place with the least makespan for a job in a partial sequence, and that makespan.
+        """Return the place with the least makespan for a job in a partial sequence, and that makespan.
 
         Parameters
         ----------
