@@ -1,7 +1,7 @@
 """Calls on prepared instances: on random instances pfs_insert has the results of pfs_insertions, rounds from any order
 have those of a new instance, and calls by the first of equally good places those of the calls that take no rule, also
-in four threads at once, with gcc's sanitizers and under valgrind (support/prepared_calls.c). What the calls do with wrong arguments and with failing allocations is in
-test_library.py."""
+in four threads at once, with gcc's sanitizers and under valgrind (support/prepared_calls.c). What the calls do with
+wrong arguments and with failing allocations is in test_library.py."""
 import pathlib
 
 import pytest
