@@ -9,10 +9,11 @@ import pickle
 import re
 import shutil
 import subprocess
+import sys
 import threading
 import time
 import timeit
-from collections.abc import Callable
+from collections.abc import Callable, Iterator
 from concurrent.futures import ThreadPoolExecutor
 from typing import Any
 
@@ -234,13 +235,22 @@ def test_nothing_is_printed_when_python_ends_with_an_instance(tmp_path: pathlib.
 
 # A call from Python costs little more than what it computes
 
+@pytest.fixture
+def untraced() -> Iterator[None]:
+    """Nothing notes which lines run, which takes longer than most of them."""
+    before = sys.gettrace()
+    sys.settrace(None)
+    yield
+    sys.settrace(before)
+
+
 def microseconds(call: Callable[[], object]) -> float:
     """The best of many short runs, since other programs run too."""
     return min(timeit.repeat(call, number=50, repeat=100)) / 50 * 1e6
 
 
 @pytest.mark.parametrize("kind", ["list", "int64", "uint32"])
-def test_a_call_for_20_jobs_on_5_machines(kind: str) -> None:
+def test_a_call_for_20_jobs_on_5_machines(kind: str, untraced: None) -> None:
     """3 microseconds on a machine that does nothing else."""
     shop = pfs.taillard(1)
     order = shop.neh().order
@@ -252,7 +262,7 @@ def test_a_call_for_20_jobs_on_5_machines(kind: str) -> None:
         assert (took := microseconds(call)) < 8, f"{name}: {took:.1f} microseconds"
 
 
-def test_many_orders_and_places_cost_little_more_than_the_library() -> None:
+def test_many_orders_and_places_cost_little_more_than_the_library(untraced: None) -> None:
     """Of 1,000 orders nearly all of the time is the library's; all places take little longer than the best one."""
     large, orders = pfs.taillard(41), np.array([np.roll(range(50), at) for at in range(1000)], dtype=np.uint32)
     shop, spans, others = pfs.taillard(1), np.empty(1000, dtype=np.int64), np.arange(1, 20, dtype=np.uint32)

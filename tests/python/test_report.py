@@ -388,6 +388,9 @@ def test_only_equal_rounds_or_times_are_compared(report: Reported, folder: pathl
         ("a 10", "b 10"), ("a 10", "published"), ("a 30", "b 30"), ("a 30", "published"), ("b 10", "published"),
         ("b 30", "published"), ("b 5", "published"), ("c 7 2", "c 7 4"), ("c 7 2", "published"), ("c 7 4", "published")]
     assert [row[-1] for row in rows if row[4] == "c"] == ["6"]
+    (folder / "report" / "comparison.csv").unlink()
+    assert report("instance,makespan,rounds\ni,9,10\ni,8,\n").status == 0
+    assert not (folder / "report" / "comparison.csv").exists(), "of one method, rounds and what tells none"
 
 
 def test_three_settings_have_average_ranks(report: Reported, folder: pathlib.Path) -> None:

@@ -24,8 +24,8 @@ SECOND = 1_000_000
 MINUTE, DAY, WEEK = 60 * SECOND, 86_400 * SECOND, 7 * 86_400 * SECOND
 MONDAY = datetime(1970, 1, 5)
 DAYS = ("mon", "tue", "wed", "thu", "fri", "sat", "sun")
-# Seconds between the marks of a scale: from a second to half a minute, half an hour, and years.
-STEPS = [step * unit for unit in (1, 60) for step in (1, 2, 5, 10, 15, 30)] + [3_600 * 2**at for at in range(20)]
+# Seconds between the marks of a scale: from a second to half a minute, half an hour, and longer than a calendar.
+STEPS = [step * unit for unit in (1, 60) for step in (1, 2, 5, 10, 15, 30)] + [3_600 * 2**at for at in range(30)]
 BEGIN = re.compile(r"([0-9]{4}-[0-9]{2}-[0-9]{2})(?:[T ]([0-9]{2}:[0-9]{2}(?::[0-9]{2})?))?", re.ASCII)
 SHIFT = re.compile(r"([0-9]{1,2}):([0-9]{2})-([0-9]{1,2}):([0-9]{2})", re.ASCII)
 # Shifts after the days or dates on which they start.
@@ -203,7 +203,7 @@ class Clock:
     def marks(self, end: int, most: int) -> list[tuple[float, str]]:
         """Return about `most` marks of a scale from 0 to `end`, each a time and its text: the time of day, and the date
         if it differs from that of the mark before."""
-        step = next((step for step in self.steps() if step * most >= end), max(1.0, end / most))
+        step = next(step for step in self.steps() if step * most >= end)
         digits = 0 if step * self.tick < MINUTE * self.scale else -1
         found: list[tuple[float, str]] = []
         before = ""
