@@ -4,7 +4,6 @@ import itertools
 import pathlib
 import re
 from collections.abc import Iterator
-from itertools import count
 from typing import Any, NamedTuple
 from xml.etree import ElementTree
 
@@ -237,10 +236,10 @@ def test_a_mark_between_whole_times_has_its_own_time_of_day(unit: str, seconds: 
 @given(st.sampled_from([("s", 0), ("s", 2), ("min", 0), ("min", 1), ("h", 0), ("h", 3), ("d", 0)]),
        st.integers(0, 10**6) | st.integers(0, 600), st.integers(1, 30))
 def test_marks_are_as_close_as_there_is_room_for(unit: tuple[str, int], end: int, most: int) -> None:
-    """At whole seconds, minutes or hours, each with its time of day, and with the date if the one before has another."""
+    """At whole seconds, minutes or hours, each with its time of day, and with the date if it is another one."""
     seconds = {"s": 1, "min": 60, "h": 3_600, "d": 86_400}[unit[0]] / 10**unit[1]
-    step = next(step for step in (1, 2, 5, 10, 15, 30, 60, 120, 300, 600, 900, 1_800, *(3_600 * 2**at for at in count()))
-                if step * most >= end * seconds)
+    steps = [1, 2, 5, 10, 15, 30, 60, 120, 300, 600, 900, 1_800, *(3_600 * 2**at for at in range(30))]
+    step = next(step for step in steps if step * most >= end * seconds)
     times = [number * step for number in range(int(end * seconds / step + 1e-9) + 1)]
     marks = clock_of("2026-11-30T06:00", ALWAYS, *unit).marks(end, most)
     assert [at * seconds for at, _ in marks] == pytest.approx(times)

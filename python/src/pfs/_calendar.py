@@ -203,14 +203,14 @@ class Clock:
     def marks(self, end: int, most: int) -> list[tuple[float, str]]:
         """Return about `most` marks of a scale from 0 to `end`, each a time and its text: the time of day, and the date
         if it differs from that of the mark before."""
-        step = next(step for step in self.steps() if step * most >= end)
-        digits = 0 if step * self.tick < MINUTE * self.scale else -1
+        worked, second = end * self.tick, SECOND * self.scale
+        step = next(step for step in STEPS if step * second * most >= worked)
         found: list[tuple[float, str]] = []
         before = ""
-        for at in range(int(end // step) + 1):
-            moment = self.calendar.start(round(at * step * self.tick / self.scale))
-            clock, day = text_of(moment, digits).partition(" ")[2], day_of(moment, self.say)
-            found.append((at * step, f"{clock}\n{day}" if day != before else clock))
+        for at in range(0, worked // second + 1, step):
+            moment = self.calendar.start(at * SECOND)
+            clock, day = text_of(moment, 0 if step < 60 else -1).partition(" ")[2], day_of(moment, self.say)
+            found.append((at * second / self.tick, f"{clock}\n{day}" if day != before else clock))
             before = day
         return found
 
