@@ -103,6 +103,23 @@ def test_an_invalid_plan_is_rejected_with_its_fault(text: str, named: str, exper
     assert sorted(os.listdir(experiment.folder)) == ["plan.toml", "shops"]
 
 
+# The least and the greatest value of each key, and the step from there to what is rejected.
+LIMITS: dict[str, tuple[float, float, float]] = {
+    "blocks": (1, 1000, 1), "rounds": (0, 1_000_000, 1), "takes": (1, 5000, 1), "passes": (0, 100, 1),
+    "seeds": (0, 2 ** 64 - 1, 1), "time_factors": (0.001, 10_000, 0.0001), "repetitions": (1, 10 ** 18 - 1, 1),
+    "partial": (0, 100, 1), "temperature": (0, 1000, 0.01)}
+
+
+@pytest.mark.parametrize("key", LIMITS)
+def test_the_limits_of_a_plan(key: str) -> None:
+    what, is_right = plan.VALUES[key]
+    least, most, step = LIMITS[key]
+    given: list[Any] = [least, most, least - step, most + step, True, str(least)]
+    if what.startswith("a list"):
+        given = [*([each] for each in given), [], [least, most + step], least, (least,)]
+    assert [*map(is_right, given)] == [True, True] + [False] * (len(given) - 2)
+
+
 def test_readme_has_the_keys_of_a_plan_with_their_defaults_the_columns_and_the_number_of_tasks() -> None:
     keys = README.partition("## Plan")[2].partition("## CSV")[0]
     cells = [[cell.strip() for cell in re.split(r"(?<!\\)\|", line)[1:-1]] for line in keys.splitlines()
@@ -707,6 +724,16 @@ def test_lines_are_taken_from_any_parts(lines: list[bytes], cuts: list[int]) -> 
     assert printed.text == b"".join(line + b"\n" for line in lines if line not in points)
 
 
+@pytest.mark.parametrize(("text", "lines"), [(one.MOST_BYTES, 0), (0, one.MOST_POINTS)])
+def test_the_most_that_is_taken(text: int, lines: int) -> None:
+    with subprocess.Popen(["true"], stdout=subprocess.PIPE, stderr=subprocess.PIPE) as child:
+        printed = one.Printed(child)
+    printed.take(b"1" * text + b"makespan 1 1\n" * lines)
+    assert not printed.is_too_much()
+    printed.take(b"1" if text else b"makespan 1 1\n")
+    assert printed.is_too_much()
+
+
 TIMED = {"running": f"python3 -c '{BUSY}print(\"makespan 1 1\", flush=True)\nimport time; time.sleep(0.3)'",
          "ended": f"(python3 -c '{BUSY}'); echo makespan 1 1",
          "both": f"python3 -c '{BUSY}'; python3 -c '{BUSY}print(\"makespan 1 1\")'"}
@@ -771,7 +798,8 @@ LINES = [
     ("0.2", f"({SPIN} &); sleep 1000", r"took too long: [01]\.\d\d s of processor time instead of 0.2 s"),
     ("0.05", "for each in $(seq 200); do (for at in $(seq 30000); do :; done); done; echo 3", "took too long: .*"),
     ("0.01", "python3 -c 'import time\nwhile time.process_time() < 0.3: pass'; echo 4", "4 0"),
-    ("9", "kill -9 $$", "signal 9"),
+    ("9", "kill -9 $$", "signal 9"), ("9", "echo first >&2; echo ' a   b ' >&2; exit 3", "exit 3, a b"),
+    ("9", "printf '%0999d b\n' 0 >&2; exit 3", "exit 3, 0{200}"),
     ("9", "head -c 2000000 /dev/zero; sleep 2; touch late", "more than 1,048,576 bytes printed"),
 ]
 
@@ -1031,6 +1059,21 @@ def test_on_slurm_a_second_start_waits_for_the_array_of_the_first(experiment: Ex
     assert second.wait(120) == 0
     assert set(experiment.searches().values()) == {1}, "how often each run was made"
     assert experiment.rows() == experiment.wanted(rounds=(10,))
+
+
+@pytest.mark.parametrize(("seconds", "count", "runs"), [
+    ("0.1", 8, 1), ("0.1", 9, 2), ("0.1", 16, 2), ("0.1", 400, 10), ("0.001", 400, 25), ("1", 400, 1), ("5", 400, 1),
+    ("5", 0, 1)])
+def test_short_runs_share_a_process(seconds: str, count: int, runs: int) -> None:
+    """At most 25 of them, for about a second, and there are at least 8 processes."""
+    assert run.runs_a_process([{"limit": "0.0001"}, *[{"limit": seconds}] * count][:count]) == runs
+
+
+def test_files_of_orders_have_the_settings_in_their_names() -> None:
+    """And the beginning of the instance's, at most 100 bytes of it."""
+    row = dict.fromkeys(stage.RUN, "") | {"rounds": "10", "take": "4", "passes": "0", "seed": "2", "number": "7"}
+    assert run.order_name(row | {"instance": "x/ta001:2"}) == "ta001-block-2-rounds-10-take-4-passes-0-seed-2-number-7"
+    assert run.order_name(row | {"instance": "x" + "\u00e4" * 60}).partition("-")[0] == "x" + "\u00e4" * 49
 
 
 def test_the_last_array_says_how_a_run_ended(folder: pathlib.Path) -> None:
