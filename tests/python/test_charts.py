@@ -7,8 +7,10 @@ import sys
 from typing import Any
 from xml.etree import ElementTree
 
+import numpy as np
 import pfs
 import pytest
+from pfs import _chart, _drawing
 from support import plainly
 from test_chart_pages import LENGTHS, MACHINES, NAMES, ORDER, TIMES, plan
 
@@ -125,6 +127,13 @@ def test_width_dpi_title_and_axes_of_ones_own(tmp_path: pathlib.Path) -> None:
     assert figure.get_size_inches().tolist() == [8, 3]
     with pytest.raises(ValueError, match="ax is for pictures: a page has no axes"):
         a_schedule().plot("chart.html", ax=axes[0])
+
+
+def test_a_page_lists_so_many_operations() -> None:
+    for count, machines in ((100_000, 200), (100_001, 11)):
+        spans = np.zeros((count // machines, machines), dtype=np.int64)
+        chart = _drawing.Chart([*range(1, len(spans) + 1)], spans, spans, ["a"] * len(spans), ["b"] * machines)
+        assert bool(_chart.lists_of(chart, None)) == (count == 100_000)
 
 
 def test_jupyter_shows_the_chart(monkeypatch: pytest.MonkeyPatch) -> None:
