@@ -9,11 +9,10 @@ import pickle
 import re
 import shutil
 import subprocess
-import sys
 import threading
 import time
 import timeit
-from collections.abc import Callable, Iterator
+from collections.abc import Callable
 from concurrent.futures import ThreadPoolExecutor
 from typing import Any
 
@@ -234,15 +233,6 @@ def test_nothing_is_printed_when_python_ends_with_an_instance(tmp_path: pathlib.
 
 
 # A call from Python costs little more than what it computes
-
-@pytest.fixture
-def untraced() -> Iterator[None]:
-    """Nothing notes which lines run, which takes longer than most of them."""
-    before = sys.gettrace()
-    sys.settrace(None)
-    yield
-    sys.settrace(before)
-
 
 def microseconds(call: Callable[[], object]) -> float:
     """The best of many short runs, since other programs run too."""

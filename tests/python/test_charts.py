@@ -129,6 +129,11 @@ def test_width_dpi_title_and_axes_of_ones_own(tmp_path: pathlib.Path) -> None:
         a_schedule().plot("chart.html", ax=axes[0])
 
 
+def test_the_narrowest_scale_has_marks() -> None:
+    axis, = pfs.Instance([[90]], unit="h:mm").schedule([0]).plot(width=2, title=False).axes
+    assert [mark.get_text() for mark in axis.get_xticklabels()] == ["0:00"]
+
+
 def test_a_page_lists_so_many_operations() -> None:
     for count, machines in ((100_000, 200), (100_001, 11)):
         spans = np.zeros((count // machines, machines), dtype=np.int64)
