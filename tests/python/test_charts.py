@@ -205,6 +205,20 @@ def test_bars_of_pictures_have_names_or_places_of_a_key(names: list[str], sign: 
     assert all(0 <= box.y0 and box.y1 < scale.y0 and 0 <= box.x0 and box.x1 <= figure.bbox.width for box in boxes)
 
 
+def test_a_key_has_columns_and_lines_that_can_be_read() -> None:
+    """A name is beside its square, columns are spread over the width, and lines don't touch."""
+    made = pfs.Instance([[1, 9]] * 30, job_names=[f"number {at} of a lot" for at in range(30)]).schedule(range(30))
+    figure = texts_of(made, width=5)[2]
+    boxes, inch = [text.get_window_extent() for text in figure.texts], figure.dpi
+    assert all(0 < name.x0 - square.x1 < 0.06 * inch for square, name in zip(boxes[::2], boxes[1::2]))
+    lefts = sorted({square.x0 for square in boxes[::2]})
+    assert lefts == pytest.approx([(0.2 + at * 4.6 / len(lefts)) * inch for at in range(len(lefts))])
+    rows = -(-30 // len(lefts))
+    assert 1 < rows < 30 and [square.x0 for square in boxes[::2]] == [lefts[at // rows] for at in range(30)]
+    gaps = [upper.y0 - lower.y1 for upper, lower in zip(boxes[1:2 * rows:2], boxes[3:2 * rows:2])]
+    assert 0 <= min(gaps) <= max(gaps) < boxes[1].height and boxes[2 * rows - 1].y0 < 0.3 * inch
+
+
 def test_pictures_without_a_key_and_with_names_that_are_cut_in_it() -> None:
     """Where all names fit, there are none, the rows are low, or the axes are the caller's."""
     for made in (plan([*"abcde"], [[100, 100, 100]] * 5), plan(None)):
