@@ -212,7 +212,7 @@ def test_a_forked_process_prepares_its_own_instance() -> None:
     child = os.fork()
     if child == 0:
         released = list[int]()
-        _library.library.pfs_release = lambda address: released.append(address._obj.at)
+        setattr(_library.library, "pfs_release", lambda address: released.append(address._obj.at))
         is_right = shop.makespan(range(200)) == due and shop.solve(1).rounds == 1
         own = {prepared.handle.at for prepared in shop._prepared}
         os._exit(0 if is_right and own and not before & {*own, *released} else 1)

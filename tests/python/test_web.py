@@ -349,7 +349,8 @@ def test_so_many_faults_are_listed(client: FlaskClient) -> None:
 
 def test_fields_of_a_request() -> None:
     """A number is within its limits, a text isn't too long, and what is missing or null has the default."""
-    assert [plans.field(given, "x", int, 7) for given in ({}, {"x": None}, {"x": 0})] == [7, 7, 0]
+    cases: list[dict[str, Any]] = [{}, {"x": None}, {"x": 0}]
+    assert [plans.field(given, "x", int, 7) for given in cases] == [7, 7, 0]
     assert plans.field({"x": 9}, "x", int, most=9) == 9
     for value in (-1, 10, True, 9.0, "9", [9]):
         with pytest.raises(apart.Wrong, match=str(plans.OTHER_FORM)):
