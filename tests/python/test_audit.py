@@ -224,7 +224,7 @@ def test_the_command(tmp_path: pathlib.Path, monkeypatch: pytest.MonkeyPatch,
 
 
 @pytest.mark.seconds(3)
-def test_ten_thousand_orders() -> None:
+def test_ten_thousand_orders(untraced: None) -> None:
     shop = pfs.taillard(81)
     orders = np.random.default_rng(1).permuted(np.tile(np.arange(100, dtype=np.uint32), (10_000, 1)), axis=1)
     spans = shop.makespans(orders).tolist()

@@ -419,7 +419,7 @@ def test_orders_of_another_size_are_tried_on_instances_of_that_size() -> None:
 
 
 @pytest.mark.seconds(8)
-def test_thousands_of_wrong_rows_take_a_time_in_proportion() -> None:
+def test_thousands_of_wrong_rows_take_a_time_in_proportion(untraced: None) -> None:
     """Each row has another instance, so that none may be tried on all of them."""
     times = np.random.default_rng(1).integers(1, 100, (3_000, 100, 20), dtype=np.uint8)
     shops = [pfs.Instance(each, name=f"i{at}") for at, each in enumerate(times)]
