@@ -174,10 +174,12 @@ def folder(tmp_path: pathlib.Path) -> pathlib.Path:
 @pytest.fixture
 def untraced() -> Iterator[None]:
     """Nothing notes which lines run, for a test of times."""
-    before = sys.gettrace()
-    sys.settrace(None)
+    noting = sys.modules["coverage"].Coverage.current() if "coverage" in sys.modules else None
+    if noting:
+        noting.stop()
     yield
-    sys.settrace(before)
+    if noting:
+        noting.start()
 
 
 @pytest.fixture(scope="session")

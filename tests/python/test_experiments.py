@@ -223,6 +223,8 @@ def test_layouts_blocks_takes_passes_and_repetitions(experiment: Experiment) -> 
     assert rows[4][8:12] == rows[5][8:12], "repetitions of a run"
     assert [order for order, in experiment.columns("order") if ":" in order] == [], "colons in names of files"
     assert {row[8:11] for row in rows[16:]} == {("0", "0", "0.0000")}, "makespan, bound and gap"
+    for row in (row for row in csv_rows(experiment.folder / "out.csv") if row["cells"]):
+        assert run.seconds_of(row | {"limit": ""}) == pytest.approx(int(row["cells"]) / 1e9), "which is expected"
     assert experiment.script("check", "out.csv").status == 0, "an optimal order is wrong"
 
 

@@ -42,6 +42,7 @@ FILES = [*map(str.encode, TABLES), *("\ufeffjob\tsaw\tdrill\r\ntable\t3\t2\r\nch
 BAD_TABLES: dict[str, tuple[str | bytes, int, int, str]] = {
     "nothing": ("", 1, 0, "the table is empty"),
     "one line": ("job,saw\n", 1, 0, "0 jobs: there may be 1 to 5,000"),
+    "one line of other words": ("x,saw\n", 1, 0, "0 jobs: there may be 1 to 5,000"),
     "no machine": ("job\na\n", 1, 0, "0 machines: there may be 1 to 200"),
     "many machines": ("job" + "".join(f",m{at}" for at in range(201)) + "\na" + ",1" * 201, 1, 0,
                       "201 machines: there may be 1 to 200"),
