@@ -4,6 +4,7 @@ import os
 import pathlib
 import re
 import shutil
+import sys
 from collections.abc import Iterator
 
 import pytest
@@ -168,6 +169,17 @@ def tmp_path(request: pytest.FixtureRequest, tmp_path_factory: pytest.TempPathFa
 def folder(tmp_path: pathlib.Path) -> pathlib.Path:
     """An empty folder."""
     return tmp_path
+
+
+@pytest.fixture
+def untraced() -> Iterator[None]:
+    """Nothing notes which lines run, for a test of times."""
+    noting = sys.modules["coverage"].Coverage.current() if "coverage" in sys.modules else None
+    if noting:
+        noting.stop()
+    yield
+    if noting:
+        noting.start()
 
 
 @pytest.fixture(scope="session")

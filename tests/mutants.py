@@ -39,14 +39,17 @@ class Map:
         self.lines: dict[str, dict[str, list[str]]] = kept["lines"]
 
     def tests(self, change: Change) -> list[str]:
-        """Those that may find it, the quickest first."""
+        """Those that may find it, the quickest first. Lines that no test is noted for may run where nothing is noted, as
+        in `python3 -I -S`: then those that run another line of the file, in any order."""
         used = [(name, line) for name, source in self.files.items() for word in change.names
                 for line in source.uses[word]]
         found: set[str] = set()
         for name, line in used or [(change.file, line) for line in change.lines]:
             found.update(self.lines.get(name, {}).get(str(line), ()))
+        others = sorted({test for tests in self.lines.get(change.file, {}).values() for test in tests} - found)
         left, chosen = float(MOST_TESTS), list[str]()
-        for test in sorted(found, key=lambda test: (self.seconds[test], test)):
+        for test in sorted(found, key=lambda test: (self.seconds[test], test)) or random.Random(7).sample(
+                others, len(others)):
             left -= self.seconds[test]
             if chosen and left < 0:
                 break
@@ -82,9 +85,9 @@ def found(source: Source, change: Change, tests: list[str], copy: pathlib.Path) 
         return "time"
     finally:
         path.write_bytes(source.text)
-    if process.returncode in (0, 1, 2):
-        return "tests" if process.returncode else ""
-    raise SystemExit(f"mutants: {words} ended with status {process.returncode}: {output}")
+    if process.returncode == 5:
+        raise SystemExit(f"mutants: {words} ran no test: {output}")
+    return "tests" if process.returncode else ""
 
 
 def equivalent() -> set[str]:

@@ -223,8 +223,14 @@ def test_the_command(tmp_path: pathlib.Path, monkeypatch: pytest.MonkeyPatch,
         run("one.csv --csv one.csv")
 
 
+def test_a_folder_in_a_folder_is_no_instance(tmp_path: pathlib.Path) -> None:
+    (tmp_path / "small").mkdir()
+    found, = pfs.audit([{"instance": "small", "makespan": 1, "order": "1"}], tmp_path)
+    assert (found.verdict, found.why) == ("unclear", "column 'instance': no instance 'small'")
+
+
 @pytest.mark.seconds(3)
-def test_ten_thousand_orders() -> None:
+def test_ten_thousand_orders(untraced: None) -> None:
     shop = pfs.taillard(81)
     orders = np.random.default_rng(1).permuted(np.tile(np.arange(100, dtype=np.uint32), (10_000, 1)), axis=1)
     spans = shop.makespans(orders).tolist()

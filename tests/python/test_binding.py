@@ -201,18 +201,21 @@ def test_threads_on_one_instance_do_not_wait_for_each_other(counted: dict[str, i
 @pytest.mark.skipif(not hasattr(os, "fork"), reason="needs fork")
 @pytest.mark.filterwarnings("ignore:This process.*multi-threaded:DeprecationWarning")
 def test_a_forked_process_prepares_its_own_instance() -> None:
-    """Also while another thread makes a call."""
+    """Also while another thread makes a call. It releases none of those that were prepared before."""
     shop, stop = pfs.generate(200, 20, 1), threading.Event()
     due = shop.makespan(range(200))
     search = threading.Thread(target=lambda: shop.solve(100_000, stop=stop))
     search.start()
     time.sleep(0.3)
     assert shop.makespan(range(200)) == due
-    kept = list(shop._prepared)
+    before = {prepared.handle.at for prepared in shop._prepared}
     child = os.fork()
     if child == 0:
+        released = list[int]()
+        setattr(_library.library, "pfs_release", lambda address: released.append(address._obj.at))
         is_right = shop.makespan(range(200)) == due and shop.solve(1).rounds == 1
-        os._exit(0 if is_right and not any(one is other for one in kept for other in shop._prepared) else 1)
+        own = {prepared.handle.at for prepared in shop._prepared}
+        os._exit(0 if is_right and own and not before & {*own, *released} else 1)
     deadline = time.monotonic() + 30
     while (ended := os.waitpid(child, os.WNOHANG))[0] == 0 and time.monotonic() < deadline:
         time.sleep(0.01)
@@ -237,7 +240,7 @@ def microseconds(call: Callable[[], object]) -> float:
 
 
 @pytest.mark.parametrize("kind", ["list", "int64", "uint32"])
-def test_a_call_for_20_jobs_on_5_machines(kind: str) -> None:
+def test_a_call_for_20_jobs_on_5_machines(kind: str, untraced: None) -> None:
     """3 microseconds on a machine that does nothing else."""
     shop = pfs.taillard(1)
     order = shop.neh().order
@@ -249,7 +252,7 @@ def test_a_call_for_20_jobs_on_5_machines(kind: str) -> None:
         assert (took := microseconds(call)) < 8, f"{name}: {took:.1f} microseconds"
 
 
-def test_many_orders_and_places_cost_little_more_than_the_library() -> None:
+def test_many_orders_and_places_cost_little_more_than_the_library(untraced: None) -> None:
     """Of 1,000 orders nearly all of the time is the library's; all places take little longer than the best one."""
     large, orders = pfs.taillard(41), np.array([np.roll(range(50), at) for at in range(1000)], dtype=np.uint32)
     shop, spans, others = pfs.taillard(1), np.empty(1000, dtype=np.int64), np.arange(1, 20, dtype=np.uint32)

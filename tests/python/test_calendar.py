@@ -220,6 +220,7 @@ def test_what_is_read_as_the_same_calendar() -> None:
     assert pfs.Calendar("2026-11-30T06:00", "06:00-14:00,14:00-22:00,22:00-06:00").is_always
     assert pfs.Calendar("2026-11-30T06:00").is_always and not plain.is_always
     assert not pfs.Calendar("2026-11-30T06:00", closed="2026-12-24").is_always
+    assert not pfs.Calendar("2026-11-30T06:00", closed="2036-12-07").is_always, "as far ahead as it may be"
 
 
 @pytest.mark.parametrize(("unit", "seconds", "end", "most"), [
@@ -230,6 +231,28 @@ def test_a_mark_between_whole_times_has_its_own_time_of_day(unit: str, seconds: 
     assert any(at % 1 for at, _ in marks) and marks[-1][0] == end
     for at, text in marks:
         assert text.startswith(f"{begin + datetime.timedelta(seconds=at * seconds):%H:%M}"), at
+
+
+@given(st.sampled_from([("s", 0), ("s", 2), ("min", 0), ("min", 1), ("h", 0), ("h", 3), ("d", 0)]),
+       st.integers(0, 10**6) | st.integers(0, 600), st.integers(1, 30))
+def test_marks_are_as_close_as_there_is_room_for(unit: tuple[str, int], end: int, most: int) -> None:
+    """At whole seconds, minutes or hours, each with its time of day, and with the date if it is another one."""
+    seconds = {"s": 1, "min": 60, "h": 3_600, "d": 86_400}[unit[0]] / 10**unit[1]
+    steps = [1, 2, 5, 10, 15, 30, 60, 120, 300, 600, 900, 1_800, *(3_600 * 2**at for at in range(30))]
+    step = next(step for step in steps if step * most >= end * seconds)
+    times = [number * step for number in range(int(end * seconds / step + 1e-9) + 1)]
+    marks = clock_of("2026-11-30T06:00", ALWAYS, *unit).marks(end, most)
+    assert [at * seconds for at, _ in marks] == pytest.approx(times)
+    moments = [datetime.datetime(2026, 11, 30, 6) + datetime.timedelta(seconds=time) for time in times]
+    days = ["", *(moment.strftime("\n%a %Y-%m-%d") for moment in moments)]
+    assert [text for _, text in marks] == [
+        f"{moment:{'%H:%M:%S' if step < 60 else '%H:%M'}}{day if day != before else ''}"
+        for moment, day, before in zip(moments, days[1:], days)]
+
+
+def test_a_chart_has_at_most_400_breaks() -> None:
+    clock = clock_of("2026-11-30", ALWAYS, "d")
+    assert ([at for at, _ in clock.breaks(400)], clock.breaks(401)) == ([*range(400)], [])
 
 
 def test_days_from_one_to_another() -> None:

@@ -647,7 +647,8 @@ def test_the_lists_are_there_without_scripts(tmp_path: pathlib.Path) -> None:
 
 
 @pytest.mark.parametrize(("unit", "decimals", "calendar"), [
-    ("h:mm", 0, None), ("h", 1, None), ("min", 0, pfs.Calendar("2026-11-27T12:00", "06:00-14:00", "mon-fri")),
+    ("h:mm", 0, None), ("h", 1, None), ("s", 2, pfs.Calendar("2026-11-27T12:00")),
+    ("min", 0, pfs.Calendar("2026-11-27T12:00", "06:00-14:00", "mon-fri")),
     ("min", 2, pfs.Calendar("2026-11-27T12:00", ["06:00-14:00", "fri:22:00-02:00"], "mon-fri", "2026-11-30"))])
 def test_the_page_tells_the_times_of_the_csv(unit: str, decimals: int, calendar: pfs.Calendar | None, chromium: str,
                                              tmp_path: pathlib.Path) -> None:

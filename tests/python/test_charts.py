@@ -7,8 +7,10 @@ import sys
 from typing import Any
 from xml.etree import ElementTree
 
+import numpy as np
 import pfs
 import pytest
+from pfs import _chart, _drawing
 from support import plainly
 from test_chart_pages import LENGTHS, MACHINES, NAMES, ORDER, TIMES, plan
 
@@ -127,6 +129,18 @@ def test_width_dpi_title_and_axes_of_ones_own(tmp_path: pathlib.Path) -> None:
         a_schedule().plot("chart.html", ax=axes[0])
 
 
+def test_the_narrowest_scale_has_marks() -> None:
+    axis, = pfs.Instance([[90]], unit="h:mm").schedule([0]).plot(width=2, title=False).axes
+    assert [mark.get_text() for mark in axis.get_xticklabels()] == ["0:00"]
+
+
+def test_a_page_lists_so_many_operations() -> None:
+    for count, machines in ((100_000, 200), (100_001, 11)):
+        spans = np.zeros((count // machines, machines), dtype=np.int64)
+        chart = _drawing.Chart([*range(1, len(spans) + 1)], spans, spans, ["a"] * len(spans), ["b"] * machines)
+        assert bool(_chart.lists_of(chart, None)) == (count == 100_000)
+
+
 def test_jupyter_shows_the_chart(monkeypatch: pytest.MonkeyPatch) -> None:
     text = a_schedule()._repr_svg_()
     assert text is not None and "<svg" in text and "critical" in text and "bound" in text
@@ -189,6 +203,20 @@ def test_bars_of_pictures_have_names_or_places_of_a_key(names: list[str], sign: 
     boxes = [text.get_window_extent() for text in figure.texts]
     scale = figure.axes[0].xaxis.label.get_window_extent()
     assert all(0 <= box.y0 and box.y1 < scale.y0 and 0 <= box.x0 and box.x1 <= figure.bbox.width for box in boxes)
+
+
+def test_a_key_has_columns_and_lines_that_can_be_read() -> None:
+    """A name is beside its square, columns are spread over the width, and lines don't touch."""
+    made = pfs.Instance([[1, 9]] * 30, job_names=[f"number {at} of a lot" for at in range(30)]).schedule(range(30))
+    figure = texts_of(made, width=5)[2]
+    boxes, inch = [text.get_window_extent() for text in figure.texts], figure.dpi
+    assert all(0 < name.x0 - square.x1 < 0.06 * inch for square, name in zip(boxes[::2], boxes[1::2]))
+    lefts = sorted({square.x0 for square in boxes[::2]})
+    assert lefts == pytest.approx([(0.2 + at * 4.6 / len(lefts)) * inch for at in range(len(lefts))])
+    rows = -(-30 // len(lefts))
+    assert 1 < rows < 30 and [square.x0 for square in boxes[::2]] == [lefts[at // rows] for at in range(30)]
+    gaps = [upper.y0 - lower.y1 for upper, lower in zip(boxes[1:2 * rows:2], boxes[3:2 * rows:2])]
+    assert 0 <= min(gaps) <= max(gaps) < boxes[1].height and boxes[2 * rows - 1].y0 < 0.3 * inch
 
 
 def test_pictures_without_a_key_and_with_names_that_are_cut_in_it() -> None:

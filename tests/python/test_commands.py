@@ -655,21 +655,22 @@ def test_jobs_that_are_held(folder: pathlib.Path) -> None:
     assert planned(folder, "--order order --hold 9")[0] == ["table", "box", "chair", "shelf; oak"]
 
 
-def test_the_order_of_the_day_before(folder: pathlib.Path) -> None:
-    """Jobs that are done are left out, and new ones are inserted at their best places; with --keep, and in a search
-    with it, nothing else moves."""
-    (folder / "order").write_text("done before\nchair\nbox\n")
+@pytest.mark.parametrize(("first", "last", "new"), [(1, 3, (0, 2)), (0, 1, (3, 2))])
+def test_the_order_of_the_day_before(first: int, last: int, new: tuple[int, int], folder: pathlib.Path) -> None:
+    """Jobs that are done are left out, and new ones are inserted at their best places, the longest first; with --keep,
+    and in a search with it, nothing else moves."""
+    (folder / "order").write_text(f"done before\n{NAMES[first]}\n{NAMES[last]}\n")
     note = ("order: left out, as the table has no such jobs: done before\n"
-            "order: new, and inserted at their best places: table, shelf; oak\n")
-    best = [1, 3]
-    for job in (0, 2):
+            f"order: new, and inserted at their best places: {', '.join(NAMES[job] for job in new)}\n")
+    best = [first, last]
+    for job in new:
         place = min(range(len(best) + 1), key=lambda at: plainly.makespan(TIMES, [*best[:at], job, *best[at:]]))
         best.insert(place, job)
     assert planned(folder, "--order order") == ([NAMES[job] for job in best], plainly.makespan(TIMES, best), note)
     kept, makespan, got = planned(folder, "--order order --keep")
-    orders = [order for order in itertools.permutations(range(4)) if order.index(1) < order.index(3)]
+    orders = [order for order in itertools.permutations(range(4)) if order.index(first) < order.index(last)]
     assert makespan == min(plainly.makespan(TIMES, order) for order in orders) and got == note
-    assert kept.index("chair") < kept.index("box")
+    assert kept.index(NAMES[first]) < kept.index(NAMES[last])
     (folder / "order").write_text("\n".join(NAMES))
     assert planned(folder, "--order order --keep --rounds 100")[0] == NAMES, "there is no new job to move"
     assert planned(folder, "--order times.csv")[0] == NAMES, "the table itself is an order"

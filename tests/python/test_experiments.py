@@ -1,6 +1,7 @@
 """The CSV of an experiment has the results of pfs itself: with GNU parallel, here and over ssh, and on a Slurm cluster
 of one node, also if its runs were killed at various moments and repeated, and if two experiments start at once."""
 import contextlib
+import fcntl
 import functools
 import hashlib
 import itertools
@@ -12,6 +13,7 @@ import shutil
 import signal
 import subprocess
 import time
+from concurrent.futures import ThreadPoolExecutor
 from random import Random
 from typing import Any
 from unittest import mock
@@ -21,7 +23,7 @@ import pytest
 from hypothesis import given, strategies
 from pfs import _rounds
 from pfs._rounds import Rounds
-from pfs.experiments import one, plan, run
+from pfs.experiments import one, plan, run, stage
 from support.experiments import HALF, HEAD, PLAN, Experiment
 from support.library import Library
 from support.needs import missing, tool
@@ -99,6 +101,23 @@ def test_an_invalid_plan_is_rejected_with_its_fault(text: str, named: str, exper
     status = 4 if named == "none.csv" else 2
     assert_refused(experiment.plan(text).run(), "pfs-experiments run: ", named.rstrip(), status=status)
     assert sorted(os.listdir(experiment.folder)) == ["plan.toml", "shops"]
+
+
+# The least and the greatest value of each key, and the step from there to what is rejected.
+LIMITS: dict[str, tuple[float, float, float]] = {
+    "blocks": (1, 1000, 1), "rounds": (0, 1_000_000, 1), "takes": (1, 5000, 1), "passes": (0, 100, 1),
+    "seeds": (0, 2 ** 64 - 1, 1), "time_factors": (0.001, 10_000, 0.0001), "repetitions": (1, 10 ** 18 - 1, 1),
+    "partial": (0, 100, 1), "temperature": (0, 1000, 0.01)}
+
+
+@pytest.mark.parametrize("key", LIMITS)
+def test_the_limits_of_a_plan(key: str) -> None:
+    what, is_right = plan.VALUES[key]
+    least, most, step = LIMITS[key]
+    given: list[Any] = [least, most, least - step, most + step, True, str(least)]
+    if what.startswith("a list"):
+        given = [*([each] for each in given), [], [least, most + step], least, (least,)]
+    assert [*map(is_right, given)] == [True, True] + [False] * (len(given) - 2)
 
 
 def test_readme_has_the_keys_of_a_plan_with_their_defaults_the_columns_and_the_number_of_tasks() -> None:
@@ -202,7 +221,10 @@ def test_layouts_blocks_takes_passes_and_repetitions(experiment: Experiment) -> 
     *_, makespan, cells = experiment.printed(*line.split(" ")).splitlines()
     assert [makespan.split()[1], cells.split()[1]] == [rows[4][8], rows[4][11]]
     assert rows[4][8:12] == rows[5][8:12], "repetitions of a run"
+    assert [order for order, in experiment.columns("order") if ":" in order] == [], "colons in names of files"
     assert {row[8:11] for row in rows[16:]} == {("0", "0", "0.0000")}, "makespan, bound and gap"
+    for row in (row for row in csv_rows(experiment.folder / "out.csv") if row["cells"]):
+        assert run.seconds_of(row | {"limit": ""}) == pytest.approx(int(row["cells"]) / 1e9), "which is expected"
     assert experiment.script("check", "out.csv").status == 0, "an optimal order is wrong"
 
 
@@ -224,6 +246,8 @@ def test_each_order_is_kept_and_check_audits_it_again(made: Experiment) -> None:
     assert (got.status, got.stderr, last) == (1, "", "out.csv: 6 orders audited, 4 of them wrong")
     assert [re.findall(r"number-(\d+)", line)[:1] for line in wrong] == [["1"], ["2"], ["4"], []], wrong
     assert wrong[3].endswith(": the run has no order file"), wrong
+    assert made.run() == ended(6), "which writes the orders again"
+    assert made.script("check", "out.csv") == Done(0, "out.csv: 6 orders audited, 0 of them wrong\n", "")
     (made.folder / "old.csv").write_text("instance,makespan\na,1\n")
     assert_refused(made.script("check", "old.csv"), "pfs-experiments check: old.csv: no column rounds, take")
 
@@ -290,6 +314,36 @@ RESULTS = [b"\xff\n", b'1,"\n', b"1,\0\n", b"o\n1,x,y,z,t,ok\n", b"1,1,1,1,1.000
 FILES = [None, b"", b"2", b"x\n", b"\xff\n", b"99\no\n1,1,1,1,1.000000,ok\n",
          *(b"%d\n%b" % (len(data), data) for data in RESULTS)]
 PLANS = [b"{", b"[]", b'{"places": 1}', b"[" * 100_000, b'{"layout": "\xff"}', b'{"places": {}, "runs": []}']
+
+
+def test_one_process_at_a_time_writes_the_csv(made: Experiment) -> None:
+    before = (made.folder / "out.csv").read_bytes()
+    (made.folder / "out.csv").unlink()
+    with open(made.runs / "csv.lock", "w") as held, ThreadPoolExecutor(1) as threads:
+        fcntl.flock(held, fcntl.LOCK_EX)
+        written = threads.submit(run.gather, stage.started(str(made.folder / "out.csv")), str(made.folder / "out.csv"))
+        with pytest.raises(TimeoutError):
+            written.result(0.5)
+        assert not (made.folder / "out.csv").exists()
+        fcntl.flock(held, fcntl.LOCK_UN)
+        assert written.result(60) == (0, 0) and (made.folder / "out.csv").read_bytes() == before
+
+
+@pytest.mark.parametrize("error", [KeyboardInterrupt, OSError])
+def test_a_start_that_ends_half_way_leaves_no_folder(error: type[BaseException], experiment: Experiment,
+                                                     monkeypatch: pytest.MonkeyPatch) -> None:
+    monkeypatch.setattr(stage, "add_runs", mock.Mock(side_effect=error))
+    with pytest.raises(error):
+        stage.prepare(str(experiment.folder / "plan.toml"), str(experiment.folder / "out.csv"), str(experiment.pfs.path))
+    assert not experiment.runs.exists()
+
+
+def test_what_is_gone_has_not_changed(made: Experiment, monkeypatch: pytest.MonkeyPatch,
+                                      capsys: pytest.CaptureFixture[str]) -> None:
+    """An instance that somebody deletes while a start waits for an earlier one."""
+    monkeypatch.setattr(stage, "lock", lambda *_: (made.folder / "shops" / "a").unlink())
+    found = stage.prepare(str(made.folder / "plan.toml"), str(made.folder / "out.csv"), None)
+    assert len(found.runs) == 6 and capsys.readouterr() == ("", "")
 
 
 def test_a_damaged_result_is_made_again_and_a_damaged_plan_is_reported(made: Experiment) -> None:
@@ -531,6 +585,12 @@ def test_another_program_is_run_and_audited(experiment: Experiment) -> None:
     assert experiment.written() == before, "runs that were made again"
 
 
+def test_processes_that_commands_leave_are_counted(experiment: Experiment) -> None:
+    plan = ONLY_B + 'seeds = [1, 2]\nmethod = "m"\ncommand = "./mine {instance} {seed}"\n'
+    got = with_other(experiment, plan, "setsid sleep 60 > /dev/null 2>&1 & sleep 0.1; echo 1 2 3").run()
+    assert got == ended(2, said="processes that commands left when they ended, and that were killed: 2\n")
+
+
 def test_a_command_that_replaces_the_audit_is_reported(experiment: Experiment) -> None:
     """Its CSV isn't written."""
     for change in ("cp $0 ../pfs", "rm ../one", "echo >> ../order_text.py"):
@@ -666,6 +726,16 @@ def test_lines_are_taken_from_any_parts(lines: list[bytes], cuts: list[int]) -> 
     assert printed.text == b"".join(line + b"\n" for line in lines if line not in points)
 
 
+@pytest.mark.parametrize(("text", "lines"), [(one.MOST_BYTES, 0), (0, one.MOST_POINTS)])
+def test_the_most_that_is_taken(text: int, lines: int) -> None:
+    with subprocess.Popen(["true"], stdout=subprocess.PIPE, stderr=subprocess.PIPE) as child:
+        printed = one.Printed(child)
+    printed.take(b"1" * text + b"makespan 1 1\n" * lines)
+    assert not printed.is_too_much()
+    printed.take(b"1" if text else b"makespan 1 1\n")
+    assert printed.is_too_much()
+
+
 TIMED = {"running": f"python3 -c '{BUSY}print(\"makespan 1 1\", flush=True)\nimport time; time.sleep(0.3)'",
          "ended": f"(python3 -c '{BUSY}'); echo makespan 1 1",
          "both": f"python3 -c '{BUSY}'; python3 -c '{BUSY}print(\"makespan 1 1\")'"}
@@ -730,7 +800,9 @@ LINES = [
     ("0.2", f"({SPIN} &); sleep 1000", r"took too long: [01]\.\d\d s of processor time instead of 0.2 s"),
     ("0.05", "for each in $(seq 200); do (for at in $(seq 30000); do :; done); done; echo 3", "took too long: .*"),
     ("0.01", "python3 -c 'import time\nwhile time.process_time() < 0.3: pass'; echo 4", "4 0"),
-    ("9", "kill -9 $$", "signal 9"),
+    ("9", "kill -9 $$", "signal 9"), ("9", "echo first >&2; echo ' a   b ' >&2; exit 3", "exit 3, a b"),
+    ("9", "printf '%0999d b\n' 0 >&2; exit 3", "exit 3, 0{200}"),
+    ("9", "head -c 2000000 /dev/zero; sleep 2; touch late", "more than 1,048,576 bytes printed"),
 ]
 
 
@@ -744,7 +816,7 @@ def test_a_program_that_waits_or_takes_too_long_is_ended_with_all_that_it_has_st
     got = run_tool(["/usr/bin/python3", "-B", "-c", code, seconds, line], folder, env=env)
     assert (got.status, got.stderr) == (0, "") and re.fullmatch(wanted, got.stdout.strip()), got
     left = [path for path in pathlib.Path("/proc").glob("[0-9]*/cwd") if os.path.realpath(path) == str(folder)]
-    assert left == [], "processes that are left"
+    assert left == [] and os.listdir(folder) == [], "processes that are left, or what they have done late"
 
 
 # Runs that fail
@@ -991,6 +1063,21 @@ def test_on_slurm_a_second_start_waits_for_the_array_of_the_first(experiment: Ex
     assert experiment.rows() == experiment.wanted(rounds=(10,))
 
 
+@pytest.mark.parametrize(("seconds", "count", "runs"), [
+    ("0.1", 8, 1), ("0.1", 9, 2), ("0.1", 16, 2), ("0.1", 400, 10), ("0.001", 400, 25), ("1", 400, 1), ("5", 400, 1),
+    ("5", 0, 1)])
+def test_short_runs_share_a_process(seconds: str, count: int, runs: int) -> None:
+    """At most 25 of them, for about a second, and there are at least 8 processes."""
+    assert run.runs_a_process([{"limit": "0.0001"}, *[{"limit": seconds}] * count][:count]) == runs
+
+
+def test_files_of_orders_have_the_settings_in_their_names() -> None:
+    """And the beginning of the instance's, at most 100 bytes of it."""
+    row = dict.fromkeys(stage.RUN, "") | {"rounds": "10", "take": "4", "passes": "0", "seed": "2", "number": "7"}
+    assert run.order_name(row | {"instance": "x/ta001:2"}) == "ta001-block-2-rounds-10-take-4-passes-0-seed-2-number-7"
+    assert run.order_name(row | {"instance": "x" + "\u00e4" * 60}).partition("-")[0] == "x" + "\u00e4" * 49
+
+
 def test_the_last_array_says_how_a_run_ended(folder: pathlib.Path) -> None:
     """By the times of the logs, which may have any bytes; numbers of arrays have more and more digits."""
     (folder / "slurm").mkdir()
@@ -1106,6 +1193,13 @@ def test_a_reference_must_name_an_instance_and_status_writes_what_there_is(exper
     assert (experiment.folder / "out.csv").read_bytes() == before and before.count(b"\n") == 5
     assert experiment.columns("seed", "reference", "source") == [
         (seed, *known) for known in (("", ""), ("7", "a paper")) for seed in "21"]
+
+
+def test_two_names_of_an_instance_with_two_makespans_are_two_instances(folder: pathlib.Path) -> None:
+    (folder / "best.csv").write_text("instance,makespan\nB.txt,7\nb.dat,8\nC.txt,9\nc.dat,9\n")
+    found = plan.reference_of(folder / "best.csv")
+    assert [plan.reference_for(found, name) for name in ("x/b", "B.txt", "x/b.dat", "x/c")] == [
+        None, (7, ""), (8, ""), (9, "")]
 
 
 # The pages

@@ -205,7 +205,7 @@ def test_all_blocks_are_those_that_are_read_one_by_one(layout: str, data: st.Dat
 
 @pytest.mark.seconds(8)
 @pytest.mark.parametrize("layout", ["taillard", "orlib"])
-def test_all_blocks_of_60_megabytes_take_at_most_5_seconds(layout: str) -> None:
+def test_all_blocks_of_60_megabytes_take_at_most_5_seconds(layout: str, untraced: None) -> None:
     """Of processor time: other programs run besides."""
     one = pfs.generate(200, 100, 3)
     block = one.to_text(layout).encode()
@@ -235,7 +235,7 @@ SLOW: dict[str, Callable[[], object]] = {
 
 
 @pytest.mark.parametrize("case", SLOW)
-def test_readers_take_linear_time(case: str) -> None:
+def test_readers_take_linear_time(case: str, untraced: None) -> None:
     begun = time.process_time()
     with pytest.raises(ValueError):
         SLOW[case]()

@@ -388,6 +388,9 @@ def test_only_equal_rounds_or_times_are_compared(report: Reported, folder: pathl
         ("a 10", "b 10"), ("a 10", "published"), ("a 30", "b 30"), ("a 30", "published"), ("b 10", "published"),
         ("b 30", "published"), ("b 5", "published"), ("c 7 2", "c 7 4"), ("c 7 2", "published"), ("c 7 4", "published")]
     assert [row[-1] for row in rows if row[4] == "c"] == ["6"]
+    (folder / "report" / "comparison.csv").unlink()
+    assert report("instance,makespan,rounds\ni,9,10\ni,8,\n").status == 0
+    assert not (folder / "report" / "comparison.csv").exists(), "of one method, rounds and what tells none"
 
 
 def test_three_settings_have_average_ranks(report: Reported, folder: pathlib.Path) -> None:
@@ -608,7 +611,7 @@ def test_differences_are_paired_by_instance_and_seed_in_a_panel_for_each_size(do
 @pytest.mark.parametrize(("width", "options"), [("3.5", ["--no-title"]), ("7", [])])
 def test_all_is_inside_of_the_picture_and_can_be_read(width: str, options: list[str], report: Reported,
                                                       folder: pathlib.Path) -> None:
-    """With long names, at the width of a column too: letters have 7 points or more. With `--no-title` nothing has a
+    """With long names, at the width of a column too: letters have 8 to 10 points. With `--no-title` nothing has a
     title."""
     text = HEAD.replace("\n", ",method,trajectory\n") + "".join(
         f"{name},{jobs},5,{rounds},1,0,1,1,{100 + at},90,1.0,1000,{rounds / 10},ok,"
@@ -620,7 +623,8 @@ def test_all_is_inside_of_the_picture_and_can_be_read(width: str, options: list[
         assert f'width="{72 * float(width):g}pt"' in picture
         letters = re.findall(r'<text style="font: ([0-9.]+)px [^"]*?(?:text-anchor: (\w+))?" x="([0-9.]+)" '
                              r'y="[0-9.]+"[^>]*>([^<]*)<', picture)
-        assert letters and min(float(size) for size, *_ in letters) >= 7
+        assert letters and {*re.findall("font: ([0-9.]+)px", picture)} == {
+            "9", *([] if options else ["10"]), *([] if name == "time" else ["8"])}, name
         for size, anchor, x, shown in letters:
             after = {"middle": 0.25, "end": 0}.get(anchor, 0.5) * float(size) * len(shown)
             assert float(x) + after <= 72 * float(width) + 2, shown

@@ -8,6 +8,7 @@ from typing import Any
 
 import pfs
 import pytest
+from pfs._orders import order_in
 from support.plainly import written
 
 MISSING = "the time is missing: write 0 where a job skips a machine (it still waits there for its turn)"
@@ -41,6 +42,7 @@ FILES = [*map(str.encode, TABLES), *("\ufeffjob\tsaw\tdrill\r\ntable\t3\t2\r\nch
 BAD_TABLES: dict[str, tuple[str | bytes, int, int, str]] = {
     "nothing": ("", 1, 0, "the table is empty"),
     "one line": ("job,saw\n", 1, 0, "0 jobs: there may be 1 to 5,000"),
+    "one line of other words": ("x,saw\n", 1, 0, "0 jobs: there may be 1 to 5,000"),
     "no machine": ("job\na\n", 1, 0, "0 machines: there may be 1 to 200"),
     "many machines": ("job" + "".join(f",m{at}" for at in range(201)) + "\na" + ",1" * 201, 1, 0,
                       "201 machines: there may be 1 to 200"),
@@ -175,6 +177,7 @@ RIGHT_TABLES = {
     "numbers of orders in France": ("N\u00b0 OF;saw;drill\n4711;3;12\n4713;20;5\n", [[3, 12], [20, 5]]),
     "a date beside the title": ("Plan;;30.11.2026\nAuftrag;saw;drill\na;3;2\n", [[3, 2]]),
     "a title above some machines": ("Week;;minutes;;\nOF;saw;drill;paint\na;3;2;1\n", [[3, 2, 1]]),
+    "an empty second column": ("job;;saw\na;;3\n", [[3]]),
     "empty columns": ("job;saw;;drill;\na;3;;2;\n", [[3, 2]]),
     "hours and minutes without work": ("job;saw;drill\na;1:30;0\nb;0:05:00;0,0\nc;0;0\n", [[90, 0], [5, 0], [0, 0]]),
     "counted machines": ("job;1;2\na;3;12\nb;20;5\n", [[3, 12], [20, 5]]),
@@ -321,6 +324,17 @@ def test_all_faults_of_a_table_are_reported_at_once(tmp_path: pathlib.Path) -> N
         pfs.read_csv(written(tmp_path, table))
     lines = str(fault.value).split("\n")
     assert len(fault.value.others) == 29 and len(lines) == 22 and lines[-1].endswith(": and 9 more")
+
+
+def test_half_a_letter_of_utf_16_is_the_only_fault(tmp_path: pathlib.Path) -> None:
+    """What would be read of the rest has no meaning. Neither has an order in another encoding."""
+    (tmp_path / "file").write_bytes("\ufeffjob,saw\na,x\n".encode("utf-16-le") + b"j")
+    with pytest.raises(pfs.TableFault, match="line 3, isn't text in UTF-8") as fault:
+        pfs.read_csv(tmp_path / "file")
+    assert fault.value.others == ()
+    (tmp_path / "order").write_bytes(b"B\xe4r\n")
+    with pytest.raises(pfs.TableFault, match="line 1, isn't text in UTF-8"):
+        order_in(tmp_path / "order", pfs.Instance([[1]], job_names=["B\u00e4r"]))
 
 
 def test_columns_that_are_machines(tmp_path: pathlib.Path) -> None:

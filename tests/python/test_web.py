@@ -342,6 +342,24 @@ def test_a_table_has_a_greatest_number_of_rows(client: FlaskClient) -> None:
     assert len(read(client, head + row * (_tables.MOST_ROWS - 1))["rows"]) == _tables.MOST_ROWS
 
 
+def test_so_many_faults_are_listed(client: FlaskClient) -> None:
+    got = read(client, b"job;saw\n" + b"a;1\n" * 2_002)
+    assert (len(got["faults"]), got["more"], got["faults"][-1]["line"]) == (2_000, 1, 2_002)
+
+
+def test_fields_of_a_request() -> None:
+    """A number is within its limits, a text isn't too long, and what is missing or null has the default."""
+    cases: list[dict[str, Any]] = [{}, {"x": None}, {"x": 0}]
+    assert [plans.field(given, "x", int, 7) for given in cases] == [7, 7, 0]
+    assert plans.field({"x": 9}, "x", int, most=9) == 9
+    for value in (-1, 10, True, 9.0, "9", [9]):
+        with pytest.raises(apart.Wrong, match=str(plans.OTHER_FORM)):
+            plans.field({"x": value}, "x", int, most=9)
+    assert len(plans.field({"x": "a" * 10_000}, "x", str)) == 10_000
+    with pytest.raises(apart.Wrong, match="^a text is too long: 10,000 letters are the most$"):
+        plans.field({"x": "a" * 10_001}, "x", str)
+
+
 PARTS = ["job", "work", "order", "orders", "wo", "no", "n\u00b0", "fa", " ", ".", "x"]
 
 

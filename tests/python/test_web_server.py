@@ -15,6 +15,7 @@ import threading
 import time
 from collections.abc import Iterator
 from typing import Any
+from unittest import mock
 
 import pfs
 import pytest
@@ -25,6 +26,8 @@ from support.tools import TOP, output_of, run_tool, stop, wait_until
 
 for module in ("flask", "waitress"):
     require_module(module)
+from pfs.web import __main__ as web
+
 COMMAND = [sys.executable, "-m", "pfs.web"]
 TOKEN = "A-token_of_24_characters"
 TABLE = "job [h];saw;drill\ntable;3;2\nchair;2;5\n"
@@ -122,6 +125,29 @@ def test_the_address_has_a_new_token_unless_there_is_a_file(server: Server, toke
         assert other.answer("/api/read", {"rows": []})["faults"]
         own, other.token = other.token, server.token
         assert other.ask("/api/read", {"rows": []})[0] == 403 and own == TOKEN
+
+
+@pytest.mark.parametrize(("words", "screen", "is_opened"), [
+    ([], "DISPLAY", True), ([], "WAYLAND_DISPLAY", True), ([], "", False), (["--no-browser"], "DISPLAY", False),
+    (["--token-file", "token"], "DISPLAY", False)])
+def test_a_browser_opens_where_there_is_a_screen(words: list[str], screen: str, is_opened: bool,
+                                                 token_file: pathlib.Path, monkeypatch: pytest.MonkeyPatch) -> None:
+    """Its address is in a file, which other users can't read."""
+    opened = list[str]()
+    monkeypatch.setattr("webbrowser.open", lambda uri: opened.append(pathlib.Path(uri[7:]).read_text()))
+    for name in ("signal.signal", "logging.basicConfig", "pfs.web.app.made", "waitress.create_server"):
+        monkeypatch.setattr(name, mock.Mock())
+    for name in ("DISPLAY", "WAYLAND_DISPLAY"):
+        monkeypatch.setenv(name, ":0") if name == screen else monkeypatch.delenv(name, raising=False)
+    monkeypatch.chdir(token_file.parent)
+    assert web.serve(web.words().parse_args([*words, "--port", "1"])) == 0
+    assert ["url=http://127.0.0.1:1/#" in text for text in opened] == [True] * is_opened
+
+
+def test_no_response_names_the_server(server: Server) -> None:
+    with contextlib.closing(http.client.HTTPConnection("127.0.0.1", server.port, timeout=30)) as line:
+        line.request("GET", "/")
+        assert "Server" not in line.getresponse().headers
 
 
 # Its limits

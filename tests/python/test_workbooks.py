@@ -140,7 +140,7 @@ LARGE = {
 
 
 @pytest.mark.parametrize("case", LARGE)
-def test_small_workbooks_with_large_parts(tmp_path: pathlib.Path, case: str) -> None:
+def test_small_workbooks_with_large_parts(tmp_path: pathlib.Path, case: str, untraced: None) -> None:
     """They take neither much time nor much memory."""
     part, old, text, count, why = LARGE[case]
     new = "".join(text.format(number) for number in range(1, count + 1))

@@ -47,3 +47,11 @@ def pytest_runtest_makereport(item: pytest.Item, call: pytest.CallInfo[None]) ->
     with open(TESTS, "a") as file:
         fixtures: list[str] = getattr(item, "fixturenames", [])
         file.write(json.dumps([name_of(item), report.passed, call.duration, fixtures]) + "\n")
+
+
+@pytest.hookimpl(trylast=True)  # type: ignore[misc]  # pluggy has no types
+def pytest_sessionfinish() -> None:
+    """A process of xdist that takes longer than ten seconds to end is killed, so what it has noted is kept before."""
+    if running := coverage.Coverage.current():
+        running.stop()
+        running.save()

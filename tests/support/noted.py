@@ -40,7 +40,7 @@ def make_map(words: list[str]) -> int:
     found = pathlib.Path(coverage.__file__).parents[1]
     (site / "measured.pth").write_text(f"import sys; sys.path.append('{found}'); import coverage; sys.path.pop(); "
                                        "coverage.process_startup()\n")
-    (MADE / "settings").write_text(f"[run]\nbranch = true\nparallel = true\nsigterm = true\nsource = {PACKAGE}\n"
+    (MADE / "settings").write_text(f"[run]\nbranch = true\nparallel = true\nsource = {PACKAGE}\n"
                                    f"data_file = {MADE}/data\ncontext = ${{PFS_CONTEXT-}}\n")
     env = os.environ | {"PYTHONUSERBASE": str(MADE / "user"), "COVERAGE_PROCESS_START": str(MADE / "settings")}
     status = subprocess.run([*PYTEST, *words], cwd=TOP, env=env).returncode

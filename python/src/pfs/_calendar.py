@@ -24,8 +24,8 @@ SECOND = 1_000_000
 MINUTE, DAY, WEEK = 60 * SECOND, 86_400 * SECOND, 7 * 86_400 * SECOND
 MONDAY = datetime(1970, 1, 5)
 DAYS = ("mon", "tue", "wed", "thu", "fri", "sat", "sun")
-# Seconds between the marks of a scale: from a second to half a minute, half an hour, and years.
-STEPS = [step * unit for unit in (1, 60) for step in (1, 2, 5, 10, 15, 30)] + [3_600 * 2**at for at in range(20)]
+# Seconds between the marks of a scale: from a second to half a minute, half an hour, and longer than a calendar.
+STEPS = [step * unit for unit in (1, 60) for step in (1, 2, 5, 10, 15, 30)] + [3_600 * 2**at for at in range(30)]
 BEGIN = re.compile(r"([0-9]{4}-[0-9]{2}-[0-9]{2})(?:[T ]([0-9]{2}:[0-9]{2}(?::[0-9]{2})?))?", re.ASCII)
 SHIFT = re.compile(r"([0-9]{1,2}):([0-9]{2})-([0-9]{1,2}):([0-9]{2})", re.ASCII)
 # Shifts after the days or dates on which they start.
@@ -203,14 +203,14 @@ class Clock:
     def marks(self, end: int, most: int) -> list[tuple[float, str]]:
         """Return about `most` marks of a scale from 0 to `end`, each a time and its text: the time of day, and the date
         if it differs from that of the mark before."""
-        step = next((step for step in self.steps() if step * most >= end), max(1.0, end / most))
-        digits = 0 if step * self.tick < MINUTE * self.scale else -1
+        worked, second = end * self.tick, SECOND * self.scale
+        step = next(step for step in STEPS if step * second * most >= worked)
         found: list[tuple[float, str]] = []
         before = ""
-        for at in range(int(end // step) + 1):
-            moment = self.calendar.start(round(at * step * self.tick / self.scale))
-            clock, day = text_of(moment, digits).partition(" ")[2], day_of(moment, self.say)
-            found.append((at * step, f"{clock}\n{day}" if day != before else clock))
+        for at in range(0, worked // second + 1, step):
+            moment = self.calendar.start(at * SECOND)
+            clock, day = text_of(moment, 0 if step < 60 else -1).partition(" ")[2], day_of(moment, self.say)
+            found.append((at * second / self.tick, f"{clock}\n{day}" if day != before else clock))
             before = day
         return found
 

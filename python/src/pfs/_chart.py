@@ -28,8 +28,8 @@ MOST_SHOWN, MOST_LISTED = 2_000, 100_000
 # What the script of a page says.
 PAGE_WORDS = ("job", "machine", "start", "end", "place", "time", "idle", "Job", "a page a day", "1 job found",
               "jobs found", "the first 20 are listed below", "Sun", "Mon", "Tue", "Wed", "Thu", "Fri", "Sat")
-# Minutes between the marks of a scale of hours and minutes.
-MINUTES = [1, 2, 5, 10, 15, 30, *(60 * 2**at for at in range(30))]
+# Minutes between the marks of a scale of hours and minutes, up to more than any makespan.
+MINUTES = [1, 2, 5, 10, 15, 30, *(60 * 2**at for at in range(40))]
 
 
 def check_frame(width: float, title: bool | str, ax: Any) -> None:
@@ -84,7 +84,7 @@ def plot(schedule: Schedule, path: str | os.PathLike[str] | None = None, *, crit
         chart.marks, chart.breaks = clock.marks(chart.makespan, most), clock.breaks(chart.makespan)
         chart.end = f"{day_of(end, say)} {text_of(end, digits).partition(' ')[2]}"
     elif chart.unit == CLOCK:
-        step = next((step for step in MINUTES if step * most >= chart.makespan), MINUTES[-1])
+        step = next(step for step in MINUTES if step * most >= chart.makespan)
         chart.scale = f"{say('time')} ({CLOCK})"
         chart.marks = [(time, chart.formatted(time)) for time in range(0, chart.makespan + 1, step)]
     if ending != "html":

@@ -192,7 +192,7 @@ def plan_command(given: argparse.Namespace) -> int:
     found = FoundOrder([], {}) if given.order is None else order_in(given.order, table.shop, given.language)
     shop, found, held, calendar = begin = beginning(given, table.shop, found, calendar)
     search = plan_search(given, begin)
-    other = FoundOrder([], {}) if given.compare is None else order_in(given.compare, shop, given.language)
+    others = [] if given.compare is None else [order_in(given.compare, shop, given.language)]
     with signals() as caught:
         is_tried = given.prove and not search.held and not given.keep and is_small(shop)
         early = min(EARLY, given.prove, given.seconds) if is_tried and given.rounds is None else 0
@@ -202,7 +202,7 @@ def plan_command(given: argparse.Namespace) -> int:
         tell("--prove", "" if is_tried or not given.is_proof_asked else "not tried: jobs are held, the order is only "
              f"evaluated, or there are more than {MOST_JOBS} jobs or {MOST_MACHINES} machines")
         faults = [] if fault is None else [fault]
-        for output in outputs_of(given, begin, table, other, best):
+        for output in outputs_of(given, begin, table, others, best):
             try:
                 output()
             except (OSError, MemoryError, ImportError, ValueError) as failure:
@@ -211,7 +211,7 @@ def plan_command(given: argparse.Namespace) -> int:
     return statuses[0] if statuses else status_of(caught)
 
 
-def outputs_of(given: argparse.Namespace, begin: Beginning, table: Table, other: FoundOrder,
+def outputs_of(given: argparse.Namespace, begin: Beginning, table: Table, others: list[FoundOrder],
                best: Solution) -> list[Callable[[], object]]:
     """What a plan writes, one after the other."""
     shop, calendar = begin.shop, begin.calendar
@@ -222,7 +222,7 @@ def outputs_of(given: argparse.Namespace, begin: Beginning, table: Table, other:
         *(partial(write_schedule, shop, best, path, *style, calendar, given.language) for path in given.schedule),
         *(partial(write_table, path, shop, *style) for path in given.rest),
         *(partial(draw, shop, best, chart, calendar, given.title, given.language) for chart in given.chart),
-        lambda: compare(given.compare, shop, other, best, clock)]
+        *(partial(compare, given.compare, shop, other, best, clock) for other in others)]
 
 
 def plan_search(given: argparse.Namespace, begin: Beginning) -> Search:
@@ -245,10 +245,8 @@ def plan_search(given: argparse.Namespace, begin: Beginning) -> Search:
                   new if given.keep else None, method=given.method)
 
 
-def compare(path: str | None, shop: Instance, other: FoundOrder, best: Solution, clock: Clock | None) -> None:
+def compare(path: str, shop: Instance, other: FoundOrder, best: Solution, clock: Clock | None) -> None:
     """Say on standard error what differs between another order and the plan: the ends, and the jobs that moved."""
-    if path is None:
-        return
     order: list[int] = best.order.tolist()
     stated = stated_end(path)
     tell(path, f"says {stated}" if stated else "")

@@ -24,7 +24,7 @@ def prove(args: argparse.Namespace) -> int:
             own = copies[name]
             shop = pfs.read(experiment.folder / experiment.stage / own["file"], own["layout"], int(own["block"]))
             made = shop.optimum(args.seconds, start=pfs.read_order(experiment.folder.parent / row["order"]))
-            bound = found[own["instance"]] = max(found.get(own["instance"], 0), made.bound)
+            bound = found[own["instance"]] = max(found.get(own["instance"], made.bound), made.bound)
             stage.write_text(experiment.folder / run.PROOFS, json.dumps(found))
             is_optimal = int(row["makespan"]) == bound
             count += is_optimal

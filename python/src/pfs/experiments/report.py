@@ -43,7 +43,10 @@ LATEX = {"\\": r"\textbackslash{}", "~": r"\textasciitilde{}", "^": r"\textascii
 
 # The same runs give the same bytes on every machine. The fonts of a PDF are TrueType. No name is shown as a formula.
 SETTINGS = {"svg.fonttype": "none", "svg.hashsalt": "pfs", "pdf.fonttype": 42, "axes.grid": True, "grid.alpha": 0.3,
-            "axes.spines.top": False, "axes.spines.right": False, "font.size": 9, "text.parse_math": False}
+            "axes.spines.top": False, "axes.spines.right": False, "font.size": 9, "text.parse_math": False,
+            **dict.fromkeys(("axes.titlesize", "figure.labelsize"), 9), "figure.titlesize": 10,
+            **dict.fromkeys(("legend.fontsize", "legend.title_fontsize"), 8), "legend.frameon": False,
+            "legend.handlelength": 3, "legend.columnspacing": 1, "legend.borderaxespad": 0}
 # The approximate width and height of a letter in inches, and the most letters of a name in a picture.
 WIDE, HIGH, LONGEST = 0.077, 0.17, 40
 # Shorter times can't be measured.
@@ -366,7 +369,7 @@ def panels(points: pd.DataFrame, styles: dict[str, dict[str, Any]], columns: int
     for at, panel in enumerate(titles):
         first = axes.get(titles[0])
         axis = axes[panel] = figure.add_subplot(grid[at // columns, at % columns], sharex=first, sharey=first)
-        axis.set_title(wrapped(panel, width / columns - 0.6), fontsize=9)
+        axis.set_title(wrapped(panel, width / columns - 0.6))
         axis.tick_params(labelleft=at % columns == 0, labelbottom=at + columns >= len(titles))
     lines = {}
     for (panel, label), line in points.groupby(["panel", "label"], sort=False):
@@ -378,11 +381,10 @@ def panels(points: pd.DataFrame, styles: dict[str, dict[str, Any]], columns: int
         axes[titles[0]].set_ylim(bottom=0)
     below = figure.add_subplot(grid[rows, :])
     below.set_axis_off()
-    below.set_title(x, fontsize=9, pad=2)
-    figure.supylabel(y, fontsize=9)
-    figure.suptitle(wrapped(title, width - 0.4), fontsize=10)
-    below.legend(lines.values(), lines.keys(), title=legend, handlelength=3, frameon=False, fontsize=8,
-                 title_fontsize=8, columnspacing=1, loc="upper center", ncol=in_legend, borderaxespad=0)
+    below.set_title(x, pad=2)
+    figure.supylabel(y)
+    figure.suptitle(wrapped(title, width - 0.4))
+    below.legend(lines.values(), lines.keys(), title=legend, loc="upper center", ncol=in_legend)
     return figure
 
 
@@ -507,7 +509,7 @@ def of_labels(labels: list[str], width: float | None, title: str, y: str) -> tup
     width = width or max(6.5, 1 + 0.6 * len(labels))
     upright = (width - 1) / len(labels) < WIDE * longest + 0.1
     figure = Figure(figsize=(width, 3.6 + (WIDE * longest if upright else 0)), layout="constrained")
-    figure.suptitle(wrapped(title, width - 0.4), fontsize=10)
+    figure.suptitle(wrapped(title, width - 0.4))
     axis = figure.subplots()
     axis.set_xticks(range(1, len(labels) + 1), labels, rotation=90 if upright else 0)
     axis.set_ylabel(y)
@@ -556,7 +558,7 @@ def differences(shared: pd.DataFrame, width: float | None) -> Figure | None:
         axis.axvline(0, color="black", linewidth=1)
         axis.errorbar(own["mean"], own["setting"].map(shown).map(labels_at), xerr=own["half"], fmt="o", markersize=5,
                       capsize=4, color=colour(0.3), ecolor="black", elinewidth=1)
-        axis.set_title(wrapped(title, 0.6 * width / columns), fontsize=9)
+        axis.set_title(wrapped(title, 0.6 * width / columns))
         axis.set_yticks(range(len(lines)), lines, fontsize=8)
         axis.set_ylim(-0.5, len(lines) - 0.5)
         axis.locator_params(axis="x", nbins=4)
@@ -565,7 +567,7 @@ def differences(shared: pd.DataFrame, width: float | None) -> Figure | None:
         axis.set_axis_off()
     first = shown(found["first"].iloc[0])
     figure.supxlabel(wrapped(f"RPD minus that of {first}, %" if found["first"].nunique() == 1 else
-                             "RPD minus that of the first setting, %", width - 0.4), fontsize=9)
+                             "RPD minus that of the first setting, %", width - 0.4))
     figure.suptitle(wrapped("Mean differences, paired by instance and seed, with confidence intervals of 95 %",
-                            width - 0.4), fontsize=10)
+                            width - 0.4))
     return figure
