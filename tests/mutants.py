@@ -7,6 +7,7 @@ usage: tests/mutants.py [--seed N] [--jobs N] [--least PERCENT] [--only WORD] [C
        tests/mutants.py --map [WORDS..]   runs pytest with these words, and keeps which test runs which lines"""
 import argparse
 import concurrent.futures
+import functools
 import json
 import os
 import pathlib
@@ -26,8 +27,6 @@ from support.noted import MADE, PYTEST, TESTS, is_noted, make_map
 
 # Seconds that the tests of a change took when they were noted, and that a run may take; bytes of its memory.
 MOST_TESTS, MOST_SECONDS, MOST_MEMORY = 40, 120, 12 << 30
-# What a run kills is in the run, and ends with it.
-APART = ["unshare", "--pid", "--fork", "--kill-child", "--mount-proc", "sh", "-c", '"$@"; exit $?', "sh"]
 
 
 class Map:
@@ -66,6 +65,13 @@ def copied(folder: pathlib.Path) -> pathlib.Path:
     return folder
 
 
+@functools.cache
+def apart() -> list[str]:
+    """Words before a command by which all processes end with it, where the system permits that."""
+    words = ["unshare", "--pid", "--fork", "--kill-child", "--mount-proc", "sh", "-c", '"$@"; exit $?', "sh"]
+    return words if subprocess.run([*words, "true"], capture_output=True).returncode == 0 else []
+
+
 def found(source: Source, change: Change, tests: list[str], copy: pathlib.Path) -> str:
     """How the tests find a change in a copy; nothing if they don't."""
     path = copy / PACKAGE.relative_to(TOP) / change.file
@@ -73,7 +79,7 @@ def found(source: Source, change: Change, tests: list[str], copy: pathlib.Path) 
     env = os.environ | {"PYTHONDONTWRITEBYTECODE": "1", "TMPDIR": f"{copy}.tmp", "CI": "false", "PFS_MUTANT": "1"}
     pathlib.Path(f"{copy}.tmp").mkdir(exist_ok=True)
     built = [f"--pfs={TOP}/crates/pfs/out/pfs", f"--libpfs={TOP}/lib/out/libpfs.so.1"]
-    words = [*APART, *PYTEST, "-x", "-n0", f"--basetemp={copy}.tmp/pytest", *built, *tests]
+    words = [*apart(), *PYTEST, "-x", "-n0", f"--basetemp={copy}.tmp/pytest", *built, *tests]
     process = subprocess.Popen(words, cwd=copy, env=env, stdin=subprocess.DEVNULL, stdout=subprocess.PIPE,
                                stderr=subprocess.STDOUT, start_new_session=True, text=True, errors="replace",
                                preexec_fn=lambda: resource.setrlimit(resource.RLIMIT_AS, (MOST_MEMORY, MOST_MEMORY)))
