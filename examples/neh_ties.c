@@ -1,5 +1,5 @@
-/* NEH with two rules for equal places: the first of the best places, as pfs_neh does, and the last of them, found by
- * pfs_insertions, which has the makespan at each place.
+/* NEH with three rules for equal places: the first of the best places, as pfs_neh does; the one with the least total
+ * delay, by pfs_construct_ties; and the last one, found by pfs_insertions, which has the makespan at each place.
  *
  * usage: neh_ties JOBS MACHINES SEED    (an instance of Taillard's generator) */
 #include <inttypes.h>
@@ -47,7 +47,7 @@ static int insert_last(struct pfs_instance *instance, size_t jobs, uint64_t *mak
 
 int main(int count, char **words) {
     size_t jobs = count == 4 ? strtoull(words[1], NULL, 10) : 0, machines = jobs ? strtoull(words[2], NULL, 10) : 0;
-    uint64_t first, last, cells;
+    uint64_t first, idle, last, cells;
     struct pfs_instance instance = {NULL};
     if (jobs < 1 || jobs > PFS_MOST_JOBS || machines < 1 || machines > PFS_MOST_MACHINES)
         return fputs("usage: neh_ties JOBS MACHINES SEED\n", stderr), 3;
@@ -58,11 +58,14 @@ int main(int count, char **words) {
         number = pfs_neh(&instance, order, jobs, &first, &cells);
     rank_jobs(jobs, machines);
     if (number == PFS_OK)
+        number = pfs_construct_ties(&instance, PFS_TIES_IDLE, NULL, 0, ranking, jobs, order, jobs, &idle);
+    if (number == PFS_OK)
         number = insert_last(&instance, jobs, &last);
     pfs_release(&instance);
     if (number != PFS_OK)
         return fprintf(stderr, "neh_ties: %s\n", pfs_message(number)), 2;
-    if (printf("first places %" PRIu64 "\nlast places %" PRIu64 "\n", first, last) < 0 || fflush(stdout))
+    if (printf("first places %" PRIu64 "\nleast delay %" PRIu64 "\nlast places %" PRIu64 "\n", first, idle, last) < 0
+        || fflush(stdout))
         return fputs("neh_ties: cannot write\n", stderr), 4;
     return 0;
 }

@@ -8,7 +8,7 @@ import shutil
 import subprocess
 
 import pytest
-from support import second_program
+from support import second_library, second_program
 from support.growths import Shim
 from support.library import HEADER, Library, compile_quietly
 from support.needs import tool
@@ -103,6 +103,14 @@ def test_no_example_leaks_or_reads_out_of_bounds(installed: pathlib.Path, pfs: P
     run_page(built, pfs, folder / "run")
 
 
+def least_delay(shop: Instance) -> int:
+    """The makespan of NEH that takes of equal places the one with the least total delay."""
+    order: list[int] = []
+    for job in sorted(range(shop.jobs), key=lambda job: (-shop.total(job), job)):
+        order = second_library.placed(shop, order, 0, job, 1)
+    return second_program.makespan(shop, order)
+
+
 def last_places(shop: Instance) -> int:
     """The makespan of NEH that takes the last of equal places, evaluated order by order."""
     order: list[int] = []
@@ -117,7 +125,8 @@ def test_ties(built: pathlib.Path, folder: pathlib.Path, jobs: int, machines: in
     shop = second_program.generated(jobs, machines, seed)
     first = second_program.makespan(shop, second_program.by_totals(shop))
     got = run(built, "neh_ties", str(jobs), str(machines), str(seed), cwd=folder)
-    assert got == Done(0, f"first places {first}\nlast places {last_places(shop)}\n", "")
+    expected = f"first places {first}\nleast delay {least_delay(shop)}\nlast places {last_places(shop)}\n"
+    assert got == Done(0, expected, "")
 
 
 @pytest.fixture
