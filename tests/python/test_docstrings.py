@@ -69,7 +69,8 @@ def test_the_names_that_readme_states_are_the_packages() -> None:
     text = PAGE.read_text()
     named = set(re.findall(r"`pfs\.(\w+)", text)) | set(re.findall(r"\bpfs\.(\w+)\(", text))
     assert len(named) > 8 and sorted(named - set(pfs.__all__)) == []
-    raised: dict[str, ValueError] = {"FileFault": pfs.FileFault("f", 24, 17), "OrderFault": pfs.OrderFault("f", 31, 3),
+    raised: dict[str, ValueError] = {"FileFault": pfs.FileFault("f", 24, 17, 3, 2, ""),
+                                     "OrderFault": pfs.OrderFault("f", 31, 3),
                                      "TableFault": pfs.TableFault("f", 4, 2, "x")}
     rows = dict(re.findall(r"^\| (.*?) \| `pfs\.(\w+)`", text, re.MULTILINE))
     assert list(rows.values()) == list(raised)

@@ -196,7 +196,7 @@ def test_a_week(page: Page) -> None:
                         ("txt", b"")):
         path = page.downloads / f"---KW 49.{kind}"
         page.click(f"[data-kind={kind}]")
-        page.wait(lambda: path.exists(), f"{path} in {[*page.downloads.iterdir()]}")
+        page.wait(lambda: path.exists() and path.stat().st_size, f"{path} in {[*page.downloads.iterdir()]}")
         assert path.read_bytes().startswith(start)
     assert (page.downloads / "---KW 49.txt").read_text().splitlines() == page.order()
     assert page.logged() == [] and page.browser.title == "Plan a flow shop", "no script of a name has run"

@@ -20,9 +20,10 @@ def text_cell(text: str) -> str:
     return f"'{text}" if FORMULA.match(text) else text
 
 
-def quoting_of(names: Iterable[str]) -> Literal[0, 1]:
-    """Return how the cells of CSV are quoted: all of them if a name has the separator of another table."""
-    return csv.QUOTE_ALL if {";", "\t"} & set().union(*names) else csv.QUOTE_MINIMAL
+def quoting_of(names: Iterable[str], delimiter: str) -> Literal[0, 1]:
+    """Return how the cells of CSV are quoted: all of them if a name has what a reader could take for the delimiter."""
+    others = {",": {";", "\t"}, "\t": {";"}}.get(delimiter, set())
+    return csv.QUOTE_ALL if others & set().union(*names) else csv.QUOTE_MINIMAL
 
 
 def atomic_write(path: str | os.PathLike[str], data: bytes, temporary: str | None = None) -> None:

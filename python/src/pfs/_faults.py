@@ -69,7 +69,7 @@ class FileFault(Fault):
         A probable cause of the fault, which the message has too, or an empty text.
     """
 
-    def __init__(self, path: str, number: int, place: int, line: int = 0, column: int = 0, hint: str = "") -> None:
+    def __init__(self, path: str, number: int, place: int, line: int, column: int, hint: str) -> None:
         super().__init__(path, number, place, line, column, hint)
         self.line, self.column, self.hint = line, column, hint
 

@@ -218,7 +218,7 @@ class Schedule:
         # With this line terminator, cells that contain \r or \n are quoted. Each row is written at once.
         file = SimpleNamespace(write=lambda row: lines.append(row.removesuffix("\r\n") + "\n"))
         names = chain(map(shop.job_name, range(shop.jobs)), map(shop.machine_name, range(shop.machines)))
-        rows = csv.writer(file, delimiter=delimiter, lineterminator="\r\n", quoting=quoting_of(names))
+        rows = csv.writer(file, delimiter=delimiter, lineterminator="\r\n", quoting=quoting_of(names, delimiter))
         rows.writerow([text_cell(say(head)) for head in OPERATIONS])
         for job, machine, start, end in self._operations():
             shown = (time.replace(".", ",") if delimiter == ";" else time for time in times_of(start, end))

@@ -677,7 +677,7 @@ def write_table(path: str, shop: Instance, delimiter: str, mark: bool) -> None:
         return
     text = io.StringIO()
     names = [*head, *(name for name, *_ in texts)]
-    writer = csv.writer(text, delimiter=delimiter, lineterminator="\n", quoting=quoting_of(names))
+    writer = csv.writer(text, delimiter=delimiter, lineterminator="\n", quoting=quoting_of(names, delimiter))
     writer.writerow(map(text_cell, head))
     point = "," if delimiter == ";" else "."
     # The sign before three decimals alone could separate thousands, so they get another zero.
