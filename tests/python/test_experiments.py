@@ -1107,6 +1107,7 @@ def test_slurm_is_asked_for_an_array_of(plan: str, words: list[str], array: str,
     env = with_path(experiment.folder / "bin")
     got = experiment.plan(plan).script("slurm", "--dry-run", *words, "plan.toml", "out.csv", "--time=5", env=env)
     assert got.status == 0 and not (experiment.runs / "submitted").exists()
+    assert re.search(r"^out\.csv: [0-9]+ runs still to run$", got.stderr, re.MULTILINE)
     assert not (experiment.folder / "out.csv").exists()
     assert run_tool(["sh", "-c", got.stdout], experiment.folder, env=env).status == 0
     submitted = (experiment.runs / "submitted").read_text().split()

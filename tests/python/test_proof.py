@@ -65,6 +65,8 @@ def test_without_a_proof_nothing_is_optimal_but_at_the_bound() -> None:
     assert not pfs.Solution([0, 1], 7).optimal and pfs.Solution([0, 1], 0).optimal, "no makespan is below 0"
     with pytest.raises(ValueError, match="^makespan must be from 0 to"):
         pfs.Solution([0, 1], -1)
+    with pytest.raises(ValueError, match="^machines must be from 0 to"):
+        pfs.Solution([0, 1], 7, machines=-1)
 
 
 def test_what_is_proved_stays_with_the_solution() -> None:

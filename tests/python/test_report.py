@@ -532,6 +532,10 @@ def test_the_plots_of_times(done: Callable[[str], Any]) -> None:
     figure = reports.cell_times(done("instance,jobs,machines,makespan,cells,seconds,time_factor\na,2,2,9,9,1,3\n"),
                                 None)
     assert "cell of searches by time" in figure._suptitle.get_text()
+    assert figure.axes[0].get_xticklabels()[0].get_text() == "2×2"
+    figure = reports.cell_times(done("method,instance,jobs,machines,makespan,cells,seconds,time_factor\n"
+                                     "p,a,2,2,9,9,1,3\nq,a,2,2,9,9,1,3\n"), None)
+    assert [label.get_text() for label in figure.axes[0].get_xticklabels()][:2] == ["2×2\np", "2×2\nq"]
 
 
 # Of two methods the seconds of two runs on an instance whose reference is 100, and their makespans on the way.

@@ -306,6 +306,7 @@ class Interrupting:
 
 def interrupted(shop: pfs.Instance, tracer: Interrupting, progress: Any) -> pfs.Solution:
     """The solution that `solve` returns, or that its exception has."""
+    before = sys.gettrace()
     sys.settrace(tracer)
     try:
         return shop.solve(ROUNDS, progress=progress)
@@ -313,7 +314,7 @@ def interrupted(shop: pfs.Instance, tracer: Interrupting, progress: Any) -> pfs.
         assert isinstance(stop, pfs.Interrupted), f"interrupted at a bytecode, it is no pfs.Interrupted: {stop!r}"
         return stop.solution
     finally:
-        sys.settrace(None)
+        sys.settrace(before)
 
 
 ROUNDS, PARTS = 15, 3
@@ -465,6 +466,7 @@ def test_the_history_counts_rounds_from_the_first_and_is_kept(cut: Callable[[lis
     whole = shop.solve(100, start=range(20), history=True).history
     assert len(whole) > 5
     half = shop.solve(50, start=range(20), history=True)
+    assert type(half.history) is tuple
     rest = shop.solve(50, start=half, first=50, history=True).history
     assert rest[0][::2] == (50, half.makespan)
     assert [line[::2] for line in half.history + rest[1:]] == [line[::2] for line in whole]

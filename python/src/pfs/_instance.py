@@ -305,9 +305,7 @@ class Instance:
 
         NEH sorts the jobs by decreasing total time and inserts each at its best place, the first of equally good ones.
         """
-        search = Search(self, None, 0, None, 0, 0)
-        search.begin()
-        return search.solution()
+        return Search(self, None, 0, None, 0, 0).solution()
 
     def best_place(self, sequence: Jobs, job: int, *, ties: str = "first") -> Place:
         """Return the place with the least makespan for a job in a partial sequence, and that makespan.
