@@ -38,8 +38,8 @@ class Map:
         self.lines: dict[str, dict[str, list[str]]] = kept["lines"]
 
     def tests(self, change: Change) -> list[str]:
-        """Those that may find it, the quickest first. Lines that no test is noted for may run where nothing is noted, as
-        in `python3 -I -S`: then those that run another line of the file, in any order."""
+        """Those that may find it, the quickest first. Lines that no test is noted for may run where nothing is noted,
+        as in `python3 -I -S`: then those that run another line of the file, in any order."""
         used = [(name, line) for name, source in self.files.items() for word in change.names
                 for line in source.uses[word]]
         found: set[str] = set()
