@@ -983,6 +983,17 @@ def test_the_manual_page_has_the_programs_options(folder: pathlib.Path) -> None:
     assert dict(re.findall(r"^\.It Fl -([\w-]+)(?: Ar (\S+))?$", page, re.MULTILINE)) == due
 
 
+@pytest.mark.parametrize("words", ["pfs", "pfs search", "pfs plan", "pfs.web", "pfs._gantt", "pfs.experiments",
+                                   *(f"pfs.experiments {name}" for name in (
+                                       "taillard", "run", "slurm", "status", "check", "prove", "audit", "report"))])
+def test_each_option_has_a_help_text(words: str, tmp_path: pathlib.Path) -> None:
+    lines = plainly.python("-m", *words.split(), "--help", cwd=tmp_path, COLUMNS="200").stdout.splitlines()
+    options = [(line, after) for line, after in zip(lines, [*lines[1:], ""]) if line.startswith("  -")]
+    assert options
+    for line, after in options:
+        assert re.search(r"\S {2,}\S", line) or re.match(r" {10,}\S", after), line
+
+
 @pytest.mark.parametrize("words", [["-m", "pfs", "plan"], ["-c", CALL]], ids=["python3 -m pfs plan", "pfs-plan"])
 def test_no_module_is_imported_from_the_current_folder(words: list[str], tmp_path: pathlib.Path) -> None:
     """`python3 -m pfs` takes the package itself from there, if it is there; pfs-plan doesn't."""

@@ -58,15 +58,15 @@ def test_published_optima() -> None:
 def test_without_a_proof_nothing_is_optimal_but_at_the_bound() -> None:
     shop = pfs.Instance([[1, 4, 0], [2, 0, 3], [3, 3, 5], [3, 1, 0]])
     least = shop.optimum().makespan
+    assert shop.optimum().optimal and not shop.optimum(0).optimal
     found = shop.solve(100, target=least)
     assert found.makespan == least > shop.bound() == found.bound and not found.optimal
     at_bound = pfs.Instance([[3, 2], [2, 5], [4, 1]]).solve(10)
     assert (at_bound.optimal, at_bound.bound) == (True, at_bound.makespan)
     assert not pfs.Solution([0, 1], 7).optimal and pfs.Solution([0, 1], 0).optimal, "no makespan is below 0"
-    with pytest.raises(ValueError, match="^makespan must be from 0 to"):
-        pfs.Solution([0, 1], -1)
-    with pytest.raises(ValueError, match="^machines must be from 0 to"):
-        pfs.Solution([0, 1], 7, machines=-1)
+    for name in ("makespan", "cells", "machines", "rounds", "seed"):
+        with pytest.raises(ValueError, match=f"^{name} must be from 0 to"):
+            pfs.Solution([0, 1], **{"makespan": 7, name: -1})
 
 
 def test_what_is_proved_stays_with_the_solution() -> None:

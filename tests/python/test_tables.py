@@ -422,3 +422,14 @@ def test_workbooks_need_openpyxl(tmp_path: pathlib.Path, monkeypatch: pytest.Mon
         pfs.read_csv(path)
     with pytest.raises(ImportError, match=needed):
         pfs.Instance([[1]]).schedule([0]).to_xlsx(path)
+
+
+@pytest.mark.parametrize("more", [0, 1])
+def test_a_row_may_have_as_many_cells_as_a_spreadsheet(tmp_path: pathlib.Path, more: int) -> None:
+    path = tmp_path / "table.csv"
+    path.write_text("job,saw" + "," * (16_382 + more) + "\nchair,3\n")
+    if more:
+        with pytest.raises(pfs.TableFault, match="line 1, the row has more than 16,384 cells"):
+            pfs.read_csv(path)
+    else:
+        assert pfs.read_csv(path).times.tolist() == [[3]]

@@ -57,7 +57,7 @@ def test_a_language_of_a_file(folder: pathlib.Path) -> None:
     words = ["plan", "times.csv", "--language", "fr.txt"]
     assert ended([*words, "--schedule", "plan.csv"], folder)[0] == 0
     assert (folder / "plan.csv").read_text("utf-8-sig").startswith('"commande; n°";machine;start;fin = arrêt\n')
-    assert ended([*words, "--order", "plan.csv"], folder)[0] == 0
+    assert ended([*words, "--order", "plan.csv", "--compare", "plan.csv"], folder)[0] == 0
     assert ended(["plan", "times.csv", "--order", "plan.csv"], folder)[0] == 2, "in none of the languages"
 
 

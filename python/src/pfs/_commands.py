@@ -529,7 +529,7 @@ def words() -> argparse.ArgumentParser:
     search = commands.add_parser("search", help="searches an instance file, prints an order file")
     add_search_words(search.add_argument, "1,000,000", "", "4", "0")
     search.add_argument("file", metavar="FILE")
-    search.add_argument("--layout", choices=tuple(c.LAYOUTS), required=True)
+    search.add_argument("--layout", choices=tuple(c.LAYOUTS), required=True, help="the layout of the instance file")
     search.add_argument("--block", type=number(1, c.MOST_BLOCKS), default=1, metavar="K", help="counted from 1")
     search.add_argument("--start", metavar="ORDER", help="an order file to begin with, else NEH's order")
     search.add_argument("--state", metavar="STATE", help="a file that keeps what is needed to go on")
