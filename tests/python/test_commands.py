@@ -315,14 +315,14 @@ def test_progress_is_reported_on_a_terminal_only(folder: pathlib.Path) -> None:
 
 # The time limit and the rounds that are due; how far the search was when it began, how far it is after some seconds,
 # and how long it still takes: by its own rounds, and not beyond the limit.
-LEFT: list[tuple[float | None, int, int, int, float, str]] = [
-    (None, 400, 100, 200, 10.0, "0:00:20"), (3.0, 1_000_000, 0, 1, 1.0, "0:00:02"),
+LEFT: list[tuple[float | None, int | None, int, int, float, str]] = [
+    (None, 400, 100, 200, 10.0, "0:00:20"), (5.0, None, 0, 7, 2.0, "0:00:03"), (3.0, 1_000_000, 0, 1, 1.0, "0:00:02"),
     (3.0, 1_000_000, 0, 1, 2.5, "0:00:01"), (3.0, 1_000_000, 0, 1, 4.0, "0:00:00")]
 
 
 @pytest.mark.parametrize(("limit", "rounds", "begun", "done", "spent", "left"), LEFT)
-def test_the_time_that_is_left(monkeypatch: pytest.MonkeyPatch, limit: float | None, rounds: int, begun: int, done: int,
-                               spent: float, left: str) -> None:
+def test_the_time_that_is_left(monkeypatch: pytest.MonkeyPatch, limit: float | None, rounds: int | None, begun: int,
+                               done: int, spent: float, left: str) -> None:
     now, lines = [0.0], list[str]()
     monkeypatch.setattr(_commands, "time", types.SimpleNamespace(monotonic=lambda: now[0]))
     search = _search.Search(pfs.taillard(1), None, begun, None, 0, 0)
@@ -333,7 +333,8 @@ def test_the_time_that_is_left(monkeypatch: pytest.MonkeyPatch, limit: float | N
     now[0] = spent
     progress.update(done, 1278)
     assert limit or not lines[0].endswith("left"), "nothing is known of the time of a round yet"
-    assert lines[1].endswith(f", {left} left"), lines
+    of = "" if rounds is None else f" of {rounds:,}"
+    assert lines[1].startswith(f"round {done}{of}, makespan ") and lines[1].endswith(f", {left} left"), lines
 
 
 def asked(folder: pathlib.Path, monkeypatch: pytest.MonkeyPatch, words: list[str]) -> dict[str, Any]:
