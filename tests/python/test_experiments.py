@@ -334,7 +334,8 @@ def test_a_start_that_ends_half_way_leaves_no_folder(error: type[BaseException],
                                                      monkeypatch: pytest.MonkeyPatch) -> None:
     monkeypatch.setattr(stage, "add_runs", mock.Mock(side_effect=error))
     with pytest.raises(error):
-        stage.prepare(*(str(experiment.folder / name) for name in ("plan.toml", "out.csv")), str(experiment.pfs.path))
+        stage.prepare(str(experiment.folder / "plan.toml"), str(experiment.folder / "out.csv"),
+                      str(experiment.pfs.path))
     assert not experiment.runs.exists()
 
 
