@@ -57,11 +57,9 @@ class Map:
 
 
 def copied(folder: pathlib.Path) -> pathlib.Path:
-    """A copy of the checkout, with what is built."""
-    files = subprocess.run(["git", "ls-files", "-z", "--cached", "--others", "--exclude-standard"], cwd=TOP, check=True,
-                           capture_output=True).stdout
-    subprocess.run(["rsync", "-a", "-0", "--files-from=-", "--ignore-missing-args", f"{TOP}/", folder], input=files,
-                   check=True)
+    """A copy of the checkout, without what is built."""
+    leaving = (f"--exclude={name}" for name in ("/.git", "out/", "__pycache__/"))
+    subprocess.run(["rsync", "-a", *leaving, f"{TOP}/", folder], check=True)
     return folder
 
 
