@@ -948,6 +948,16 @@ def test_a_run_that_kills_its_process_leaves_the_later_ones_to_the_next_start(ex
     assert set(experiment.searches().values()) == {1, 3}, "how often each run was begun"
 
 
+def states_of(group: int) -> set[bytes]:
+    """The states of the processes of a group."""
+    found = set[bytes]()
+    for path in pathlib.Path("/proc").glob("[0-9]*/stat"):
+        with contextlib.suppress(OSError):
+            state, _, its_group = path.read_bytes().rpartition(b")")[2].split()[:3]
+            found |= {state} if int(its_group) == group else set()
+    return found
+
+
 def test_a_process_whose_starter_is_killed_makes_no_further_run(experiment: Experiment) -> None:
     """If GNU parallel is killed at once with its starter, nothing ends the processes, which have 8 runs each."""
     with experiment.plan(MANY).gate() as let_through:
@@ -955,6 +965,7 @@ def test_a_process_whose_starter_is_killed_makes_no_further_run(experiment: Expe
         wait_until(lambda: len(experiment.started()) == 2, "two searches wait")
         os.killpg(begun.pid, signal.SIGKILL)
         begun.wait(60)
+        wait_until(lambda: states_of(begun.pid) <= {b"Z", b"X"}, "GNU parallel is gone")
         let_through(60)
         wait_until(lambda: experiment.left() == [], "the processes end")
     assert len(experiment.started()) == len(experiment.done()) == 2
