@@ -5,12 +5,7 @@
  *        library insert COUNT FILE          makes COUNT insertions, of each job in turn into the others in the order
  *                                           of their numbers; prints the sum of the places and the makespans
  *        library makespans COUNT FILE PART  computes the makespans of the same 1,000 orders COUNT times, in calls of
- *                                           PART orders, or with PART 0 by pfs_makespan; prints their sum
- *        library own ROUNDS FILE FORM       NEH and ROUNDS rounds with seed 1, made of other functions. Each round
- *                                           inserts its jobs by calls of pfs_insert (`insert`) or by one call of
- *                                           pfs_construct (`construct`); with `local` a call of pfs_local_search
- *                                           follows. The forms `rounds` and `passes` make the same rounds by one call
- *                                           of pfs_rounds. Prints the makespan and a sum of the order */
+ *                                           PART orders, or with PART 0 by pfs_makespan; prints their sum */
 #include <inttypes.h>
 #include <stdio.h>
 #include <stdlib.h>
@@ -107,71 +102,6 @@ static void makespans(uint64_t count, size_t part) {
     printf("%" PRIu64 " makespans, sum %" PRIu64 "\n", count * ORDERS, sum);
 }
 
-enum { TAKE = 4 };
-
-/* Inserts the removed jobs into the sequence, and returns the makespan. */
-static uint64_t reinsert(const char *form, uint32_t *sequence, size_t length, const uint32_t *removed, size_t take) {
-    static uint32_t found[PFS_MOST_JOBS], all[PFS_MOST_JOBS];
-    uint64_t makespan = 0;
-    size_t place;
-    if (strcmp(form, "insert") == 0) {
-        for (size_t index = 0; index < take; ++index, ++length) {
-            check(pfs_insert(&instance, sequence, length, removed[index], &place, &makespan));
-            memmove(sequence + place + 1, sequence + place, (length - place) * sizeof *sequence);
-            sequence[place] = removed[index];
-        }
-        return makespan;
-    }
-    check(pfs_construct(&instance, sequence, length, removed, take, found, jobs, &makespan));
-    memcpy(sequence, found, jobs * sizeof *found);
-    if (strcmp(form, "local") == 0) {
-        for (uint32_t job = 0; job < jobs; ++job)
-            all[job] = job;
-        check(pfs_local_search(&instance, all, jobs, 1, sequence, jobs, &makespan));
-    }
-    return makespan;
-}
-
-/* The rounds of pfs_rounds, made of the library's other functions. */
-static uint64_t own_rounds(const char *form, uint32_t rounds, uint64_t makespan) {
-    static uint32_t sequence[PFS_MOST_JOBS];
-    uint32_t take = jobs < TAKE ? (uint32_t)jobs : TAKE, removed[TAKE];
-    uint32_t *words = malloc(rounds * take * sizeof *words), *word = words;
-    if (words == NULL)
-        check(PFS_MEMORY);
-    check(pfs_random(1, 0, words, rounds * take));
-    for (uint32_t round = 0; round < rounds; ++round) {
-        uint32_t length = (uint32_t)jobs;
-        memcpy(sequence, order, jobs * sizeof *order);
-        for (uint32_t index = 0; index < take; ++index) {
-            uint32_t place = *word++ % length;
-            removed[index] = sequence[place];
-            memmove(sequence + place, sequence + place + 1, (--length - place) * sizeof *sequence);
-        }
-        uint64_t found = reinsert(form, sequence, length, removed, take);
-        if (found <= makespan) {
-            makespan = found;
-            memcpy(order, sequence, jobs * sizeof *order);
-        }
-    }
-    free(words);
-    return makespan;
-}
-
-static void own(const char *form, uint32_t rounds) {
-    uint64_t makespan, cells, sum = 0;
-    uint32_t passes = strcmp(form, "passes") == 0;
-    struct pfs_rounds_options options = {1, jobs < TAKE ? jobs : TAKE, 0, rounds, passes};
-    check(pfs_neh(&instance, order, jobs, &makespan, &cells));
-    if (passes || strcmp(form, "rounds") == 0)
-        check(pfs_rounds(&instance, &options, order, jobs, &makespan, &cells));
-    else
-        makespan = own_rounds(form, rounds, makespan);
-    for (size_t place = 0; place < jobs; ++place)
-        sum = sum * 31 + order[place];
-    printf("makespan %" PRIu64 ", order %" PRIu64 "\n", makespan, sum);
-}
-
 int main(int count, char **words) {
     if (count == 5 && strcmp(words[1], "rounds") == 0) {
         read_shop(words[3]);
@@ -182,9 +112,6 @@ int main(int count, char **words) {
     } else if (count == 5 && strcmp(words[1], "makespans") == 0) {
         read_shop(words[3]);
         makespans(strtoull(words[2], NULL, 10), strtoul(words[4], NULL, 10));
-    } else if (count == 5 && strcmp(words[1], "own") == 0) {
-        read_shop(words[3]);
-        own(words[4], (uint32_t)strtoul(words[2], NULL, 10));
     } else {
         return 3;
     }

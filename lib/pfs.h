@@ -190,13 +190,12 @@ int pfs_prepare(const uint32_t *times, size_t times_length, size_t jobs, size_t 
 void pfs_release(struct pfs_instance *instance);
 
 /** @name Calls on a prepared instance.
- * After each call the struct holds the same instance. Calls do not depend on one another.
+ * Each takes a struct that holds one, and leaves the same instance in it. Calls do not depend on one another.
  * @{
  */
 
 /** @brief Says how many jobs and machines an instance has. Since version 2.1.0.
  *
- * @param[in,out] instance the instance
  * @param[out] jobs number of jobs
  * @param[out] machines number of machines
  * @return PFS_OK, or PFS_NOT_PREPARED (instance)
@@ -207,7 +206,6 @@ int pfs_sizes(struct pfs_instance *instance, size_t *jobs, size_t *machines) PFS
  *
  * Calls that return PFS_JOB or PFS_REPEATED do not say which job it is; this one does.
  *
- * @param[in,out] instance the instance
  * @param[in] jobs the list
  * @param[in] jobs_length number of jobs in the list
  * @param[out] place place of that job, from 0; the length of the list if each of its jobs is valid
@@ -219,7 +217,6 @@ int pfs_faulty_job(struct pfs_instance *instance, const uint32_t *jobs, size_t j
  *
  * The sequence need not contain all jobs. The makespan of no jobs is 0.
  *
- * @param[in,out] instance the instance
  * @param[in] sequence distinct jobs, in the order in which they are processed
  * @param[in] sequence_length number of jobs in the sequence
  * @param[out] makespan makespan of the sequence
@@ -234,7 +231,6 @@ int pfs_makespan(struct pfs_instance *instance, const uint32_t *sequence, size_t
  * sequence that begins at sequences[index * length]. A sequence need not contain all jobs. If one sequence is invalid,
  * no makespan is written.
  *
- * @param[in,out] instance the instance
  * @param[in] sequences the sequences, one after the other
  * @param[in] sequences_length number of all their jobs, which is makespans_length * length
  * @param[in] length number of jobs in each sequence
@@ -252,7 +248,6 @@ int pfs_makespans(struct pfs_instance *instance, const uint32_t *sequences, size
  * machine, plus the least time that a job takes on the machines before it, plus the least time that a job takes on
  * those after it.
  *
- * @param[in,out] instance the instance
  * @param[out] bound the lower bound
  * @return PFS_OK or PFS_NOT_PREPARED (instance)
  */
@@ -262,7 +257,6 @@ int pfs_bound(struct pfs_instance *instance, uint64_t *bound) PFS_CHECKED;
  *
  * Entry place * machines + machine belongs to the job at this place of the order, on this machine.
  *
- * @param[in,out] instance the instance
  * @param[in] order all jobs, in the order in which they are processed
  * @param[in] order_length length of the order, which is the number of jobs
  * @param[out] starts start of each operation
@@ -280,7 +274,6 @@ int pfs_table(struct pfs_instance *instance, const uint32_t *order, size_t order
  * NEH takes the jobs by decreasing total processing time, of equal totals the lower job first, and inserts each at its
  * best place, of equally good places the first. Best places are found by heads and tails (Taillard 1990).
  *
- * @param[in,out] instance the instance
  * @param[out] order NEH's order
  * @param[in] order_length length of the order, which is the number of jobs
  * @param[out] makespan makespan of the order
@@ -312,7 +305,6 @@ struct pfs_rounds_options {
  * A search may be made in parts: rounds 0 to 99 and then rounds 100 to 199 leave the same order as rounds 0 to 199.
  * From NEH's order, the rounds leave the order that `pfs solve` prints.
  *
- * @param[in,out] instance the instance
  * @param[in] options which rounds to make
  * @param[in,out] order all jobs; the order to start from, then the order after the rounds
  * @param[in] order_length length of the order, which is the number of jobs
@@ -387,7 +379,6 @@ struct pfs_iterate_options {
  * one to accept, `take` to remove, and n for the order of the passes. So a search may be made in parts: rounds 0 to 99
  * and then rounds 100 to 199, from both orders of the first part, leave the same orders as rounds 0 to 199.
  *
- * @param[in,out] instance the instance
  * @param[in] options which rounds to make
  * @param[in] accept chances of longer orders
  * @param[in] accept_length number of chances
@@ -413,7 +404,6 @@ int pfs_iterate(struct pfs_instance *instance, const struct pfs_iterate_options 
  * The best place is the first one that gives the least makespan. The job is inserted before the job at this place, or
  * after the last job. A call is faster if its sequence differs only in a few places from the one before.
  *
- * @param[in,out] instance the instance
  * @param[in] sequence distinct jobs, without the job to insert
  * @param[in] sequence_length number of jobs in the sequence
  * @param[in] job the job to insert
@@ -430,7 +420,6 @@ int pfs_insert(struct pfs_instance *instance, const uint32_t *sequence, size_t s
  * Of the places that give the least makespan, `ties` says which one is the best, as for pfs_iterate. With
  * PFS_TIES_FIRST it is the place that pfs_insert finds. Since version 2.1.0.
  *
- * @param[in,out] instance the instance
  * @param[in] ties PFS_TIES_FIRST or PFS_TIES_IDLE
  * @param[in] sequence distinct jobs, without the job to insert
  * @param[in] sequence_length number of jobs in the sequence
@@ -447,7 +436,6 @@ int pfs_insert_ties(struct pfs_instance *instance, uint32_t ties, const uint32_t
  * makespans[place] is the makespan with the job before the one at this place, and makespans[sequence_length] that with
  * the job after the last one. The first place with the least of them is the one that pfs_insert finds.
  *
- * @param[in,out] instance the instance
  * @param[in] sequence distinct jobs, without the job to insert
  * @param[in] sequence_length number of jobs in the sequence
  * @param[in] job the job to insert
@@ -465,7 +453,6 @@ int pfs_insertions(struct pfs_instance *instance, const uint32_t *sequence, size
  * Its head is the earliest time at which the operation ends. Its tail is the longest path from the start of the
  * operation to the end of the sequence. Both include the time of the operation.
  *
- * @param[in,out] instance the instance
  * @param[in] sequence distinct jobs, in the order in which they are processed
  * @param[in] sequence_length number of jobs in the sequence
  * @param[out] heads head of each operation
@@ -483,7 +470,6 @@ int pfs_heads_tails(struct pfs_instance *instance, const uint32_t *sequence, siz
  * The best place is the one that pfs_insert finds. From the empty sequence and all jobs in the order of NEH's ranking,
  * the function finds NEH's order.
  *
- * @param[in,out] instance the instance
  * @param[in] sequence distinct jobs, to which the others are added
  * @param[in] sequence_length number of jobs in the sequence
  * @param[in] more jobs to insert, in this order; they are distinct, and not in the sequence
@@ -502,7 +488,6 @@ int pfs_construct(struct pfs_instance *instance, const uint32_t *sequence, size_
  * The best place is the one that pfs_insert_ties finds. With PFS_TIES_FIRST the order is that of pfs_construct. Since
  * version 2.1.0.
  *
- * @param[in,out] instance the instance
  * @param[in] ties PFS_TIES_FIRST or PFS_TIES_IDLE
  * @param[in] sequence distinct jobs, to which the others are added
  * @param[in] sequence_length number of jobs in the sequence
@@ -522,7 +507,6 @@ int pfs_construct_ties(struct pfs_instance *instance, uint32_t ties, const uint3
  * In a pass, each job of the list is removed and inserted at its best place, which is the one that pfs_insert finds.
  * The result is never longer than the sequence. A list of all jobs from 0 on makes the passes of a round of pfs_rounds.
  *
- * @param[in,out] instance the instance
  * @param[in] list distinct jobs of the sequence, in the order in which they are removed and inserted
  * @param[in] list_length number of jobs in the list
  * @param[in] passes number of passes, from 0 to PFS_MOST_PASSES
@@ -545,7 +529,6 @@ int pfs_local_search(struct pfs_instance *instance, const uint32_t *list, size_t
  * of these passes made the sequence shorter. The result is never longer than the sequence. One pass with
  * PFS_TIES_FIRST is that of pfs_local_search. Since version 2.1.0.
  *
- * @param[in,out] instance the instance
  * @param[in] ties PFS_TIES_FIRST or PFS_TIES_IDLE
  * @param[in] list distinct jobs of the sequence, in the order in which they are removed and inserted
  * @param[in] list_length number of jobs in the list
@@ -569,7 +552,6 @@ struct pfs_notes {
  *
  * The file has single spaces and no leading zeros. The layout PFS_ORLIB has no notes.
  *
- * @param[in,out] instance the instance
  * @param[in] notes notes for the size line
  * @param[in] layout PFS_TAILLARD or PFS_ORLIB
  * @param[out] text the file, in the front of the list

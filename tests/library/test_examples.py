@@ -9,17 +9,16 @@ import subprocess
 
 import pytest
 from support import second_library, second_program
-from support.growths import Shim
 from support.library import HEADER, Library, compile_quietly
 from support.needs import tool
 from support.program import Program
-from support.second_program import Instance
+from support.second_program import Instance, generated
 from support.tools import Done, csv_rows, require_debian_module, output_of, run_tool, with_path
 
 EXAMPLES = HEADER.parent.parent / "examples"
 PAGE = (EXAMPLES / "README.md").read_text()
-SOURCES = [EXAMPLES / name for name in ("audit_orders.c", "gaps.cpp", "ig_temperature.c", "neh_ties.c", "own_search.c",
-                                         "timed_search.c")]
+SOURCES = [EXAMPLES / name
+           for name in ("audit_orders.c", "gaps.cpp", "ig_temperature.c", "neh_ties.c", "timed_search.c")]
 VERSION = (HEADER.parent.parent / "VERSION").read_text().strip()
 STRICT = {"cc": "-std=c99", "c++": "-std=c++17"}
 SEED = 873654221
@@ -85,7 +84,7 @@ def run_page(built: pathlib.Path, pfs: Program, folder: pathlib.Path) -> None:
     for path in (*(built / source.stem for source in SOURCES), pfs.path):
         (folder / path.name).symlink_to(path)
     shown = re.findall(r"^\$ (.*)\n((?:(?!\$|```).*\n)*)", PAGE, re.MULTILINE)
-    assert len(shown) == 8
+    assert len(shown) == 7
     for line, text in shown:
         printed = output_of(["sh", "-c", f"{{ {line}; }} 2>&1 || [ $? = 1 ]"], folder, env=with_path(folder))
         assert printed == text, line
@@ -122,7 +121,7 @@ def last_places(shop: Instance) -> int:
 
 @pytest.mark.parametrize(("jobs", "machines", "seed"), [(20, 5, SEED), (9, 3, 5), (12, 1, 77), (1, 4, 1), (7, 20, 9)])
 def test_ties(built: pathlib.Path, folder: pathlib.Path, jobs: int, machines: int, seed: int) -> None:
-    shop = second_program.generated(jobs, machines, seed)
+    shop = generated(jobs, machines, seed)
     first = second_program.makespan(shop, second_program.by_totals(shop))
     got = run(built, "neh_ties", str(jobs), str(machines), str(seed), cwd=folder)
     expected = f"first places {first}\nleast delay {least_delay(shop)}\nlast places {last_places(shop)}\n"
@@ -132,7 +131,7 @@ def test_ties(built: pathlib.Path, folder: pathlib.Path, jobs: int, machines: in
 @pytest.fixture
 def shop(folder: pathlib.Path) -> pathlib.Path:
     """A folder with an instance of 20 jobs on 5 machines in the file `shop`."""
-    (folder / "shop").write_bytes(second_program.canonical(second_program.generated(20, 5, SEED), b"taillard"))
+    (folder / "shop").write_bytes(second_program.canonical(generated(20, 5, SEED), b"taillard"))
     return folder
 
 
@@ -160,34 +159,6 @@ def test_a_search_rejects_other_states(built: pathlib.Path, shop: pathlib.Path, 
     got = run(built, "timed_search", "shop", "state", "7", "1", "10", cwd=shop)
     assert (got.status, got.stdout) == (2, "") and got.stderr.startswith("timed_search: ") and why in got.stderr
     assert (shop / "state").read_bytes() == state and not (shop / "state.new").exists()
-
-
-@pytest.mark.parametrize(("jobs", "machines", "rounds", "seed"), [
-    (20, 5, 300, 7), (50, 10, 20, 2**64 - 1), (9, 30, 40, 1), (4, 3, 9, 5), (3, 2, 9, 0), (1, 1, 2, 3), (20, 5, 0, 1)])
-def test_an_own_search(built: pathlib.Path, pfs: Program, folder: pathlib.Path, jobs: int, machines: int, rounds: int,
-                       seed: int) -> None:
-    """It finds what the program finds, by insertions into a prepared instance."""
-    (folder / "shop").write_bytes(second_program.canonical(second_program.generated(jobs, machines, SEED), b"taillard"))
-    found = run(built, "own_search", "shop", str(rounds), str(seed), cwd=folder)
-    whole = pfs.run(f"solve --layout taillard --rounds {rounds} --seed {seed} shop", folder).stdout.decode()
-    assert found == Done(0, whole, f"{rounds} rounds, makespan {whole.split()[-1]}\n")
-
-
-def test_an_own_search_reports_failed_allocations(built: pathlib.Path, shop: pathlib.Path) -> None:
-    """Each in turn. Without memory for a buffer, the C library reads and writes files without one."""
-    shim, program, words = Shim(shop), Program(built / "own_search"), ["shop", "3", "7"]
-    right = program.run(words, shop)
-    failed = set[bytes]()
-    growth, is_refused = 0, True
-    while is_refused:
-        growth += 1
-        ran, is_refused = shim.run_refused(program, words, shop, b"", growth)
-        if ran != right:
-            assert (ran.stdout, ran.status) == (b"", 4 if b"cannot open" in ran.stderr else 2), f"allocation {growth}"
-            failed.add(ran.stderr)
-    assert right.status == 0 and b"own_search: shop: memory allocation failed\n" in failed
-    assert all(re.fullmatch(rb"own_search: (shop: cannot open|\w+: memory allocation failed)\n", line)
-               for line in failed), failed
 
 
 def test_a_search_with_temperature(built: pathlib.Path, pfs: Program, shop: pathlib.Path) -> None:
@@ -230,19 +201,17 @@ def test_files_that_cannot_be_opened_read_or_written(built: pathlib.Path, shop: 
     assert got == Done(4, "", "timed_search: none: cannot open\n")
     got = run(built, "timed_search", "shop", "none/state", "7", "0", cwd=shop)
     assert got == Done(4, "", "timed_search: none/state.new: cannot open\n")
-    assert run(built, "own_search", "none", "1", "1", cwd=shop) == Done(4, "", "own_search: none: cannot open\n")
     got = run(built, "ig_temperature", "none", "1", "1", cwd=shop)
     assert got == Done(4, "", "ig_temperature: none: cannot read\n")
     assert run(built, "audit_orders", "none", "x", cwd=shop) == Done(4, "", "audit_orders: none: cannot open\n")
     assert run(built, "audit_orders", "shop", "none", cwd=shop) == Done(4, "", "audit_orders: none: cannot open\n")
     (shop / "empty").write_bytes(b"")
-    got = run(built, "own_search", "empty", "3", "7", cwd=shop)
-    assert got == Done(2, "", "own_search: empty: the file ends before the block\n")
+    got = run(built, "timed_search", "empty", "state", "7", "0", cwd=shop)
+    assert got == Done(2, "", "timed_search: empty: the file ends before the block\n")
 
 
 @pytest.mark.parametrize("words", [["timed_search", "shop", "state", "7", "0"], ["neh_ties", "5", "2", "1"],
-                                   ["own_search", "shop", "3", "7"], ["ig_temperature", "shop", "7", "0"],
-                                   ["audit_orders", "shop", "shop"]])
+                                   ["ig_temperature", "shop", "7", "0"], ["audit_orders", "shop", "shop"]])
 def test_a_full_device_is_reported(built: pathlib.Path, shop: pathlib.Path, words: list[str]) -> None:
     with open("/dev/full", "wb") as full:
         done = subprocess.run([built / words[0], *words[1:]], cwd=shop, stdout=full, stderr=subprocess.PIPE, text=True)
@@ -261,8 +230,8 @@ def test_a_state_stays_if_no_other_can_be_written(built: pathlib.Path, shop: pat
 
 
 def test_audits(built: pathlib.Path, folder: pathlib.Path) -> None:
-    (folder / "shop").write_bytes(second_program.canonical(second_program.generated(3, 2, SEED), b"taillard"))
-    shop = second_program.generated(3, 2, SEED)
+    (folder / "shop").write_bytes(second_program.canonical(generated(3, 2, SEED), b"taillard"))
+    shop = generated(3, 2, SEED)
     makespan, bound = second_program.makespan(shop, [0, 1, 2]), second_program.lower_bound(shop)
     texts = {
         "right": second_program.order_text([0, 1, 2], 2, makespan),
@@ -324,3 +293,96 @@ def test_the_example_in_r(installed: pathlib.Path, folder: pathlib.Path) -> None
     done = run_tool(["sh", "-e", "-c", line[0].replace("pfs_r.c", "pfs_r.c > log", 1)], folder, env=env)
     assert re.fullmatch("order 2 1 3, makespan 10\npfs: a job .* twice.*\n", done.stdout), done
     assert "warning" not in (folder / "log").read_text() + done.stderr
+
+
+# What people copy: the header for C++ and the module for Rust
+
+IN_CPP = """
+#include "pfs.hpp"
+#include <cstdio>
+#include <type_traits>
+
+static_assert(!std::is_copy_constructible<pfs::Instance>::value, "two structs with one instance");
+static_assert(std::is_nothrow_move_constructible<pfs::Instance>::value, "");
+
+int main() {
+    pfs::List times(20 * 5);
+    pfs::check(pfs_generate(20, 5, 873654221, times.data(), times.size()));
+    pfs::Instance first(times, 20, 5);
+    pfs::Instance shop(std::move(first));
+    first = pfs::Instance(pfs::List{7}, 1, 1);
+    std::swap(first, shop);
+    std::swap(first, shop);
+    pfs::Solution found = shop.neh();
+    std::printf("%llu %llu", (unsigned long long)shop.bound(), (unsigned long long)found.makespan);
+    pfs_rounds_options options{1, 4, 0, 20, 1};
+    found = shop.rounds(options, found.order);
+    std::printf(" %llu %d", (unsigned long long)found.makespan, (int)(shop.makespan(found.order) == found.makespan));
+    std::uint32_t job = found.order.back();
+    found.order.pop_back();
+    pfs::Place place = shop.insert(found.order, job);
+    std::printf(" %llu %llu\\n", (unsigned long long)place.makespan, (unsigned long long)shop.makespan(pfs::List{}));
+    try {
+        shop.makespan(pfs::List{1, 1});
+    } catch (const pfs::Fault& fault) {
+        std::printf("%d %s\\n", fault.number, fault.what());
+    }
+    try {
+        pfs::Instance wrong(times, 20, 4);
+    } catch (const std::exception& fault) {
+        std::printf("%s\\n", fault.what());
+    }
+}
+"""
+IN_RUST = """
+#[path = "PATH"]
+mod pfs;
+
+fn main() -> Result<(), Box<dyn std::error::Error>> {
+    let times: Vec<u32> = vec![TIMES];
+    let mut shop = pfs::Instance::new(&times, 20, 5)?;
+    let (mut order, neh) = shop.neh()?;
+    let bound = shop.bound()?;
+    let options = pfs::Options { seed: 1, take: 4, first: 0, count: 20, passes: 1 };
+    let found = std::thread::scope(|scope| scope.spawn(|| shop.rounds(&options, &mut order)).join().unwrap())?;
+    let same = u8::from(shop.makespan(&order)? == found);
+    let job = order.pop().unwrap();
+    let (_, again) = shop.insert(&order, job)?;
+    println!("{bound} {neh} {found} {same} {again} {}", shop.makespan(&[])?);
+    let fault = shop.makespan(&[1, 1]).unwrap_err();
+    println!("{} {fault}", fault.0);
+    println!("{}", pfs::Instance::new(&times, 20, 4).err().unwrap());
+    Ok(())
+}
+"""
+
+
+def expected() -> str:
+    shop = generated(20, 5, SEED)
+    order = second_program.by_totals(shop)
+    neh, random = second_program.makespan(shop, order), second_program.Pcg32(1)
+    for _ in range(20):
+        order = second_program.after_round(shop, order, [random.next_word() for _ in range(4)], 1)
+    found = second_program.makespan(shop, order)
+    again = second_program.makespan(shop, second_program.inserted(shop, order[:-1], order[-1]))
+    return (f"{second_program.lower_bound(shop)} {neh} {found} 1 {again} 0\n6 a job occurs twice\n"
+            "a list doesn't have the length that the sizes require\n")
+
+
+@pytest.mark.parametrize("standard", ["c++17", "c++20"])
+@pytest.mark.parametrize("compiler", ["g++", "clang++"])
+def test_the_header_for_cpp(standard: str, compiler: str, libpfs: Library, folder: pathlib.Path) -> None:
+    (folder / "a.cpp").write_text(IN_CPP)
+    compile_quietly([tool(compiler), f"-std={standard}", "-O1", "-Wall", "-Wextra", "-pedantic", "-Werror",
+                     f"-I{EXAMPLES}", f"-I{HEADER.parent}", "-o", folder / "a", folder / "a.cpp", libpfs.path,
+                     f"-Wl,-rpath,{libpfs.path.parent}"])
+    assert output_of([folder / "a"], folder) == expected()
+
+
+def test_the_module_for_rust(libpfs: Library, folder: pathlib.Path) -> None:
+    times = ", ".join(str(row[job]) for shop in [generated(20, 5, SEED)] for job in range(20) for row in shop.times)
+    (folder / "a.rs").write_text(IN_RUST.replace("PATH", str(EXAMPLES / "pfs.rs")).replace("TIMES", times))
+    (folder / "libpfs.so").symlink_to(libpfs.path)
+    compile_quietly([tool("rustc"), "--edition", "2021", "-D", "warnings", "-L", folder, "-o", folder / "a",
+                     folder / "a.rs"])
+    assert output_of([folder / "a"], folder, env={"LD_LIBRARY_PATH": str(libpfs.path.parent)}) == expected()

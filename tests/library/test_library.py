@@ -5,6 +5,7 @@ import ctypes
 import pathlib
 import re
 import subprocess
+import threading
 from collections.abc import Callable
 from random import Random
 
@@ -17,8 +18,8 @@ from support.library import (HEADER, SUPPORT, Answer, Library, Memory, Number, c
 from support.needs import tool
 from support.program import Program, Ran
 from support.second_library import ITERATE_OPTIONS, OPTIONS, by_job
-from support.second_program import Instance
-from support.tools import output_of
+from support.second_program import Instance, generated, makespan
+from support.tools import csv_rows, output_of
 
 CALLS = SUPPORT / "library_calls.c"
 # The functions that allocate nothing once their instance is prepared, those that do, and those that need none.
@@ -37,7 +38,6 @@ ALL_CALLS = Ran(b"223 calls, 0 failures\n", b"", 0)
 MOST_GROWTHS = 200
 SHOPS = 200
 FILES = 1_000
-TIED = 60
 # The greatest work of rounds that the second library does in a test, roughly in table cells.
 MOST_WORK = 500_000
 PATTERN = 0xA5A5A5A5
@@ -156,21 +156,8 @@ def test_other_numbers_have_no_text(texts: dict[int, str]) -> None:
 MANUAL = HEADER.parent.parent / "share" / "pfs.3"
 
 
-def test_the_manual_page_declares_what_the_header_does() -> None:
-    code = re.sub(r"/\*.*?\*/", "", HEADER.read_text(), flags=re.DOTALL)
-    declared = {name: re.sub(r"\s+", " ", parameters).split(", ") for name, parameters
-                in re.findall(r"^(?:int|void|const char \*)\s*(pfs_\w+)\(([^)]*)\)", code, re.MULTILINE)}
-    got = {name: re.findall(r'^\.Fa "(.*)"$', parameters, re.MULTILINE) for name, parameters
-            in re.findall(r"^\.Fo (\w+)\n(.*?)^\.Fc$", MANUAL.read_text(), re.MULTILINE | re.DOTALL)}
-    assert got == declared and got.keys() == NAMES
-
-
-def test_the_manual_page_has_each_number_and_function() -> None:
-    text = MANUAL.read_text().partition(".Sh DESCRIPTION")[2]
-    numbers = {name: int(value) for name, value in re.findall(r"^\.It Dv (PFS_\w+) Pq (\d+)$", text, re.MULTILINE)}
-    assert numbers == {name: value for name, value in defined().items() if value in MEANT.keys() - {0}
-                       and not re.match("PFS_(MOST|LONGEST|TAILLARD|ORLIB|TIES_)", name)}
-    assert set(re.findall(r"^\.Fn (\w+)", text, re.MULTILINE)) == NAMES
+def test_the_manual_page_has_each_function() -> None:
+    assert set(re.findall(r"^\.Fn (\w+)", MANUAL.read_text(), re.MULTILINE)) == NAMES
 
 
 def test_the_examples_of_the_pages_print_their_makespan(libpfs: Library, top: pathlib.Path,
@@ -231,6 +218,11 @@ def test_each_call_has_the_due_number_and_outputs(libpfs: Library, folder: pathl
     assert program.run("all", folder) == ALL_CALLS
 
 
+@OF_CALLS
+def test_four_threads_with_an_instance_each_have_the_same_results(calls: Program, folder: pathlib.Path) -> None:
+    assert calls.run("threads", folder) == Ran(b"the same\n", b"", 0)
+
+
 def test_the_sanitizers_find_nothing_in_any_call(libpfs: Library, folder: pathlib.Path) -> None:
     checks = ["-fsanitize=address,undefined", "-fno-sanitize-recover=all"]
     program = compiled(folder / "calls", [CALLS], libpfs, *checks, is_static=True)
@@ -255,7 +247,7 @@ def test_valgrind_finds_nothing_in_any_call(calls: Program, folder: pathlib.Path
 def test_a_failed_allocation_leaves_every_output_unchanged(calls: Program, shim: Shim, folder: pathlib.Path,
                                                            name: str) -> None:
     """Of two calls, the one whose allocation fails returns PFS_MEMORY and leaves every output unchanged. The other one
-    is right. Functions that need no allocation don't make any beside those of pfs_prepare."""
+    is right. Functions that need no allocation make none besides those of pfs_prepare."""
     made = allocations(calls, shim, folder, name)
     prepared = allocations(calls, shim, folder, "prepare")
     assert name not in FUNCTIONS or (made > prepared) == (name in LOUD + OTHERS[1:])
@@ -295,8 +287,9 @@ def shop_of(random: Random) -> Instance:
     most_jobs, most_machines = random.choice([(9, 5), (9, 5), (12, 26)])
     notes = [random.choice(fuzz.NOTES) for _ in range(3)]
     shop = Instance(random.randint(1, most_jobs), random.randint(1, most_machines), notes)
-    most = random.choice([0, 1, 3, 9, 99, 3_000, 1_000_000_000])
-    shop.times = [[random.randint(0, most) for _ in range(shop.jobs)] for _ in range(shop.machines)]
+    most = random.choice([0, 1, 3, 9, 99, 3_000, 65_534, 65_535, 65_536, 1_000_000_000])
+    times = random.choice([range(most + 1), [0, 0, 1, most]])
+    shop.times = [random.choices(times, k=shop.jobs) for _ in range(shop.machines)]
     return shop
 
 
@@ -322,7 +315,7 @@ def searches(random: Random, shop: Instance) -> list[Call]:
     stay = random.choice([b"", bytes(random.choice([1, 255]) * (job not in moving) for job in range(shop.jobs))])
     size = shop.jobs * shop.machines
     first = random.choice([0, 0, 1, 7, second_program.MOST_JOBS])
-    count, length = random.randint(0, 5), random.randint(0, shop.jobs)
+    count, length = random.choice([0, 1, 2, 8, 9, 33]), random.randint(0, shop.jobs)
     sequences = [job for _ in range(count) for job in random.sample(jobs, length)]
     ties = Number(random.randint(0, 1), 32)
     return [
@@ -412,17 +405,14 @@ def is_quick(name: str, arguments: Arguments) -> bool:
         return numbers[1] <= 10_000
     if name == "pfs_prove":
         return numbers[4] == 0
+    memory = [argument.content for argument in arguments if isinstance(argument, Memory)]
     if name == "pfs_rounds":
-        options = [argument.content for argument in arguments if isinstance(argument, Memory)][1]
-        _, take, first, count, passes = OPTIONS.unpack(options)
+        _, take, first, count, passes = OPTIONS.unpack(memory[1])
     elif name == "pfs_iterate":
-        options = [argument.content for argument in arguments if isinstance(argument, Memory)][1]
-        _, take, _, first, count, *each, _ = ITERATE_OPTIONS.unpack(options)
+        _, take, _, first, count, *each, _ = ITERATE_OPTIONS.unpack(memory[1])
         take, passes = take + numbers[1], sum(each)
-    elif name == "pfs_local_search":
-        take, first, count, passes = 1, 0, 1, numbers[4]
-    elif name == "pfs_local_search_ties":
-        take, first, count, passes = 1, 0, 1, numbers[5]
+    elif name in ("pfs_local_search", "pfs_local_search_ties"):
+        take, first, count, passes = 1, 0, 1, numbers[5 if name.endswith("ties") else 4]
     else:
         return True
     if max(first + count, take, passes) > second_library.MOST_ROUNDS:
@@ -454,60 +444,7 @@ def test_two_libraries_agree_on_random_instances(libpfs: Library) -> None:
             for wrong in [spoilt(random, arguments) for _ in range(9)]:
                 if is_quick(name, wrong):
                     numbers.add(assert_same(libpfs, name, wrong))
-    # Other held jobs (16) are rare here; the test of ties has them.
-    assert numbers | {16} == {0, *range(2, 10), 16, 17}
-
-
-def tied(random: Random) -> tuple[Instance, list[int]]:
-    """A random instance with many equal sums, and an order of its jobs."""
-    shop = Instance(random.choice([1, 2, 5, 9, 12]), random.choice([1, 2, 5]), [0, 0, 0])
-    shop.times = [[random.randint(0, random.choice([0, 1, 3, 3])) for _ in range(shop.jobs)] for _ in shop.times]
-    return shop, random.sample(range(shop.jobs), shop.jobs)
-
-
-@pytest.mark.seconds(10)
-def test_two_libraries_insert_and_move_by_a_rule_alike(libpfs: Library) -> None:
-    """On instances with many equal sums, of which the rules, and more passes, leave different sequences."""
-    random = Random(4)
-    differ = [0, 0, 0, 0, 0]
-    for _ in range(TIED):
-        shop, jobs = tied(random)
-        left = random.randint(0, shop.jobs - 1)
-        room = [*list32([PATTERN] * shop.jobs), out64()]
-        calls: list[tuple[str, Arguments]] = [
-            ("insert", [*list32(jobs[:-1]), Number(jobs[-1], 32), out64(), out64()]),
-            ("construct", [*list32(jobs[:left]), *list32(jobs[left:]), *room]),
-            *(("local_search", [*list32(jobs), Number(passes, 32), *list32(jobs), out64()]) for passes in (1, 100))]
-        found = []
-        for name, arguments in calls:
-            each: list[Arguments] = [[*given(shop), Number(ties, 32), *arguments] for ties in (0, 1)]
-            assert [assert_same(libpfs, f"pfs_{name}_ties", one) for one in each] == [0, 0]
-            found.append([libpfs.call(f"pfs_{name}_ties", *one).memory[1:] for one in each])
-        for at, (one, other) in enumerate([*found, (found[2], found[3])]):
-            differ[at] += one != other
-    assert min(differ) > TIED // 12
-
-
-@pytest.mark.seconds(10)
-def test_two_libraries_break_ties_alike(libpfs: Library) -> None:
-    """By both rules, on small instances with many equal sums, of which the rules leave different orders."""
-    random = Random(3)
-    differ = 0
-    for _ in range(TIED):
-        shop, jobs = tied(random)
-        seed, take = random.choice(fuzz.SEEDS[:-1]), random.randint(1, shop.jobs)
-        held = random.choice([0, shop.jobs - take])
-        kept = list[Answer]()
-        for ties in (0, 1):
-            options = Memory(ITERATE_OPTIONS.pack(seed, take, held, 0, 3, 1, 2, ties))
-            arguments = [*given(shop), options, *list32([2**31, 2**30]), *text(b""), *list32(jobs), out64(),
-                         *list32(jobs), out64()]
-            assert assert_same(libpfs, "pfs_iterate", arguments) == 0
-            kept.append(libpfs.call("pfs_iterate", *arguments))
-            other = [*arguments[:-3], *list32(jobs[::-1]), out64()]
-            assert assert_same(libpfs, "pfs_iterate", other) == (16 if held else 0)
-        differ += kept[0].memory[3:] != kept[1].memory[3:]
-    assert differ > TIED // 4
+    assert numbers == {0, *range(2, 10), 16, 17}
 
 
 @pytest.mark.seconds(10)
@@ -531,3 +468,41 @@ def test_a_file_of_one_byte_more_is_too_long(libpfs: Library, more: int, numbers
         got = libpfs.call(call, *text(content), *options, *outputs, out64())
         given_memory = [each.content for each in [*options, *outputs] if isinstance(each, Memory)]
         assert (got.number, got.memory[1:-1], got.memory[-1]) == (number, given_memory, bytes(8)), call
+
+
+# Proofs that an order is optimal
+
+def proved(libpfs: Library, shop: Instance, nodes: int) -> tuple[int, list[int], list[int]]:
+    """What pfs_prove returns and finds from the jobs in the order of their numbers: the order, and then its makespan,
+    the bound and the nodes that are left."""
+    arguments = [*given(shop), *list32(range(shop.jobs)), Number(nodes), out64(), out64(), out64()]
+    number, (_, order, *others) = libpfs.call("pfs_prove", *arguments)
+    return number, read32(order), [int.from_bytes(each, "little") for each in others]
+
+
+@pytest.mark.seconds(60)
+@pytest.mark.parametrize("name", [f"ta{number:03}" for number in [*range(1, 12), 13, 16, *range(31, 41)]])
+def test_published_optima(libpfs: Library, top: pathlib.Path, name: str) -> None:
+    [row] = [row for row in csv_rows(top / "python" / "src" / "pfs" / "taillard.csv") if row["instance"] == name]
+    shop = generated(int(row["jobs"]), int(row["machines"]), int(row["time_seed"]))
+    number, order, (span, bound, _) = proved(libpfs, shop, 20_000_000)
+    assert number == 0 and span == bound == int(row["best_makespan"]) == makespan(shop, order)
+
+
+@pytest.mark.parametrize(("jobs", "machines", "number"), [(256, 1, 0), (257, 1, 2), (1, 64, 0), (1, 65, 2)])
+def test_the_greatest_sizes_of_a_proof(libpfs: Library, jobs: int, machines: int, number: int) -> None:
+    assert proved(libpfs, generated(jobs, machines, 1), 1)[0] == number
+
+
+def test_the_greatest_search_fits_a_small_stack(libpfs: Library) -> None:
+    """256 jobs on 64 machines, as deep as the search goes, on a thread's stack of 512 KiB."""
+    shop, found = generated(256, 64, 3), list[tuple[int, list[int], list[int]]]()
+    threading.stack_size(2**19)
+    try:
+        thread = threading.Thread(target=lambda: found.append(proved(libpfs, shop, 3_000)))
+        thread.start()
+        thread.join()
+    finally:
+        threading.stack_size(0)
+    [(_, _, (span, _, left))] = found
+    assert left == 0 and span < makespan(shop, range(256))

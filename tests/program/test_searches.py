@@ -1,27 +1,45 @@
-"""Searches of small random instances, compared with the results of a plain program in another language, and the
-published makespans of NEH."""
-import json
+"""Searches of small random instances, compared with those of a plain program in C++, and the published makespans of
+NEH."""
 import pathlib
-from typing import Any
+import subprocess
+from collections.abc import Sequence
+from random import Random
 
 import pytest
-from support.program import Program, Ran
+from support import second_program
+from support.needs import tool
+from support.program import Program
+from support.second_program import Instance
 
-EXPECTED = pathlib.Path(__file__).resolve().parents[2] / "bench" / "expected" / "searches.json"
-SEARCHES = json.loads(EXPECTED.read_text())
-LINE = "solve --layout taillard --rounds {rounds} --take {take} --seed {seed} --passes {passes} --cells shop"
+CASES = 50
+# Usual times, some that are often equal, and some of 0 or of a million.
+TIMES: list[Sequence[int]] = [range(1, 100), range(4), [0, 1, 1_000_000]]
 
 
-def test_there_are_searches() -> None:
-    assert len(SEARCHES) == 50
+@pytest.fixture(scope="session")
+def plain(top: pathlib.Path, tmp_path_factory: pytest.TempPathFactory) -> Program:
+    """The plain program."""
+    program = tmp_path_factory.mktemp("plain") / "plain"
+    subprocess.run([tool("g++"), "-O1", "-o", program, top / "bench" / "plain.cpp"], check=True)
+    return Program(program)
 
 
 @pytest.mark.quick
-@pytest.mark.parametrize("search", SEARCHES, ids=lambda search: LINE.format(**search))
-def test_a_search_has_the_result_of_the_plain_program(pfs: Program, folder: pathlib.Path,
-                                                      search: dict[str, Any]) -> None:
-    (folder / "shop").write_text(search["file"])
-    assert pfs.run(LINE.format(**search), folder) == Ran(search["printed"].encode(), b"", 0)
+@pytest.mark.xdist_group("plain")
+@pytest.mark.parametrize("case", range(CASES))
+def test_a_search_has_the_result_of_the_plain_program(pfs: Program, plain: Program, folder: pathlib.Path,
+                                                      case: int) -> None:
+    random = Random(case)
+    shop = Instance(random.randint(2, 14), random.randint(1, 7), [0, 0, 0])
+    times = random.choice(TIMES)
+    shop.times = [random.choices(times, k=shop.jobs) for _ in range(shop.machines)]
+    rounds, take = random.choice([0, 1, 3, 12, 60]), random.randint(1, shop.jobs)
+    seed = random.choice([0, 1, 7, random.randrange(2**64), 2**64 - 1])
+    passes = random.choice([0, 0, 0, 1, 2, 3, 7])
+    (folder / "shop").write_bytes(second_program.canonical(shop, b"taillard"))
+    due = plain.run(f"solve64 taillard 1 shop {rounds} {take} {seed} {passes}", folder)
+    line = f"solve --layout taillard --rounds {rounds} --take {take} --seed {seed} --passes {passes} --cells shop"
+    assert due.status == 0 and pfs.run(line, folder) == due, line
 
 
 # The seeds of Taillard's instances of 20 jobs on 5 machines, and the published makespans of NEH.

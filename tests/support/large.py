@@ -6,9 +6,16 @@ from collections.abc import Iterable
 from typing import NamedTuple
 
 from support.files import TITLE
+from support.needs import tool
 from support.program import Program
 
-LIMITED = pathlib.Path(__file__).with_name("limited.py")
+# Runs a program, and writes into a file its exit status, its processor seconds and its greatest resident memory in
+# bytes. The kernel's figure includes the memory of the process that starts the program, so that one is small.
+MEASURED = """import os, sys
+_, ended, usage = os.wait4(os.posix_spawn(sys.argv[2], sys.argv[2:], os.environ), 0)
+with open(sys.argv[1], "w") as file:
+    print(os.waitstatus_to_exitcode(ended), usage.ru_utime + usage.ru_stime, usage.ru_maxrss * 1024, file=file)
+"""
 PIECE = 65_536
 # A program that takes more processor time does too much.
 MOST_SECONDS = 60
@@ -78,9 +85,11 @@ class LargeRun(NamedTuple):
 def run_limited(program: Program, words: list[str], folder: pathlib.Path, memory: int,
                stdin: pathlib.Path = pathlib.Path("/dev/null")) -> LargeRun:
     """Run a program with this many bytes of address space, and kill it if it takes too much processor time."""
-    output, errors = folder / "output", folder / "errors"
-    starter = [sys.executable, "-I", "-S", str(LIMITED), str(memory), str(MOST_SECONDS)]
-    given = [str(path) for path in (stdin, output, errors, program.path)]
-    done = subprocess.run([*starter, *given, *words], cwd=folder, stdout=subprocess.PIPE, check=True)
-    status, seconds, resident = done.stdout.split()
+    output, errors, got = folder / "output", folder / "errors", folder / "usage"
+    limits = [tool("timeout"), "--signal=KILL", f"{10 * MOST_SECONDS}", tool("prlimit"), f"--as={memory}",
+              f"--cpu={MOST_SECONDS}"]
+    measuring = [sys.executable, "-I", "-S", "-c", MEASURED, str(got), *limits, str(program.path), *words]
+    with open(stdin, "rb") as given, open(output, "wb") as stdout, open(errors, "wb") as stderr:
+        subprocess.run(measuring, cwd=folder, stdin=given, stdout=stdout, stderr=stderr, check=True)
+    status, seconds, resident = got.read_text().split()
     return LargeRun(errors.read_bytes(), int(status), float(seconds), int(resident), output)

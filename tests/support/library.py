@@ -73,10 +73,13 @@ class Library:
     def __init__(self, path: pathlib.Path) -> None:
         self.path = path
         self.functions = ctypes.CDLL(str(path))
+        # The instance of the calls, and the arguments from which it was prepared.
+        self.instance = ctypes.c_void_p()
+        self.prepared: Sequence[Number | Memory] = ()
 
     def call(self, name: str, *arguments: Number | Memory) -> Answer:
         """Calls a function with pointers to copies of the memory. One that works on an instance has the arguments of
-        `pfs_prepare` first: the instance is prepared from them before the call, and released after it."""
+        `pfs_prepare` first: the instance is prepared from them, unless it was for the call before."""
         buffers: list[ctypes.Array[ctypes.c_char]] = []
         given: list[object] = []
         for argument in arguments:
@@ -85,18 +88,17 @@ class Library:
                 given.append(buffers[-1])
             else:
                 given.append((ctypes.c_uint32 if argument.bits == 32 else ctypes.c_uint64)(argument.value))
-        number = self.on_instance(name, given) if name in ON_SHOP else int(self.functions[name](*given))
+        number = self.on_instance(name, arguments[:4], given) if name in ON_SHOP else int(self.functions[name](*given))
         contents = [argument.content for argument in arguments if isinstance(argument, Memory)]
         return Answer(number, [buffer.raw[:len(content)] for buffer, content in zip(buffers, contents)])
 
-    def on_instance(self, name: str, given: list[object]) -> int:
+    def on_instance(self, name: str, shop: Sequence[Number | Memory], given: list[object]) -> int:
         """The number of the call, or that of the preparation if it fails."""
-        instance = ctypes.c_void_p()
-        number: int = self.functions["pfs_prepare"](*given[:4], ctypes.byref(instance))
-        if number == 0:
-            number = self.functions[name](ctypes.byref(instance), *given[4:])
-            self.functions["pfs_release"](ctypes.byref(instance))
-        return number
+        if shop != self.prepared:
+            if number := int(self.functions["pfs_prepare"](*given[:4], ctypes.byref(self.instance))):
+                return number
+            self.prepared = shop
+        return int(self.functions[name](ctypes.byref(self.instance), *given[4:]))
 
 
 def compiled(program: pathlib.Path, sources: Words, libpfs: Library, *words: str, compiler: str = "gcc",

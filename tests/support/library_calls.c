@@ -3,8 +3,11 @@
  * instance and its makespans are those of README.md, the drawn times those of Taillard's first instance.
  *
  * usage: library_calls all      every call; prints the number of calls
+ *        library_calls threads  calls on four drawn instances, one after the other and in four threads at once; prints
+ *                               whether the results are the same
  *        library_calls NAME..   a valid call of each, twice, with the preparation of its instance; prints for each call
  *                               `right`, or `memory` if an allocation failed */
+#include <pthread.h>
 #include <stddef.h>
 #include <stdio.h>
 #include <stdlib.h>
@@ -347,10 +350,54 @@ static void tell(const char *name) {
     puts(!is_right ? "wrong" : number == PFS_OK ? "right" : "memory");
 }
 
+/* The seed of an instance of 60 jobs on 10 machines, and a sum of what calls on it find. */
+struct task {
+    uint64_t seed, sum;
+};
+
+static void *make_calls(void *given) {
+    struct task *task = given;
+    struct pfs_instance own = {NULL};
+    struct pfs_rounds_options options = {.seed = 7, .take = 4, .count = 1, .passes = 1};
+    uint32_t times[600], orders[120];
+    uint64_t spans[2];
+    size_t place;
+    int faults = pfs_generate(60, 10, task->seed, times, 600) + pfs_prepare(times, 600, 60, 10, &own);
+    for (int turn = 0; turn < 100; ++turn) {
+        faults += pfs_neh(&own, orders, 60, spans, NULL) + pfs_rounds(&own, &options, orders, 60, spans, NULL);
+        for (size_t at = 0; at < 60; ++at, task->sum = task->sum * 31 + spans[1] + place)
+            faults += pfs_insert(&own, orders, at, orders[at], &place, &spans[1]);
+        memcpy(orders + 60, orders, sizeof orders / 2);
+        faults += pfs_local_search_ties(&own, PFS_TIES_IDLE, orders, 60, 1, orders + 60, 60, spans);
+        faults += pfs_makespans(&own, orders, 120, 60, spans, 2);
+        task->sum = task->sum * 31 + spans[0] * spans[1];
+    }
+    pfs_release(&own);
+    task->sum = faults == 0 ? task->sum : 0;
+    return NULL;
+}
+
+static int are_same_in_threads(void) {
+    struct task alone[4] = {{1, 1}, {2, 1}, {3, 1}, {4, 1}}, at_once[4];
+    pthread_t threads[4];
+    memcpy(at_once, alone, sizeof alone);
+    for (int at = 0; at < 4; ++at)
+        make_calls(&alone[at]);
+    for (int at = 0; at < 4; ++at)
+        if (pthread_create(&threads[at], NULL, make_calls, &at_once[at]) != 0)
+            exit(2);
+    for (int at = 0; at < 4; ++at)
+        if (pthread_join(threads[at], NULL) != 0)
+            exit(2);
+    return alone[0].sum != 0 && memcmp(alone, at_once, sizeof alone) == 0;
+}
+
 int main(int count, char **words) {
     static char buffer[BUFSIZ];
     const char *name = count > 1 ? words[1] : "";
     setvbuf(stdout, buffer, _IOFBF, sizeof buffer);
+    if (IS("threads"))
+        return puts(are_same_in_threads() ? "the same" : "others") < 0;
     fresh();
     if (IS("all")) {
         all();

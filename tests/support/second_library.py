@@ -301,12 +301,6 @@ def others_of(shop: Instance, sequence: bytearray, length: int, job: int) -> lis
     return others
 
 
-def pfs_insert(shop: Instance, sequence: bytearray, length: int, job: int, place: bytearray, span: bytearray) -> None:
-    order = second_program.inserted(shop, others_of(shop, sequence, length, job), job)
-    put64(place, order.index(job))
-    put64(span, makespan(shop, order))
-
-
 def pfs_insert_ties(shop: Instance, ties: int, sequence: bytearray, length: int, job: int, place: bytearray,
                     span: bytearray) -> None:
     others = others_of(shop, sequence, length, job)
@@ -314,6 +308,10 @@ def pfs_insert_ties(shop: Instance, ties: int, sequence: bytearray, length: int,
     order = placed(shop, others, 0, job, ties)
     put64(place, order.index(job))
     put64(span, makespan(shop, order))
+
+
+def pfs_insert(shop: Instance, *others: Any) -> None:
+    pfs_insert_ties(shop, 0, *others)
 
 
 def pfs_insertions(shop: Instance, sequence: bytearray, length: int, job: int, spans: bytearray, count: int) -> None:
@@ -338,31 +336,20 @@ def machines_from(shop: Instance, machine: int) -> Instance:
     return rest
 
 
-def to_construct(shop: Instance, sequence: bytearray, length: int, more: bytearray, more_length: int,
-                 order_length: int) -> tuple[list[int], list[int]]:
-    """The sequence to begin with, and the jobs to insert."""
-    expect(order_length == length + more_length, LENGTH)
-    jobs = distinct(shop.jobs, read32(sequence)[:length])
-    return jobs, distinct(shop.jobs, [*jobs, *read32(more)[:more_length]], length)[length:]
-
-
-def pfs_construct(shop: Instance, sequence: bytearray, length: int, more: bytearray, more_length: int, order: bytearray,
-                  order_length: int, span: bytearray) -> None:
-    made, inserted = to_construct(shop, sequence, length, more, more_length, order_length)
-    for job in inserted:
-        made = second_program.inserted(shop, made, job)
-    put32(order, made)
-    put64(span, makespan(shop, made))
-
-
 def pfs_construct_ties(shop: Instance, ties: int, sequence: bytearray, length: int, more: bytearray, more_length: int,
                        order: bytearray, order_length: int, span: bytearray) -> None:
-    made, inserted = to_construct(shop, sequence, length, more, more_length, order_length)
+    expect(order_length == length + more_length, LENGTH)
+    made = distinct(shop.jobs, read32(sequence)[:length])
+    inserted = distinct(shop.jobs, [*made, *read32(more)[:more_length]], length)[length:]
     expect(ties <= 1, TIES)
     for job in inserted:
         made = placed(shop, made, 0, job, ties)
     put32(order, made)
     put64(span, makespan(shop, made))
+
+
+def pfs_construct(shop: Instance, *others: Any) -> None:
+    pfs_construct_ties(shop, 0, *others)
 
 
 def to_move(shop: Instance, moved: bytearray, moved_length: int, passes: int, sequence: bytearray,

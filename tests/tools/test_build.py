@@ -1,5 +1,5 @@
-"""tools/build, with a program in place of `rt`: which crates it builds, and what it says of them. And the packages of
-tools/setup."""
+"""tools/build, with a program in place of `rt`: which crates it builds, and what it says of them. And tools/setup: the
+packages of its lists, and what it says when it installs them."""
 import os
 import pathlib
 import re
@@ -65,6 +65,36 @@ def test_each_list_adds_to_the_one_before(top: pathlib.Path, folder: pathlib.Pat
     assert got["try"] == {"make", "gcc", "binutils"}, "the commands of a handful of packages"
     assert {"git", "mypy", "strace"} <= got["test"] and got["try"] < got["test"] < got["all"]
     assert {"chromium", "openssh-server", "munge", "slurm-wlm", "r-base-core"} <= got["all"] - got["test"]
+
+
+APT = """#!/bin/sh
+echo debconf: delaying package configuration
+case $* in
+*assume-no*)
+    echo '0 upgraded, 55 newly installed, 0 to remove and 3 not upgraded.'
+    echo 'Need to get 60.5 MB of archives.'
+    exit 1 ;;
+*' -y --no-install-recommends nosuch') exit {status} ;;
+esac
+"""
+
+
+@pytest.mark.parametrize("status", [0, 100])
+def test_what_is_installed_is_on_one_line(status: int, top: pathlib.Path, folder: pathlib.Path) -> None:
+    """The packages are still missing after it, as this apt installs nothing."""
+    script = (top / "tools" / "setup").read_text().replace("/usr/sbin/policy-rc.d", str(folder / "policy"))
+    script = script.replace('if [ "$(id -u)" = 0 ]; then "$@"; else sudo -n "$@"; fi', '"$@"')
+    write_script(folder / "tools" / "setup", script)
+    (folder / "tools" / "packages").write_text("== try: nothing\nnosuch  command nosuch\n")
+    write_script(folder / "apt-get", APT.format(status=status))
+    env = {"PATH": f"{folder}:/usr/bin:/bin", "TMPDIR": str(folder)}
+    got = run_tool(["sh", "tools/setup", "try"], folder, env=env)
+    first, *others = got.stderr.splitlines()
+    log, = folder.glob("tmp.*")
+    assert first == f"setup: installing 55 packages, 60.5 MB for nosuch (what apt says is in {log})"
+    assert got.stdout == "" and log.read_text().count("debconf") > 1 and not (folder / "policy").exists()
+    assert others[-1:] == (["debconf: delaying package configuration"] if status else
+                           ["setup: these packages are still incomplete: nosuch"])
 
 
 def test_what_the_tests_need_is_in_a_package(top: pathlib.Path) -> None:

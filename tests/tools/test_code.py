@@ -12,8 +12,6 @@ from support.tools import TOP, files_below
 # By what their first lines name, or by the endings of their names.
 KINDS = {"python3": "python", "sh": "shell", "bash": "shell"}
 ENDINGS = {".py": "python", ".bash": "shell"}
-# Folders whose scripts are typed together.
-TYPED = [("tests/", "tools/", "python/"), ("bench/",)]
 
 
 @functools.cache
@@ -42,10 +40,10 @@ def test_scripts_are_found_by_their_first_lines() -> None:
 
 
 @pytest.mark.seconds(20)
-@pytest.mark.parametrize("folders", TYPED, ids=",".join)
-def test_python_is_typed(folders: tuple[str, ...]) -> None:
-    typed = [path for path in scripts("python") if path.startswith(folders)]
-    assert_silent([tool("mypy"), "--no-error-summary", f"--cache-dir={TOP}/out/mypy-{folders[0][:-1]}", *typed])
+def test_python_is_typed() -> None:
+    """But for the example in cffi, whose types Debian doesn't have."""
+    typed = [path for path in scripts("python") if not path.startswith("examples/")]
+    assert_silent([tool("mypy"), "--no-error-summary", f"--cache-dir={TOP}/out/mypy", *typed])
 
 
 @pytest.mark.seconds(20)

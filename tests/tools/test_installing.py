@@ -90,6 +90,25 @@ def test_an_installation_that_ends_half_way_leaves_no_half_file(copy: Copy, fold
     assert [path.name for path in (folder / "bin").iterdir()] == ["pfs"]
 
 
+def test_files_of_version_1_are_named(top: pathlib.Path, folder: pathlib.Path) -> None:
+    def put() -> str:
+        got = run_tool(["tools/install", "put", "", folder, "lib"], top, stdin=None, input="VERSION share/VERSION\n")
+        assert got.status == 0
+        return got.stderr
+
+    assert put() == ""
+    write_script(folder / "bin" / "pfs-experiments", "#!/usr/bin/python3\nfrom pfs.experiments import main\n")
+    assert put() == "", "what pip has installed"
+    for name in ("pfs-experiments", "pfs-gantt"):
+        (folder / "bin" / name).write_text(f"#!/bin/sh\nexec {folder}/libexec/pfs/{name}\n")
+    for name in ("libexec/pfs", "lib"):
+        (folder / name).mkdir(parents=True)
+    (folder / "lib" / "libpfs.so.0").touch()
+    places = [folder / place for place in ("bin/pfs-experiments", "bin/pfs-gantt", "libexec/pfs", "lib/libpfs.so.0")]
+    assert put() == (f"install: version 1 has left {' '.join(map(str, places))}: remove them, or run its "
+                     "`make uninstall`\n")
+
+
 # The library for C
 
 CALLER = """#include <pfs.h>
@@ -130,6 +149,24 @@ def test_a_program_is_built_by_pkg_config_and_by_cmake(prefix: pathlib.Path, fol
     output_of(["cmake", "--build", "made"], folder)
     for target in ("pfs", "pfs_static"):
         assert output_of([f"made/{target}_caller"], folder) == f"{VERSION} {VERSION}\n"
+
+
+# For version 2.3.4, requests and whether it serves them. Version 1 is another library, libpfs.so.0.
+REQUESTS = {"": True, "2": True, "2.0": True, "2.3.4": True, "2.3.4 EXACT": True, "2.3.5": False, "2.4": False,
+            "3": False, "1": False, "1.1": False, "1.1 EXACT": False, "0.9": False, "2.3 EXACT": False,
+            "2.0...<3": True, "2...2.3.4": True, "2...<2.3.4": False, "1.0...<2": False, "1.0...1.9": False,
+            "1.0...2.9": True, "1...<3": True, "2.3.4...2.9": True, "2.3.5...3": False, "3...<4": False}
+
+
+@pytest.mark.parametrize(("request_", "is_served"), REQUESTS.items())
+def test_versions_that_cmake_accepts(request_: str, is_served: bool, top: pathlib.Path, folder: pathlib.Path) -> None:
+    text = (top / "lib" / "pfsConfigVersion.cmake.in").read_text().replace("@VERSION@", "2.3.4")
+    (folder / "pfsConfigVersion.cmake").write_text(text)
+    (folder / "pfsConfig.cmake").write_text("")
+    (folder / "find.cmake").write_text(f"find_package(pfs {request_} QUIET CONFIG PATHS {folder} NO_DEFAULT_PATH)\n"
+                                       "message(STATUS \"found=${pfs_FOUND} ${pfs_VERSION}\")\n")
+    printed = output_of([tool("cmake"), "-P", "find.cmake"], folder)
+    assert printed.split("=")[1].split()[0] == ("1" if is_served else "0"), printed
 
 
 # Building before that

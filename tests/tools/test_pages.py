@@ -1,6 +1,8 @@
 """The pages that users read, against the built program. Each example of README.md, of the pages on commands and recipes
 and of the manual page is run, and must print what the page shows. The faults, exit statuses and defaults in the tables
-of docs/ must be the program's, and those of the manual page and its ranges the same. Limits are in test_limits.py."""
+of docs/ must be the program's, and those of the manual page and its ranges the same. Limits are in test_limits.py. The
+paths, names and goals of `make` that pages name exist."""
+import functools
 import os
 import pathlib
 import re
@@ -15,12 +17,13 @@ from support.library import Library
 from support.lines import ANSWERS, KINDS, PRINTING, VALID
 from support.needs import tool
 from support.program import Program, Ran
-from support.tools import TOP, Done, run_tool, with_path, write_script
+from support.tools import TOP, Done, files_below, run_tool, with_path, write_script
 
 COMMANDS, FORMATS, TROUBLESHOOTING = ((TOP / "docs" / f"{name}.md").read_text()
                                       for name in ("COMMANDS", "FORMATS", "TROUBLESHOOTING"))
 MANUAL = (TOP / "share" / "pfs.1").read_text()
-PAGES = [TOP / "README.md", TOP / "experiments" / "README.md", *sorted((TOP / "docs").rglob("*.md"))]
+PAGES = sorted(str(page.relative_to(TOP)) for pattern in ("*.md", "*/*.md", "docs/*/*.md")
+               for page in TOP.glob(pattern))
 MOST_SECONDS = 120
 
 
@@ -161,10 +164,10 @@ def test_the_page_on_commands_has_those_of_the_usage_text_and_the_one_without_ar
     assert [command.strip("`") for command, _ in table(COMMANDS, "Command", "Prints")] == [*LINES, "pfs"]
 
 
-@pytest.mark.parametrize("page", PAGES, ids=[str(page.relative_to(TOP)) for page in PAGES])
-def test_the_pages_to_which_a_page_links_are_there(page: pathlib.Path) -> None:
-    named = [name for name in re.findall(r"\]\(([^)#]+)\)", page.read_text()) if "://" not in name]
-    assert [name for name in named if not (page.parent / name).exists()] == []
+@pytest.mark.parametrize("page", PAGES)
+def test_the_pages_to_which_a_page_links_are_there(page: str) -> None:
+    named = [name for name in re.findall(r"\]\(([^)#]+)\)", (TOP / page).read_text()) if "://" not in name]
+    assert [name for name in named if not (TOP / page).parent.joinpath(name).exists()] == []
 
 
 SLIPS = [re.findall("`([^`]+)`", typed)[0] for typed, _ in table(TROUBLESHOOTING, "Typed", "Reason")]
@@ -375,9 +378,8 @@ def test_mandoc_finds_nothing_wrong(page: pathlib.Path) -> None:
 def test_pages_name_the_library_as_it_is_called() -> None:
     """By its soname, and the files by their names."""
     soname = re.findall(r"-soname,(\S+)", (TOP / "tools" / "library").read_text())
-    others = [path for names in ("python/*.md", "examples/*.md", "*.md", "lib/*.*", "share/*.*", "Makefile")
-              for path in TOP.glob(names)]
-    texts = [path.read_text() for path in [*PAGES, *others]]
+    others = [path for names in ("lib/*.*", "share/*.*", "Makefile") for path in TOP.glob(names)]
+    texts = [path.read_text() for path in [*map(TOP.joinpath, PAGES), *others]]
     assert {each for text in texts for each in re.findall(r"libpfs\.so\.\w+", text)} == set(soname)
     page = (TOP / "docs" / "LIBRARY.md").read_text()
     assert all(f"lib/out/{name}" in page for name in ("libpfs.a", *soname))
@@ -408,3 +410,62 @@ def test_the_examples_are_shown_as_they_are_run(manual: str) -> None:
 
 def test_pages_have_examples_and_tables() -> None:
     assert min(map(len, EXAMPLES.values())) > 3 and len(SLIPS) > 10 and len(OFFSETS) > 3
+
+
+# What pages name
+
+# A path, or the name of a file, in backquotes.
+NAMED = re.compile(r"`((?:[\w.-]+/)+[\w.-]*|[\w-]+\.(?:antt|cpp|edit|hpp|md|py|rt))`")
+# The pages also name modules without these endings.
+MODULES = {".antt", ".edit", ".py", ".rt"}
+# What a build, a report or a wheel makes, any crate's name, a page of the kit, and a folder of an example.
+ELSEWHERE = re.compile(r"\bout(?:/|$)|\bNAME/|^START-HERE\.md$|/PROVED$|^(?:table|sizes|comparison|ranks)\.md$"
+                       r"|^_gantt\.py$|^(?:instances|orders)/$|^\./$")
+# A name of more than one word, or of a function that is called.
+NAME = re.compile(r"[A-Za-z]\w*(?:_|[a-z][A-Z])\w*|[a-z]\w*(?=\(\))")
+# Types of Julia and R that a page names.
+FOREIGN = {"Csize_t", "M_MMAP_THRESHOLD", "M_TRIM_THRESHOLD", "R_xlen_t", "c_void"}
+ENDINGS = {".antt", ".c", ".cpp", ".edit", ".fish", ".h", ".hpp", ".html", ".in", ".py", ".rt", ".toml", ".txt", ".1", ""}
+
+
+@functools.cache
+def ends_of_paths() -> set[str]:
+    """The ends of all paths of the repository."""
+    there = set[str]()
+    for path in files_below(TOP):
+        parts = path.relative_to(TOP).parts
+        named = [parts, *(parts[:count] for count in range(1, len(parts)))]
+        if path.suffix in MODULES:
+            named.append((*parts[:-1], path.stem))
+        there |= {"/".join(name[first:]) for name in named for first in range(len(name))}
+    return there
+
+
+@pytest.mark.parametrize("page", PAGES)
+def test_the_paths_of_this_page_exist(page: str) -> None:
+    named = [name for name in NAMED.findall((TOP / page).read_text()) if not ELSEWHERE.search(name)]
+    assert [name for name in named if name.rstrip("/") not in ends_of_paths()] == []
+
+
+@functools.cache
+def names_of_sources() -> set[str]:
+    """All words of the sources and of their paths, except this file."""
+    paths = [path for path in files_below(TOP) if path.suffix in ENDINGS]
+    texts = [*map(str, paths), *(path.read_text() for path in paths if path.name != "test_pages.py")]
+    return {word for text in texts for word in re.findall(r"[A-Za-z]\w*", text)}
+
+
+@pytest.mark.parametrize("page", PAGES)
+def test_the_names_of_this_page_are_in_the_sources(page: str) -> None:
+    """Those between backquotes."""
+    text = re.sub(r"^```.*?^```$", "", (TOP / page).read_text(), flags=re.MULTILINE | re.DOTALL)
+    names = {name for code in re.findall(r"`([^`\n]+)`", text) for name in NAME.findall(code)}
+    assert names - names_of_sources() - FOREIGN == set()
+
+
+@pytest.mark.parametrize("page", PAGES)
+def test_the_goals_of_make_that_this_page_names_exist(page: str) -> None:
+    """In backquotes, or at the beginning of an example's line."""
+    named = set(re.findall(r"(?:`|^(?:sudo )?)make (?!-)([a-z-]+)", (TOP / page).read_text(), re.MULTILINE))
+    phony = re.findall(r"^\.PHONY: (.*)", (TOP / "Makefile").read_text(), re.MULTILINE)
+    assert named - {goal for line in phony for goal in line.split()} == set()

@@ -31,8 +31,8 @@ ARGUMENTS: list[tuple[str, str, dict[str, Any]]] = [
     ("taillard run slurm check", "--pfs", {"metavar": "PROGRAM", "default": shutil.which("pfs", path=PROGRAMS),
                                            "help": "the program pfs"}),
     ("run slurm", "--retry", {"action": "store_true", "help": "repeat the runs that failed"}),
-    ("run slurm", "plan", {"metavar": "PLAN"}),
-    ("run slurm status check prove", "csv", {"metavar": "CSV"}),
+    ("run slurm", "plan", {"metavar": "PLAN", "help": "a plan, in TOML"}),
+    ("run slurm status check prove", "csv", {"metavar": "CSV", "help": "the CSV of the runs"}),
     ("prove", "--seconds", {"metavar": "S", "type": number(1, 10 ** 6), "default": 1,
                             "help": "for each instance; 1 by default"}),
     ("run", "--sshloginfile", {"metavar": "FILE", "help": "a file with the machines for GNU parallel"}),
@@ -49,8 +49,8 @@ ARGUMENTS: list[tuple[str, str, dict[str, Any]]] = [
     ("report", "--width", {"metavar": "INCHES", "type": inches, "help": "the width of the plots, in inches"}),
     ("report", "--dpi", {"metavar": "DPI", "type": number(20, 1200), "default": 130, "help": "dots per inch"}),
     ("report", "--no-title", {"action": "store_true", "help": "draw no titles"}),
-    ("report", "csv", {"metavar": "CSV", "nargs": "+"}),
-    ("taillard report", "folder", {"metavar": "FOLDER", "type": pathlib.Path})]
+    ("report", "csv", {"metavar": "CSV", "nargs": "+", "help": "the CSV of the runs of a method"}),
+    ("taillard report", "folder", {"metavar": "FOLDER", "type": pathlib.Path, "help": "where the files are written"})]
 
 
 def command_line() -> CommandLine:
