@@ -137,7 +137,7 @@ def test_readme_has_the_keys_of_a_plan_with_their_defaults_the_columns_and_the_n
 
 NO_PFS = {"prints nothing": "#!/bin/sh\n", "prints its words": "#!/bin/sh\necho \"$@\"\n",
           "prints without end": "#!/bin/sh\nyes\n", "is a text": "some words\n", "is a binary": "\x7fELF"}
-PATHS = {"shops": 2, "plan.toml/out.csv": 4, "x" * 255: 4, "\udcff.csv": 2}
+PATHS = {"shops": 2, "plan.toml": 2, "shops/b": 2, "plan.toml/out.csv": 4, "x" * 255: 4, "\udcff.csv": 2}
 # The status, the arguments, what is said, the text of a program that isn't pfs, and variables.
 REFUSED: dict[str, tuple[int, str, str, str, dict[str, str]]] = {
     **{f"the CSV {path[:20]!r}": (status, f"run plan.toml {path}", "", "", {}) for path, status in PATHS.items()},

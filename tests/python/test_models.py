@@ -13,16 +13,17 @@ from pfs._orders import order_in
 from pfs._tables import table_of, write_table
 from support import plainly
 
-# Of names: capitals, blanks, letters outside ASCII, separators and quotes. A name begins with a letter.
-SIGNS = st.text("aBß Äé1.,;\t\"'=-/#@", max_size=8)
-NAMES = st.builds(lambda first, rest: f"{first}{rest}".strip(), st.sampled_from("xYÖñ"), SIGNS)
+# Of names: capitals, blanks, letters outside ASCII, separators, quotes and line ends. Some could be formulas.
+SIGNS = st.text("aBß Äé1.,;\t\r\n\"'=-/#@", max_size=8)
+NAMES = st.builds(lambda first, rest: f"{first}{rest}".strip(), st.sampled_from("xYÖñ=+-@"), SIGNS)
+NAMES |= st.integers(1, 9).map(str)
 
 
 @st.composite
 def tables(draw: st.DrawFn) -> pfs.Instance:
     """An instance with names, a unit and decimals."""
     jobs, machines = draw(st.integers(1, 5)), draw(st.integers(1, 4))
-    times = st.lists(st.one_of(st.integers(0, 5_000), st.just(0)), min_size=machines, max_size=machines)
+    times = st.lists(st.one_of(st.integers(0, 5_000), st.integers(0, 9), st.just(0)), min_size=machines, max_size=machines)
     unit = draw(st.sampled_from(["", "min", "h", "s", "h:mm"]))
     job_names, machine_names = (draw(st.lists(NAMES, min_size=count, max_size=count, unique=True))
                                 for count in (jobs, machines))
@@ -46,8 +47,9 @@ def assert_is_read_again(path: pathlib.Path, shop: pfs.Instance, delimiter: str,
 @given(tables(), st.sampled_from(";,\t"), st.booleans())
 def test_a_table_that_is_written_is_read_again(folder: pathlib.Path, shop: pfs.Instance, delimiter: str,
                                                mark: bool) -> None:
-    """With its names, its unit and its times. A schedule of it is read as its order."""
+    """With its names, its unit and its times. It is read as its order too, and a schedule of it."""
     assert_is_read_again(folder / "table", shop, delimiter, mark)
+    assert order_in(folder / "table", shop) == ([*range(shop.jobs)], {})
     order = [*range(shop.jobs)][::-1]
     shop.schedule(order).to_csv(folder / "order", delimiter, mark=mark)
     assert order_in(folder / "order", shop) == (order, {})
@@ -60,7 +62,7 @@ def test_three_decimals_are_read_again(folder: pathlib.Path, delimiter: str) -> 
     assert_is_read_again(folder / "table", shop, delimiter, False)
 
 
-@settings(max_examples=5)
+@settings(max_examples=20)
 @given(tables())
 def test_a_workbook_that_is_written_is_read_again(folder: pathlib.Path, shop: pfs.Instance) -> None:
     pytest.importorskip("openpyxl")

@@ -2,6 +2,7 @@
 end."""
 import datetime
 import pathlib
+import re
 import warnings
 from collections.abc import Sequence
 
@@ -22,6 +23,8 @@ def test_options_in_a_file(tmp_path: pathlib.Path) -> None:
     (tmp_path / "week.txt").write_text("\ufeff# of each week\n--begin 2026-11-30T06:00\n\n--shift fri:06:00-12:00\n"
                                        "--title 'Week 49'\n", "utf-8")
     assert ended(["plan", "times.csv", "@week.txt"], tmp_path) == ended(words, tmp_path)
+    assert ended(["plan", "times.csv", "@week.txt", "--rest", "week.txt"], tmp_path) == (
+        3, "", "pfs: week.txt is read, and writing would replace it: name another file\n")
     for text in ("@week.txt\n", "--title 'Week\n", "--nothing\n"):
         (tmp_path / "week.txt").write_text(text)
         assert ended(["plan", "times.csv", "@week.txt"], tmp_path)[:2] == (3, "")
@@ -76,6 +79,12 @@ def test_what_another_plan_says_of_its_end(tmp_path: pathlib.Path) -> None:
         got = ended([*words, "--closed", "2026-12-01", "--order", "monday.txt", "--compare", name], tmp_path)[2]
         both = "makespan 850 min, end 2026-12-02 12:10"
         assert got == f"{name}: says {said}\n{name}: {both}; the plan: {both}\n"
+    # Written again by a spreadsheet, and with parts of seconds.
+    text = (tmp_path / "monday.csv").read_text("utf-8-sig")
+    (tmp_path / "dos.csv").write_text(re.sub("([^;\n]+)", r'"\1"', text).replace("\n", "\r\n"), "utf-8", newline="")
+    (tmp_path / "parts.csv").write_text(text.replace("12:10", "12:10:00,5"), "utf-8")
+    for name, said in (("dos.csv", end), ("parts.csv", f"{end}:00,5")):
+        assert f"{name}: says {said}\n" in ended([*words, "--compare", name], tmp_path)[2]
     (tmp_path / "names").write_text("table\nchair\n")
     assert "says" not in ended([*words, "--compare", "names"], tmp_path)[2]
 
@@ -119,6 +128,7 @@ def test_options_on_a_sheet(tmp_path: pathlib.Path, name: str, at: int) -> None:
     (["schedule", "plan.csv"], "--schedule names a file, which only the command line may do"),
     (["sched", "plan.csv"], "--schedule names a file, which only the command line may do"),
     (["order", "times.xlsx"], "--order names a file, which only the command line may do"),
+    (["language", "/etc/hostname"], "--language names a file, which only the command line may do"),
     (["nothing", 3], "unrecognized arguments: --nothing=3"),
     (["take", 0], "argument --take: '0' is not a whole number from 1 to 5,000"),
     (["shift", "06:00-12:00", "13:00-17:00"], "shift has several values: write a row for each")])

@@ -112,6 +112,10 @@ WORDS = [(4, "none.csv report", "none.csv: "), (3, "--width 0 out.csv report", "
          (4, "--reference none out.csv report", "none: "),
          (2, "--reference other.csv out.csv report", "other.csv: no column makespan"),
          (2, "--reference two.csv out.csv report", "two.csv: a has two makespans"),
+         (2, "--reference ranks.csv out.csv report", "ranks.csv: two columns are named 'makespan'"),
+         (2, "--reference three.csv out.csv report", "three.csv: '1.000' is not a whole number"),
+         (2, "out.csv ranks.csv .", "ranks.csv is read, and writing would replace it: name another folder"),
+         (2, "--reference ranks.csv out.csv .", "ranks.csv is read, and writing would replace it"),
          (2, "out.csv other.csv report", "other.csv: no column makespan"),
          (2, "means.csv report", "published means are columns")]
 
@@ -123,10 +127,12 @@ WORDS = [(4, "none.csv report", "none.csv: "), (3, "--width 0 out.csv report", "
 def test_what_is_refused_is_said_on_one_line_and_nothing_is_left(text: str, status: int, words: str, said: str,
                                                                  report: Reported, folder: pathlib.Path) -> None:
     got = report(words=words, out=text, other="instance,length\na,1\n", means="jobs,machines,rpd\n2,2,1\n",
-                 two="instance,makespan\na,50\na,51\n")
+                 two="instance,makespan\na,50\na,51\n", ranks="instance,makespan,makespan\na,50,51\n",
+                 three="instance,makespan\na,1.000\n")
     assert (got.status, got.stdout) == (status, "")
     assert re.fullmatch(f"pfs-experiments report: [^\n]*{re.escape(said)}[^\n]*\n", got.stderr), got.stderr
-    assert sorted(os.listdir(folder)) == ["means.csv", "other.csv", "out.csv", "two.csv"]
+    assert sorted(os.listdir(folder)) == ["means.csv", "other.csv", "out.csv", "ranks.csv", "three.csv",
+                                          "two.csv"]
 
 
 def test_a_csv_that_pandas_wrote_and_the_greatest_numbers(report: Reported, folder: pathlib.Path) -> None:

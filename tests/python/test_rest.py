@@ -81,6 +81,8 @@ def test_names_and_faults_of_a_rest() -> None:
     for wrong in wrongs:
         with pytest.raises(ValueError, match="down: .* isn't a machine|down must be from 0"):
             shop.schedule([0, 1]).rest(1, wrong)
+    with pytest.raises(ValueError, match="down: the machine 'drill' is there by its number and by its name"):
+        shop.schedule([0, 1]).rest(1, {1: 9, "saw": 4, "drill": 6})
     with pytest.raises(TypeError):
         shop.schedule([0, 1]).rest(1.5)  # type: ignore[arg-type]
     with pytest.raises(ValueError, match="all jobs are finished by then"):
@@ -133,6 +135,30 @@ def test_a_rush_job_is_behind_what_has_begun(folder: pathlib.Path) -> None:
     # Chair is finished at ten to nine, and in the order of the day before box has begun.
     later = ["--order", "order", "--now", "2026-12-01T09:00", "--keep"]
     assert plan(folder, *later)[1].startswith("from 2026-12-01 09:00 on: 1 finished, 3 held, 2 to plan\n")
+
+
+def test_the_jobs_that_are_held_are_the_first_of_the_order(folder: pathlib.Path) -> None:
+    """Also if some of them are finished, or a machine is down before them. At twenty to seven a is finished, and b and
+    c wait for the drill."""
+    (folder / "times.csv").write_text("job [min];saw;drill\na;10;30\nb;10;10\nc;10;10\nd;0;10\ne;0;10\n")
+    (folder / "order").write_text("a\nb\nc\nd\ne\n")
+    now, at_forty = ["--now", "2026-11-30T06:40"], "from 2026-11-30 06:40 on: 1 finished, {} held, {} to plan\n".format
+    for hold, held in ((1, 2), (3, 2), (4, 3), (9, 4)):
+        words = ["--order", "order", *now, "--hold", str(hold)]
+        assert plan(folder, *words)[1] == at_forty(held, 4 - held)
+        assert plan(folder, *words, "--down", "drill=2026-11-30T07:00")[1] == at_forty(held + 1, 4 - held)
+    # The rest of a plan doesn't say which jobs have begun.
+    plan(folder, "--order", "order", "--now", "2026-11-30T06:30", "--rest", "rest.csv")
+    words = ["plan", "rest.csv", "--begin", "2026-11-30T06:30", "--order", "rest.csv", "--hold", "3", *now]
+    assert ended(words, folder)[2] == at_forty(2, 2)
+
+
+def test_machines_whose_names_differ_in_capitals(folder: pathlib.Path) -> None:
+    (folder / "times.csv").write_text("job [min];saw;Saw;SAW;drill\na;1;2;3;4\n")
+    for name in ("Saw", "SAW"):
+        assert f"({name} is down)" in plan(folder, "--down", f"{name}=2026-11-30T07:00")[0][3]
+    assert plan(folder, "--down", "sAw=2026-11-30T07:00", status=3) == (
+        [], "pfs: --down: 'sAw' may be several machines\n")
 
 
 def test_machines_that_are_down(folder: pathlib.Path) -> None:

@@ -346,6 +346,12 @@ def test_columns_that_are_machines(tmp_path: pathlib.Path) -> None:
     units = written(tmp_path, "job;saw [min];drill [min];qty\na;1;2;3\n", "units")
     assert pfs.read_csv(units, machines=["saw [min]", "drill"]).machine_names == ("saw", "drill")
     assert pfs.read_csv(units, machines=["qty"], unit="min").times.tolist() == [[3]], "it was chosen"
+    same = written(tmp_path, "job;saw [min];Saw;SAW;drill (left);drill (right);Saw\na;1;2;3;4;5;6\n", "same")
+    assert pfs.read_csv(same, machines=["SAW"]).times.tolist() == [[3]]
+    for name, cells in (("saw", "BD"), ("Saw", "CG"), ("drill", "EF")):
+        with pytest.raises(pfs.TableFault, match=f"cell {cells[1]}1: the machine '{name}' may be this column or "
+                                                 f"{cells[0]}1: "):
+            pfs.read_csv(same, machines=[name])
     with pytest.raises(pfs.TableFault) as fault:
         pfs.read_csv(path, machines=["Drehen", "Bohren"])
     assert (fault.value.line, fault.value.text) == (

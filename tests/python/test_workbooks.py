@@ -54,6 +54,24 @@ def test_formulas_that_a_spreadsheet_computes(tmp_path: pathlib.Path, office: Of
     assert (status, got) == (0, "times.xlsx: 2 times rounded to 2 decimals, by 0.0033 at most (C3: 0.833333333)\n")
 
 
+@pytest.mark.parametrize(("decimal", "cell", "times"), [
+    (None, "2.5", [[1125, 2500], [2500, 750_000]]), (",", "2,5", [[1125, 2500], [2500, 750_000]]),
+    (",", "1.500", [[1125, 2500], [1_500_000, 750_000]]), (".", "1.500", [[1125, 2500], [1500, 750_000]])])
+def test_a_decimal_sign_is_that_of_texts(tmp_path: pathlib.Path, decimal: str | None, cell: str,
+                                         times: list[list[int]]) -> None:
+    """A number has none."""
+    path = book_of(tmp_path / "times.xlsx", ("job", "saw", "drill"), ("table", 1.125, 2.5), ("chair", cell, 750))
+    shop = pfs.read_csv(path, decimal=decimal)
+    assert (shop.times.tolist(), shop.decimals) == (times, 3)
+
+
+def test_a_text_that_may_have_thousands(tmp_path: pathlib.Path) -> None:
+    """A name may look like it, and a number with three decimals has none."""
+    path = book_of(tmp_path / "times.xlsx", ("job", "saw", "drill"), ("1.500", 1.125, 2.5), ("chair", "1.500", 750))
+    assert fault_of(path) == (3, 2, "'1.500' may be 1500, or have decimals: leave out thousands separators, or say "
+                                    "which decimal sign the table has (`decimal`)")
+
+
 @pytest.mark.parametrize("rows", [
     [("job [min]", "saw"), ("table", 3), ("=Orders!A3", "=Orders!B3"), ("chair", 2)],
     [("job [min]", "saw", "=Machines!A2"), ("table", 3, "=B2"), ("chair", 2, "=B3")],

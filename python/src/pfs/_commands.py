@@ -176,7 +176,8 @@ def plan_command(given: argparse.Namespace) -> int:
     calendar = calendar_of(given)
     if any(path.lower().endswith(".ics") for path in given.schedule):
         needed(calendar, "a schedule with the ending .ics")
-    check_outputs([given.table, given.order, given.compare], given.schedule, given.chart, given.rest)
+    check_outputs([given.table, given.order, given.compare, given.language, *given.files], given.schedule, given.chart,
+                  given.rest)
     words_of(given.language)
     # As a row of a table, so that a name with a comma may be in quotes.
     rows = csv.reader([] if given.machines is None else [given.machines], skipinitialspace=True)
@@ -306,15 +307,18 @@ def check_outputs(inputs: Sequence[str | None], schedules: Sequence[str], charts
             raise ValueError(f"{path}: the name of a {what} ends with .csv{', .ics' * (what == 'schedule')} or .xlsx")
         if ending == ".xlsx":
             optional("openpyxl", "writing a workbook")
-    read = {os.path.realpath(path) for path in inputs if path is not None and os.path.isfile(path)}
+    used = {os.path.realpath(path): "read" for path in inputs if path is not None and os.path.isfile(path)}
+    if os.path.isfile("/dev/stdout"):
+        used[os.path.realpath("/dev/stdout")] = "printed to"
     for path in [*schedules, *charts, *tables]:
         target = os.path.realpath(path)
-        if target in read or (target == os.path.realpath("/dev/stdout") and os.path.isfile(target)):
-            what = "read" if target in read else "printed to"
-            raise ValueError(f"{path} is {what}, and writing would replace it: name another file")
+        if target in used:
+            raise ValueError(f"{path} is {used[target]}, and writing would replace it: name another file")
+        if os.path.isfile(target) or not os.path.exists(target):
+            used[target] = "another output"
         if not os.path.isdir(os.path.dirname(target)):
             raise FileNotFoundError(errno.ENOENT, os.strerror(errno.ENOENT), path)
-        if os.path.isdir(path):
+        if os.path.isdir(target):
             raise IsADirectoryError(errno.EISDIR, os.strerror(errno.EISDIR), path)
     if endings - {"html"}:
         optional("matplotlib", "plot").rcdefaults()  # no matplotlibrc of the current folder
@@ -568,18 +572,20 @@ def parsed(line: list[str], parser: argparse.ArgumentParser) -> argparse.Namespa
     """Parse a command line, before whose options come those of the sheet `pfs` of its workbook."""
     given = parser.parse_args(line)
     words = sheet_words(given.table) if given.run is plan_command else []
-    if not words:
-        return given
-    command = line[:1] if parser.prog != "pfs-plan" else []
-    try:
-        own = parser.parse_args([*command, *words, given.table])
-        option = next((option for option in OF_FILES if getattr(own, option)), None)
-        if option:
-            raise Misused(f"--{option} names a file, which only the command line may do")
-    except Misused as error:
-        raise Misused(f"{given.table}, sheet {OPTIONS_SHEET}: {error}") from None
-    tell(given.table, f"options of the sheet {OPTIONS_SHEET!r}", words)
-    return parser.parse_args([*command, *words, *line[len(command):]])
+    if words:
+        command = line[:1] if parser.prog != "pfs-plan" else []
+        try:
+            own = parser.parse_args([*command, *words, given.table])
+            options = [option for option in OF_FILES if getattr(own, option)]
+            options += [] if own.language in ("en", "de") else ["language"]
+            if options:
+                raise Misused(f"--{options[0]} names a file, which only the command line may do")
+        except Misused as error:
+            raise Misused(f"{given.table}, sheet {OPTIONS_SHEET}: {error}") from None
+        tell(given.table, f"options of the sheet {OPTIONS_SHEET!r}", words)
+        given = parser.parse_args([*command, *words, *line[len(command):]])
+    given.files = [word[1:] for word in line if word.startswith("@")]
+    return given
 
 
 def has_options(path: str) -> bool:

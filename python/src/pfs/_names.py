@@ -8,6 +8,8 @@ from typing import Any
 
 # Characters that move the cursor of a terminal, end a line or change its direction, or aren't allowed in XML.
 UNSHOWN = re.compile("[\0-\x1f\x7f-\x9f\u2028-\u202e\u2066-\u2069\ud800-\udfff\ufffe\uffff]")
+# Those that aren't allowed in XML.
+NOT_IN_XML = re.compile("[\0-\x08\x0b\x0c\x0e-\x1f\ud800-\udfff\ufffe\uffff]")
 
 # Units of time, in which machines may be named too, and how many seconds each has. Other words in brackets, as in
 # "drill (left)", belong to the machine's name.
@@ -31,13 +33,13 @@ def seconds_in(unit: str) -> int | None:
     return UNITS_OF_TIME.get(CLOCK if word == "hh:mm" else word)
 
 
-def shown(name: str) -> str:
+def shown(name: str, unshown: re.Pattern[str] = UNSHOWN) -> str:
     """Return a name as charts and terminals show it, with escapes for control characters.
 
     >>> print(shown("saw 2\\x1b[2J\\n"))
     saw 2\\x1b[2J\\n
     """
-    return UNSHOWN.sub(lambda found: found[0].encode("unicode_escape").decode(), name)
+    return unshown.sub(lambda found: found[0].encode("unicode_escape").decode(), name)
 
 
 def printable(text: str) -> str:

@@ -35,10 +35,12 @@ def beginning(given: argparse.Namespace, shop: Instance, found: FoundOrder, cale
     (left, held, done), moment = left_at(shop, found, calendar, given.now or given.begin, given.down, given.order)
     later = Calendar(moment, given.shift, given.days, given.closed)
     count = left.jobs - (shop.jobs - len(found.jobs))
+    # Of the first jobs of the order those that are finished are gone, and machines that are down are among them.
+    held = max(held, min(given.hold, len(found.jobs)) + count - len(found.jobs))
     digits = 0 if later.begin.second else -1
     written(sys.stderr, f"from {text_of(later.begin, digits)} on: {len(done)} finished, {held} held, "
                         f"{left.jobs - held} to plan\n")
-    return Beginning(left, FoundOrder([*range(count)], found.gone), max(held, given.hold), later)
+    return Beginning(left, FoundOrder([*range(count)], found.gone), held, later)
 
 
 def left_at(shop: Instance, found: FoundOrder, calendar: Calendar, moment: str, down: Iterable[tuple[str, str]],
@@ -67,12 +69,15 @@ def check_gone(path: str, shop: Instance, found: FoundOrder, at: int) -> None:
 
 def down_until(given: Iterable[tuple[str, str]], clock: Clock, shop: Instance, at: int) -> dict[int, int]:
     """Return until when machines are down, by their numbers."""
-    numbers = {shop.machine_name(machine).casefold(): machine for machine in range(shop.machines)}
+    names = [shop.machine_name(machine) for machine in range(shop.machines)]
+    folded = [*map(str.casefold, names)]
     found: dict[int, int] = {}
     for name, moment in given:
-        machine, until = numbers.get(name.strip().casefold()), clock.time_at(begin_of(moment))
-        if machine is None:
-            raise ValueError(f"`down`: {name!r} isn't the name of a machine of the table")
+        own, until = name.strip(), clock.time_at(begin_of(moment))
+        if own not in names and folded.count(own.casefold()) != 1:
+            what = "may be several machines" if own.casefold() in folded else "isn't the name of a machine of the table"
+            raise ValueError(f"`down`: {name!r} {what}")
+        machine = names.index(own) if own in names else folded.index(own.casefold())
         if machine in found:
             raise ValueError(f"`down`: {name!r} is there twice")
         if until <= at:

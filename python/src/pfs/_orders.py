@@ -1,6 +1,7 @@
 """Files with an order by the names of jobs, which `plan` prints and people change."""
 from __future__ import annotations
 
+import contextlib
 import csv
 import os
 import re
@@ -9,7 +10,7 @@ from collections.abc import Collection, Iterator, Sequence
 from itertools import chain, islice, takewhile
 from typing import NamedTuple, TypeVar
 
-from pfs._atomic import text_cell
+from pfs._atomic import text_cell, text_in_cell
 from pfs._faults import TableFault
 from pfs._files import content_of
 from pfs._instance import Instance
@@ -17,7 +18,7 @@ from pfs._names import shown
 from pfs._order_text import numbers_in, words_in
 from pfs._report import OPERATIONS
 from pfs._search import by_total, insert_after
-from pfs._tables import delimiter_of, is_above_names, lines_of, records, text_of
+from pfs._tables import SAYS_JOB, delimiter_of, is_above_names, lines_of, records, text_of
 from pfs._words import words_of
 
 # The lines of a plan before its jobs, and a job after its place.
@@ -73,14 +74,14 @@ def stated_end(path: str | os.PathLike[str]) -> str:
     lines = [line.strip() for line in islice(lines_of(text), 4)]
     if len(lines) > 1 and all(HEAD.fullmatch(line) for line in lines[:2]):
         return ", ".join([lines[0], *(line for line in lines[2:] if AFTER[1].fullmatch(line))])
-    dates = re.findall(r"[;,\t]([0-9]{4}-[0-9]{2}-[0-9]{2} [0-9:.]+)$", text, re.MULTILINE)
+    dates = re.findall(r'[;,\t]"?([0-9]{4}-[0-9]{2}-[0-9]{2} [0-9:.]+(?:,[0-9]+)?)"?\r?$', text, re.MULTILINE)
     return f"end {max(dates).removesuffix(':00') if len(max(dates)) > 16 else max(dates)}" if dates else ""
 
 
 def numbers_by_name(shop: Instance) -> dict[str, int]:
     """Return the number of each job by its name, also as plans and schedules have it."""
     names = [shop.job_name(job) for job in range(shop.jobs)]
-    return {text: job for texts in ([*map(shown, names)], [*map(text_cell, names)], names)
+    return {text: job for texts in (*([*map(form, names)] for form in (shown, text_in_cell, text_cell)), names)
             for job, text in enumerate(texts)}
 
 
@@ -114,6 +115,19 @@ def moved(order: Sequence[Job], other: Sequence[Job]) -> list[Job]:
     return [job for job in order if job in places and job not in stayed]
 
 
+def rows_of_table(text: str, path: str, delimiter: str, numbers: Collection[str]) -> list[tuple[int, list[str]]]:
+    """Return the rows of a table of times, which has a head. In a list of jobs after their places, they are in the
+    second column, perhaps with another head."""
+    rows: list[tuple[int, list[str]]] = []
+    with contextlib.suppress(TableFault):
+        rows = [*records(text, path, delimiter)]
+    head = rows[0][1] if rows else []
+    if len(head) < 2 or head[0] in numbers or not is_above_names(head[0]):
+        return []
+    firsts, seconds = (len({row[at] for _, row in rows if len(row) > at}.intersection(numbers)) for at in (0, 1))
+    return rows[1:] if firsts > seconds or (firsts == seconds and not SAYS_JOB.match(head[1])) else []
+
+
 def named_jobs(text: str, path: str, numbers: dict[str, int], heads: Collection[tuple[str, ...]]) -> Iterator[
         tuple[int, str]]:
     """Return the names of the jobs with their lines. A schedule has one of the rows of heads, and each job several
@@ -142,13 +156,19 @@ def named_jobs(text: str, path: str, numbers: dict[str, int], heads: Collection[
             yield from ((line, word) for word in words)
             return
     delimiter = delimiter_of(text)
+    is_list = is_plan or any(entry in numbers for _, entry in lines[:1])
+    rows = [] if is_list else rows_of_table(text, path, delimiter, numbers)
+    if rows:
+        yield from ((line, row[0]) for line, row in rows if row[0])
+        return
     listed = takewhile(lambda each: not is_plan or each[1] != AFTER_ORDER, chain(lines, filled))
     for at, (line, entry) in enumerate(listed):
         placed = PLACED.fullmatch(entry)
         name = placed[1] if placed and (is_plan or entry not in numbers) else entry
-        # A row of a table has other cells after the name.
-        first = next(csv.reader([name], delimiter=delimiter), [""])[0].strip()
-        if name in numbers or first in numbers:
-            yield line, name if name in numbers else first
+        # A row of a table has other cells after the name, which may be a number.
+        first, own = (next(csv.reader([each], delimiter=delimiter), [""])[0].strip() for each in (name, entry))
+        known = next((each for each in (name, first, "" if is_plan else own) if each in numbers), None)
+        if known is not None:
+            yield line, known
         elif is_plan or at or not is_above_names(first):
             yield line, re.split("[;\t]", name)[0].strip().strip('"')

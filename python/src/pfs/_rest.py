@@ -101,4 +101,8 @@ def down_of(shop: Instance, down: Mapping[int | str, int], at: int) -> dict[int,
     unknown = next((machine for machine in down if machine not in numbers), None)
     if unknown is not None:
         raise ValueError(f"down: {unknown!r} isn't a machine")
+    own = [numbers[machine] for machine in down]
+    twice = next((machine for machine in range(shop.machines) if own.count(machine) > 1), None)
+    if twice is not None:
+        raise ValueError(f"down: the machine {shop.machine_name(twice)!r} is there by its number and by its name")
     return {numbers[machine]: until for machine, until in down.items() if until > at}

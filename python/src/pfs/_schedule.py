@@ -1,17 +1,15 @@
 """The class `Schedule`: when each operation of an order starts and ends."""
 from __future__ import annotations
 
-import csv
 import os
 from collections.abc import Callable, Iterator, Mapping
 from itertools import chain
-from types import SimpleNamespace
 from typing import TYPE_CHECKING, Any
 
 import numpy as np
 
 from pfs import _library as c
-from pfs._atomic import atomic_write, quoting_of, text_cell
+from pfs._atomic import atomic_write, csv_writer, text_cell
 from pfs._calendar import Calendar, Clock, text_of
 from pfs._drawing import critical_path
 from pfs._names import amount
@@ -215,10 +213,8 @@ class Schedule:
         shop, say = self.instance, words_of(language)
         times_of = self._texts(calendar)
         lines: list[str] = []
-        # With this line terminator, cells that contain \r or \n are quoted. Each row is written at once.
-        file = SimpleNamespace(write=lambda row: lines.append(row.removesuffix("\r\n") + "\n"))
         names = chain(map(shop.job_name, range(shop.jobs)), map(shop.machine_name, range(shop.machines)))
-        rows = csv.writer(file, delimiter=delimiter, lineterminator="\r\n", quoting=quoting_of(names, delimiter))
+        rows = csv_writer(lines, names, delimiter)
         rows.writerow([text_cell(say(head)) for head in OPERATIONS])
         for job, machine, start, end in self._operations():
             shown = (time.replace(".", ",") if delimiter == ";" else time for time in times_of(start, end))

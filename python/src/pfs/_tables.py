@@ -2,7 +2,6 @@
 from __future__ import annotations
 
 import csv
-import io
 import os
 import re
 import warnings
@@ -14,7 +13,7 @@ from typing import NamedTuple
 import numpy as np
 
 from pfs import _library as c
-from pfs._atomic import atomic_write, quoting_of, text_cell
+from pfs._atomic import atomic_write, csv_writer, text_cell, text_in_cell
 from pfs._faults import TableFault, cell_name
 from pfs._files import content_of
 from pfs._instance import Instance
@@ -116,6 +115,8 @@ class Rows:
         self.corner = Cell(1, 1, "")
         self.machines: list[Cell] = []
         self.jobs: list[Cell] = []
+        # The cells of a workbook that are texts, and look like numbers with a separator.
+        self.texts: set[tuple[int, int]] = set()
         # Whether the machines were named.
         self.is_chosen = False
         # The first cell of each column that isn't a time, and how many there are, for each cause.
@@ -186,7 +187,8 @@ def read_csv(source: str | os.PathLike[str], unit: str = "", *, decimal: str | N
     decimal : str, optional
         The decimal sign, ``"."`` or ``","``. The other one may then group digits by thousands. By default it is the
         point where commas separate the columns. Elsewhere it is the one that the table uses, and a number such as
-        ``1.000``, which may be 1 or 1000, is rejected.
+        ``1.000``, which may be 1 or 1000, is rejected. In a workbook it is the sign of texts, and a text such as
+        ``1.000`` is rejected without it.
     allow_totals : bool
         Whether rows and columns may have names of sums, means or quantities, the last row may be the sum of the rows
         above, and the last column the sum of the columns before it. By default such a table is rejected, since they
@@ -255,10 +257,14 @@ def table_in(content: bytes, path: str, unit: str, decimal: str | None, allow_to
     if decimal not in (None, ".", ","):
         raise ValueError(f"decimal must be '.' or ',', not {decimal!r}")
     faults: list[TableFault] = []
-    text, note = sheet_of(content, path, sheet) if content.startswith(ARCHIVE) else (text_of(content, path, faults), "")
+    if content.startswith(ARCHIVE):
+        text, note, texts = sheet_of(content, path, sheet, decimal or ".")
+    else:
+        text, note, texts = text_of(content, path, faults), "", set()
     if sheet is not None and not content.startswith(ARCHIVE):
         raise ValueError(f"{path} isn't a workbook (.xlsx), and has no sheet {sheet!r}")
     table = rows_of(text, path, list(machines or ()), faults)
+    table.texts = texts
     if not allow_totals:
         leave_out_totals(table, machines is not None)
     heads, found = without_units(table, unit)
@@ -276,22 +282,22 @@ def table_in(content: bytes, path: str, unit: str, decimal: str | None, allow_to
                  sign.rounded())
 
 
-def sheet_of(content: bytes, path: str, sheet: str | None) -> tuple[str, str]:
-    """Return a sheet of a workbook as CSV, of whose rows one more than a table may have is read. By default it is the
-    one with which the workbook opens, and the second text says so if there are others. It also says if rows or columns
-    are hidden."""
+def sheet_of(content: bytes, path: str, sheet: str | None, sign: str) -> tuple[str, str, set[tuple[int, int]]]:
+    """Return a sheet of a workbook as CSV, of whose rows one more than a table may have is read, and which of its texts
+    look like numbers. By default it is the one with which the workbook opens, and the second text says so if there are
+    others. It also says if rows or columns are hidden."""
     book = Workbook(content, path)
     own = book.first if sheet is None else sheet
     if own not in book.names:
         raise ValueError(f"{path} has no sheet {own!r}, but {', '.join(map(repr, book.names))}")
-    text = book.csv_of(own, MOST_ROWS + 2)
+    text = book.csv_of(own, MOST_ROWS + 2, sign)
     others = [repr(name) for name in book.names if name != own and name.casefold() != OPTIONS_SHEET]
     note = f"the sheet {own!r} is read, and not {', '.join(others)} (`sheet`)" if others and sheet is None else ""
     hidden = " and ".join(counted(number, f"hidden {what}") for number, what in zip(book.hidden, ("row", "column"))
                           if number)
     if hidden:
         note += f"{'; ' if note else ''}{hidden} {'is' if sum(book.hidden) == 1 else 'are'} read too"
-    return text, note and f"{path}: {note}"
+    return text, note and f"{path}: {note}", book.texts
 
 
 def text_of(content: bytes, path: str, faults: list[TableFault] | None = None) -> str:
@@ -348,7 +354,8 @@ def records(text: str, path: str, delimiter: str) -> Iterator[tuple[int, list[st
     try:
         for row in reader:
             number += row[:1] != ["sep="] or number > 0
-            if any(row) and any(cells := [cell.strip() for cell in row]) and number:
+            cells = [text_in_cell(cell) if "'" in cell else cell.strip() for cell in row]
+            if any(cells) and number:
                 yield number, cells
             signs, line = 0, reader.line_num + 1
     except csv.Error as error:
@@ -378,7 +385,7 @@ def rows_of(text: str, path: str, machines: list[str], faults: list[TableFault])
     if not used:
         reject_columns(path, titles, machines, text, table.delimiter)
     line = table.corner.line
-    columns = [column_of(head, name) for name in machines] or sorted(used)[1:]
+    columns = [the_column(table, head, name) for name in machines] or sorted(used)[1:]
     table.machines = [Cell(line, column, head[column - 1] if column <= len(head) else "") for column in columns]
     if not machines:
         check_titles(table, titles)
@@ -389,25 +396,37 @@ def is_head(row: Sequence[str], above: Sequence[str] | None, machines: list[str]
     """Whether a row names these machines, or else is the first one with more than a first cell. If the row above it was
     taken for that, it was a title if it names fewer machines and this row has names only."""
     if above is None:
-        return all(column_of(row, name) for name in machines) if machines else any(row[1:])
+        return all(columns_of(row, name) for name in machines) if machines else any(row[1:])
     names, others = ([name for name in each[1:] if name] for each in (row, above))
     return not machines and len(names) > len(others) and not any(map(is_time, names)) and is_above_names(row[0] or "?")
 
 
-def column_of(head: Sequence[str], name: str) -> int:
-    """Return the column after the first one that has this name, with or without its unit; 0 if none has."""
-    wanted = name.strip().casefold()
-    return next((column for column, text in enumerate(head[1:], 2)
-                 if wanted and wanted in (text.casefold(), without_unit(text).casefold())), 0)
+def columns_of(head: Sequence[str], name: str) -> list[int]:
+    """Return the columns after the first one that have this name, or else, if it isn't empty, those that have it
+    without their units or in other capitals."""
+    wanted, names = name.strip(), [*enumerate(head[1:], 2)]
+    found = [column for column, text in names if text == wanted] or [
+        column for column, text in names if wanted.casefold() in (text.casefold(), without_unit(text).casefold())]
+    return found if wanted else []
+
+
+def the_column(table: Rows, head: Sequence[str], name: str) -> int:
+    """Return the column with this name. Several ones are reported."""
+    column, *others = columns_of(head, name)
+    for other in others:
+        table.report(Cell(table.corner.line, other, ""), f"the machine {name!r} may be this column or "
+                     f"{cell_name(table.corner.line, column)}: give them different names, or write the whole name "
+                     "(`machines`)")
+    return column
 
 
 def reject_columns(path: str, titles: Sequence[Cell], machines: list[str], text: str, delimiter: str) -> None:
     """No row has names of machines, or not the given ones: say what the row with the most of them lacks."""
     if not machines:
         raise TableFault(path, titles[0].line, 0, f"0 machines: there may be 1 to {c.MOST_MACHINES}")
-    line, row = max(records(text, path, delimiter), key=lambda each: sum(bool(column_of(each[1], name))
+    line, row = max(records(text, path, delimiter), key=lambda each: sum(bool(columns_of(each[1], name))
                                                                          for name in machines))
-    missing = next(name for name in machines if not column_of(row, name))
+    missing = next(name for name in machines if not columns_of(row, name))
     others = ", ".join(filter(None, row[1:]))
     raise TableFault(path, line, 0, f"no column is named {missing!r}: this row has {others or 'no other names'} "
                                     "(`machines`)")
@@ -598,7 +617,7 @@ class DecimalSign:
         match = NUMBER.match(text)
         if not text:
             raise self.table.fault(cell, MISSING)
-        if self.sign is None and GROUPED.match(text):
+        if (self.sign is None or not self.given and cell[:2] in self.table.texts) and GROUPED.match(text):
             digits = re.sub("[.,]", "", text)
             raise self.table.fault(cell, f"{text!r} may be {digits}, or have decimals: leave out thousands separators, "
                                          "or say which decimal sign the table has (`decimal`)")
@@ -675,16 +694,15 @@ def write_table(path: str, shop: Instance, delimiter: str, mark: bool) -> None:
                 for job, row in enumerate(shop.times.tolist())]
         write_workbook(path, [("times", [head, *rows])])
         return
-    text = io.StringIO()
-    names = [*head, *(name for name, *_ in texts)]
-    writer = csv.writer(text, delimiter=delimiter, lineterminator="\n", quoting=quoting_of(names, delimiter))
+    lines: list[str] = []
+    writer = csv_writer(lines, [*head, *(name for name, *_ in texts)], delimiter)
     writer.writerow(map(text_cell, head))
     point = "," if delimiter == ";" else "."
     # The sign before three decimals alone could separate thousands, so they get another zero.
     more = "0" if shop.decimals == 3 and delimiter != "," else ""
     for name, *row in texts:
         writer.writerow([text_cell(name), *(time.replace(".", point) + more for time in row)])
-    atomic_write(path, text.getvalue().encode("utf-8-sig" if mark else "utf-8"))
+    atomic_write(path, "".join(lines).encode("utf-8-sig" if mark else "utf-8"))
 
 
 def counted(number: int, what: str) -> str:

@@ -17,7 +17,7 @@ from xml.etree import ElementTree
 from pfs import _library as c
 from pfs._atomic import atomic_write
 from pfs._faults import TableFault
-from pfs._names import CLOCK, printable, shown
+from pfs._names import CLOCK, NOT_IN_XML, printable, shown
 from pfs._optional import optional
 
 # Days count from the first date in workbooks, and from the other one up to February 1900, which had 29 days there.
@@ -29,6 +29,7 @@ MOST_ROWS = 1_048_576
 MOST_CELLS, MOST_IN_ROW, MOST_TAGS, MOST_STYLES = 3_000_000, 16_384, 500_000, 100_000
 TAG = re.compile(rb"<(?:\w+:)?(c|row)[\s/>]")
 FORMULA = re.compile(rb"<(?:\w+:)?f[\s/>]")
+SEPARATED = re.compile(r"[0-9]+(?:[.,][0-9]+)+", re.ASCII)
 # The sheet with options of `pfs-plan`, which is no table.
 OPTIONS_SHEET = "pfs"
 # How many rows decide how wide their columns are, and the widest one.
@@ -43,6 +44,8 @@ class Workbook:
         self.path = path
         # How many cells may still be read.
         self.cells = MOST_CELLS
+        # The texts that look like numbers with a separator, in the last sheet that was read.
+        self.texts: set[tuple[int, int]] = set()
         # How many hidden rows and columns the last sheet that was read has.
         self.hidden = [0, 0]
         with self.faults():
@@ -69,14 +72,14 @@ class Workbook:
             raise TableFault(self.path, 1, 0,
                              f"isn't a workbook that openpyxl reads ({shown(str(error))}){instead}") from None
 
-    def csv_of(self, name: str, most_rows: int = MOST_ROWS) -> str:
-        """Return a sheet as CSV with commas and decimal points. Of the rows that aren't empty, the first ones are
-        read. A formula without a stored value is a fault."""
+    def csv_of(self, name: str, most_rows: int = MOST_ROWS, sign: str = ".") -> str:
+        """Return a sheet as CSV with commas, and numbers with this decimal sign. Of the rows that aren't empty, the
+        first ones are read. A formula without a stored value is a fault."""
         with self.faults():
             sheet = self.book[name]
             content = self.book._archive.read(sheet._worksheet_path)
             empty = [*formulas_without_values(content)]
-            text = self.text_of_rows(sheet, most_rows, *hidden_in(content))
+            text = self.text_of_rows(sheet, most_rows, sign, *hidden_in(content))
         if empty:
             path = f"{self.path}, sheet {name}" if len(self.names) > 1 else self.path
             line, column = optional("openpyxl", "").utils.cell.coordinate_to_tuple(empty[0])
@@ -85,21 +88,25 @@ class Workbook:
                                                  "spreadsheet and save it")
         return text
 
-    def text_of_rows(self, sheet: Any, most_rows: int, rows_hidden: Collection[int],
+    def text_of_rows(self, sheet: Any, most_rows: int, sign: str, rows_hidden: Collection[int],
                      columns_hidden: Collection[int]) -> str:
         """Return the rows of a sheet as CSV, and count the hidden rows and columns among them."""
         text = io.StringIO("sep=,\n")
         text.seek(0, os.SEEK_END)
-        rows = csv.writer(text, lineterminator="\n")
+        rows = csv.writer(text)
         # The sizes that a workbook states may be wrong.
         sheet.reset_dimensions()
-        self.hidden, widest = [0, 0], 0
+        self.texts, self.hidden, widest = set(), [0, 0], 0
         for number, row in enumerate(sheet.iter_rows(values_only=True)):
             self.cells -= len(row)
             if number == MOST_ROWS or self.cells < 0:
                 raise ValueError("it has too many cells")
             last = next((at for at in range(len(row), 0, -1) if row[at - 1] is not None), 0)
-            rows.writerow(["" if value is None else text_in(value) for value in row[:last]])
+            cells = ["" if value is None else text_in(value) for value in row[:last]]
+            rows.writerow([text.replace(".", sign) if isinstance(value, float) else text
+                           for text, value in zip(cells, row)])
+            self.texts.update((number + 1, column) for column, value in enumerate(row, 1)
+                              if isinstance(value, str) and SEPARATED.fullmatch(value.strip()))
             self.hidden[0] += last > 0 and number + 1 in rows_hidden
             widest = max(widest, last)
             most_rows -= last > 0
@@ -207,7 +214,7 @@ def write_sheet(sheet: Any, rows: Iterable[Sequence[Any]]) -> None:
     font = optional("openpyxl", "").styles.Font("Calibri", 11, bold=True)
     for line, row in enumerate(rows, 1):
         for column, value in enumerate(row, 1):
-            cell = sheet.cell(line, column, shown(value) if isinstance(value, str) else value)
+            cell = sheet.cell(line, column, shown(value, NOT_IN_XML) if isinstance(value, str) else value)
             if line == 1:
                 cell.font = font
             if isinstance(value, str):

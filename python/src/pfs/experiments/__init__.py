@@ -1,10 +1,9 @@
 """Experiments: plans of runs, their CSVs and reports. `pfs-experiments` is the command line."""
 from __future__ import annotations
 
-import csv
-import io
 from collections.abc import Iterable, Sequence
 
+from pfs._atomic import csv_writer
 from pfs._cli import Refused
 from pfs._names import printable as plain
 
@@ -22,6 +21,6 @@ def listed(names: Sequence[str], most: int = 10) -> str:
 
 def csv_text(rows: Iterable[Sequence[object]]) -> str:
     """Returns rows as a CSV."""
-    text = io.StringIO()
-    csv.writer(text, lineterminator="\n").writerows(rows)
-    return text.getvalue()
+    lines: list[str] = []
+    csv_writer(lines, ()).writerows(rows)
+    return "".join(lines)

@@ -3,9 +3,7 @@ from __future__ import annotations
 
 import argparse
 import contextlib
-import os
 import pathlib
-from collections.abc import Iterable
 from typing import Any
 
 from pfs._atomic import text_cell
@@ -30,7 +28,7 @@ def verdicts(table: Any, shops: Any, layout: str | None = None,
 def audit(args: argparse.Namespace) -> int:
     """Audits a table of published orders. Prints each one that is wrong, unclear or below the reference, the sheets
     that are left out, and the numbers of orders; a CSV has the verdict on each."""
-    check_output(args.csv, [args.table, *(args.instances.rglob("*") if args.instances else ())])
+    stage.check_output(args.csv, [args.table, *(args.instances.rglob("*") if args.instances else ())])
     found, left_out = verdicts(args.table, args.instances or (), args.layout, args.first)
     if args.csv:
         rows = [[text_cell(cell) if isinstance(cell, str) else cell for cell in row] for row in found]
@@ -46,13 +44,6 @@ def audit(args: argparse.Namespace) -> int:
     print(f"{args.table}: {len(found) - unclear} orders audited, {len(valid)} valid ({optimal} optimal), {wrong} wrong"
           + (f"; {unclear} row{'s are' if unclear > 1 else ' is'} unclear, and not audited" if unclear else ""))
     return 1 if wrong else 2 if unclear else 0
-
-
-def check_output(path: str | None, inputs: Iterable[str | pathlib.Path]) -> None:
-    """Rejects an output that would replace a file that is read."""
-    for each in inputs if path and os.path.exists(path) else ():
-        if os.path.exists(each) and os.path.samefile(each, str(path)):
-            raise ExperimentError(f"{path} is read, and writing would replace it: name another file for the verdicts")
 
 
 # The CSVs of a report

@@ -198,6 +198,9 @@ def rows_of(path: str | os.PathLike[str], needed: Iterable[str]) -> list[Row]:
             columns, rows = reader.fieldnames or [], list(reader)
     except (ValueError, csv.Error) as error:
         raise ExperimentError(f"{path}: {error}") from None
+    twice = next((column for column in columns if column and columns.count(column) > 1), None)
+    if twice is not None:
+        raise ExperimentError(f"{path}: two columns are named {twice!r}")
     missing = [column for column in needed if column not in columns]
     if missing:
         raise ExperimentError(f"{path}: no column {', '.join(missing)}")
@@ -210,7 +213,7 @@ def reference_of(path: str | os.PathLike[str]) -> Reference:
     """Returns the reference of each instance in a CSV, by its name and, if that is clear, by its canonical name."""
     found: Reference = {}
     for row in rows_of(path, ["instance", "makespan"]):
-        whole = re.fullmatch(r" *([0-9]{1,18})(?:\.0*)? *", row["makespan"], re.ASCII)
+        whole = re.fullmatch(r" *([0-9]{1,18})(?:\.(?!000 *\Z)0*)? *", row["makespan"], re.ASCII)
         if not whole:
             raise ExperimentError(f"{path}: {row['makespan'][:40]!r} is not a whole number of at most 18 digits")
         entry = int(whole[1]), row.get("source", "")

@@ -24,9 +24,11 @@ from pfs._benchmarks import canonical, taillard_rows
 from pfs._drawing import picture_of
 from pfs.experiments import ExperimentError, csv_text, listed, plain, statistics
 from pfs.experiments.plan import MOST_MAKESPAN, reference_for, reference_of, rows_of
-from pfs.experiments.stage import write_text
+from pfs.experiments.stage import check_output, write_text
 from pfs.experiments.statistics import SETTING, SIZE, setting_names
 
+# The tables that are written as CSV.
+TABLES = ("table", "instances", "best", "comparison", "ranks", "sizes")
 GROUP = ["method", *SIZE, "rounds", "take", "passes", "time_factor"]
 # The greatest value of each column of numbers, and the least of those that may be below 0. The first ones are whole.
 GREATEST = {"jobs": 10 ** 6, "machines": 10 ** 6, "rounds": 10 ** 9, "take": 10 ** 6, "passes": 10 ** 6,
@@ -62,6 +64,8 @@ Axis = Any
 def report(args: argparse.Namespace) -> int:
     """Writes the tables and the plots."""
     logging.getLogger("matplotlib").setLevel(logging.ERROR)
+    for name in TABLES:
+        check_output(args.folder / f"{name}.csv", [*args.csv, args.reference], "folder")
     means = [path for path in args.csv if "rpd" in (columns := rows_of(path, [])[0]) and "instance" not in columns]
     if len(means) == len(args.csv):
         raise ExperimentError("published means are columns beside the runs of another CSV")

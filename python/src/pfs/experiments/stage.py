@@ -18,7 +18,7 @@ import secrets
 import shutil
 import subprocess
 import sys
-from collections.abc import Iterator
+from collections.abc import Iterable, Iterator
 from typing import Any, NamedTuple
 
 from pfs import _order_text, _rounds
@@ -56,6 +56,14 @@ def write_text(path: str | os.PathLike[str], text: str) -> None:
     atomic_write(path, text.encode(errors="backslashreplace"))
 
 
+def check_output(path: str | pathlib.Path | None, inputs: Iterable[str | pathlib.Path | None],
+                 what: str = "file") -> None:
+    """Rejects an output that would replace a file that is read."""
+    for each in inputs if path and os.path.exists(path) else ():
+        if each is not None and os.path.exists(each) and os.path.samefile(each, str(path)):
+            raise ExperimentError(f"{path} is read, and writing would replace it: name another {what}")
+
+
 def find_pfs(program: str | None) -> str:
     """Returns the absolute path of the program, which must be pfs. At most 1,000 bytes of its output are read."""
     if program is None:
@@ -90,6 +98,9 @@ def prepare(plan_path: str, csv_path: str, program: str | None) -> Experiment:
     its runs, and new runs of the plan are added. The folder is complete if it has the file plan.json."""
     plan, top, folder = read_plan(plan_path), os.path.dirname(os.path.abspath(plan_path)), folder_of(csv_path)
     reference = checked_reference(plan, top, plan_path) if plan["reference"] else {}
+    files = [name for each in plan["methods"] for name in each.get("files", [])]
+    check_output(csv_path, [plan_path, *(os.path.join(top, name) for name in
+                                         [*plan["instances"], *files, plan["reference"] or plan_path])])
     if os.path.isdir(csv_path):
         raise ExperimentError(f"{csv_path}: Is a directory")
     if not folder.name.isprintable():

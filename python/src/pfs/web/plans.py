@@ -63,7 +63,7 @@ def read(given: dict[str, Any], folder: str) -> dict[str, Any]:
     if content.startswith(tables.ARCHIVE):
         book = Workbook(content, name)
         sheets, sheet = book.names, sheet if sheet in book.names else book.first
-        table = book.csv_of(sheet, tables.MOST_ROWS + 2)
+        table = book.csv_of(sheet, tables.MOST_ROWS + 2, field(options, "decimal", str) or ".")
     else:
         table = tables.text_of(content, name, faults)
     delimiter = tables.delimiter_of(table)
@@ -99,7 +99,7 @@ def text_from(rows: Any, delimiter: str) -> str:
     """The rows of the page, each with its line, as CSV. The delimiter shows a table's decimal sign."""
     out, before = io.StringIO(f"sep={delimiter}\n"), 0
     out.seek(0, io.SEEK_END)
-    writer = csv.writer(out, delimiter=delimiter, lineterminator="\n")
+    writer = csv.writer(out, delimiter=delimiter)
     for row in rows if type(rows) is list else [None]:
         if type(row) is not list or len(row) != 2 or type(row[0]) is not int or not before < row[0] <= MOST_ROWS:
             raise OTHER_FORM
