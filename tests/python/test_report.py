@@ -571,6 +571,110 @@ def test_trajectories_have_their_mean_and_the_share_that_reaches_the_target(done
     assert reports.along(done(WAY_HEAD + "i,20,5,a,1,104,100,1,\n"), None) == {}
 
 
+# The layout of plots
+
+def points_of(panels: int, labels: int, least: float = 0) -> Any:
+    """Points of this number of panels, each with a line for each label."""
+    return pandas.DataFrame([{"panel": f"panel {panel}", "label": f"label {label}", "x": x, "y": least + label + x}
+                             for panel in range(panels) for label in range(labels) for x in (1, 10)])
+
+
+def styles_of(labels: int) -> dict[str, dict[str, Any]]:
+    return {f"label {label}": {"color": "black"} for label in range(labels)}
+
+
+@pytest.mark.parametrize(("panels", "columns", "width", "wide", "rows", "across"), [
+    (1, 3, None, 6.5, 1, 1), (2, 3, None, 8.4, 1, 2), (5, 3, None, 12.6, 2, 3), (4, 2, None, 8.4, 2, 2),
+    (5, 3, 5.0, 5, 3, 2), (3, 3, 2.0, 2, 3, 1), (3, 3, 6.7, 6.7, 1, 3), (3, 3, 6.5, 6.5, 2, 2)])
+def test_panels_are_in_rows_above_their_legend(panels: int, columns: int, width: float | None, wide: float, rows: int,
+                                               across: int) -> None:
+    """Of equal scales, whose marks have numbers at the left and below the last panel of each column."""
+    figure = reports.panels(points_of(panels, 2), styles_of(2), columns, width, "the x", "the y", "a title", "a legend")
+    *axes, below = figure.axes
+    assert figure.get_size_inches()[0] == pytest.approx(wide)
+    assert [axis.get_title() for axis in axes] == [f"panel {at}" for at in range(panels)]
+    places = [(spec.rowspan.start, spec.colspan.start) for spec in (axis.get_subplotspec() for axis in axes)]
+    assert places == [divmod(at, across) for at in range(panels)] and below.get_subplotspec().rowspan.start == rows
+    assert below.get_subplotspec().colspan == range(across)
+    figure.draw_without_rendering()
+    for at, axis in enumerate(axes):
+        shown = [bool([label for label in labels if label.get_visible() and label.get_text()])
+                 for labels in (axis.get_yticklabels(), axis.get_xticklabels())]
+        assert shown == [at % across == 0, at + across >= panels], at
+        assert axis.get_xlim() == axes[0].get_xlim() and axis.get_ylim() == axes[0].get_ylim()
+    legend = below.get_legend()
+    assert [text.get_text() for text in legend.get_texts()] == ["label 0", "label 1"]
+    assert (legend.get_title().get_text(), below.get_title(), figure._supylabel.get_text()) == (
+        "a legend", "the x", "the y")
+    assert figure._suptitle.get_text() == "a title" and axes[0].get_ylim()[0] == 0
+    heights = [axis.get_window_extent().height / figure.dpi for axis in axes]
+    assert max(heights) - min(heights) < 0.02 and 0.9 < min(heights) <= max(heights) <= 3.6
+
+
+def test_values_below_0_are_seen_and_long_legends_have_several_lines() -> None:
+    axes = reports.panels(points_of(1, 30, -5.0), styles_of(30), 3, None, "x", "y", "title", "legend").axes
+    assert axes[0].get_ylim()[0] < -4
+    figure = axes[0].figure
+    figure.draw_without_rendering()
+    box = axes[-1].get_legend().get_window_extent()
+    assert 0 <= box.x0 and box.x1 <= figure.bbox.width and 0 <= box.y0, "inside of the picture"
+    assert axes[-1].get_legend()._ncols == 4, "as many as fit beside each other"
+    bands = points_of(1, 1, 3).assign(low=-1.0, high=9.0)
+    axis = reports.panels(bands, styles_of(1), 3, None, "x", "y", "title", "legend").axes[0]
+    assert axis.get_ylim()[0] < 0
+    assert {round(float(y), 6) for y in axis.collections[0].get_paths()[0].vertices[:, 1]} == {-1, 9}
+
+
+@pytest.mark.parametrize(("rounds", "scale", "ends"), [
+    ((0, 20), "linear", (0, 20)), ((0, 21), "symlog", (0, 21)), ((5,), "linear", (5, 6)), ((0,), "linear", (0, 1)),
+    ((7, 1000), "symlog", (7, 1000))])
+def test_many_rounds_have_a_logarithmic_scale(rounds: tuple[int, ...], scale: str, ends: tuple[int, int],
+                                              done: Callable[[str], Any]) -> None:
+    """With 0 before the rest."""
+    text = "".join(f"a,20,5,{each},4,0,1,1,110,100,10.0,1000,0.1,ok\n" for each in rounds)
+    axis = reports.by_rounds(done(HEAD + text), "gap_percent", "y", "title", None).axes[0]
+    assert (axis.get_xscale(), axis.get_xlim()) == (scale, ends)
+    assert axis.xaxis.get_major_formatter()(1000) == "1,000" and len(axis.xaxis.get_minorticklocs()) == 0
+    if scale == "symlog":
+        places = [axis.transData.transform((at, 0))[0] for at in (0, min(filter(None, rounds)), ends[1])]
+        assert places == sorted(places)
+
+
+@pytest.mark.parametrize(("seconds", "ends"), [
+    ((0.002, 0.5), (0.001, 1)), ((1, 1), (1, 10)), ((3, 100), (1, 100)), ((0.5, 101), (0.1, 1000)),
+    ((1e-9, 1e-9), (1e-9, 1e-8))])
+def test_times_have_a_logarithmic_scale(seconds: tuple[float, float], ends: tuple[float, float],
+                                        done: Callable[[str], Any]) -> None:
+    """From a power of ten to another one."""
+    text = "".join(f"a,20,5,{at},4,0,1,1,110,100,10.0,1000,{each:.9f},ok\n" for at, each in enumerate(seconds))
+    axis = reports.by_seconds(done(HEAD + text), None).axes[0]
+    assert axis.get_xlim() == pytest.approx(ends)
+    assert [axis.xaxis.get_major_formatter()(each) for each in (0.001, 0.5, 1, 1000, 1e5, 1e6)] == [
+        "0.001", "0.5", "1", "1,000", "100,000", "1e+06"]
+
+
+@pytest.mark.parametrize(("count", "letters", "width", "wide", "is_rotated"), [
+    (1, 70, None, 6.5, False), (1, 71, None, 6.5, True), (9, 6, None, 6.5, False), (10, 7, None, 7, True),
+    (10, 6, None, 7, False), (10, 7, 8.0, 8, False), (20, 5, None, 13, False)])
+def test_labels_are_rotated_where_they_have_no_room(count: int, letters: int, width: float | None, wide: float,
+                                                    is_rotated: bool) -> None:
+    labels = ["x" * letters + "\ny", *["x"] * (count - 1)]
+    figure, axis = reports.of_labels(labels, width, "title", "the y")
+    assert figure.get_size_inches() == pytest.approx([wide, 3.6 + 0.077 * letters * is_rotated])
+    assert [*axis.get_xticks()] == [*range(1, count + 1)] and axis.get_ylabel() == "the y"
+    assert {label.get_rotation() for label in axis.get_xticklabels()} == {90 if is_rotated else 0}
+    assert [label.get_text() for label in axis.get_xticklabels()] == labels
+
+
+def test_texts_of_plots_have_room() -> None:
+    """A line has 12 letters at least; a name has at most 40, and one that begins with an underscore is in the legend
+    too."""
+    lines = [reports.wrapped("a " * 40, inches).split("\n") for inches in (0.5, 1.03, 1.2, 4.05, 4.06)]
+    assert [max(map(len, each)) for each in lines] == [11, 11, 13, 45, 47]
+    assert reports.shown("x" * 40) == "x" * 40 and reports.shown("x" * 41) == "x" * 38 + ".."
+    assert reports.shown("_" + "x" * 40) == "\u200b_" + "x" * 37 + ".." and reports.shown("a\n") == "a\\n"
+
+
 @pytest.mark.parametrize("way", ["1", "1:", "x:104", "1:104 ", "2:110 1:104", "1:104 2:104", "1:103 2:104", "1:110",
                                  "1e9:104", "-1:104", "1:110  2:104", "1:1_04", "\N{ARABIC-INDIC DIGIT ONE}:104"])
 def test_a_trajectory_leads_to_the_makespan_of_its_run(way: str, report: Reported) -> None:

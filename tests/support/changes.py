@@ -43,6 +43,7 @@ class Source:
         self.starts = [0, *(match.end() for match in re.finditer(b"\n", self.text))]
         self.tree = ast.parse(self.text)
         self.uses: dict[str, set[int]] = defaultdict(set)
+        self.places: dict[str, range] = {}
         self.changes = list(self.below(self.tree, Change(self.name, "", range(1, len(self.starts))), False, []))
 
     def span(self, node: Any) -> tuple[int, int]:
@@ -53,6 +54,12 @@ class Source:
 
     def changed(self, change: Change) -> bytes:
         return self.text[:change.start] + change.new.encode() + self.text[change.end:]
+
+    def lines_of(self, change: Change) -> tuple[str, str]:
+        """The lines that a change is in, and those of its function or class."""
+        first, last = (self.text.count(b"\n", 0, at) for at in (change.start, change.end))
+        lines, whole = self.text.decode().splitlines(), self.places.get(change.function, range(0))
+        return "\n".join(lines[first:last + 1]), "\n".join(lines[whole.start - 1:whole.stop - 1] if whole else ())
 
     def is_program(self, change: Change) -> bool:
         """Whether it can be read, and isn't the same."""
@@ -93,8 +100,9 @@ class Source:
     def place_of(self, node: Any, place: Change, is_run: bool) -> Change:
         """Where a node is: a statement of a function in its own lines, without those of statements in it."""
         if isinstance(node, ast.FunctionDef | ast.ClassDef):
-            lines = range(node.lineno, (node.end_lineno or 0) + 1)
-            return place._replace(function=f"{place.function}.{node.name}".lstrip("."), lines=lines, names=frozenset())
+            name, lines = f"{place.function}.{node.name}".lstrip("."), range(node.lineno, (node.end_lineno or 0) + 1)
+            self.places[name] = lines
+            return place._replace(function=name, lines=lines, names=frozenset())
         if isinstance(node, ast.stmt) and is_run:
             body = getattr(node, "body", None)
             last = max(node.lineno, body[0].lineno - 1) if body else node.end_lineno or 0

@@ -26,11 +26,11 @@ MONDAY = datetime(1970, 1, 5)
 DAYS = ("mon", "tue", "wed", "thu", "fri", "sat", "sun")
 # Seconds between the marks of a scale: from a second to half a minute, half an hour, and longer than a calendar.
 STEPS = [step * unit for unit in (1, 60) for step in (1, 2, 5, 10, 15, 30)] + [3_600 * 2**at for at in range(30)]
-BEGIN = re.compile(r"([0-9]{4}-[0-9]{2}-[0-9]{2})(?:[T ]([0-9]{2}:[0-9]{2}(?::[0-9]{2})?))?", re.ASCII)
-SHIFT = re.compile(r"([0-9]{1,2}):([0-9]{2})-([0-9]{1,2}):([0-9]{2})", re.ASCII)
+BEGIN = re.compile(r"([0-9]{4}-[0-9]{2}-[0-9]{2})(?:[T ]([0-9]{2}:[0-9]{2}(?::[0-9]{2})?))?")
+SHIFT = re.compile(r"([0-9]{1,2}):([0-9]{2})-([0-9]{1,2}):([0-9]{2})")
 # Shifts after the days or dates on which they start.
 NAMED = re.compile(r"\s*(?:([a-z][^:]*)|([0-9]{4}-[^:]*)):(.*)", re.ASCII | re.IGNORECASE)
-DATE = re.compile(r"[0-9]{4}-[0-9]{2}-[0-9]{2}", re.ASCII)
+DATE = re.compile(r"[0-9]{4}-[0-9]{2}-[0-9]{2}")
 # How far after the begin dates may have shifts of their own or be closed, and how many breaks a chart may have.
 MOST_DAYS, MOST_BREAKS = 3_660, 400
 UNIT_NEEDED = "write min, h, s or d in brackets into the first cell of the table, as in 'job [min]', or set `unit`"

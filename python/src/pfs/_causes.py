@@ -77,7 +77,7 @@ class Causes:
     def on_others(self, row: Stated, jobs: list[int]) -> Iterator[str]:
         """Yield the other instances of the table on which an order has the makespan."""
         own, order = row.shop._key(), np.array(jobs if is_order(jobs) else [], dtype=np.uint32)
-        for key, (name, shop) in islice(self.by_jobs[len(order)].items(), MOST_OTHERS + 1):
+        for key, (name, shop) in self.by_jobs[len(order)].items():
             if key != own and shop.makespan(order) == row.makespan:
                 yield f"the order takes {row.makespan} on {name}"
 

@@ -348,7 +348,7 @@ def draw_key(figure: Figure, chart: Chart) -> None:
 def draw_scales(axis: Axis, chart: Chart) -> None:
     """Draw the axes: time from left to right, machines downwards, and at the right their shares of idle time."""
     count, shares = len(chart.machines), chart.shares()
-    step = next(step for step in (1, 2, 5, 10, 20, 50) if step * chart.row_height > 0.18)
+    step = next(step for step in (1, 2, 5) if step * chart.row_height > 0.18)
     shown = range(step, count + 1, step)
     axis.set_xlim(0, max(1, chart.makespan))
     axis.set_ylim(count + 0.5, 0.5)

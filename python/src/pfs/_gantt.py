@@ -26,7 +26,7 @@ MOST_JOBS, MOST_MACHINES, LONGEST = 5_000, 200, 67_108_864
 # The time table
 
 def numbers(line: str, count: int, what: str) -> list[int]:
-    if line.count(" ") != count - 1 or not re.fullmatch("[0-9]{1,18}(?: [0-9]{1,18})*", line, re.ASCII):
+    if line.count(" ") != count - 1 or not re.fullmatch("[0-9]{1,18}(?: [0-9]{1,18})*", line):
         raise Refused(f"{what} must have {count} numbers")
     return [int(word) for word in line.split(" ")]
 

@@ -27,8 +27,8 @@ LINE = re.compile(r"[^\r\n]*(?:\r\n?|\n)|[^\r\n]+")
 QUOTED = re.compile(r'(?:^|(?<=[,;\t\r])) *(?:"[^"]*")+', re.MULTILINE)
 # A unit in brackets at the end of a name.
 UNIT = re.compile(r"[\[(]([^\[\]()]+)[\])]\Z")
-NUMBER = re.compile(r"([0-9]{1,20})(?:([.,])([0-9]{1,20}))?\Z", re.ASCII)
-HOURS = re.compile(r"([0-9]{1,6}):([0-5][0-9])(?::00)?\Z", re.ASCII)
+NUMBER = re.compile(r"([0-9]{1,20})(?:([.,])([0-9]{1,20}))?\Z")
+HOURS = re.compile(r"([0-9]{1,6}):([0-5][0-9])(?::00)?\Z")
 ZERO = re.compile(r"0(?:[.,]0+)?\Z")
 CLOCKS = (CLOCK, "hh:mm")
 MISSING = "the time is missing: write 0 where a job skips a machine (it still waits there for its turn)"
@@ -55,7 +55,7 @@ HINTS = (
 )
 # A number with thousands separators, which could also be one with three decimals. A number doesn't begin with the group
 # "0", so 0.125 has decimals.
-GROUPED = re.compile(r"(?!0[.,])[0-9]{1,3}(?:([.,])[0-9]{3})(?:\1[0-9]{3})*\Z", re.ASCII)
+GROUPED = re.compile(r"(?!0[.,])[0-9]{1,3}(?:([.,])[0-9]{3})(?:\1[0-9]{3})*\Z")
 # Names of rows and columns that have no times of their own: of sums and means, and of columns with quantities.
 TOTALS = (r"(?:sub|grand |zwischen|gesamt)?(?:sums?|totals?|summen?|gesamt\w*|somme|suma|totale|totaal|\u03a3"
           r"|means?|average|avg|durchschnitt|mittel(?:wert)?|moyenne|media|promedio|gemiddelde|\u00f8)")
@@ -666,7 +666,7 @@ class DecimalSign:
         """Return a number without its thousands separators."""
         other = "," if self.given == "." else "."
         grouped = rf"(?!0)[0-9]{{1,3}}(?:\{other}[0-9]{{3}})+(?:\{self.given}[0-9]+)?\Z"
-        return text.replace(other, "") if re.match(grouped, text, re.ASCII) else text
+        return text.replace(other, "") if re.match(grouped, text) else text
 
 
 def reject_sums(table: Rows, times: Order) -> None:

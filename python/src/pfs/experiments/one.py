@@ -104,7 +104,7 @@ def by_rounds(run: Run) -> Found:
     take = [] if run.take == "-" else ["--take", run.take]
     before = child_seconds()
     text = pfs(run, "solve", "--rounds", run.rounds, "--passes", run.passes, "--seed", run.seed, "--cells", *take)
-    found = re.fullmatch("(.*\n)cells ([0-9]{1,20})\n", text, re.ASCII | re.DOTALL)
+    found = re.fullmatch("(.*\n)cells ([0-9]{1,20})\n", text, re.DOTALL)
     if not found:
         raise Failed("solve: no cells printed")
     return Found(found[1], found[2], child_seconds() - before)
@@ -114,7 +114,7 @@ def audit(run: Run, order: str) -> tuple[str, str]:
     """Audits an order file, which must be valid. Returns its makespan and its bound."""
     done = run_pfs(run, "check", text=order)
     lines = (done.stderr or done.stdout).decode(errors="replace").splitlines() or ["no verdict"]
-    found = re.match("valid\nmakespan ([0-9]{1,18})\nbound ([0-9]{1,18})(?:\n|$)", "\n".join(lines), re.ASCII)
+    found = re.match("valid\nmakespan ([0-9]{1,18})\nbound ([0-9]{1,18})(?:\n|$)", "\n".join(lines))
     if done.returncode != 0 or not found:
         raise Failed(f"check: {f'exit {done.returncode}, ' if done.returncode else ''}{', '.join(lines)}")
     return found[1], found[2]

@@ -213,7 +213,7 @@ def reference_of(path: str | os.PathLike[str]) -> Reference:
     """Returns the reference of each instance in a CSV, by its name and, if that is clear, by its canonical name."""
     found: Reference = {}
     for row in rows_of(path, ["instance", "makespan"]):
-        whole = re.fullmatch(r" *([0-9]{1,18})(?:\.(?!000 *\Z)0*)? *", row["makespan"], re.ASCII)
+        whole = re.fullmatch(r" *([0-9]{1,18})(?:\.(?!000 *\Z)0*)? *", row["makespan"])
         if not whole:
             raise ExperimentError(f"{path}: {row['makespan'][:40]!r} is not a whole number of at most 18 digits")
         entry = int(whole[1]), row.get("source", "")

@@ -54,7 +54,7 @@ WIDE, HIGH, LONGEST = 0.077, 0.17, 40
 # Shorter times can't be measured.
 LEAST_SECONDS = 1e-9
 # A trajectory, and the points of the line that is the mean of several.
-WAY = re.compile(r"[0-9]{1,9}(?:\.[0-9]{1,9})?:[0-9]{1,18}(?: [0-9]{1,9}(?:\.[0-9]{1,9})?:[0-9]{1,18})*", re.ASCII)
+WAY = re.compile(r"[0-9]{1,9}(?:\.[0-9]{1,9})?:[0-9]{1,18}(?: [0-9]{1,9}(?:\.[0-9]{1,9})?:[0-9]{1,18})*")
 WAY_POINTS = 300
 
 # Figures, axes and colours of matplotlib, which has no types.
@@ -290,7 +290,7 @@ def cell(column: str, value: Any) -> str:
 
 
 def csv_of(rows: list[list[str]]) -> str:
-    return csv_text([each if re.fullmatch(r"-?[0-9.]+(?:e[+-]?[0-9]+)?", each, re.ASCII) else text_cell(each)
+    return csv_text([each if re.fullmatch(r"-?[0-9.]+(?:e[+-]?[0-9]+)?", each) else text_cell(each)
                      for each in row] for row in rows)
 
 

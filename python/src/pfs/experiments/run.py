@@ -33,7 +33,7 @@ PROOFS = "proofs.json"
 # The end of a run whose program was killed, or whose allocation failed: the next start repeats it.
 KILLED = re.compile("(?:solve|check): (?:signal [0-9]+|exit 4, pfs: no memory)|lost: .*")
 # The end of a line of GNU parallel's log: the exit status, the signal, and the numbers of the runs in the command.
-LOGGED = re.compile(r"\t([0-9]+)\t([0-9]+)\t[^\t\n]*/one((?: [0-9,]+)+)$", re.ASCII | re.MULTILINE)
+LOGGED = re.compile(r"\t([0-9]+)\t([0-9]+)\t[^\t\n]*/one((?: [0-9,]+)+)$", re.MULTILINE)
 # The line before a result, with its length in bytes.
 LENGTH = re.compile(rb"([0-9]{1,9})\n")
 # The most kinds of errors that are reported, and the columns that describe the first run of each.
@@ -199,7 +199,7 @@ def result_of(data: bytes) -> Row | None:
         return None
     result = {**dict(zip(RESULT, row)), "order": f"{order[1:]}\n" if order else ""}
     numbers = ",".join(row[1:3] + row[4:5])
-    is_whole = re.fullmatch(r"[0-9]{1,18},[0-9]{1,18},[0-9]{1,12}\.[0-9]{6}", numbers, re.ASCII) and result["order"]
+    is_whole = re.fullmatch(r"[0-9]{1,18},[0-9]{1,18},[0-9]{1,12}\.[0-9]{6}", numbers) and result["order"]
     return result if result["status"] != "ok" or is_whole else None
 
 
@@ -214,7 +214,7 @@ def endings(folder: pathlib.Path, made: Container[str]) -> Row:
                 found[number] = f"lost: exit {status}, signal {number_of_signal}"
     for log in sorted((folder / "slurm").glob("*.log"), key=lambda path: path.stat().st_mtime_ns):
         text = log.read_bytes().decode(errors="replace")
-        last = re.findall(r"^run ([0-9]+)$", text, re.MULTILINE | re.ASCII)
+        last = re.findall(r"^run ([0-9]+)$", text, re.MULTILINE)
         errors = re.findall(r"^slurmstepd\S*: error: (.*)", text, re.MULTILINE)
         if last and errors:
             found[last[-1]] = f"lost: {errors[0]}"

@@ -324,7 +324,7 @@ def size_of(stage: pathlib.Path, *words: str) -> tuple[str, str]:
     """Returns the jobs and machines of an instance, as texts, which are empty if pfs rejects it."""
     done = subprocess.run(["./pfs", "convert", "--to", "orlib", *words], cwd=stage, stdin=subprocess.DEVNULL,
                           capture_output=True, text=True, errors="replace")
-    size = re.match("flow shop instance\n([0-9]{1,4}) ([0-9]{1,3})\n", done.stdout, re.ASCII)
+    size = re.match("flow shop instance\n([0-9]{1,4}) ([0-9]{1,3})\n", done.stdout)
     return (size[1], size[2]) if size and done.returncode == 0 else ("", "")
 
 

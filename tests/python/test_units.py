@@ -1,0 +1,585 @@
+"""Functions of the package, each by itself: on both sides of a limit, twice, and with an error half-way."""
+import datetime
+import io
+import json
+import os
+import pathlib
+import re
+import resource
+import subprocess
+import types
+import zipfile
+from typing import Any
+from unittest import mock
+
+import numpy as np
+import pfs
+import pytest
+from pfs import _cli, _drawing, _gantt, _library, _tables, _workbooks
+from pfs._calendar import DAYS, Clock
+from pfs._commands import words
+from pfs._names import seconds_in
+from pfs.experiments import ExperimentError, one, plan, run, stage
+from pfs.experiments.__main__ import command_line
+from support.needs import require_module
+from support.tools import TOP
+
+
+def test_a_text_is_written_or_its_stream_is_closed_for_good() -> None:
+    text = io.StringIO()
+    assert _cli.written(text, "a") and _cli.written(text, "b") and text.getvalue() == "ab"
+    assert not _cli.written(None, "a")
+    with open("/dev/full", "w") as full:
+        assert not _cli.written(full, "a") and _cli.written(full, "b")
+
+
+def test_the_help_has_no_word_that_is_nowhere_else() -> None:
+    """In the pages, the manuals and the tests: no word is cut or misspelled."""
+    pages = [*TOP.glob("*.md"), *(path for folder in ("docs", "share", "python", "experiments", "tests")
+                                  for ending in ("md", "1", "py") for path in (TOP / folder).rglob(f"*.{ending}")
+                                  if path.suffix != ".py" or folder == "tests")]
+    known = {word for page in pages for word in re.findall(r"[a-z]{2,}", page.read_text().lower())}
+    parsers = [words(), command_line()]
+    for parser in parsers:
+        commands = next(each.choices for each in parser._actions if each.dest in ("command", "==SUPPRESS==")
+                        and isinstance(each.choices, dict))
+        for text in (parser.format_help(), *(each.format_help() for each in commands.values())):
+            assert set(re.findall(r"[a-z]{2,}", re.sub("-\n *", "-", text).lower())) <= known, text
+
+
+# Runs of experiments
+
+@pytest.fixture
+def runs(tmp_path: pathlib.Path, monkeypatch: pytest.MonkeyPatch) -> pathlib.Path:
+    """The folder of copies, whose pfs notes its words and its input and does what the file `does` says."""
+    monkeypatch.setattr(one, "HERE", str(tmp_path))
+    (tmp_path / "pfs").write_text('#!/bin/sh\necho "$*" > words\ncat > input\n. ./does\n')
+    (tmp_path / "pfs").chmod(0o755)
+    return tmp_path
+
+
+def a_run(**more: str) -> one.Run:
+    return one.Run(*["-"] * len(one.Run._fields))._replace(
+        **{"number": "7", "file": "instances/1", "layout": "orlib", "block": "2", "rounds": "5", "passes": "1",
+           "seed": "3"} | more)
+
+
+@pytest.mark.parametrize(("does", "said"), [
+    ("printf 'b\\377d\\nmore\\n' >&2; exit 3", "solve: exit 3, b\ufffdd"), ("echo out; exit 1", "solve: exit 1, out"),
+    ("exit 9", "solve: exit 9, "), ("kill -9 $$", "solve: signal 9"), ("printf '\\377\\n'", "solve: no cells printed"),
+    ("echo cells 5", "solve: no cells printed"), ("printf 'o\\ncells 5\\nx\\n'", "solve: no cells printed")])
+def test_what_a_search_says_that_fails(runs: pathlib.Path, does: str, said: str) -> None:
+    (runs / "does").write_text(does)
+    with pytest.raises(one.Failed, match=f"^{re.escape(said)}$"):
+        one.by_rounds(a_run())
+
+
+def test_a_search_by_rounds(runs: pathlib.Path) -> None:
+    (runs / "does").write_text("printf 'order 1\\n1\\nmakespan 4\\ncells 12\\n'")
+    for take, words in (("-", ""), ("4", " --take 4")):
+        found = one.by_rounds(a_run(take=take))
+        assert found[:2] == ("order 1\n1\nmakespan 4\n", "12") and 0 <= found.seconds < 5
+        assert (runs / "words").read_text() == (
+            f"solve --rounds 5 --passes 1 --seed 3 --cells{words} --layout orlib --block 2 instances/1\n")
+
+
+@pytest.mark.parametrize(("does", "said"), [
+    ("printf 'valid\\nmakespan 4\\nbound 3\\n'", None), ("printf 'valid\\nmakespan 4\\nbound 3\\noptimal\\n'", None),
+    ("printf 'valid\\nmakespan 4\\nbound 3\\n'; exit 1", "check: exit 1, valid, makespan 4, bound 3"),
+    ("printf 'valid\\nmakespan 4\\nbound 3x\\n'", "check: valid, makespan 4, bound 3x"),
+    ("true", "check: no verdict"), ("echo no >&2; echo valid; exit 2", "check: exit 2, no")])
+def test_a_verdict_is_that_of_pfs(runs: pathlib.Path, does: str, said: str | None) -> None:
+    (runs / "does").write_text(does)
+    if said is None:
+        assert one.audit(a_run(), "order 1\n") == ("4", "3")
+        assert (runs / "words").read_text() == "check --layout orlib --block 2 instances/1 /dev/stdin\n"
+        assert (runs / "input").read_text() == "order 1\n"
+    else:
+        with pytest.raises(one.Failed, match=f"^{re.escape(said)}$"):
+            one.audit(a_run(), "order 1\n")
+
+
+def test_shorter_runs_have_what_was_found_by_then(monkeypatch: pytest.MonkeyPatch) -> None:
+    """At the limit too, and no order that isn't shorter than all before it."""
+    points = [one.Point(0.5, 12, "a"), one.Point(1.0, 12, "b"), one.Point(2.0, 11, "c"), one.Point(2.5, 10, "d")]
+    made = one.Found("e", "", 4.0, left=3, points=points)
+    monkeypatch.setattr(one, "by_command", lambda *_: made)
+    monkeypatch.setattr(one, "audit", lambda _, order: (str({"e": 10}[order]), "8"))
+    others = [a_run(number=str(at), limit=limit) for at, limit in enumerate(("3", "2", "1.5", "0.4", "5"))]
+    assert [*one.results(a_run(), others, ["command"])] == [
+        ("e", ["7", "10", "8", "", "4.000000", "ok", "", "3", "0.500000:12 2.000000:11 2.500000:10"]),
+        ("d", ["0", "10", "8", "", "3.000000", "ok"]), ("c", ["1", "11", "8", "", "2.000000", "ok"]),
+        ("a", ["2", "12", "8", "", "1.500000", "ok"]),
+        ("", ["3", "", "", "", "", "command: no order with its makespan printed in 0.4 s"]),
+        ("d", ["4", "10", "8", "", "4.000000", "ok"])]
+    for error, said in ((one.Failed("no"), "no"), (OSError(2, "gone"), "lost: gone")):
+        monkeypatch.setattr(one, "audit", lambda *_, error=error: (_ for _ in ()).throw(error))
+        assert [*one.results(a_run(), others[:1], ["command"])] == [
+            ("e", ["7", "", "", "", "", said]), ("", ["0", "", "", "", "", said])]
+
+
+def test_the_runs_of_a_process(runs: pathlib.Path, monkeypatch: pytest.MonkeyPatch,
+                               capfdbinary: pytest.CaptureFixture[bytes]) -> None:
+    """Those that are named, each with its method's command, with the length of its result before it; none after what
+    has started it is gone."""
+    lines = ["\t".join(a_run(number=str(at), method=f"m{at}", instance="\u00e4 b")) for at in range(1, 4)]
+    (runs / "runs.tsv").write_text("".join(f"{line}\n" for line in lines))
+    (runs / "commands.json").write_text(json.dumps({"m3": ["c"], "m1": {"x": 1}}))
+    asked, here = list[Any](), [[1], [1], [1], [2]]
+    monkeypatch.setattr(one, "starters", lambda: here.pop(0))
+    monkeypatch.setattr("sys.argv", ["one", "3,1", "2", "1"])
+
+    def results(run: one.Run, others: list[one.Run], command: Any) -> Any:
+        asked.append((run.number, [each.number for each in others], command, run.instance))
+        return [("o\udcff\n", [run.number, 'a"b']), *(("", [each.number]) for each in others)]
+
+    monkeypatch.setattr(one, "results", results)
+    one.main()
+    assert asked == [("3", ["1"], ["c"], "\u00e4 b"), ("2", [], None, "\u00e4 b")]
+    assert capfdbinary.readouterr().out == b'12\no?\n3,"a""b"\n2\n1\n12\no?\n2,"a""b"\n'
+
+
+def test_a_process_knows_its_starters_and_its_children() -> None:
+    status = {pid: pathlib.Path(f"/proc/{pid}/status").read_text() for pid in (os.getpid(), os.getppid())}
+    parent, second = (re.findall(r"^PPid:\t(\d+)$", text, re.MULTILINE)[0] for text in status.values())
+    assert one.starters() == (int(parent), second.encode())
+    with subprocess.Popen(["sleep", "9"]) as child:
+        assert child.pid in one.children_of(os.getpid())
+        child.kill()
+    assert child.pid not in one.children_of(os.getpid())
+
+
+@pytest.mark.parametrize(("seconds", "most"), [(1, 2), (1.01, 3), (0.01, 1)])
+def test_the_processor_time_of_a_command_is_limited(seconds: float, most: int) -> None:
+    done = subprocess.run(["sh", "-c", "ulimit -t"], preexec_fn=lambda: one.limit(seconds), capture_output=True)
+    assert int(done.stdout) == most
+    unlimited = subprocess.run(["sh", "-c", "ulimit -t"], preexec_fn=lambda: one.limit(None), capture_output=True)
+    soft = resource.getrlimit(resource.RLIMIT_CPU)[0]
+    assert unlimited.stdout.decode().strip() == ("unlimited" if soft == resource.RLIM_INFINITY else str(soft))
+
+
+@pytest.mark.parametrize(("number", "said"), [(1, "solve: exit 4, pfs: no memory"), (7, "libpfs: f returns 7")])
+def test_what_the_library_refuses(number: int, said: str, monkeypatch: pytest.MonkeyPatch) -> None:
+    """Its instance is released once nothing uses it any more."""
+    calls = list[str]()
+
+    def function(name: str, returned: int) -> Any:
+        def noted(*_: object) -> int:
+            calls.append(name)
+            return returned
+
+        return noted
+
+    library = types.SimpleNamespace(pfs_prepare=function("prepare", 0), pfs_release=function("release", 0),
+                                    f=function("f", number), g=function("g", 0))
+    monkeypatch.setattr("ctypes.CDLL", lambda path: library)
+    call = one.caller([1, 2], 1, 2)
+    call("g", 5)
+    with pytest.raises(one.Failed, match=f"^{said}$"):
+        call("f")
+    assert calls == ["prepare", "g", "f"]
+    del call
+    assert calls[3:] == ["release"]
+
+
+def test_runs_that_were_lost_come_last(tmp_path: pathlib.Path, monkeypatch: pytest.MonkeyPatch) -> None:
+    """What is done isn't made again, and results and the log of the start before are gone."""
+    for name in ("results", "slurm"):
+        (tmp_path / name).mkdir()
+    listed = [dict.fromkeys(stage.RUN, "") | {"number": str(number)} for number in range(1, 6)]
+    done = b"o\n4,1,1,1,1.000000,ok,,,\n"
+    (tmp_path / "results" / "4").write_bytes(b"%d\n%b" % (len(done), done))
+    (tmp_path / "results" / "2").write_bytes(b"torn")
+    (tmp_path / "joblog").write_text("Seq\n1\t:\t1\t2\t0\t0\t137\t9\tpfs-x/one 1 3\n")
+    monkeypatch.setattr(run, "prepare", lambda *_: stage.Experiment(tmp_path, "x", listed, {}))
+    given: Any = types.SimpleNamespace(plan="p", csv="c", pfs=None, retry=False)
+    _, left = run.begin(given, "sh", "dash")
+    assert (tmp_path / "left").read_text() == "2\n3\n5\n1\n" and [each["number"] for each in left] == [*"2351"]
+    assert not (tmp_path / "joblog").exists() and not (tmp_path / "results" / "2").exists()
+    with pytest.raises(FileNotFoundError, match=r"^none-such is not installed \(Debian: a-package\)$"):
+        run.begin(given, "none-such", "a-package")
+
+
+@pytest.mark.parametrize(("data", "found"), [
+    ("o\n4,9,8,7,1.000000,ok\n", {"order": "o\n", "makespan": "9", "status": "ok"}),
+    ("a\nb\n4,9,8,,1.000000,ok,5,2,x:1\n", {"order": "a\nb\n", "cells": "", "left": "2", "trajectory": "x:1"}),
+    ("4,,,,,no order\n", {"order": "", "status": "no order"}), ('4,,,,,"a, b"\n', {"status": "a, b"}),
+    ("o\n4,,,,,wrong\n", {"order": "o\n"}), ("4,9,8,7,1.000000,ok\n", None), ("o\n4,9,8,7,1.000000,ok", None),
+    ("o\n4,9,8,7,1.00000,ok\n", None), ("o\n4,,8,7,1.000000,ok\n", None), ("o\n4,9,8,7,1.000000\n", None),
+    ("o\n4,9,8,7,1.000000,ok,,,,\n", None), ("", None), ("\n", None),
+    (f"o\n4,{'9' * 18},{'9' * 18},7,{'9' * 12}.000000,ok\n", {"bound": "9" * 18}),
+    (f"o\n4,{'9' * 19},8,7,1.000000,ok\n", None), (f"o\n4,9,8,7,{'9' * 13}.000000,ok\n", None)])
+def test_a_result_is_whole_or_none(data: str, found: dict[str, str] | None) -> None:
+    got = run.result_of(data.encode())
+    assert got is None if found is None else got is not None and got["number"] == "4" and found.items() <= got.items()
+
+
+def test_the_latest_result_of_a_run_counts(tmp_path: pathlib.Path) -> None:
+    """By the times of the files, each of several results after their lengths; one that is torn ends its file. Files
+    with an ending are of others."""
+    (tmp_path / "results").mkdir()
+    texts = [f"o\n{number},{span},8,7,1.000000,ok\n" for number, span in ((1, 5), (2, 6), (3, 7), (1, 8), (4, 9))]
+    whole = [f"{len(text)}\n{text}" for text in texts]
+    for age, (name, text) in enumerate((("z", whole[0] + whole[1]), ("a", whole[3]), ("b", whole[2][:-1] + whole[4]),
+                                        ("c.new", whole[4]), ("d", "5\nabc"))):
+        (tmp_path / "results" / name).write_text(text)
+        os.utime(tmp_path / "results" / name, (age, age))
+    found = [(row["number"], row["makespan"]) for row in run.results_of(tmp_path)]
+    assert found == [("1", "5"), ("2", "6"), ("1", "8")]
+
+
+@pytest.mark.parametrize(("status", "is_done", "is_done_again"), [
+    (None, False, False), ("ok", True, True), ("command: exit 1, x", True, False), ("lost: exit 137", False, False),
+    ("solve: signal 9", False, False), ("check: signal 11", False, False), ("command: signal 9", True, False),
+    ("solve: exit 4, pfs: no memory", False, False), ("solve: exit 4, pfs: no memory, perhaps", True, False)])
+def test_which_runs_are_made_again(status: str | None, is_done: bool, is_done_again: bool) -> None:
+    assert (run.is_done(status, False), run.is_done(status, True)) == (is_done, is_done_again)
+
+
+def test_errors_are_told_once_for_each_kind(capsys: pytest.CaptureFixture[str]) -> None:
+    """Which differ not only in numbers; of at most ten kinds the first run."""
+    rows = [{"instance": "a\n", "method": "m", "time_factor": "", "take": "4", "seed": "1", "status": "ok"}]
+    rows += [rows[0] | {"seed": str(at), "status": f"{'x' * (at // 2 + 1)} {at}"} for at in range(20)]
+    run.report_errors(rows)
+    lines = [f"a\\n (method m, take 4, seed {at}) and 1 more failed: {'x' * (at // 2 + 1)} {at}"
+             for at in range(0, 20, 2)]
+    assert capsys.readouterr().err.splitlines() == lines
+    run.report_errors([*rows[:2], *(rows[0] | {"status": "y" * at} for at in range(1, 12))])
+    assert capsys.readouterr().err.splitlines()[-2:] == [
+        f"a\\n (method m, take 4, seed 1) failed: {'y' * 9}", "2 more kinds of errors"]
+
+
+METHOD: dict[str, Any] = {"rounds": [], "takes": None, "passes": [0], "seeds": [1], "repetitions": 1}
+
+
+@pytest.mark.parametrize(("method", "jobs", "found"), [
+    ({"rounds": [5, 0], "seeds": [1, 2], "repetitions": 2}, "20",
+     [(str(rounds), "", "4", "0", str(seed), str(again), "") for rounds in (5, 0) for seed in (1, 2)
+      for again in (1, 2)]),
+    ({"rounds": [5]}, "3", [("5", "", "3", "0", "1", "1", "")]),
+    ({"rounds": [5]}, "", [("5", "", "", "0", "1", "1", "")]),
+    ({"rounds": [5], "search": "iterated-greedy", "passes": [7, 8]}, "20",
+     [("5", "", "2", "7", "1", "1", ""), ("5", "", "2", "8", "1", "1", "")]),
+    ({"rounds": [5], "takes": [20, 1]}, "20", [("5", "", "20", "0", "1", "1", ""), ("5", "", "1", "0", "1", "1", "")]),
+    ({"time_factors": [30, 0.5]}, "20",
+     [("", "1.5", "4", "0", "1", "1", "30"), ("", "0.025", "4", "0", "1", "1", "0.5")]),
+    ({"time_factors": [1]}, "", [("", "0", "", "0", "1", "1", "1")]),
+    ({"command": ["c"], "passes": [3]}, "20", [("", "", "", "", "1", "1", "")])])
+def test_the_settings_of_a_method(method: dict[str, Any], jobs: str, found: list[tuple[str, ...]]) -> None:
+    """The milliseconds of a time factor are 20 jobs times half of 5 machines times the factor."""
+    machines = "5" if jobs else ""
+    assert [*stage.settings_of(METHOD | method, jobs, machines, "x")] == found
+    with pytest.raises(ExperimentError, match="^takes has 21, but x has only 20 jobs$"):
+        list(stage.settings_of(METHOD | {"rounds": [0], "takes": [21]}, "20", "5", "x"))
+
+
+# Tables and workbooks
+
+@pytest.mark.parametrize(("cell", "hint"), [
+    *((cell, _tables.SKIPS) for cell in ("-", "\u2012", "\u2013", "\u2015", "n/a", "N/A", "na", "NA", "n.a.", "N.A")),
+    *((cell, "the formula has an error") for cell in ("#DIV/0!", "#N/A", "#NAME?")),
+    ("24:00", "a cell with the format"), ("96:00", "a cell with the format"), ("1200:00", "a cell with the format"),
+    ("23:00", "other times of the table are numbers"), ("12:30", "other times of the table are numbers"),
+    ("1:30:15", "write hours and minutes, as 1:30, or a number"), ("1 h 30", "write hours and minutes as 1:30"),
+    ("2h05", "write hours and minutes as 1:30"), ("1'000", "leave out thousands separators"),
+    ("12 000,5", "leave out thousands separators"), ("1.000,5", "leave out thousands separators, or say which"),
+    ("1,000.5", "leave out thousands separators, or say which"), ("3 min.", "write the unit in brackets"),
+    ("3,5 h", "write the unit in brackets"), ("oak", _tables.NO_MACHINE), ("4.12.", _tables.NO_MACHINE),
+    ("4/12/2026 8:00", _tables.NO_MACHINE), ("5abc5", _tables.NO_MACHINE), ("3x3", ""), ("-3", ""), ("5.", "")])
+def test_what_to_write_instead_of_what_is_no_time(tmp_path: pathlib.Path, cell: str, hint: str) -> None:
+    """Of a column that was named as a machine, it is a job that skips it."""
+    (tmp_path / "times").write_text(f"job;saw;drill\na;1;5\nb;2,5;{cell}\nc;3;7\n")
+    for machines in (None, ["drill", "saw"]):
+        with pytest.raises(pfs.TableFault) as fault:
+            pfs.read_csv(tmp_path / "times", machines=machines)
+        due = _tables.SKIPS if machines and hint == _tables.NO_MACHINE else hint
+        assert fault.value.text.startswith(f"{cell!r} isn't a time{f': {due}' if due else ''}"), fault.value
+        assert due or fault.value.text == f"{cell!r} isn't a time"
+
+
+TOTALS = ("Total,SUBTOTAL,Grand total,Summe,Summen,Sum,sums,Zwischensumme,Gesamt,Gesamtzeit,Somme,Suma,Totale,"
+          "Totaal,\u03a3,Mean,means,Average,avg,Durchschnitt,Mittel,Mittelwert,Moyenne,Media,Promedio,Gemiddelde,"
+          "\u00d8").split(",")
+QUANTITIES = ("Menge Anzahl St\u00fcck Stueck St\u00fcckzahl Stk. Quantity Qty Pieces pcs Quantit\u00e9 Qt\u00e9 "
+              "Cantidad Aantal").split()
+JOBS = ("Job Jobs job# Order Orders Workorder WO Work-Order Auftrag Auftr\u00e4ge Fertigungsauftrag Auftrags-Nr. FA OF "
+        "Ordre Ordres Commande Pedido Pedidos Ordine Ordini Part Parts Lot Lots Los Teil Teile Artikel Item Items Pos "
+        "Position ID Nr. No. N\u00b0 Number Nummer Num\u00e9ro Job_ID Pos:").split()
+
+
+def test_words_of_sums_and_jobs(tmp_path: pathlib.Path) -> None:
+    """In five languages: what has no times of its own, and what says that numbers below are names."""
+    path = tmp_path / "times"
+    for names, is_row in ((TOTALS, True), (TOTALS, False), (QUANTITIES, False)):
+        for name in names:
+            path.write_text(f"job;saw;{'drill' if is_row else name}\na;1;2\n{name if is_row else 'b'};7;9\n")
+            with pytest.raises(pfs.TableFault, match="looks like a sum"):
+                pfs.read_csv(path)
+            path.write_text(f"job;saw;{'drill' if is_row else f'x{name}'}\na;1;2\nx{name if is_row else ''};7;9\n")
+            assert pfs.read_csv(path).jobs == 2, name
+    for name in JOBS:
+        path.write_text(f"{name};1;2\n7;1;2\n8;7;9\n")
+        assert pfs.read_csv(path).job_names == ("7", "8"), name
+        path.write_text(f"x{name};1;2\n7;1;2\n8;7;9\n")
+        with pytest.raises(pfs.TableFault, match="are numbers, as if"):
+            pfs.read_csv(path)
+
+
+UNITS = {1: "s sec SEC. secs second seconds sek Sekunde sekunden seconde secondes segundo segundos secondo secondi",
+         60: "min Min. mins mn minute minutes Minuten minuto minutos minuti h:mm HH:MM",
+         3600: "h hr hrs hour hours Std. stunde Stunden heure heures hora horas ora ore uur uren",
+         86400: "d day days Tag Tage jour jours d\u00eda d\u00edas dia dias giorno giorni dag dagen"}
+
+
+def test_words_of_units() -> None:
+    for seconds, names in UNITS.items():
+        for name in names.split():
+            assert [seconds_in(text) for text in (name, f" {name.upper()} ", f"Zeit in {name}", f"{name}x")] == [
+                seconds, seconds, seconds, None], name
+
+
+@pytest.mark.parametrize(("rows", "found"), [
+    ([], []), (["job,saw"], []), (["job,saw,drill"], []), (["job,saw,drill", "a,1,2"], ["saw", "drill"]),
+    (["job,saw,note", "a,1,x", "b,2,"], ["saw"]), (["job,saw,note", "a,1,x", "b,2,3"], ["saw"]),
+    (["job,saw,note", "a,1,x", "b,2,3", "c,1,4"], ["saw", "note"]),
+    (["job,saw,Qty,drill", "a,1,2,3"], ["saw", "drill"]),
+    (["job,saw,,drill", "a,1,2,3", "b"], ["saw", "drill"]), (["job,saw,7,drill", "a,1:30,2,3"], ["saw", "drill"]),
+    (["title", "job,saw,drill", "a,1,2"], ["saw", "drill"]), (["job,7,saw", "a,1,2"], []),
+    (["Plan,x,y", "job,saw,drill,paint", "a,1,2,3"], ["saw", "drill", "paint"]),
+    (["job,saw,drill", "no,b,c", "a,1,2", "d,1,2", "e,3,4"], ["saw", "drill"]),
+    ([*["t,x,y"] * 4, "job,a,b,c", *["j,1,2,3"] * 9], ["a", "b", "c"]),
+    ([*["t,x,y"] * 5, "job,a,b,c", *["j,1,2,3"] * 9], ["x", "y"])])
+def test_columns_that_are_likely_machines(rows: list[str], found: list[str]) -> None:
+    assert _tables.likely_machines([(line, row.split(",")) for line, row in enumerate(rows, 1)]) == found
+
+
+def archive_of(**parts: bytes) -> zipfile.ZipFile:
+    """An archive of parts, by their names with `_` for the points."""
+    content = io.BytesIO()
+    with zipfile.ZipFile(content, "w") as archive:
+        for name, text in parts.items():
+            archive.writestr(name.replace("_", "."), text)
+    return zipfile.ZipFile(content)
+
+
+@pytest.mark.parametrize(("parts", "why"), [
+    ({"a_xml": b"<" * 10}, ""), ({"a_xml": b"<" * 11}, "its part a.xml is too large"), ({"a_png": b"<" * 11}, ""),
+    ({"A_XML": b"<" * 11}, "its part A.XML is too large"), ({"a_rels": b"<" * 11}, "its part a.rels is too large"),
+    ({"styles_xml": b"<" * 8}, ""), ({"styles_xml": b"<" * 9}, "its part styles.xml is too large"),
+    ({"worksheets/a_xml": b"<c/>" * 5 + b"<" * 20}, ""), ({"worksheets/a_xml": b"<c/>" * 6}, "it has too many cells"),
+    ({"worksheets/a_xml": (b"<row><x:c/>" + b"<c >" * 4) * 2}, ""),
+    ({"worksheets/a_xml": b"<x:row/>" + b"<c>" * 5, "worksheets/b_xml": b"<c>" * 5}, ""),
+    ({"worksheets/a_xml": b"<x:row/>" + b"<c>" * 5, "worksheets/b_xml": b"<row>" + b"<c>" * 5 + b"<row><c>"},
+     "it has too many cells"),
+    ({"a_xml": b" " * 400}, ""), ({"a_xml": b" " * 401}, "its parts are too large"),
+    ({"mimetype": b""}, "it is of LibreOffice's own format: save it as .xlsx")])
+def test_the_largest_parts_of_workbooks(parts: dict[str, bytes], why: str, monkeypatch: pytest.MonkeyPatch) -> None:
+    for name, most in (("MOST_TAGS", 10), ("MOST_STYLES", 8), ("MOST_IN_ROW", 5), ("MOST_CELLS", 10)):
+        monkeypatch.setattr(_workbooks, name, most)
+    monkeypatch.setattr(_library, "LONGEST_INPUT", 100)
+    if why:
+        with pytest.raises(ValueError, match=f"^{re.escape(why)}$"):
+            _workbooks.check_parts(archive_of(**parts))
+    else:
+        _workbooks.check_parts(archive_of(**parts))
+
+
+def test_instances_of_one_name_and_other_sizes_are_two() -> None:
+    """Also if each time of the smaller one is in the larger one. The same times again are one instance."""
+    rows = [{"instance": "a", "makespan": 1, "order": [1]}]
+    one_by_one, other = (pfs.Instance([[1] * count], name="a") for count in (1, 2))
+    assert pfs.audit(rows, [one_by_one, pfs.Instance([[1]], name="A")])[0].valid
+    for shops in ([one_by_one, other], [other, one_by_one], [one_by_one, pfs.Instance([[2]], name="a")]):
+        assert pfs.audit(rows, shops)[0].why == "column 'instance': 'a' is the name of 2 different instances"
+
+
+# Charts
+
+def chart_of(jobs: int, machines: int, **more: Any) -> _drawing.Chart:
+    """A chart in which each operation takes one unit."""
+    starts = np.add.outer(np.arange(jobs), np.arange(machines))
+    return _drawing.Chart([*range(1, jobs + 1)], starts, starts + 1, [*map(str, range(jobs))],
+                          [*map(str, range(machines))], **more)
+
+
+def test_names_of_machines_never_touch() -> None:
+    """All machines have a name as long as a row is high enough for it, and else each second or fifth one."""
+    figures = pytest.importorskip("matplotlib.figure")
+    for machines, step in ((66, 1), (67, 2), (133, 2), (134, 5), (200, 5)):
+        axis = figures.Figure().subplots()
+        _drawing.draw_scales(axis, chart_of(1, machines))
+        shown = [str(at - 1) for at in range(step, machines + 1, step)]
+        assert [label.get_text() for label in axis.get_yticklabels()] == shown, machines
+        assert [*axis.get_yticks()] == [int(name) + 1 for name in shown]
+
+
+def test_where_the_rows_become_an_image() -> None:
+    """With more operations than can be drawn, or more jobs than a row has pixels."""
+    for jobs, machines, dpi, is_image in ((100, 200, 110, False), (20_001, 1, 5_000, True), (20_000, 1, 5_000, False),
+                                          (1050, 1, 100, False), (1051, 1, 100, True)):
+        assert chart_of(jobs, machines, dpi=dpi).is_image == is_image, (jobs, machines)
+
+
+def test_a_page_has_what_its_script_reads(tmp_path: pathlib.Path) -> None:
+    """And nothing else: each field of the data by its name, with dates and without."""
+    script = TOP.joinpath("python/src/pfs/chart.html").read_text()
+    calendar = pfs.Calendar("2026-11-30T12:00", shifts="06:00-14:00", closed="2026-12-02")
+    made = pfs.Instance([[300, 30], [20, 500]], unit="min").schedule([1, 0])
+    for given in (None, calendar):
+        made.plot(tmp_path / "chart.html", calendar=given)
+        data = json.loads(re.findall(r'id="data">(.*?)</script>', (tmp_path / "chart.html").read_text())[0])
+        assert data.keys() == {*re.findall(r"\btable\.(\w+)", script)}
+    named = {*re.findall(r"\btable\.dates\.(\w+)", script)}
+    for fields in re.findall(r"const \{([^}]*)\} = table\.dates", script):
+        named |= {*fields.split(", ")}
+    assert data["dates"].keys() == named
+    assert data["dates"] | {"scale": ""} == {
+        "times": 1, "microseconds": 60_000_000, "spans": [[*span] for span in calendar.spans], "loop": calendar.loop,
+        "digits": -1, "scale": ""}
+    assert data["breaks"][:2] == [[0, "Mon 2026-11-30"], [120, "Tue 2026-12-01"]]
+    said = {*re.findall(r'\bsay\("([^"]+)"\)', script), "job", "machine", "start", "end"}
+    assert data["words"] == {text: text for text in {*said, *(day.title() for day in DAYS)}}
+
+
+@pytest.mark.parametrize(("steps", "worked"), [("s", 59), ("min", 59), ("h", 17)])
+def test_marks_are_at_their_own_times(steps: str, worked: int) -> None:
+    clock = Clock(pfs.Calendar("2026-11-30T06:00"), pfs.Instance([[1]], unit=steps, decimals=1))
+    for most in range(1, 12):
+        marks = clock.marks(worked, most)
+        assert len(marks) <= most + 1 and marks[0][0] == 0
+        step = marks[1][0] - marks[0][0] if len(marks) > 1 else 0
+        assert [at for at, _ in marks] == pytest.approx([step * at for at in range(len(marks))])
+
+
+def test_the_largest_time_table(tmp_path: pathlib.Path) -> None:
+    """Of the sizes of pfs, and one job or machine more."""
+    for jobs, machines in ((5_000, 1), (1, 200), (5_001, 1), (1, 201)):
+        rows = "".join(f"{job} {' '.join(['0 0'] * machines)}\n" for job in range(1, jobs + 1))
+        text = f"table {jobs} {machines}\n{rows}makespan 0\n"
+        if jobs > 5_000 or machines > 200:
+            with pytest.raises(_cli.Refused, match="^a time table has at most 5,000 jobs and 200 machines$"):
+                _gantt.read_table(text)
+        else:
+            assert _gantt.read_table(text)[0] == [*range(1, jobs + 1)]
+
+
+# The server for planners, and calendar files
+
+def served(monkeypatch: pytest.MonkeyPatch, *words: str) -> tuple[Any, Any]:
+    """What the program gives its application and the server."""
+    for module in ("flask", "waitress"):
+        require_module(module)
+    from pfs.web import __main__ as web
+    made, server = mock.Mock(), mock.Mock()
+    for name, value in (("signal.signal", mock.Mock()), ("logging.basicConfig", mock.Mock()),
+                        ("pfs.web.app.made", made), ("waitress.create_server", server)):
+        monkeypatch.setattr(name, value)
+    assert web.serve(web.words().parse_args(["--no-browser", *words])) == 0
+    server.return_value.run.assert_called_once_with()
+    return made.call_args.args, server.call_args.kwargs
+
+
+def test_the_names_and_the_proxy_of_a_server(tmp_path: pathlib.Path, monkeypatch: pytest.MonkeyPatch,
+                                             capsys: pytest.CaptureFixture[str]) -> None:
+    (names, token, searches), options = served(monkeypatch)
+    assert names == {"127.0.0.1:8470", "localhost:8470"} and len(token) == 32
+    assert capsys.readouterr().out == f"http://127.0.0.1:8470/#{token}\n"
+    assert (options["host"], options["port"], "trusted_proxy" in options) == ("127.0.0.1", 8470, False)
+    assert searches.slots == max(1, len(os.sched_getaffinity(0)) - 1)
+    path = tmp_path / "token"
+    path.write_text(f"\n {'a' * 200} ")
+    path.chmod(0o660)
+    monkeypatch.setattr("os.sched_getaffinity", lambda _: {0})
+    (names, token, searches), options = served(
+        monkeypatch, "--host", "0.0.0.0", "--name", "Plan.example", "--name", "b", "--token-file", str(path), "--port",
+        "65535", "--proxy")
+    own = ("plan.example", "b", "127.0.0.1", "localhost")
+    assert names == {*own[:2], *(f"{name}:65535" for name in own)} and token == "a" * 200 and searches.slots == 1
+    assert capsys.readouterr().out == f"http://Plan.example:65535/# and the token in {path}\n"
+    assert (options["host"], options["trusted_proxy"], options["trusted_proxy_headers"]) == (
+        "0.0.0.0", "127.0.0.1", {"x-forwarded-for"})
+
+
+@pytest.mark.parametrize(("text", "is_taken"), [
+    ("a" * 19, False), ("aZ09_-" * 4, True), ("a" * 201, False), ("a" * 20 + "\u00e4", False),
+    ("a" * 20 + " a", False)])
+def test_tokens(text: str, is_taken: bool, tmp_path: pathlib.Path) -> None:
+    from pfs.web import __main__ as web
+    (tmp_path / "token").write_text(text)
+    (tmp_path / "token").chmod(0o600)
+    if is_taken:
+        assert web.token_in(str(tmp_path / "token")) == text
+    else:
+        with pytest.raises(_cli.Misused, match="token: a token has 20 to 200 letters, digits, - and _$"):
+            web.token_in(str(tmp_path / "token"))
+    assert web.token_in(None) != web.token_in(None)
+    for mode in (0o604, 0o602, 0o601):
+        (tmp_path / "token").chmod(mode)
+        with pytest.raises(_cli.Misused, match="other users can read the token"):
+            web.token_in(str(tmp_path / "token"))
+
+
+EVENTS = """BEGIN:VCALENDAR
+VERSION:2.0
+PRODID:-//pfs//plan//EN
+X-WR-CALNAME:saw\\, left
+BEGIN:VEVENT
+UID:-@pfs
+DTSTAMP:-
+DTSTART:20261130T130000
+DTEND:20261130T140000
+SUMMARY:oak\\; 2
+LOCATION:saw\\, left
+TRANSP:TRANSPARENT
+END:VEVENT
+BEGIN:VEVENT
+UID:-@pfs
+DTSTAMP:-
+DTSTART:20261201T060000
+DTEND:20261201T070000
+SUMMARY:oak\\; 2
+LOCATION:saw\\, left
+TRANSP:TRANSPARENT
+END:VEVENT
+END:VCALENDAR
+"""
+
+
+def test_a_calendar_file_is_this_text(tmp_path: pathlib.Path) -> None:
+    """With the time at which it was written, in UTC. The names of events stay, and are those of no other file, machine,
+    job or shift."""
+    calendar, seen = pfs.Calendar("2026-11-30T13:00", shifts="06:00-14:00"), list[str]()
+    shop = pfs.Instance([[2, 0], [0, 1]], job_names=["oak; 2", "b"], machine_names=["saw, left", "Saw, left"], unit="h")
+    for name in ("a.b.ics", "a.b.ics", "other.ics"):
+        before = datetime.datetime.now(datetime.timezone.utc).replace(microsecond=0, tzinfo=None)
+        one, other = shop.schedule([0, 1]).to_ics(tmp_path / name, calendar)
+        after = datetime.datetime.now(datetime.timezone.utc).replace(tzinfo=None)
+        text = pathlib.Path(one).read_bytes().decode()
+        assert re.sub("(?m)^(UID|DTSTAMP):[0-9a-fTZ]+", r"\1:-", text) == EVENTS.replace("\n", "\r\n")
+        stamps = re.findall(r"DTSTAMP:(\d{8}T\d{6})Z\r", text)
+        assert len(stamps) == 2 and before <= datetime.datetime.strptime(stamps[0], "%Y%m%dT%H%M%S") <= after
+        seen += re.findall(r"UID:([0-9a-f]{24})@pfs\r", text + pathlib.Path(other).read_bytes().decode())
+    assert [pathlib.Path(path).name for path in (one, other)] == ["other-saw, left.ics", "other-Saw, left (2).ics"]
+    assert seen[:3] == seen[3:6] and len({*seen}) == 6 and len(seen) == 9
+
+
+@pytest.mark.parametrize(("key", "what"), {
+    "blocks": "a list of whole numbers from 1 to 1,000", "rounds": "a list of whole numbers from 0 to 1,000,000",
+    "takes": "a list of whole numbers from 1 to 5,000", "passes": "a list of whole numbers from 0 to 100",
+    "seeds": "a list of whole numbers from 0 to 18,446,744,073,709,551,615",
+    "time_factors": "a list of numbers from 0.001 to 10,000", "repetitions": "a whole number from 1",
+    "layout": '"taillard" or "orlib"', "reference": "the path of a CSV", "search": '"solve" or "iterated-greedy"',
+    "partial": "a whole number from 0 to 100", "ties": '"first" or "idle"', "temperature": "a number from 0 to 1,000",
+    "command": "a command", "anytime": "true or false", "method": "a name without control characters"}.items())
+def test_what_a_value_of_a_plan_must_be(key: str, what: str) -> None:
+    with pytest.raises(ExperimentError, match=f"^p: {key} must be {re.escape(what)}$"):
+        plan.method_of("p", {key: {}})
+
+
+@pytest.mark.parametrize(("key", "values"), {
+    "layout": ["taillard", "orlib", "matrix", "", 1], "search": ["solve", "iterated-greedy", "neh"],
+    "ties": ["first", "idle", "last"], "reference": ["a", "", "a\0"], "command": ["a", "", "a\0"],
+    "method": ["a b", "\u00e4", "", "a\n", "a\x1b"], "anytime": [True, False, 1, 0]}.items())
+def test_texts_of_a_plan(key: str, values: list[Any]) -> None:
+    taken = [plan.VALUES[key][1](value) for value in [*values, None, ["a"]]]
+    assert taken == [True, True] + [False] * (len(taken) - 2)
