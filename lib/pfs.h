@@ -366,8 +366,8 @@ struct pfs_iterate_options {
  * sum over the machines of how much later the job that is now at the place would end; after the last job, of how much
  * later the sequence would end.
  *
- * A job may move if it is behind the first `held` ones and stay[job] is 0 or beyond the list. Only such jobs are
- * removed and moved, so all others keep their order. With NULL and 0 in place of the list, all jobs behind the held
+ * A job may move if it is after the first `held` ones and stay[job] is 0 or beyond the list. Only such jobs are
+ * removed and moved, so all others keep their order. With NULL and 0 in place of the list, all jobs after the held
  * ones may move.
  *
  * The order that a round finds becomes the best one if it is shorter than that. It becomes the current one if it is no

@@ -20,7 +20,7 @@ TIMES: list[Sequence[int]] = [range(1, 100), range(4), [0, 1, 1_000_000]]
 def plain(top: pathlib.Path, tmp_path_factory: pytest.TempPathFactory) -> Program:
     """The plain program."""
     program = tmp_path_factory.mktemp("plain") / "plain"
-    subprocess.run([tool("g++"), "-O1", "-o", program, top / "bench" / "plain.cpp"], check=True)
+    subprocess.run([tool("g++"), "-o", program, top / "bench" / "plain.cpp"], check=True)
     return Program(program)
 
 

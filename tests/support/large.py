@@ -12,7 +12,7 @@ from support.program import Program
 # Runs a program, and writes into a file its exit status, its processor seconds and its greatest resident memory in
 # bytes. The kernel's figure includes the memory of the process that starts the program, so that one is small.
 MEASURED = """import os, sys
-_, ended, usage = os.wait4(os.posix_spawn(sys.argv[2], sys.argv[2:], os.environ), 0)
+_, ended, usage = os.wait4(os.posix_spawnp(sys.argv[2], sys.argv[2:], os.environ), 0)
 with open(sys.argv[1], "w") as file:
     print(os.waitstatus_to_exitcode(ended), usage.ru_utime + usage.ru_stime, usage.ru_maxrss * 1024, file=file)
 """
@@ -86,7 +86,7 @@ def run_limited(program: Program, words: list[str], folder: pathlib.Path, memory
                stdin: pathlib.Path = pathlib.Path("/dev/null")) -> LargeRun:
     """Run a program with this many bytes of address space, and kill it if it takes too much processor time."""
     output, errors, got = folder / "output", folder / "errors", folder / "usage"
-    limits = [tool("timeout"), "--signal=KILL", f"{10 * MOST_SECONDS}", tool("prlimit"), f"--as={memory}",
+    limits = ["timeout", "--signal=KILL", f"{10 * MOST_SECONDS}", tool("prlimit"), f"--as={memory}",
               f"--cpu={MOST_SECONDS}"]
     measuring = [sys.executable, "-I", "-S", "-c", MEASURED, str(got), *limits, str(program.path), *words]
     with open(stdin, "rb") as given, open(output, "wb") as stdout, open(errors, "wb") as stderr:

@@ -267,7 +267,7 @@ def drawn(jobs: list[int], words: list[int]) -> list[int]:
 
 
 def placed(shop: Instance, order: list[int], held: int, job: int, ties: int) -> list[int]:
-    """The order with a job at the first of its best places behind the held jobs; with `ties` 1 those are the best that
+    """The order with a job at the first of its best places after the held jobs; with `ties` 1 those are the best that
     make the next job, or else the order, end the least later on all machines together."""
     def loss(place: int) -> tuple[int, int]:
         made = order[:place] + [job] + order[place:]

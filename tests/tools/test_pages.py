@@ -425,7 +425,7 @@ ELSEWHERE = re.compile(r"\bout(?:/|$)|\bNAME/|^START-HERE\.md$|/PROVED$|^(?:tabl
 NAME = re.compile(r"[A-Za-z]\w*(?:_|[a-z][A-Z])\w*|[a-z]\w*(?=\(\))")
 # Types of Julia and R that a page names.
 FOREIGN = {"Csize_t", "M_MMAP_THRESHOLD", "M_TRIM_THRESHOLD", "R_xlen_t", "c_void"}
-ENDINGS = {".antt", ".c", ".cpp", ".edit", ".fish", ".h", ".hpp", ".html", ".in", ".py", ".rt", ".toml", ".txt", ".1", ""}
+ENDINGS = {".antt", ".c", ".cpp", ".edit", ".h", ".hpp", ".html", ".in", ".py", ".rt", ".toml", ".txt", ".1", ""}
 
 
 @functools.cache
