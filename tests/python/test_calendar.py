@@ -180,6 +180,7 @@ def test_dates_increase_and_lead_back_to_the_times(drawn: Drawn, times: list[int
     ({"shifts": ["sun:22:00-06:00", "mon:05:00-13:00"]}, ValueError, "shifts overlap on Mon 2026-12-07 at 05:00"),
     ({"shifts": ["22:00-06:00", "2026-12-05:05:00-13:00"]}, ValueError, "shifts overlap on Sat 2026-12-05 at 05:00"),
     ({"shifts": ["mon-fri:06:00-14:00", "fri:06:00-12:00"]}, ValueError, "shifts overlap on Fri 2026-12-04 at 06:00"),
+    ({"begin": "9999-12-31T23:59", "shifts": "06:00-14:00,13:00-20:00"}, ValueError, "ends after the year 9999"),
     ({"begin": "2026-12-01T06:00", "closed": "2026-12-01", "shifts": ["tue:22:00-06:00", "wed:05:00-07:00"]},
      ValueError, "shifts overlap on Wed 2026-12-09 at 05:00"),
     ({"shifts": "fry:06:00-12:00"}, ValueError, "'fry' is not a day of the week"),

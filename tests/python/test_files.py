@@ -525,6 +525,12 @@ def test_a_pipe_is_written_to_and_names_that_no_file_holds_are_not(tmp_path: pat
     assert os.read(reader, 4096).decode() == SHOP.to_text()
     os.close(reader)
     assert os.listdir(tmp_path) == ["pipe"]
+    # Without a name, as that of `| less` or `>(gzip)`.
+    reader, writer = os.pipe()
+    SHOP.write(f"/dev/fd/{writer}")
+    assert os.read(reader, 4096).decode() == SHOP.to_text()
+    os.close(reader)
+    os.close(writer)
     (tmp_path / "out.csv").write_text("the old one")
     shop = pfs.Instance([[1]], job_names=["\udce4"])
     with pytest.raises(UnicodeEncodeError):

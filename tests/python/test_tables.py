@@ -148,6 +148,8 @@ WRONG_TABLES: dict[str, tuple[Any, ...]] = {
                              "'2' isn't hours and minutes, as other times of the table are"),
     "61 minutes": ("job;saw\na;1:30\nb;1:61\n", 3, 2,
                    "'1:61' isn't hours and minutes, as other times of the table are"),
+    "numbers in hours and minutes": ("job [h:mm];saw\na;0\nb;2,5\n", 3, 2,
+                                     "'2,5' isn't hours and minutes, as the unit says"),
     "hours in seconds": ("job [s];saw\na;1:30\n", 1, 1, "times such as 1:30 are hours and minutes, not s"),
 }
 WRONG_TABLES |= {f"{head} in s": (f"{head}\na;3;2\n", 1, column, why, {"unit": "s"}) for head, column, why in [

@@ -184,6 +184,7 @@ REJECTED: dict[Callable[[Any], object], list[tuple[Any, type[Exception], str]]] 
         ({"job_names": ["a"]}, ValueError, "has 1 names, but 3 are needed"),
         ({"machine_names": ["a", "a"]}, ValueError, "'a' occurs twice"),
         ({"decimals": 10}, ValueError, "decimals must be from .*, not 10"),
+        ({"decimals": 1, "unit": "h:mm"}, ValueError, "decimals must be 0, not 1: times with the unit 'h:mm' are "),
         ({"seed": 2**32}, ValueError, "seed must be from .*, not 4294967296"),
         *(({"job_names": names}, TypeError, "job_names") for names in ("abc", [1, 2, 3]))],
 }

@@ -457,6 +457,9 @@ def test_a_name_is_no_script_in_what_is_made(client: FlaskClient) -> None:
     plan = {**PLAN, "shop": shop, "order": shop["jobs"], "title": SCRIPT}
     assert all(text not in answer(client, "/api/plan", plan)["chart"] for text in (SCRIPT, "<script>alert"))
     assert b";=1" not in asked(client, "/api/file", {**plan, "kind": "csv"}).data
+    shop["jobs"] = ["a\nb", *ORDER[:3]]
+    got = asked(client, "/api/file", {**plan, "order": shop["jobs"], "kind": "txt"})
+    assert got.data == b"a\\nb\nbox\ntable\nchair\n", "each job has a line"
     got = asked(client, "/api/read", {"rows": [[1, ["job", SCRIPT]], [2, [SCRIPT, "x"]]]})
     assert got.mimetype == "application/json"
 

@@ -51,9 +51,10 @@ def atomic_write(path: str | os.PathLike[str], data: bytes, temporary: str | Non
     mode = None
     try:
         with contextlib.suppress(FileNotFoundError):
-            mode = os.stat(target).st_mode
+            mode = os.stat(path).st_mode
         if mode is not None and not stat.S_ISREG(mode):
-            with open(target, "wb") as file:
+            # A pipe such as /dev/stdout has no path but this one.
+            with open(path, "wb") as file:
                 file.write(data)
             return
         temporary = temporary or f"{target}.{secrets.token_hex(4)}.new"

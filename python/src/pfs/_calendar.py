@@ -364,6 +364,6 @@ def spans_from(begin: datetime, shifts: Shifts, days: Collection[int],
     spans = [(max(start, past), end) for start, end in found if end > past]
     for (_, end), (start, _) in pairwise([*spans, (spans[loop][0] + WEEK, 0)]):
         if start < end:
-            moment = MONDAY + timedelta(microseconds=start)
+            moment = moment_at(start)
             raise ValueError(f"shifts overlap on {day_of(moment)} at {moment:%H:%M}")
     return spans, loop

@@ -16,7 +16,7 @@ from pfs._atomic import atomic_write
 from pfs._bounds import bound_by_pairs
 from pfs._faults import Interrupted
 from pfs._library import LENGTHS, SHORT, Prepared, quick_insert, quick_insertions, quick_makespan
-from pfs._names import frame_names, is_frame, names_of
+from pfs._names import CLOCK, frame_names, is_frame, names_of
 from pfs._proof import proved
 from pfs._schedule import Schedule
 from pfs._search import Event, Progress, Search, rule_of
@@ -78,7 +78,7 @@ class Instance:
         Names for schedules and charts. By default those of a pandas DataFrame are its index and columns, unless these
         count from 0.
     unit : str
-        The unit of the times, such as ``"min"``.
+        The unit of the times, such as ``"min"``. With ``"h:mm"`` they are minutes, and 90 is shown as 1:30.
     decimals : int
         The number of digits after the decimal point of each time in that unit, 0 to 9. With 1, a time of 25 is 2.5.
     seed, upper, lower : int
@@ -132,6 +132,8 @@ class Instance:
         self.machine_names = names_of(machine_names, self.machines, "machine_names")
         self.unit = str(unit)
         self.decimals = checked_int(decimals, "decimals", 0, 9)
+        if self.unit == CLOCK and self.decimals:
+            raise ValueError(f"decimals must be 0, not {self.decimals}: times with the unit {CLOCK!r} are minutes")
         self.seed = checked_int(seed, "seed", 0, c.MOST_NOTE)
         self.upper = checked_int(upper, "upper", 0, c.MOST_NOTE)
         self.lower = checked_int(lower, "lower", 0, c.MOST_NOTE)

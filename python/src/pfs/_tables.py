@@ -552,7 +552,8 @@ def reject_times_as_names(table: Rows, machines: Sequence[str], jobs: Sequence[s
 
 
 def times_of(table: Rows, sign: DecimalSign, unit: str) -> tuple[Order, int, str]:
-    """Return the times, the number of their decimals, and their unit. They are hours and minutes if most cells are."""
+    """Return the times, the number of their decimals, and their unit. They are hours and minutes if most cells are, or
+    the unit says so."""
     numbers = hours = 0
     for row in table.times():
         for cell in row:
@@ -561,9 +562,10 @@ def times_of(table: Rows, sign: DecimalSign, unit: str) -> tuple[Order, int, str
             hours += HOURS.match(cell.text) is not None
             if number and number[2] and sign.sign is None and not GROUPED.match(cell.text):
                 sign.sign, sign.first = number[2], cell
-    if hours and hours >= numbers:
+    if hours >= max(1, numbers) or unit.casefold() in CLOCKS:
         check_clock(table, unit)
-        times, decimals, unit, note = table.read_times(partial(minutes_of, table)), 0, CLOCK, " minutes"
+        why = "other times of the table are" if hours else "the unit says"
+        times, decimals, unit, note = table.read_times(partial(minutes_of, table, why)), 0, CLOCK, " minutes"
     else:
         # In billionths. What is too long for them is too long for a time.
         times, decimals, note = table.read_times(sign.billionths_of), sign.decimals, ""
@@ -586,13 +588,12 @@ def check_clock(table: Rows, unit: str) -> None:
                                    f"times such as 1:30 are hours and minutes, not {unit}")
 
 
-def minutes_of(table: Rows, cell: Cell) -> int:
+def minutes_of(table: Rows, why: str, cell: Cell) -> int:
     """Return a time in minutes that is written as hours and minutes."""
     match = HOURS.match(cell.text)
     if match is None and not ZERO.match(cell.text):
         hint = ": leave out the seconds" if SECONDS.fullmatch(cell.text) else ""
-        raise table.fault(cell, f"{cell.text!r} isn't hours and minutes, as other times of the table are{hint}"
-                          if cell.text else MISSING)
+        raise table.fault(cell, f"{cell.text!r} isn't hours and minutes, as {why}{hint}" if cell.text else MISSING)
     return 60 * int(match[1]) + int(match[2]) if match else 0
 
 

@@ -15,7 +15,7 @@ from pfs._calendar import Clock, needed, text_of
 from pfs._commands import calendar_of, draw, ended_at, span_text, write_schedule
 from pfs._faults import TableFault
 from pfs._instance import Instance
-from pfs._names import amount
+from pfs._names import amount, shown
 from pfs._now import left_at
 from pfs._orders import FoundOrder, filled, moved, numbers_by_name
 from pfs._report import rows_of
@@ -180,7 +180,7 @@ def file(given: dict[str, Any], folder: str) -> bytes:
         raise OTHER_FORM
     plan, path = Plan(given), pathlib.Path(folder, f"plan.{kind}")
     if kind == "txt":
-        path.write_text("".join(f"{job.name}\n" for job in plan.schedule.report().jobs), "utf-8")
+        path.write_text("".join(f"{shown(job.name)}\n" for job in plan.schedule.report().jobs), "utf-8")
     elif kind in ("html", "pdf"):
         plan.draw(path)
     elif kind != "zip":
