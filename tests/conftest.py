@@ -19,8 +19,6 @@ from support.tools import TOP
 
 pytest_plugins = ["support.needs", "support.tools", "support.servers",
                   "support.experiments", "support.growths", "support.office", "support.installed"]
-if "COVERAGE_PROCESS_START" in os.environ:
-    pytest_plugins.append("support.contexts")
 
 PACKAGE = TOP / "tests" / "python"
 # Examples are the same in each run, and none is too slow for a machine that runs other programs too.

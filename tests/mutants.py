@@ -1,67 +1,34 @@
 #!/usr/bin/python3
-"""Changes one place of the package for Python at a time, in a copy of the checkout, and runs tests that may find it: do
-they fail, and pass without the change? Prints the changes that no test finds, and the share that is found, in all and
-by module. tests/equivalent.txt lists changes that mean the same, each with its reason. They aren't tried.
+"""Changes one place of the package for Python at a time, in a copy of the checkout, and runs the tests that share the
+most words with its function: does one fail, and pass without the change? Prints the changes that no test finds, and the
+share that is found, in all and by module. tests/equivalent.txt lists changes that mean the same, each with its reason.
+They aren't tried.
 
-The tests are those that run the place, the quickest first, if `--map` has noted which do since the package and its
-tests have changed; else those that share the most words with its function.
-
-usage: tests/mutants.py [--seed N] [--jobs N] [--least PERCENT] [--only WORD] [COUNT]
-       tests/mutants.py --map [WORDS..]   runs pytest with these words, and keeps which test runs which lines"""
+usage: tests/mutants.py [--seed N] [--jobs N] [--least PERCENT] [--only WORD] [COUNT]"""
 import argparse
 import concurrent.futures
 import functools
-import json
 import os
 import pathlib
 import queue
 import random
 import re
 import resource
-import signal
 import subprocess
 import sys
 import tempfile
 from collections import Counter, defaultdict
-from typing import Any
+from collections.abc import Iterator
 
 sys.dont_write_bytecode = True
 from support.changes import PACKAGE, TOP, Change, Source
 from support.likely import Likely
-from support.noted import MADE, PYTEST, TESTS, is_noted, make_map
 
-# Seconds that the tests of a change took when they were noted; seconds of a test and of a run, and bytes of its memory.
-MOST_NOTED, MOST_OF_TEST, MOST_SECONDS, MOST_MEMORY = 40, 25, 90, 12 << 30
+# Processor seconds of a process, more than all likely tests take without a change, and bytes of its memory.
+MOST_SECONDS, MOST_MEMORY = 100, 12 << 30
 # The exit status of pytest without a test.
 NO_TEST = 5
 FAILED = re.compile(r"^(?:FAILED|ERROR) (\S+\.py::\w+)", re.MULTILINE)
-
-
-class Map:
-    """Which tests run a line, and how many seconds each takes."""
-
-    def __init__(self, files: list[Source]) -> None:
-        self.files, kept = {source.name: source for source in files}, json.loads((MADE / "map").read_text())
-        self.seconds: dict[str, float] = kept["seconds"]
-        self.lines: dict[str, dict[str, list[str]]] = kept["lines"]
-
-    def tests(self, _: Source, change: Change) -> list[str]:
-        """Those that may find it, the quickest first. Lines that no test is noted for may run where nothing is noted,
-        as in `python3 -I -S`: then those that run another line of the file, in any order."""
-        used = [(name, line) for name, source in self.files.items() for word in change.names
-                for line in source.uses[word]]
-        found: set[str] = set()
-        for name, line in used or [(change.file, line) for line in change.lines]:
-            found.update(self.lines.get(name, {}).get(str(line), ()))
-        others = sorted({test for tests in self.lines.get(change.file, {}).values() for test in tests} - found)
-        left, chosen = float(MOST_NOTED), list[str]()
-        for test in sorted(found, key=lambda test: (self.seconds[test], test)) or random.Random(7).sample(
-                others, len(others)):
-            left -= self.seconds[test]
-            if chosen and left < 0:
-                break
-            chosen.append(test)
-        return chosen
 
 
 def copied(folder: pathlib.Path) -> pathlib.Path:
@@ -79,52 +46,32 @@ def apart() -> list[str]:
 
 
 def run_tests(copy: pathlib.Path, *words: str) -> tuple[int, str]:
-    """The exit status and the output of pytest in a copy. If it takes too long, it has found nothing."""
+    """The exit status and the output of pytest in a copy."""
     env = os.environ | {"PYTHONDONTWRITEBYTECODE": "1", "TMPDIR": f"{copy}.tmp", "CI": "false", "PFS_MUTANT": "1"}
     pathlib.Path(f"{copy}.tmp").mkdir(exist_ok=True)
-    options = ["-x", "-n0", f"--timeout={MOST_OF_TEST}", f"--basetemp={copy}.tmp/pytest",
-               f"--pfs={TOP}/crates/pfs/out/pfs", f"--libpfs={TOP}/lib/out/libpfs.so.1"]
-    process = subprocess.Popen([*apart(), *PYTEST, *options, *words], cwd=copy, env=env, stdin=subprocess.DEVNULL,
-                               stdout=subprocess.PIPE, stderr=subprocess.STDOUT, start_new_session=True, text=True,
-                               errors="replace", preexec_fn=lambda: resource.setrlimit(resource.RLIMIT_AS,
-                                                                                       (MOST_MEMORY, MOST_MEMORY)))
+    options = ["-q", f"--basetemp={copy}.tmp/pytest", f"--pfs={TOP}/crates/pfs/out/pfs",
+               f"--libpfs={TOP}/lib/out/libpfs.so.1"]
+
+    def limit() -> None:
+        for kind, most in ((resource.RLIMIT_CPU, MOST_SECONDS), (resource.RLIMIT_AS, MOST_MEMORY)):
+            resource.setrlimit(kind, (most, most))
+
+    done = subprocess.run([*apart(), "/usr/bin/python3", "-m", "pytest", *options, *words], cwd=copy, env=env,
+                          stdin=subprocess.DEVNULL, stdout=subprocess.PIPE, stderr=subprocess.STDOUT, text=True,
+                          errors="replace", start_new_session=True, preexec_fn=limit)
+    return done.returncode, done.stdout
+
+
+def finder(source: Source, change: Change, tests: list[str], copy: pathlib.Path) -> str:
+    """The test that fails by a change in a copy; nothing if none does."""
+    path = copy / PACKAGE.relative_to(TOP) / change.file
+    path.write_bytes(source.changed(change))
     try:
-        output, _ = process.communicate(timeout=MOST_SECONDS)
-        return process.returncode, output
-    except subprocess.TimeoutExpired:
-        os.killpg(process.pid, signal.SIGKILL)
-        process.communicate()
-        return 0, ""
-
-
-class Finder:
-    """Finds changes by tests that pass without them."""
-
-    def __init__(self) -> None:
-        self.sound, self.unsound = set[str](), set[str]()
-
-    def finds(self, source: Source, change: Change, tests: list[str], copy: pathlib.Path) -> bool:
-        """Whether a test fails by a change in a copy."""
-        path = copy / PACKAGE.relative_to(TOP) / change.file
-        while tests := [test for test in tests if test.partition("[")[0] not in self.unsound]:
-            path.write_bytes(source.changed(change))
-            try:
-                status, output = run_tests(copy, *tests)
-            finally:
-                path.write_bytes(source.text)
-            failed = FAILED.search(output)
-            if status not in (0, NO_TEST) and self.passes(failed[1] if failed else tests[0], copy):
-                return True
-            if failed is None:
-                return False
-        return False
-
-    def passes(self, test: str, copy: pathlib.Path) -> bool:
-        """Whether a test passes without a change."""
-        if test not in self.sound | self.unsound:
-            is_sound = run_tests(copy, test)[0] in (0, NO_TEST)
-            (self.sound if is_sound else self.unsound).add(test)
-        return test in self.sound
+        status, output = run_tests(copy, "-x", "-n0", *tests)
+    finally:
+        path.write_bytes(source.text)
+    failed = FAILED.search(output)
+    return "" if status in (0, NO_TEST) else failed[1] if failed else tests[0]
 
 
 def equivalent() -> set[str]:
@@ -150,6 +97,34 @@ def commits() -> int:
     return int(done.stdout) if done.returncode == 0 else 1
 
 
+def results(pairs: list[tuple[Source, Change]], jobs: int) -> Iterator[tuple[Source, Change, str]]:
+    """The changes with the tests that they fail, or nothing. At last come those of tests that fail without a change,
+    which find nothing."""
+    likely, copies, found = Likely(), queue.SimpleQueue[pathlib.Path](), list[tuple[Source, Change, str]]()
+
+    def run(pair: tuple[Source, Change]) -> tuple[Source, Change, str]:
+        copy = copies.get()
+        failed = finder(*pair, likely.tests(*pair), copy)
+        copies.put(copy)
+        return *pair, failed
+
+    with tempfile.TemporaryDirectory(prefix="pfs-mutants-") as folder:
+        for number in range(jobs):
+            copies.put(copied(pathlib.Path(folder) / str(number)))
+        with concurrent.futures.ThreadPoolExecutor(jobs) as workers:
+            for result in workers.map(run, pairs):
+                if result[2]:
+                    found.append(result)
+                else:
+                    yield result
+        names = {failed for *_, failed in found}
+        status, output = run_tests(copies.get(), f"-n{jobs}", *sorted(names)) if names else (0, "")
+    if status > 1:
+        sys.exit(f"mutants: without a change the tests don't run: {output}")
+    unsound = {*FAILED.findall(output)}
+    yield from ((source, change, "" if failed in unsound else failed) for source, change, failed in found)
+
+
 def main() -> int:
     parser = argparse.ArgumentParser(usage="".join(__doc__.partition("usage: ")[2]))
     parser.add_argument("count", nargs="?", type=int, default=300)
@@ -157,30 +132,14 @@ def main() -> int:
         parser.add_argument(f"--{name}", type=int, default=default)
     parser.add_argument("--only", default="")
     given = parser.parse_args()
-    files = [Source(path) for path in sorted(PACKAGE.rglob("*.py"))]
-    choice: Map | Likely = Map(files) if is_noted() else Likely()
-    finder, copies = Finder(), queue.SimpleQueue[pathlib.Path]()
+    files = [Source(path) for path in sorted(PACKAGE.rglob("*.py")) if given.only in str(path.relative_to(PACKAGE))]
     tried, seen = Counter[str](), Counter[str]()
-
-    def run(pair: tuple[Source, Change]) -> tuple[Source, Change, int, bool]:
-        tests, copy = choice.tests(*pair), copies.get()
-        is_found = finder.finds(*pair, tests, copy)
-        copies.put(copy)
-        return *pair, len(tests), is_found
-
-    with tempfile.TemporaryDirectory(prefix="pfs-mutants-") as folder:
-        for number in range(given.jobs):
-            copies.put(copied(pathlib.Path(folder) / str(number)))
-        with concurrent.futures.ThreadPoolExecutor(given.jobs) as workers:
-            pairs = chosen([source for source in files if given.only in source.name], given.seed, given.count)
-            for source, change, tests, is_found in workers.map(run, pairs):
-                tried[source.name] += 1
-                seen[source.name] += is_found
-                if not is_found:
-                    line = source.text.count(b"\n", 0, change.start) + 1
-                    print(f"not found by {tests} tests, line {line} of\n{source.shown(change)}\n", flush=True)
-    for test in sorted(finder.unsound):
-        print(f"fails without a change: {test}")
+    for source, change, failed in results(chosen(files, given.seed, given.count), given.jobs):
+        tried[source.name] += 1
+        seen[source.name] += bool(failed)
+        if not failed:
+            line = source.text.count(b"\n", 0, change.start) + 1
+            print(f"not found, line {line} of\n{source.shown(change)}\n", flush=True)
     for name in sorted(tried):
         print(f"{seen[name]:4} of {tried[name]:4}  {name}")
     share = 100 * seen.total() / max(1, tried.total())
@@ -189,4 +148,4 @@ def main() -> int:
 
 
 if __name__ == "__main__":
-    sys.exit(make_map(sys.argv[2:] or TESTS) if sys.argv[1:2] == ["--map"] else main())
+    sys.exit(main())

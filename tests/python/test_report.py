@@ -555,7 +555,8 @@ def test_trajectories_have_their_mean_and_the_share_that_reaches_the_target(done
     text = WAY_HEAD + "".join(f"i,20,5,{method},{seed},{way[-3:]},100,{seconds},{way}\n"
                               for method, ways in WAYS.items() for seed, (seconds, way) in enumerate(ways))
     figures = reports.along(done(text + "j,50,5,a,,101,100,3,3:101\nj,50,5,b,,101,100,7,\n"), None)
-    assert list(figures) == ["trajectory", "target"]
+    assert {name: labels_of(figure)[:2] for name, figure in figures.items()} == {
+        "trajectory": ("processor time, s", "mean RPD, %"), "target": ("processor time, s", "share of the runs")}
     first, second = figures["trajectory"].axes[:2]
     assert (first.get_title(), second.get_title(), first.get_xscale()) == ("20×5", "50×5", "log")
     lines = lines_of(first)
@@ -625,6 +626,12 @@ def test_values_below_0_are_seen_and_long_legends_have_several_lines() -> None:
     assert {round(float(y), 6) for y in axis.collections[0].get_paths()[0].vertices[:, 1]} == {-1, 9}
 
 
+def labels_of(figure: Any) -> tuple[str, str, str]:
+    """The titles of both axes and of the legend."""
+    below = figure.axes[-1]
+    return below.get_title(), figure._supylabel.get_text(), below.get_legend().get_title().get_text()
+
+
 @pytest.mark.parametrize(("rounds", "scale", "ends"), [
     ((0, 20), "linear", (0, 20)), ((0, 21), "symlog", (0, 21)), ((5,), "linear", (5, 6)), ((0,), "linear", (0, 1)),
     ((7, 1000), "symlog", (7, 1000))])
@@ -632,7 +639,9 @@ def test_many_rounds_have_a_logarithmic_scale(rounds: tuple[int, ...], scale: st
                                               done: Callable[[str], Any]) -> None:
     """With 0 before the rest."""
     text = "".join(f"a,20,5,{each},4,0,1,1,110,100,10.0,1000,0.1,ok\n" for each in rounds)
-    axis = reports.by_rounds(done(HEAD + text), "gap_percent", "y", "title", None).axes[0]
+    figure = reports.by_rounds(done(HEAD + text), "gap_percent", "y", "title", None)
+    axis = figure.axes[0]
+    assert labels_of(figure) == ("rounds of iterated greedy", "y", "jobs×machines")
     assert (axis.get_xscale(), axis.get_xlim()) == (scale, ends)
     assert axis.xaxis.get_major_formatter()(1000) == "1,000" and len(axis.xaxis.get_minorticklocs()) == 0
     if scale == "symlog":
@@ -647,8 +656,9 @@ def test_times_have_a_logarithmic_scale(seconds: tuple[float, float], ends: tupl
                                         done: Callable[[str], Any]) -> None:
     """From a power of ten to another one."""
     text = "".join(f"a,20,5,{at},4,0,1,1,110,100,10.0,1000,{each:.9f},ok\n" for at, each in enumerate(seconds))
-    axis = reports.by_seconds(done(HEAD + text), None).axes[0]
-    assert axis.get_xlim() == pytest.approx(ends)
+    figure = reports.by_seconds(done(HEAD + text), None)
+    axis = figure.axes[0]
+    assert axis.get_xlim() == pytest.approx(ends) and labels_of(figure) == ("processor time, s", "RPD, %", "method")
     assert [axis.xaxis.get_major_formatter()(each) for each in (0.001, 0.5, 1, 1000, 1e5, 1e6)] == [
         "0.001", "0.5", "1", "1,000", "100,000", "1e+06"]
 

@@ -15,8 +15,8 @@ from unittest import mock
 import numpy as np
 import pfs
 import pytest
-from pfs import _cli, _drawing, _gantt, _library, _tables, _workbooks
-from pfs._calendar import DAYS, Clock
+from pfs import _cli, _drawing, _library, _tables, _workbooks
+from pfs._calendar import DAYS
 from pfs._commands import words
 from pfs._names import seconds_in
 from pfs.experiments import ExperimentError, one, plan, run, stage
@@ -76,11 +76,11 @@ def test_what_a_search_says_that_fails(runs: pathlib.Path, does: str, said: str)
 
 def test_a_search_by_rounds(runs: pathlib.Path) -> None:
     (runs / "does").write_text("printf 'order 1\\n1\\nmakespan 4\\ncells 12\\n'")
-    for take, words in (("-", ""), ("4", " --take 4")):
+    for take, more in (("-", ""), ("4", " --take 4")):
         found = one.by_rounds(a_run(take=take))
         assert found[:2] == ("order 1\n1\nmakespan 4\n", "12") and 0 <= found.seconds < 5
         assert (runs / "words").read_text() == (
-            f"solve --rounds 5 --passes 1 --seed 3 --cells{words} --layout orlib --block 2 instances/1\n")
+            f"solve --rounds 5 --passes 1 --seed 3 --cells{more} --layout orlib --block 2 instances/1\n")
 
 
 @pytest.mark.parametrize(("does", "said"), [
@@ -139,16 +139,6 @@ def test_the_runs_of_a_process(runs: pathlib.Path, monkeypatch: pytest.MonkeyPat
     assert capfdbinary.readouterr().out == b'12\no?\n3,"a""b"\n2\n1\n12\no?\n2,"a""b"\n'
 
 
-def test_a_process_knows_its_starters_and_its_children() -> None:
-    status = {pid: pathlib.Path(f"/proc/{pid}/status").read_text() for pid in (os.getpid(), os.getppid())}
-    parent, second = (re.findall(r"^PPid:\t(\d+)$", text, re.MULTILINE)[0] for text in status.values())
-    assert one.starters() == (int(parent), second.encode())
-    with subprocess.Popen(["sleep", "9"]) as child:
-        assert child.pid in one.children_of(os.getpid())
-        child.kill()
-    assert child.pid not in one.children_of(os.getpid())
-
-
 @pytest.mark.parametrize(("seconds", "most"), [(1, 2), (1.01, 3), (0.01, 1)])
 def test_the_processor_time_of_a_command_is_limited(seconds: float, most: int) -> None:
     done = subprocess.run(["sh", "-c", "ulimit -t"], preexec_fn=lambda: one.limit(seconds), capture_output=True)
@@ -156,30 +146,6 @@ def test_the_processor_time_of_a_command_is_limited(seconds: float, most: int) -
     unlimited = subprocess.run(["sh", "-c", "ulimit -t"], preexec_fn=lambda: one.limit(None), capture_output=True)
     soft = resource.getrlimit(resource.RLIMIT_CPU)[0]
     assert unlimited.stdout.decode().strip() == ("unlimited" if soft == resource.RLIM_INFINITY else str(soft))
-
-
-@pytest.mark.parametrize(("number", "said"), [(1, "solve: exit 4, pfs: no memory"), (7, "libpfs: f returns 7")])
-def test_what_the_library_refuses(number: int, said: str, monkeypatch: pytest.MonkeyPatch) -> None:
-    """Its instance is released once nothing uses it any more."""
-    calls = list[str]()
-
-    def function(name: str, returned: int) -> Any:
-        def noted(*_: object) -> int:
-            calls.append(name)
-            return returned
-
-        return noted
-
-    library = types.SimpleNamespace(pfs_prepare=function("prepare", 0), pfs_release=function("release", 0),
-                                    f=function("f", number), g=function("g", 0))
-    monkeypatch.setattr("ctypes.CDLL", lambda path: library)
-    call = one.caller([1, 2], 1, 2)
-    call("g", 5)
-    with pytest.raises(one.Failed, match=f"^{said}$"):
-        call("f")
-    assert calls == ["prepare", "g", "f"]
-    del call
-    assert calls[3:] == ["release"]
 
 
 def test_runs_that_were_lost_come_last(tmp_path: pathlib.Path, monkeypatch: pytest.MonkeyPatch) -> None:
@@ -198,79 +164,6 @@ def test_runs_that_were_lost_come_last(tmp_path: pathlib.Path, monkeypatch: pyte
     assert not (tmp_path / "joblog").exists() and not (tmp_path / "results" / "2").exists()
     with pytest.raises(FileNotFoundError, match=r"^none-such is not installed \(Debian: a-package\)$"):
         run.begin(given, "none-such", "a-package")
-
-
-@pytest.mark.parametrize(("data", "found"), [
-    ("o\n4,9,8,7,1.000000,ok\n", {"order": "o\n", "makespan": "9", "status": "ok"}),
-    ("a\nb\n4,9,8,,1.000000,ok,5,2,x:1\n", {"order": "a\nb\n", "cells": "", "left": "2", "trajectory": "x:1"}),
-    ("4,,,,,no order\n", {"order": "", "status": "no order"}), ('4,,,,,"a, b"\n', {"status": "a, b"}),
-    ("o\n4,,,,,wrong\n", {"order": "o\n"}), ("4,9,8,7,1.000000,ok\n", None), ("o\n4,9,8,7,1.000000,ok", None),
-    ("o\n4,9,8,7,1.00000,ok\n", None), ("o\n4,,8,7,1.000000,ok\n", None), ("o\n4,9,8,7,1.000000\n", None),
-    ("o\n4,9,8,7,1.000000,ok,,,,\n", None), ("", None), ("\n", None),
-    (f"o\n4,{'9' * 18},{'9' * 18},7,{'9' * 12}.000000,ok\n", {"bound": "9" * 18}),
-    (f"o\n4,{'9' * 19},8,7,1.000000,ok\n", None), (f"o\n4,9,8,7,{'9' * 13}.000000,ok\n", None)])
-def test_a_result_is_whole_or_none(data: str, found: dict[str, str] | None) -> None:
-    got = run.result_of(data.encode())
-    assert got is None if found is None else got is not None and got["number"] == "4" and found.items() <= got.items()
-
-
-def test_the_latest_result_of_a_run_counts(tmp_path: pathlib.Path) -> None:
-    """By the times of the files, each of several results after their lengths; one that is torn ends its file. Files
-    with an ending are of others."""
-    (tmp_path / "results").mkdir()
-    texts = [f"o\n{number},{span},8,7,1.000000,ok\n" for number, span in ((1, 5), (2, 6), (3, 7), (1, 8), (4, 9))]
-    whole = [f"{len(text)}\n{text}" for text in texts]
-    for age, (name, text) in enumerate((("z", whole[0] + whole[1]), ("a", whole[3]), ("b", whole[2][:-1] + whole[4]),
-                                        ("c.new", whole[4]), ("d", "5\nabc"))):
-        (tmp_path / "results" / name).write_text(text)
-        os.utime(tmp_path / "results" / name, (age, age))
-    found = [(row["number"], row["makespan"]) for row in run.results_of(tmp_path)]
-    assert found == [("1", "5"), ("2", "6"), ("1", "8")]
-
-
-@pytest.mark.parametrize(("status", "is_done", "is_done_again"), [
-    (None, False, False), ("ok", True, True), ("command: exit 1, x", True, False), ("lost: exit 137", False, False),
-    ("solve: signal 9", False, False), ("check: signal 11", False, False), ("command: signal 9", True, False),
-    ("solve: exit 4, pfs: no memory", False, False), ("solve: exit 4, pfs: no memory, perhaps", True, False)])
-def test_which_runs_are_made_again(status: str | None, is_done: bool, is_done_again: bool) -> None:
-    assert (run.is_done(status, False), run.is_done(status, True)) == (is_done, is_done_again)
-
-
-def test_errors_are_told_once_for_each_kind(capsys: pytest.CaptureFixture[str]) -> None:
-    """Which differ not only in numbers; of at most ten kinds the first run."""
-    rows = [{"instance": "a\n", "method": "m", "time_factor": "", "take": "4", "seed": "1", "status": "ok"}]
-    rows += [rows[0] | {"seed": str(at), "status": f"{'x' * (at // 2 + 1)} {at}"} for at in range(20)]
-    run.report_errors(rows)
-    lines = [f"a\\n (method m, take 4, seed {at}) and 1 more failed: {'x' * (at // 2 + 1)} {at}"
-             for at in range(0, 20, 2)]
-    assert capsys.readouterr().err.splitlines() == lines
-    run.report_errors([*rows[:2], *(rows[0] | {"status": "y" * at} for at in range(1, 12))])
-    assert capsys.readouterr().err.splitlines()[-2:] == [
-        f"a\\n (method m, take 4, seed 1) failed: {'y' * 9}", "2 more kinds of errors"]
-
-
-METHOD: dict[str, Any] = {"rounds": [], "takes": None, "passes": [0], "seeds": [1], "repetitions": 1}
-
-
-@pytest.mark.parametrize(("method", "jobs", "found"), [
-    ({"rounds": [5, 0], "seeds": [1, 2], "repetitions": 2}, "20",
-     [(str(rounds), "", "4", "0", str(seed), str(again), "") for rounds in (5, 0) for seed in (1, 2)
-      for again in (1, 2)]),
-    ({"rounds": [5]}, "3", [("5", "", "3", "0", "1", "1", "")]),
-    ({"rounds": [5]}, "", [("5", "", "", "0", "1", "1", "")]),
-    ({"rounds": [5], "search": "iterated-greedy", "passes": [7, 8]}, "20",
-     [("5", "", "2", "7", "1", "1", ""), ("5", "", "2", "8", "1", "1", "")]),
-    ({"rounds": [5], "takes": [20, 1]}, "20", [("5", "", "20", "0", "1", "1", ""), ("5", "", "1", "0", "1", "1", "")]),
-    ({"time_factors": [30, 0.5]}, "20",
-     [("", "1.5", "4", "0", "1", "1", "30"), ("", "0.025", "4", "0", "1", "1", "0.5")]),
-    ({"time_factors": [1]}, "", [("", "0", "", "0", "1", "1", "1")]),
-    ({"command": ["c"], "passes": [3]}, "20", [("", "", "", "", "1", "1", "")])])
-def test_the_settings_of_a_method(method: dict[str, Any], jobs: str, found: list[tuple[str, ...]]) -> None:
-    """The milliseconds of a time factor are 20 jobs times half of 5 machines times the factor."""
-    machines = "5" if jobs else ""
-    assert [*stage.settings_of(METHOD | method, jobs, machines, "x")] == found
-    with pytest.raises(ExperimentError, match="^takes has 21, but x has only 20 jobs$"):
-        list(stage.settings_of(METHOD | {"rounds": [0], "takes": [21]}, "20", "5", "x"))
 
 
 # Tables and workbooks
@@ -441,26 +334,11 @@ def test_a_page_has_what_its_script_reads(tmp_path: pathlib.Path) -> None:
     assert data["words"] == {text: text for text in {*said, *(day.title() for day in DAYS)}}
 
 
-@pytest.mark.parametrize(("steps", "worked"), [("s", 59), ("min", 59), ("h", 17)])
-def test_marks_are_at_their_own_times(steps: str, worked: int) -> None:
-    clock = Clock(pfs.Calendar("2026-11-30T06:00"), pfs.Instance([[1]], unit=steps, decimals=1))
-    for most in range(1, 12):
-        marks = clock.marks(worked, most)
-        assert len(marks) <= most + 1 and marks[0][0] == 0
-        step = marks[1][0] - marks[0][0] if len(marks) > 1 else 0
-        assert [at for at, _ in marks] == pytest.approx([step * at for at in range(len(marks))])
-
-
-def test_the_largest_time_table(tmp_path: pathlib.Path) -> None:
-    """Of the sizes of pfs, and one job or machine more."""
-    for jobs, machines in ((5_000, 1), (1, 200), (5_001, 1), (1, 201)):
-        rows = "".join(f"{job} {' '.join(['0 0'] * machines)}\n" for job in range(1, jobs + 1))
-        text = f"table {jobs} {machines}\n{rows}makespan 0\n"
-        if jobs > 5_000 or machines > 200:
-            with pytest.raises(_cli.Refused, match="^a time table has at most 5,000 jobs and 200 machines$"):
-                _gantt.read_table(text)
-        else:
-            assert _gantt.read_table(text)[0] == [*range(1, jobs + 1)]
+@pytest.mark.parametrize(("width", "size", "marks"), [(6, 9, 5), (6.1, 11, "auto")])
+def test_narrow_pictures_have_smaller_titles_and_fewer_marks(width: float, size: int, marks: int | str) -> None:
+    pytest.importorskip("matplotlib")
+    axis = _drawing.draw(chart_of(30, 2, width=width)).axes[0]
+    assert axis.title.get_fontsize() == size and axis.xaxis.get_major_locator()._nbins == marks
 
 
 # The server for planners, and calendar files

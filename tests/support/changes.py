@@ -5,7 +5,6 @@ import ast
 import contextlib
 import pathlib
 import re
-from collections import defaultdict
 from collections.abc import Iterator, Sequence
 from itertools import pairwise
 from typing import Any, NamedTuple
@@ -19,32 +18,30 @@ OTHER = {"<": "<=", "<=": "<", ">": ">=", ">=": ">", "==": "!=", "!=": "==", "in
          "is": "is not", "is not": "is", "and": "or", "or": "and", "+": "-", "-": "+", "*": "//", "//": "*", "/": "*",
          "%": "//", "|": "&", "&": "|"}
 COPIES = ("list", "tuple", "dict", "set", "sorted", "copy")
+# What gives the same for two arguments in either order.
+SYMMETRIC = ("max", "min", "gcd")
 # The bytes from the first number to the second become the text.
 Edit = tuple[int, int, str]
 
 
 class Change(NamedTuple):
-    """Bytes of a file from `start` to `end` become `new`. Tests that run one of the lines may find it; a value outside
-    of functions is found where its names are used."""
+    """Bytes of a file from `start` to `end` become `new`."""
     file: str
     function: str
-    lines: range
-    names: frozenset[str] = frozenset()
     start: int = 0
     end: int = 0
     new: str = ""
 
 
 class Source:
-    """A file of the package, with its changes, and the lines of functions by the names in them."""
+    """A file of the package, with its changes, and the texts of its functions and classes."""
 
     def __init__(self, path: pathlib.Path) -> None:
         self.name, self.text = str(path.relative_to(PACKAGE)), path.read_bytes()
         self.starts = [0, *(match.end() for match in re.finditer(b"\n", self.text))]
         self.tree = ast.parse(self.text)
-        self.uses: dict[str, set[int]] = defaultdict(set)
-        self.places: dict[str, range] = {}
-        self.changes = list(self.below(self.tree, Change(self.name, "", range(1, len(self.starts))), False, []))
+        self.functions: dict[str, str] = {}
+        self.changes = list(self.below(self.tree, Change(self.name, ""), []))
 
     def span(self, node: Any) -> tuple[int, int]:
         return self.starts[node.lineno - 1] + node.col_offset, self.starts[node.end_lineno - 1] + node.end_col_offset
@@ -55,38 +52,39 @@ class Source:
     def changed(self, change: Change) -> bytes:
         return self.text[:change.start] + change.new.encode() + self.text[change.end:]
 
-    def lines_of(self, change: Change) -> tuple[str, str]:
-        """The lines that a change is in, and those of its function or class."""
-        first, last = (self.text.count(b"\n", 0, at) for at in (change.start, change.end))
-        lines, whole = self.text.decode().splitlines(), self.places.get(change.function, range(0))
-        return "\n".join(lines[first:last + 1]), "\n".join(lines[whole.start - 1:whole.stop - 1] if whole else ())
-
     def is_program(self, change: Change) -> bool:
         """Whether it can be read, and isn't the same."""
         with contextlib.suppress(SyntaxError):
             return ast.dump(ast.parse(self.changed(change))) != ast.dump(self.tree)
         return False
 
+    def lines(self, change: Change) -> tuple[bytes, bytes]:
+        """The lines of a change, before and after."""
+        begin, end = self.text.rfind(b"\n", 0, change.start) + 1, self.text.find(b"\n", change.end)
+        return self.text[begin:end], self.text[begin:change.start] + change.new.encode() + self.text[change.end:end]
+
+    def around(self, change: Change) -> str:
+        """The text of the function of a change, or those of the functions that use a value outside of them."""
+        names = re.findall(r"[A-Z][A-Z_]+", self.lines(change)[0].decode())
+        return self.functions.get(change.function) or "\n".join(
+            text for text in self.functions.values() if any(name in text for name in names))
+
     def shown(self, change: Change) -> str:
         """As equivalent.txt has it: file and function, the lines before, and after."""
-        begin, end = self.text.rfind(b"\n", 0, change.start) + 1, self.text.find(b"\n", change.end)
-        after = self.text[begin:change.start] + change.new.encode() + self.text[change.end:end]
         return "\n".join([f"{change.file} {change.function}".strip(),
                           *(f"{sign} {' '.join(lines.decode().split())}"
-                            for sign, lines in (("-", self.text[begin:end]), ("+", after)))])
+                            for sign, lines in zip("-+", self.lines(change)))])
 
-    def below(self, node: ast.AST, place: Change, is_run: bool, returned: list[str]) -> Iterator[Change]:
-        """The changes in a node, which is in a function that is run or not. There are none in types and docstrings."""
+    def below(self, node: ast.AST, place: Change, returned: list[str]) -> Iterator[Change]:
+        """The changes in a node. There are none in types and docstrings."""
         match node:
-            case ast.FunctionDef():
-                is_run, returned = True, sorted({self.words(each.value) for each in ast.walk(node)
-                                                 if isinstance(each, ast.Return) and each.value})
-            case ast.ClassDef():
-                is_run = False
+            case ast.FunctionDef(name=name) | ast.ClassDef(name=name):
+                place = place._replace(function=f"{place.function}.{name}".lstrip("."))
+                self.functions[place.function] = self.words(node)
+                returned = sorted({self.words(each.value) for each in ast.walk(node)
+                                   if isinstance(each, ast.Return) and each.value})
             case ast.If() if self.words(node.test) == "TYPE_CHECKING":
                 return
-            case ast.Name(id=name) | ast.Attribute(attr=name) if is_run:
-                self.uses[name].add(node.lineno)
         for start, end, new in self.edits(node, returned):
             yield place._replace(start=start, end=end, new=new)
         for field, value in ast.iter_fields(node):
@@ -95,22 +93,7 @@ class Source:
                     child.value, ast.Constant)
                 if isinstance(child, ast.AST) and field not in ("annotation", "returns", "type_comment"):
                     if not is_text:
-                        yield from self.below(child, self.place_of(child, place, is_run), is_run, returned)
-
-    def place_of(self, node: Any, place: Change, is_run: bool) -> Change:
-        """Where a node is: a statement of a function in its own lines, without those of statements in it."""
-        if isinstance(node, ast.FunctionDef | ast.ClassDef):
-            name, lines = f"{place.function}.{node.name}".lstrip("."), range(node.lineno, (node.end_lineno or 0) + 1)
-            self.places[name] = lines
-            return place._replace(function=name, lines=lines, names=frozenset())
-        if isinstance(node, ast.stmt) and is_run:
-            body = getattr(node, "body", None)
-            last = max(node.lineno, body[0].lineno - 1) if body else node.end_lineno or 0
-            return place._replace(lines=range(node.lineno, last + 1))
-        if isinstance(node, ast.stmt) and not place.function:
-            stored = (each for each in ast.walk(node) if isinstance(each, ast.Name) and isinstance(each.ctx, ast.Store))
-            return place._replace(names=frozenset(each.id for each in stored))
-        return place
+                        yield from self.below(child, place, returned)
 
     def edits(self, node: Any, returned: list[str]) -> Iterator[Edit]:
         """The changes of a node itself."""
@@ -159,7 +142,7 @@ class Source:
         """Arguments swapped or left out, a range by one, and what is copied without the copy."""
         given = [*call.args, *(keyword for keyword in call.keywords if keyword.arg)]
         name = self.words(call.func).rpartition(".")[2]
-        if len(call.args) > 1:
+        if len(call.args) > 1 and name not in SYMMETRIC:
             (start, _), (_, end) = (self.span(each) for each in call.args[:2])
             yield start, end, ", ".join(self.words(each) for each in call.args[1::-1])
         if name == "range":
