@@ -22,6 +22,7 @@ use pfs_order::{Order, Seq};
 use pfs_search::Search;
 
 /// Inserts jobs one after another, each at its first best place from `held` on, and returns the makespan.
+#[inline(always)]
 pub(crate) fn insert_all(
     instance: &Instance,
     search: &mut Search,
@@ -63,6 +64,7 @@ fn accepts(accept: &[u32], old: u64, new: u64, word: u32) -> bool
 }
 
 // Lists the jobs that a pass visits, in the order in which random words name all jobs.
+#[inline(always)]
 fn list_jobs(work: &mut Work, stay: &[u8], words: &[u32])
     requires all { work.old.all ≡ all_jobs work.old.seq.size }
     requires few { length words.now ≤ work.old.seq.size }
@@ -92,6 +94,7 @@ fn list_jobs(work: &mut Work, stay: &[u8], words: &[u32])
 }
 
 // Makes the passes over the jobs that are left after a removal.
+#[inline(always)]
 fn improve_left(
     instance: &Instance,
     search: &mut Search,
@@ -118,6 +121,7 @@ fn improve_left(
 }
 
 // Makes the sequence of `work` the order that a round finds by its words after the first, and returns its makespan.
+#[inline(always)]
 fn find(
     work: &mut Work,
     instance: &Instance,
@@ -170,6 +174,7 @@ fn find(
 }
 
 // One round, with these words.
+#[inline(always)]
 fn round(
     work: &mut Work,
     instance: &Instance,
