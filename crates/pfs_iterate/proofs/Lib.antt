@@ -3,6 +3,7 @@ mod Ends
 mod Fronts
 mod HeadRows
 mod Least
+mod Listing
 mod Passes
 mod Ranks
 mod Rearranging

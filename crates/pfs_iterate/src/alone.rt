@@ -71,15 +71,12 @@ impl Iterated {
         let options = by_ties(ties);
         work.seq.set(&order[..count]);
         copy_jobs(more, &mut work.removed);
-        copy_jobs(list, &mut work.list);
         let places = &mut work.places;
         let seq = &mut work.seq;
         let start = insert_more(instance, search, places, seq, &options, &work.removed);
         // Called for its contract, which says that the jobs of a sequence are distinct.
         let _size = seq.size();
-        let span = improve(
-            instance, search, places, seq, &options, &work.list, passes, start,
-        );
+        let span = improve(instance, search, places, seq, &options, list, passes, start);
         order.copy_from_slice(seq.as_slice());
         span
     }

@@ -40,6 +40,7 @@ pub(crate) fn draw(rng: &mut Pcg32, words: &mut [u32], each: usize)
 }
 
 /// Copies an order, and removes from the copy the jobs that the words name among those that may move.
+#[inline(always)]
 pub(crate) fn take_jobs(
     order: &Order,
     seq: &mut Seq,

@@ -1,5 +1,5 @@
 //! Local search: each job leaves its place for its best one.
-ghost use Rattle.std.specs.Prelude.{◌≡◌, ◌+◌, ◌<◌, ◌≤◌, true, false, length, drop, fold, nat_eq, MatchOption};
+ghost use Rattle.std.specs.Prelude.{◌≡◌, ◌+◌, ◌<◌, ◌≤◌, ◌^◌, true, false, length, drop, fold, nat_eq, MatchOption};
 ghost use Rattle.std.specs.List.{list_any, slice_index_or};
 ghost use Rattle.pfs_base.specs.Paths.{makespan};
 ghost use Rattle.pfs_search.specs.Search.{IsSearchOf};
@@ -13,20 +13,31 @@ use pfs_base::Instance;
 use pfs_order::Seq;
 use pfs_search::Search;
 
-// The place of a job, from a place on.
-fn place_from(jobs: &[u32], held: usize, job: usize) -> Option<usize>
-    requires { held ≤ length jobs.now }
+// The place of a job, from a place on. The loop has no early exit, so the compiler vectorizes it.
+#[inline(always)]
+fn place_from(jobs: &[u32], held: usize, job: u32) -> Option<usize>
+    requires held { held ≤ length jobs.now }
+    requires few { length jobs.now < 2 ^ 32 }
     ensures { MatchOption result (list_any (nat_eq job) (drop held jobs.now) ≡ false)
         (λ place. (held ≤ place) × (place < length jobs.now) × (slice_index_or jobs.now place 0 ≡ job)
         × (list_any (nat_eq job) (drop held jobs.now) ≡ true)) }
 {
     let behind = &jobs[held..];
+    let mut first = u32::MAX;
     for index in 0..behind.len() {
-        if behind[index] as usize == job {
-            return Some(held + index);
-        }
+        let found = if behind[index] == job {
+            index as u32
+        } else {
+            u32::MAX
+        };
+        first = first.min(found);
     }
-    None
+    let first = first as usize;
+    if first < behind.len() {
+        Some(held + first)
+    } else {
+        None
+    }
 }
 
 // Moves a job that is at a place from `held` on to its first best place there, and returns the makespan.
@@ -37,7 +48,7 @@ fn visit(
     places: &mut Places,
     seq: &mut Seq,
     options: &Options,
-    job: usize,
+    job: u32,
     span: u64,
 ) -> u64
     requires search { IsSearchOf instance.now.shop search.old }
@@ -70,7 +81,7 @@ fn pass(
     places: &mut Places,
     seq: &mut Seq,
     options: &Options,
-    list: &[usize],
+    list: &[u32],
     span: u64,
 ) -> u64
     requires search { IsSearchOf instance.now.shop search.old }
@@ -99,7 +110,7 @@ pub(crate) fn improve(
     places: &mut Places,
     seq: &mut Seq,
     options: &Options,
-    list: &[usize],
+    list: &[u32],
     passes: u32,
     span: u64,
 ) -> u64

@@ -1,12 +1,13 @@
 //! Rounds.
-ghost use Rattle.std.specs.Prelude.{◌≡◌, ◌+◌, ◌≤◌, ◌++◌, ◌⊎◌, filter, length, take as front, fold, vec_capacity};
+ghost use Rattle.std.specs.Prelude.{◌≡◌, ◌+◌, ◌≤◌, ◌++◌, ◌⊎◌, ◌<◌, ◌^◌, filter, length, map, take as front, fold, vec_capacity};
+ghost use Rattle.std.specs.List.{All};
 ghost use Rattle.pfs_base.specs.Paths.{makespan};
 ghost use Rattle.pfs_order.specs.Sequence.{IsSequence, all_jobs};
 ghost use Rattle.pfs_search.specs.Search.{IsSearchOf};
 ghost use Rattle.pfs_search.specs.Greedy.{jobs_taken};
 ghost use Rattle.pfs_iterate.specs.Iterated.{after_round, after_rounds, found, improved};
 ghost use Rattle.pfs_iterate.specs.Iterated.{is_accepted, is_free, movable, put};
-ghost use Rattle.pfs_iterate.specs.Private.Steps.{IsMeasured, IsRearranged};
+ghost use Rattle.pfs_iterate.specs.Private.Steps.{IsMeasured, IsRearranged, raised};
 ghost use Rattle.pfs_iterate.specs.Private.Memory.{IsPlacesFor, IsWorkFor};
 ghost use Rattle.pfs_iterate.specs.Rounds.{CanIterate, staying};
 
@@ -22,6 +23,7 @@ use pfs_order::{Order, Seq};
 use pfs_search::Search;
 
 /// Inserts jobs one after another, each at its first best place from `held` on, and returns the makespan.
+#[inline(always)]
 pub(crate) fn insert_all(
     instance: &Instance,
     search: &mut Search,
@@ -62,43 +64,49 @@ fn accepts(accept: &[u32], old: u64, new: u64, word: u32) -> bool
     longer < accept.len() as u64 && word < accept[longer as usize]
 }
 
-// Lists the jobs that a pass visits, in the order in which random words name all jobs.
-fn list_jobs(work: &mut Work, stay: &[u8], words: &[u32])
-    requires all { work.old.all ≡ all_jobs work.old.seq.size }
-    requires few { length words.now ≤ work.old.seq.size }
-    requires room { work.old.seq.size ≤ vec_capacity work.old.list }
-    requires ranks { work.old.seq.size ≤ vec_capacity work.old.ranks }
-    ensures list { work.new.list.items
-        ≡ filter (is_free stay.now) (jobs_taken (all_jobs work.old.seq.size) words.now) }
-    ensures rest { work.new ≡ record work.old { seq = work.new.seq; list = work.new.list; ranks = work.new.ranks } }
-    ensures size { work.new.seq.size ≡ work.old.seq.size }
-    ensures room { vec_capacity work.old.list ≤ vec_capacity work.new.list }
-    ensures ranks { vec_capacity work.old.ranks ≤ vec_capacity work.new.ranks }
+// Makes the numbers of jobs among all but one their numbers among all. Its number is less than `count`, the number of
+// all, and theirs are less than that of the others.
+#[inline(always)]
+fn raise(jobs: &mut [u32], one: u32, count: u32)
+    requires { All (λ job. job + 1 < count) jobs.old }
+    ensures jobs { jobs.new ≡ map (raised one) jobs.old }
 {
-    if words.is_empty() {
-        work.list.clear();
-        return;
+    for index in 0..jobs.len() {
+        jobs[index] += u32::from(one <= jobs[index]);
     }
-    take_jobs(
-        &work.all,
-        &mut work.seq,
-        &mut work.list,
-        &mut work.ranks,
-        0,
-        &[],
-        words,
-    );
-    keep_free(&mut work.list, stay);
+}
+
+// Lists the jobs that a pass visits, in the order in which random words remove them from all jobs. The last word comes
+// first: what it names are numbers among the jobs that are left then.
+#[inline(always)]
+fn list_jobs(list: &mut Vec<u32>, size: usize, stay: &[u8], words: &[u32])
+    requires few { length words.now ≤ size }
+    requires size { size < 2 ^ 32 }
+    requires room { size ≤ vec_capacity list.old }
+    ensures list { list.new.items ≡ filter (is_free stay.now) (jobs_taken (all_jobs size) words.now) }
+    ensures room { vec_capacity list.old ≤ vec_capacity list.new }
+{
+    list.clear();
+    for done in 0..words.len() {
+        let place = words.len() - 1 - done;
+        let count = (size - place) as u32;
+        let job = words[place] % count;
+        raise(list.as_mut_slice(), job, count);
+        list.push_reserved(job);
+    }
+    list.as_mut_slice().reverse();
+    keep_free(list, stay);
 }
 
 // Makes the passes over the jobs that are left after a removal.
+#[inline(always)]
 fn improve_left(
     instance: &Instance,
     search: &mut Search,
     places: &mut Places,
     seq: &mut Seq,
     options: &Options,
-    list: &[usize],
+    list: &[u32],
 )
     requires search { IsSearchOf instance.now.shop search.old }
     requires size { seq.old.size ≡ instance.now.shop.jobs }
@@ -118,6 +126,7 @@ fn improve_left(
 }
 
 // Makes the sequence of `work` the order that a round finds by its words after the first, and returns its makespan.
+#[inline(always)]
 fn find(
     work: &mut Work,
     instance: &Instance,
@@ -143,7 +152,7 @@ fn find(
     ensures search { IsSearchOf instance.now.shop search.new }
 {
     let (removing, shuffling) = words.split_at(options.take);
-    list_jobs(work, stay, shuffling);
+    list_jobs(&mut work.list, instance.jobs(), stay, shuffling);
     take_jobs(
         order,
         &mut work.seq,
@@ -170,6 +179,7 @@ fn find(
 }
 
 // One round, with these words.
+#[inline(always)]
 fn round(
     work: &mut Work,
     instance: &Instance,

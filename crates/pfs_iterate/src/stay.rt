@@ -71,9 +71,9 @@ pub(crate) fn take_place(ranks: &mut [usize], number: usize) -> usize
 }
 
 /// Removes the jobs that stay from a list.
-pub(crate) fn keep_free(list: &mut Vec<usize>, stay: &[u8])
+pub(crate) fn keep_free(list: &mut Vec<u32>, stay: &[u8])
     ensures items { list.new.items ≡ filter (is_free stay.now) list.old.items }
     ensures room { vec_capacity list.old ≤ vec_capacity list.new }
 {
-    list.retain(|job| is_free(stay, *job));
+    list.retain(|job| is_free(stay, *job as usize));
 }

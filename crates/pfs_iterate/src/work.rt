@@ -4,7 +4,7 @@ ghost use Rattle.pfs_iterate.specs.Private.Memory.{IsWorkFor};
 
 use crate::places::Places;
 use pfs_base::Instance;
-use pfs_order::{Order, Seq};
+use pfs_order::Seq;
 use std::alloc::{AllocError, Global};
 
 /// The memory of rounds.
@@ -12,14 +12,12 @@ use std::alloc::{AllocError, Global};
 pub(crate) struct Work {
     // The sequence that a round changes.
     pub(crate) seq: Seq,
-    // All jobs by increasing number.
-    pub(crate) all: Order,
     // The jobs that a round removes.
     pub(crate) removed: Vec<usize>,
     // How many jobs that may move come before each one that stays.
     pub(crate) ranks: Vec<usize>,
-    // All jobs in the order in which a pass visits them.
-    pub(crate) list: Vec<usize>,
+    // The jobs that a pass visits, in their order.
+    pub(crate) list: Vec<u32>,
     // What places are chosen with.
     pub(crate) places: Places,
 }
@@ -30,12 +28,11 @@ impl Work {
         ensures { IfOk result (IsWorkFor instance.now.shop) }
     {
         let size = instance.jobs();
-        let (Ok(seq), Ok(all)) = (Seq::new(alloc, size), Order::identity(alloc, size)) else {
+        let Ok(seq) = Seq::new(alloc, size) else {
             return Err(AllocError);
         };
         Ok(Work {
             seq,
-            all,
             removed: Vec::with_capacity(alloc, size)?,
             ranks: Vec::with_capacity(alloc, size)?,
             list: Vec::with_capacity(alloc, size)?,

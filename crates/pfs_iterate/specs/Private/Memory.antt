@@ -2,7 +2,6 @@
 use Rattle.std.specs.Prelude.{◌≡◌, ℕ, ◌+◌, ◌*◌, ◌<◌, ◌≤◌, List, length, take as front, vec_capacity}
 use Rattle.std.specs.List.{All, slice_index_or}
 use Rattle.pfs_base.specs.FlowShop.{FlowShop}
-use Rattle.pfs_order.specs.Sequence.{all_jobs}
 use Rattle.pfs_iterate.specs.Iterated.{end_on}
 use Rattle.pfs_iterate.specs.declared.heads.Heads.{Heads}
 use Rattle.pfs_iterate.specs.declared.places.Places.{Places}
@@ -30,7 +29,6 @@ pub record IsPlacesFor (shop : FlowShop) (places : Places) : Type 0 where
 -- memory for the rounds of a shop
 pub record IsWorkFor (shop : FlowShop) (work : Work) : Type 0 where
   pub seq : work.seq.size ≡ shop.jobs
-  pub all : work.all ≡ all_jobs shop.jobs
   pub removed : shop.jobs ≤ vec_capacity work.removed
   pub ranks : shop.jobs ≤ vec_capacity work.ranks
   pub list : shop.jobs ≤ vec_capacity work.list

@@ -16,11 +16,11 @@ returns-clause-order c =
     let order = c.args.order.now in
     let words = c.args.words.now in
     let kept : c.improve_left.new.seq.jobs
-    ≡ improved shop options c.list_jobs.new.work.list.items options.partial c.take_jobs.new.seq.jobs =
+    ≡ improved shop options c.list_jobs.new.list.items options.partial c.take_jobs.new.seq.jobs =
     c.improve_left.ensures.jobs
     ∙ ap (λ list. improved shop options list options.partial c.take_jobs.new.seq.jobs) c.deref.ensures.value in
-    let listed : c.list_jobs.new.work.list.items ≡ filter (is_free stay) (jobs_taken (all_jobs shop.jobs) (drop take words)) =
-    rw (c.split_at.ensures.back, c.requires.work.seq) at c.list_jobs.ensures.list in
+    let listed : c.list_jobs.new.list.items ≡ filter (is_free stay) (jobs_taken (all_jobs shop.jobs) (drop take words)) =
+    rw (c.split_at.ensures.back, c.jobs.ensures.value) at c.list_jobs.ensures.list in
     let left : c.take_jobs.new.seq.jobs ≡ front held order ++ left_among (is_free stay) (drop held order) (front take words) =
     rw c.split_at.ensures.front at c.take_jobs.ensures.left in
     let removed : c.take_jobs.new.taken.items ≡ jobs_taken (movable held stay order) (front take words) =
@@ -43,11 +43,11 @@ returns-clause-staying c =
     let options = c.args.options.now in
     let stay = c.args.stay.now in
     let IsFree : ℕ → Type 0 = λ (job : ℕ). is_free stay job ≡ true in
-    let list = c.list_jobs.new.work.list.items in
+    let list = c.list_jobs.new.list.items in
     let taken = c.take_jobs.new.taken.items in
     let left = c.take_jobs.new.seq.jobs in
     let kept : c.improve_left.new.seq.jobs
-    ≡ improved shop options c.list_jobs.new.work.list.items options.partial c.take_jobs.new.seq.jobs =
+    ≡ improved shop options c.list_jobs.new.list.items options.partial c.take_jobs.new.seq.jobs =
     c.improve_left.ensures.jobs
     ∙ ap (λ list. improved shop options list options.partial c.take_jobs.new.seq.jobs) c.deref.ensures.value in
     let listed = recursion_from_All IsFree list (rw c.list_jobs.ensures.list (filter_passes (is_free stay) _)) in

@@ -26,14 +26,6 @@ copy_jobs-requires c =
       c.requires.own.work.removed,
     )
 
-pub copy_jobs-requires-2 : goal.copy_jobs-requires-2
-copy_jobs-requires-2 c =
-    omega (
-      arith,
-      length-le-size c.args.instance.now.shop.jobs c.args.list.now c.requires.list,
-      c.requires.own.work.list,
-    )
-
 pub returns-clause-built : goal.returns-clause-built
 returns-clause-built c =
     let shop = c.args.instance.now.shop in
@@ -45,7 +37,6 @@ returns-clause-built c =
     let found = c.improve-span.new.seq in
     let begun : c.set.new.self.jobs ≡ start = ap (λ (s : Sequence). s.jobs) c.set.ensures in
     let removed : c.deref.result.now ≡ more = c.deref.ensures.value ∙ c.copy_jobs.ensures.items in
-    let visited : c.deref-2.result.now ≡ list = c.deref-2.ensures.value ∙ c.copy_jobs-2.ensures.items in
     let inserted : made.jobs ≡ with_more shop c.args.ties start more =
     rw (c.insert_more-start.ensures.jobs, begun, removed, options) refl in
     let copied : c.copy_from_slice.new.self ≡ found.jobs = c.copy_from_slice.ensures.after ∙ c.as_slice.ensures.value in
@@ -55,7 +46,7 @@ returns-clause-built c =
     let sequence_found : IsSequence shop.jobs found.jobs =
     subst (λ (n : ℕ). IsSequence n found.jobs) (c.improve-span.ensures.kept.size ∙ made_size) c.as_slice.ensures.sequence in
     rw copied (record {
-      found = rw (c.improve-span.ensures.jobs, visited, options, inserted) refl;
+      found = rw (c.improve-span.ensures.jobs, options, inserted) refl;
       long = omega (
         arith,
         c.improve-span.ensures.kept.count,
@@ -66,5 +57,5 @@ returns-clause-built c =
       distinct = sequence_found;
       spanned = c.improve-span.ensures.span;
       no_longer = rw (← inserted, c.improve-span.ensures.span, c.improve-span.ensures.jobs, options)
-          (improved_shorter shop (by_ties c.args.ties) c.deref-2.result.now c.args.passes made.jobs sequence);
+          (improved_shorter shop (by_ties c.args.ties) list c.args.passes made.jobs sequence);
     })
