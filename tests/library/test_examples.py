@@ -309,10 +309,9 @@ int main() {
     pfs::List times(20 * 5);
     pfs::check(pfs_generate(20, 5, 873654221, times.data(), times.size()));
     pfs::Instance first(times, 20, 5);
-    pfs::Instance shop(std::move(first));
+    pfs::Instance other(std::move(first)), shop(pfs::List{7}, 1, 1);
     first = pfs::Instance(pfs::List{7}, 1, 1);
-    std::swap(first, shop);
-    std::swap(first, shop);
+    std::swap(other, shop);
     pfs::Solution found = shop.neh();
     std::printf("%llu %llu", (unsigned long long)shop.bound(), (unsigned long long)found.makespan);
     pfs_rounds_options options{1, 4, 0, 20, 1};
