@@ -64,8 +64,8 @@ fn accepts(accept: &[u32], old: u64, new: u64, word: u32) -> bool
     longer < accept.len() as u64 && word < accept[longer as usize]
 }
 
-// Makes the numbers of jobs among all but `one` their numbers among all, of which there are `count`. The compiler
-// vectorizes the loop.
+// Makes the numbers of jobs among all but one their numbers among all. Its number is less than `count`, the number of
+// all, and theirs are less than that of the others.
 #[inline(always)]
 fn raise(jobs: &mut [u32], one: u32, count: u32)
     requires { All (λ job. job + 1 < count) jobs.old }
