@@ -23,7 +23,7 @@ NAMES |= st.integers(1, 9).map(str)
 def tables(draw: st.DrawFn) -> pfs.Instance:
     """An instance with names, a unit and decimals."""
     jobs, machines = draw(st.integers(1, 5)), draw(st.integers(1, 4))
-    times = st.lists(st.one_of(st.integers(0, 5_000), st.integers(0, 9), st.just(0)), min_size=machines, max_size=machines)
+    times = st.lists(st.one_of(*(st.integers(0, most) for most in (5_000, 9, 0))), min_size=machines, max_size=machines)
     unit = draw(st.sampled_from(["", "min", "h", "s", "h:mm"]))
     job_names, machine_names = (draw(st.lists(NAMES, min_size=count, max_size=count, unique=True))
                                 for count in (jobs, machines))

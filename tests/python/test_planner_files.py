@@ -130,6 +130,7 @@ def test_options_on_a_sheet(tmp_path: pathlib.Path, name: str, at: int) -> None:
     (["order", "times.xlsx"], "--order names a file, which only the command line may do"),
     (["language", "/etc/hostname"], "--language names a file, which only the command line may do"),
     (["nothing", 3], "unrecognized arguments: --nothing=3"),
+    *(([name], "with --help or --version nothing is planned") for name in ("version", "help")),
     (["take", 0], "argument --take: '0' is not a whole number from 1 to 5,000"),
     (["shift", "06:00-12:00", "13:00-17:00"], "shift has several values: write a row for each")])
 def test_a_sheet_of_options_names_no_file(tmp_path: pathlib.Path, row: list[object], said: str) -> None:

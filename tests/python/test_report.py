@@ -114,6 +114,7 @@ WORDS = [(4, "none.csv report", "none.csv: "), (3, "--width 0 out.csv report", "
          (2, "--reference two.csv out.csv report", "two.csv: a has two makespans"),
          (2, "--reference ranks.csv out.csv report", "ranks.csv: two columns are named 'makespan'"),
          (2, "--reference three.csv out.csv report", "three.csv: '1.000' is not a whole number"),
+         (2, "out.csv ./out.csv report", "a CSV is named twice, and its runs would count twice"),
          (2, "out.csv ranks.csv .", "ranks.csv is read, and writing would replace it: name another folder"),
          (2, "--reference ranks.csv out.csv .", "ranks.csv is read, and writing would replace it"),
          (2, "out.csv other.csv report", "other.csv: no column makespan"),

@@ -1,6 +1,7 @@
 """What is left of a plan: against a simulation, and in the commands of a week."""
 import pathlib
 import random
+from typing import Any
 
 import numpy as np
 import numpy.typing as npt
@@ -77,7 +78,7 @@ def test_names_and_faults_of_a_rest() -> None:
     assert (left.unit, left.decimals, left.name, left.machine_names) == ("h", 1, "week", ("saw", "drill"))
     assert left.makespan(range(4)) == 4 + 3 + 2 + 5
     assert shop.schedule([0, 1]).rest(3, {"saw": 3, "drill": 0}).instance.jobs == 2, "both are up again"
-    wrongs: list[dict[str | int, int]] = [{"lathe": 9}, {2: 9}, {"saw": -1}]
+    wrongs: list[dict[Any, int]] = [{"lathe": 9}, {2: 9}, {None: 9}, {"saw": -1}]
     for wrong in wrongs:
         with pytest.raises(ValueError, match="down: .* isn't a machine|down must be from 0"):
             shop.schedule([0, 1]).rest(1, wrong)

@@ -68,6 +68,7 @@ INSERTIONS: list[tuple[Any, type[Exception], str]] = [
     (([0, 1], 1), ValueError, "job 1 is already in the sequence"),
     (([0, 0], 1), ValueError, "sequence: job 0 occurs twice, at places 0 and 1"),
     (([0, 7], 1), ValueError, "sequence: 7 at place 1 isn't a job"),
+    ((["0"], 1), TypeError, "sequence has names, which this method doesn't take: use numbers from 0"),
     (([0, 1, 2, 0, 1], 1), ValueError, "sequence: job 0 occurs twice, at places 0 and 3"),
     (([0, 1], 2.0), TypeError, "job must be an integer, not 2.0"),
     (([0, 1], 2**64 + 2), ValueError, "job must be from .*, not 18446744073709551618")]

@@ -70,6 +70,8 @@ def test_all_faults_of_a_language(folder: pathlib.Path) -> None:
     assert not (folder / "plan.csv").exists()
     got = ended(["plan", "times.csv", "--language", "none"], folder)
     assert got == (3, "", "pfs: --language must be 'en', 'de' or a file with words, not 'none'\n")
+    with pytest.raises(TypeError):
+        pfs.Instance([[1]]).schedule([0]).to_csv(language=0)  # type: ignore[arg-type]  # no number of an open file
 
 
 def test_charts_in_german(folder: pathlib.Path) -> None:

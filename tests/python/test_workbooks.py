@@ -203,6 +203,14 @@ def test_a_schedule_is_shown_whole(tmp_path: pathlib.Path, office: Office) -> No
     assert re.findall(r"^ *1 +A-1001 Welle +(2026-11-30 06:00) +(2026-11-30 07:30)$", text, re.MULTILINE)
 
 
+def test_a_schedule_shows_seconds_where_there_are_some(tmp_path: pathlib.Path) -> None:
+    schedule = pfs.Instance([[90], [30]], unit="s").schedule([0, 1])
+    schedule.to_xlsx(tmp_path / "plan.xlsx", calendar=pfs.Calendar("2026-11-30T06:00"))
+    cells = [row[2:] for row in openpyxl.load_workbook(tmp_path / "plan.xlsx")["schedule"].iter_rows(2)]
+    assert [cell.number_format for row in cells for cell in row] == [
+        f"yyyy-mm-dd hh:mm{seconds}" for seconds in ("", ":ss", ":ss", "")]
+
+
 def test_all_schedules_are_written(tmp_path: pathlib.Path) -> None:
     book_of(tmp_path / "times.xlsx", ("job", "saw", "drill"), ("table", 3, 1), ("chair", 1, 2))
     words = ["plan", "times.xlsx", *(f"--schedule={name}" for name in ("a.xlsx", "b.csv", "c.csv"))]

@@ -155,6 +155,8 @@ class Clock:
     """The moments of an instance's times. Raises a `ValueError` if its unit isn't one of time."""
 
     def __init__(self, calendar: Calendar, shop: Instance, say: Say = ENGLISH) -> None:
+        if not isinstance(calendar, Calendar):
+            raise TypeError(f"calendar must be a Calendar, not {calendar!r}")
         seconds = seconds_in(shop.unit)
         if seconds is None:
             what = f"{shop.unit!r} is not a unit of time" if shop.unit else "the times have no unit"

@@ -575,13 +575,15 @@ def parsed(line: list[str], parser: argparse.ArgumentParser) -> argparse.Namespa
     if words:
         command = line[:1] if parser.prog != "pfs-plan" else []
         try:
-            own = parser.parse_args([*command, *words, given.table])
+            with contextlib.redirect_stdout(io.StringIO()):
+                own = parser.parse_args([*command, *words, given.table])
             options = [option for option in OF_FILES if getattr(own, option)]
             options += [] if own.language in ("en", "de") else ["language"]
             if options:
                 raise Misused(f"--{options[0]} names a file, which only the command line may do")
-        except Misused as error:
-            raise Misused(f"{given.table}, sheet {OPTIONS_SHEET}: {error}") from None
+        except (Misused, SystemExit) as error:
+            why = error if isinstance(error, Misused) else "with --help or --version nothing is planned"
+            raise Misused(f"{given.table}, sheet {OPTIONS_SHEET}: {why}") from None
         tell(given.table, f"options of the sheet {OPTIONS_SHEET!r}", words)
         given = parser.parse_args([*command, *words, *line[len(command):]])
     given.files = [word[1:] for word in line if word.startswith("@")]

@@ -81,8 +81,8 @@ def stated_end(path: str | os.PathLike[str]) -> str:
 def numbers_by_name(shop: Instance) -> dict[str, int]:
     """Return the number of each job by its name, also as plans and schedules have it."""
     names = [shop.job_name(job) for job in range(shop.jobs)]
-    return {text: job for texts in (*([*map(form, names)] for form in (shown, text_in_cell, text_cell)), names)
-            for job, text in enumerate(texts)}
+    forms = [*map(shown, names)], [*map(text_in_cell, names)], [*map(text_cell, names)], names
+    return {text: job for texts in forms for job, text in enumerate(texts)}
 
 
 def filled(shop: Instance, order: list[int], held: int) -> list[int]:

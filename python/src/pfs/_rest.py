@@ -98,9 +98,9 @@ def pause_of(shop: Instance, machine: int, time: int, names: set[str]) -> Row:
 def down_of(shop: Instance, down: Mapping[int | str, int], at: int) -> dict[int, int]:
     """Return until when each machine is down, by its number. One that is up again by then is left out."""
     numbers = {name: machine for machine in range(shop.machines) for name in (machine, shop.machine_name(machine))}
-    unknown = next((machine for machine in down if machine not in numbers), None)
-    if unknown is not None:
-        raise ValueError(f"down: {unknown!r} isn't a machine")
+    for machine in down:
+        if machine not in numbers:
+            raise ValueError(f"down: {machine!r} isn't a machine")
     own = [numbers[machine] for machine in down]
     twice = next((machine for machine in range(shop.machines) if own.count(machine) > 1), None)
     if twice is not None:

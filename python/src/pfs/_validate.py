@@ -110,9 +110,9 @@ def checked_times(given: Any) -> Times:
     return as_uint32(own, c.LONGEST_TIME, "times", "job {}, machine {}", f"isn't from 0 to {c.LONGEST_TIME:,}")
 
 
-def as_uint32_bytes(given: Any, what: str = "order", names: tuple[str, ...] | None = None) -> tuple[bytes, int]:
+def as_uint32_bytes(given: Any, what: str = "order", names: tuple[str, ...] | None = ()) -> tuple[bytes, int]:
     """Return jobs, given by number or by name, as the bytes of a uint32 array, and how many jobs there are. The library
-    checks that each job is one of the instance."""
+    checks that each job is one of the instance. Without `names` jobs are given by number only."""
     kind = type(given)
     try:
         if kind is np.ndarray and given.ndim == 1:
@@ -139,8 +139,9 @@ def has_names(given: Any) -> bool:
 
 def jobs_by_name(given: Any, what: str, names: tuple[str, ...] | None) -> list[int]:
     """Return the numbers of the jobs with these names."""
-    if names is None:
-        raise TypeError(f"{what} has names, but the jobs of the instance have none: use numbers from 0")
+    if not names:
+        why = "but the jobs of the instance have none" if names is None else "which this method doesn't take"
+        raise TypeError(f"{what} has names, {why}: use numbers from 0")
     jobs = {name: job for job, name in enumerate(names)}
     for place, name in enumerate(given):
         if not isinstance(name, str):

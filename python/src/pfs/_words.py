@@ -24,7 +24,7 @@ def words_of(language: str | os.PathLike[str]) -> Say:
     texts = texts_in(importlib.resources.files("pfs").joinpath(GERMAN).read_bytes(), GERMAN, None)
     if language != "de":
         try:
-            with open(language, "rb") as file:
+            with open(os.fspath(language), "rb") as file:
                 texts = texts_in(file.read(MOST_WORDS), os.fspath(language), texts)
         except FileNotFoundError:
             raise ValueError(f"language must be 'en', 'de' or a file with words, not {os.fspath(language)!r}") from None

@@ -219,8 +219,10 @@ def write_sheet(sheet: Any, rows: Iterable[Sequence[Any]]) -> None:
                 cell.font = font
             if isinstance(value, str):
                 cell.data_type = "s"
-            elif isinstance(value, (datetime.datetime, datetime.timedelta)):
-                cell.number_format = "yyyy-mm-dd hh:mm" if isinstance(value, datetime.datetime) else "[h]:mm"
+            elif isinstance(value, datetime.datetime):
+                cell.number_format = "yyyy-mm-dd hh:mm" + ":ss" * bool(value.second or value.microsecond)
+            elif isinstance(value, datetime.timedelta):
+                cell.number_format = "[h]:mm"
     for cells in sheet.iter_cols(max_row=min(sheet.max_row, MOST_MEASURED)):
         sheet.column_dimensions[cells[0].column_letter].width = min(WIDEST, 3 + max(map(letters_of, cells)))
     sheet.freeze_panes, sheet.auto_filter.ref, sheet.print_title_rows = "A2", sheet.dimensions, "1:1"
@@ -230,4 +232,4 @@ def write_sheet(sheet: Any, rows: Iterable[Sequence[Any]]) -> None:
 
 def letters_of(cell: Any) -> int:
     """How many letters a cell shows."""
-    return 16 if isinstance(cell.value, datetime.datetime) else len(str(cell.value))
+    return len(cell.number_format if isinstance(cell.value, datetime.datetime) else str(cell.value))

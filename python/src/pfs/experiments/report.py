@@ -6,6 +6,7 @@ import argparse
 import itertools
 import logging
 import math
+import os
 import pathlib
 import re
 import sys
@@ -64,6 +65,8 @@ Axis = Any
 def report(args: argparse.Namespace) -> int:
     """Writes the tables and the plots."""
     logging.getLogger("matplotlib").setLevel(logging.ERROR)
+    if len({*map(os.path.realpath, args.csv)}) < len(args.csv):
+        raise ExperimentError("a CSV is named twice, and its runs would count twice")
     for name in TABLES:
         check_output(args.folder / f"{name}.csv", [*args.csv, args.reference], "folder")
     means = [path for path in args.csv if "rpd" in (columns := rows_of(path, [])[0]) and "instance" not in columns]
