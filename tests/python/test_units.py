@@ -21,6 +21,7 @@ from pfs._commands import words
 from pfs._names import seconds_in
 from pfs.experiments import ExperimentError, one, plan, run, stage
 from pfs.experiments.__main__ import command_line
+from support import plainly
 from support.needs import require_module
 from support.tools import TOP
 
@@ -45,6 +46,26 @@ def test_the_help_has_no_word_that_is_nowhere_else() -> None:
                         and isinstance(each.choices, dict))
         for text in (parser.format_help(), *(each.format_help() for each in commands.values())):
             assert set(re.findall(r"[a-z]{2,}", re.sub("-\n *", "-", text).lower())) <= known, text
+
+
+IN_ASCII = """
+import pathlib, pfs
+from pfs._commands import printed
+from pfs.experiments.plan import rows_of
+from pfs.web import plans
+name = chr(0xe4)
+given = {"shop": {"jobs": [name], "machines": ["b"], "times": [[1]]}, "order": [name]}
+assert name in plans.told(given, ".")["chart"] and plans.file(given | {"kind": "txt"}, ".").decode() == name + chr(10)
+pathlib.Path("runs").write_bytes(f"instance,b\\n{name},2".encode())
+assert rows_of("runs", ["b"])[0]["instance"] == name
+printed(name)
+"""
+
+
+def test_files_are_the_same_in_each_locale(tmp_path: pathlib.Path) -> None:
+    """Of texts that the locale can't print, escapes are printed."""
+    done = plainly.python("-c", IN_ASCII, cwd=tmp_path, LC_ALL="C", PYTHONCOERCECLOCALE="0", PYTHONUTF8="0")
+    assert (done.stdout, done.returncode) == ("\\xe4", 0), done.stderr
 
 
 # Runs of experiments
