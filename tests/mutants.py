@@ -24,7 +24,7 @@ sys.dont_write_bytecode = True
 from support.changes import PACKAGE, TOP, Change, Source
 from support.likely import Likely
 
-# Processor seconds of a process, more than all likely tests take without a change, and bytes of its memory.
+# Processor seconds, more than all likely tests of a change take without it, and bytes of memory of a process.
 MOST_SECONDS, MOST_MEMORY = 100, 12 << 30
 # The exit status of pytest without a test.
 NO_TEST = 5
@@ -45,7 +45,7 @@ def apart() -> list[str]:
     return words if subprocess.run([*words, "true"], capture_output=True).returncode == 0 else []
 
 
-def run_tests(copy: pathlib.Path, *words: str) -> tuple[int, str]:
+def run_tests(copy: pathlib.Path, *words: str, seconds: int = resource.RLIM_INFINITY) -> tuple[int, str]:
     """The exit status and the output of pytest in a copy."""
     env = os.environ | {"PYTHONDONTWRITEBYTECODE": "1", "TMPDIR": f"{copy}.tmp", "CI": "false", "PFS_MUTANT": "1"}
     pathlib.Path(f"{copy}.tmp").mkdir(exist_ok=True)
@@ -53,7 +53,7 @@ def run_tests(copy: pathlib.Path, *words: str) -> tuple[int, str]:
                f"--libpfs={TOP}/lib/out/libpfs.so.1"]
 
     def limit() -> None:
-        for kind, most in ((resource.RLIMIT_CPU, MOST_SECONDS), (resource.RLIMIT_AS, MOST_MEMORY)):
+        for kind, most in ((resource.RLIMIT_CPU, seconds), (resource.RLIMIT_AS, MOST_MEMORY)):
             resource.setrlimit(kind, (most, most))
 
     done = subprocess.run([*apart(), "/usr/bin/python3", "-m", "pytest", *options, *words], cwd=copy, env=env,
@@ -62,12 +62,12 @@ def run_tests(copy: pathlib.Path, *words: str) -> tuple[int, str]:
     return done.returncode, done.stdout
 
 
-def finder(source: Source, change: Change, tests: list[str], copy: pathlib.Path) -> str:
+def failing(source: Source, change: Change, tests: list[str], copy: pathlib.Path) -> str:
     """The test that fails by a change in a copy; nothing if none does."""
     path = copy / PACKAGE.relative_to(TOP) / change.file
     path.write_bytes(source.changed(change))
     try:
-        status, output = run_tests(copy, "-x", "-n0", *tests)
+        status, output = run_tests(copy, "-x", "-n0", *tests, seconds=MOST_SECONDS)
     finally:
         path.write_bytes(source.text)
     failed = FAILED.search(output)
@@ -104,7 +104,7 @@ def results(pairs: list[tuple[Source, Change]], jobs: int) -> Iterator[tuple[Sou
 
     def run(pair: tuple[Source, Change]) -> tuple[Source, Change, str]:
         copy = copies.get()
-        failed = finder(*pair, likely.tests(*pair), copy)
+        failed = failing(*pair, likely.tests(*pair), copy)
         copies.put(copy)
         return *pair, failed
 

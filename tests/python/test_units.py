@@ -5,8 +5,6 @@ import json
 import os
 import pathlib
 import re
-import resource
-import subprocess
 import types
 import zipfile
 from typing import Any
@@ -21,6 +19,7 @@ from pfs._commands import words
 from pfs._names import seconds_in
 from pfs.experiments import ExperimentError, one, plan, run, stage
 from pfs.experiments.__main__ import command_line
+from support import plainly
 from support.needs import require_module
 from support.tools import TOP
 
@@ -31,6 +30,17 @@ def test_a_text_is_written_or_its_stream_is_closed_for_good() -> None:
     assert not _cli.written(None, "a")
     with open("/dev/full", "w") as full:
         assert not _cli.written(full, "a") and _cli.written(full, "b")
+
+
+@pytest.mark.parametrize(("error", "status", "said"), [
+    (KeyboardInterrupt(), 130, ""), (_cli.Refused("a\nb \x1b"), 2, "p: a b \\x1b!\n"),
+    (_cli.Misused("m"), 3, "p: m!\n"), (OSError(2, "gone", "f"), 4, "p: f: gone!\n"),
+    (OSError(2, "gone", "f", None, "to"), 4, "p: to: gone!\n"),
+    (OSError(2, "gone"), 4, "p: gone!\n"), (OSError("o"), 4, "p: o!\n"), (MemoryError(), 4, "p: no memory!\n"),
+    (ImportError("i"), 4, "p: i!\n")])
+def test_errors_of_a_program(error: BaseException, status: int, said: str, capsys: pytest.CaptureFixture[str]) -> None:
+    assert _cli.run("p", mock.Mock(side_effect=error), lambda text: f"{text}!") == status
+    assert capsys.readouterr() == ("", said)
 
 
 def test_the_help_has_no_word_that_is_nowhere_else() -> None:
@@ -45,6 +55,26 @@ def test_the_help_has_no_word_that_is_nowhere_else() -> None:
                         and isinstance(each.choices, dict))
         for text in (parser.format_help(), *(each.format_help() for each in commands.values())):
             assert set(re.findall(r"[a-z]{2,}", re.sub("-\n *", "-", text).lower())) <= known, text
+
+
+IN_ASCII = """
+import pathlib, pfs
+from pfs._commands import printed
+from pfs.experiments.plan import rows_of
+from pfs.web import plans
+name = chr(0xe4)
+given = {"shop": {"jobs": [name], "machines": ["b"], "times": [[1]]}, "order": [name]}
+assert name in plans.told(given, ".")["chart"] and plans.file(given | {"kind": "txt"}, ".").decode() == name + chr(10)
+pathlib.Path("runs").write_bytes(f"instance,b\\n{name},2".encode())
+assert rows_of("runs", ["b"])[0]["instance"] == name
+printed(name)
+"""
+
+
+def test_files_are_the_same_in_each_locale(tmp_path: pathlib.Path) -> None:
+    """Of texts that the locale can't print, escapes are printed."""
+    done = plainly.python("-c", IN_ASCII, cwd=tmp_path, LC_ALL="C", PYTHONCOERCECLOCALE="0", PYTHONUTF8="0")
+    assert (done.stdout, done.returncode) == ("\\xe4", 0), done.stderr
 
 
 # Runs of experiments
@@ -137,15 +167,6 @@ def test_the_runs_of_a_process(runs: pathlib.Path, monkeypatch: pytest.MonkeyPat
     one.main()
     assert asked == [("3", ["1"], ["c"], "\u00e4 b"), ("2", [], None, "\u00e4 b")]
     assert capfdbinary.readouterr().out == b'12\no?\n3,"a""b"\n2\n1\n12\no?\n2,"a""b"\n'
-
-
-@pytest.mark.parametrize(("seconds", "most"), [(1, 2), (1.01, 3), (0.01, 1)])
-def test_the_processor_time_of_a_command_is_limited(seconds: float, most: int) -> None:
-    done = subprocess.run(["sh", "-c", "ulimit -t"], preexec_fn=lambda: one.limit(seconds), capture_output=True)
-    assert int(done.stdout) == most
-    unlimited = subprocess.run(["sh", "-c", "ulimit -t"], preexec_fn=lambda: one.limit(None), capture_output=True)
-    soft = resource.getrlimit(resource.RLIMIT_CPU)[0]
-    assert unlimited.stdout.decode().strip() == ("unlimited" if soft == resource.RLIM_INFINITY else str(soft))
 
 
 def test_runs_that_were_lost_come_last(tmp_path: pathlib.Path, monkeypatch: pytest.MonkeyPatch) -> None:
@@ -397,30 +418,19 @@ def test_tokens(text: str, is_taken: bool, tmp_path: pathlib.Path) -> None:
             web.token_in(str(tmp_path / "token"))
 
 
-EVENTS = """BEGIN:VCALENDAR
-VERSION:2.0
-PRODID:-//pfs//plan//EN
-X-WR-CALNAME:saw\\, left
-BEGIN:VEVENT
+EVENT = """BEGIN:VEVENT
 UID:-@pfs
 DTSTAMP:-
-DTSTART:20261130T130000
-DTEND:20261130T140000
+DTSTART:{}
+DTEND:{}
 SUMMARY:oak\\; 2
 LOCATION:saw\\, left
 TRANSP:TRANSPARENT
 END:VEVENT
-BEGIN:VEVENT
-UID:-@pfs
-DTSTAMP:-
-DTSTART:20261201T060000
-DTEND:20261201T070000
-SUMMARY:oak\\; 2
-LOCATION:saw\\, left
-TRANSP:TRANSPARENT
-END:VEVENT
-END:VCALENDAR
 """
+EVENTS = ("BEGIN:VCALENDAR\nVERSION:2.0\nPRODID:-//pfs//plan//EN\nX-WR-CALNAME:saw\\, left\n"
+          f"{EVENT.format('20261130T130000', '20261130T140000')}{EVENT.format('20261201T060000', '20261201T070000')}"
+          "END:VCALENDAR\n")
 
 
 def test_a_calendar_file_is_this_text(tmp_path: pathlib.Path) -> None:
@@ -452,12 +462,3 @@ def test_a_calendar_file_is_this_text(tmp_path: pathlib.Path) -> None:
 def test_what_a_value_of_a_plan_must_be(key: str, what: str) -> None:
     with pytest.raises(ExperimentError, match=f"^p: {key} must be {re.escape(what)}$"):
         plan.method_of("p", {key: {}})
-
-
-@pytest.mark.parametrize(("key", "values"), {
-    "layout": ["taillard", "orlib", "matrix", "", 1], "search": ["solve", "iterated-greedy", "neh"],
-    "ties": ["first", "idle", "last"], "reference": ["a", "", "a\0"], "command": ["a", "", "a\0"],
-    "method": ["a b", "\u00e4", "", "a\n", "a\x1b"], "anytime": [True, False, 1, 0]}.items())
-def test_texts_of_a_plan(key: str, values: list[Any]) -> None:
-    taken = [plan.VALUES[key][1](value) for value in [*values, None, ["a"]]]
-    assert taken == [True, True] + [False] * (len(taken) - 2)

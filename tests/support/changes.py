@@ -85,6 +85,8 @@ class Source:
                                    if isinstance(each, ast.Return) and each.value})
             case ast.If() if self.words(node.test) == "TYPE_CHECKING":
                 return
+            case ast.AnnAssign(annotation=ast.Name(id="TypeAlias")):
+                return
         for start, end, new in self.edits(node, returned):
             yield place._replace(start=start, end=end, new=new)
         for field, value in ast.iter_fields(node):

@@ -52,7 +52,7 @@ def svg_of(schedule: Schedule) -> str | None:
         figure = plot(schedule, critical=True, bound=True)
     except ImportError:
         return None
-    return picture_of(figure, "svg", DPI).decode("utf-8")
+    return picture_of(figure, "svg", DPI).decode()
 
 
 def plot(schedule: Schedule, path: str | os.PathLike[str] | None = None, *, critical: bool,
@@ -90,7 +90,7 @@ def plot(schedule: Schedule, path: str | os.PathLike[str] | None = None, *, crit
     if ending != "html":
         return drawn(chart, path, ending, ax)
     assert path is not None
-    atomic_write(path, page_of(chart, schedule, clock).encode("utf-8"))
+    atomic_write(path, page_of(chart, schedule, clock).encode())
     return None
 
 

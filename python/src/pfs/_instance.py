@@ -697,7 +697,7 @@ class Instance:
         length = c_size_t()
         text = create_string_buffer(256 + 16 * self.times.size + 8 * self.jobs)
         c.done(self._call("pfs_write", byref(notes), number, text, len(text), byref(length)))
-        return text.raw[:length.value].decode("ascii")
+        return text.raw[:length.value].decode()
 
     def write(self, path: str | os.PathLike[str], layout: str = "taillard") -> None:
         """Write an instance file with one block. An existing file is replaced atomically.
@@ -707,4 +707,4 @@ class Instance:
         path, layout : str or os.PathLike, str
             The file, and the layout as for :meth:`to_text`.
         """
-        atomic_write(path, self.to_text(layout).encode("ascii"))
+        atomic_write(path, self.to_text(layout).encode())

@@ -123,12 +123,12 @@ class Solution:
         if number in (c.JOB, c.REPEATED):
             raise jobs_error(number, count, jobs)
         c.done(number)
-        return text.raw[:length.value].decode("ascii")
+        return text.raw[:length.value].decode()
 
     def write(self, path: str | os.PathLike[str]) -> None:
         """Write an order file, which ``pfs check`` and :func:`pfs.read_order` read. An existing file is replaced
         atomically."""
-        atomic_write(path, self.to_text().encode("ascii"))
+        atomic_write(path, self.to_text().encode())
 
 
 def as_order(given: Any, shop: Instance, what: str = "order") -> Any:

@@ -75,7 +75,7 @@ class State:
             state = {"state": VERSION, **self.identity, "rounds": best.rounds, "makespan": best.makespan,
                      "cells": self.cells + best.cells, "order": [job + 1 for job in best.order.tolist()]}
             text = json.dumps(state | {"sum": checksum(state)}) + "\n"
-            atomic_write(self.path, text.encode("ascii"), f"{os.path.realpath(self.path)}.new")
+            atomic_write(self.path, text.encode(), f"{os.path.realpath(self.path)}.new")
 
 
 def lock_name(path: str) -> str:

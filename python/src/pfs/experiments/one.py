@@ -75,8 +75,7 @@ def run_pfs(run: Run, *words: str, text: str = "") -> subprocess.CompletedProces
     """Runs pfs on the instance, with a text as input. Its exit status may be any."""
     options = ["--from" if words[0] == "convert" else "--layout", run.layout, "--block", run.block, run.file]
     options += ["/dev/stdin"] if text else []
-    done = subprocess.run(["./pfs", *words, *options], cwd=HERE, input=text.encode(errors="replace"),
-                          capture_output=True)
+    done = subprocess.run(["./pfs", *words, *options], cwd=HERE, input=text.encode(), capture_output=True)
     if done.returncode < 0:
         raise Failed(f"{words[0]}: signal {-done.returncode}")
     return done
@@ -341,7 +340,7 @@ def limit(seconds: float | None) -> None:
 
 
 def children_of(process: int) -> list[int]:
-    with open(f"/proc/{process}/task/{process}/children", encoding="ascii") as children:
+    with open(f"/proc/{process}/task/{process}/children") as children:
         return [*map(int, children.read().split())]
 
 
