@@ -25,7 +25,7 @@ from support.changes import PACKAGE, TOP, Change, Source
 from support.likely import Likely
 
 # Processor seconds, more than all likely tests of a change take without it, and bytes of memory of a process.
-MOST_SECONDS, MOST_MEMORY = 100, 12 << 30
+MOST_SECONDS, MOST_MEMORY = 150, 12 << 30
 # The exit status of pytest without a test.
 NO_TEST = 5
 FAILED = re.compile(r"^(?:FAILED|ERROR) (\S+\.py::\w+)", re.MULTILINE)

@@ -9,7 +9,7 @@ from collections.abc import Iterator
 from support.changes import TOP, Change, Source
 
 # How many tests are chosen. Those that take longer than these seconds, by their marks, are left out.
-MOST_TESTS, MOST_SECONDS = 16, 5
+MOST_TESTS, MOST_SECONDS = 30, 5
 
 
 def words_in(text: str) -> set[str]:
@@ -30,10 +30,10 @@ class Likely:
 
     def tests(self, source: Source, change: Change) -> list[str]:
         """Those that share most, in this order."""
-        own = words_in(source.lines(change)[0].decode())
-        given = own | words_in(f"{source.name} {source.around(change)}")
-        shares = {test: sum(self.weights[word] * (1 + (word in own)) for word in words & given) / math.sqrt(len(words))
-                  for test, words in self.words.items()}
+        own, name = words_in(source.lines(change)[0].decode()), words_in(source.name)
+        given = own | name | words_in(source.around(change))
+        shares = {test: sum(self.weights[word] * (1 + (word in own) + 3 * (word in name)) for word in words & given)
+                  / math.sqrt(len(words)) for test, words in self.words.items()}
         return sorted(shares, key=lambda test: -shares[test])[:MOST_TESTS]
 
 
