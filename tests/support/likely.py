@@ -1,5 +1,4 @@
-"""Which tests of the package for Python are likely to find a change, by the words that they share with its function.
-Nothing is run for this."""
+"""Which tests of the package for Python are likely to find a change: those that share words with its function."""
 import ast
 import math
 import re
