@@ -25,7 +25,7 @@ from support.changes import PACKAGE, TOP, Change, Source
 from support.likely import Likely
 
 # Processor seconds, more than all likely tests of a change take without it, and bytes of memory of a process.
-MOST_SECONDS, MOST_MEMORY = 100, 12 << 30
+MOST_SECONDS, MOST_MEMORY = 150, 12 << 30
 # The exit status of pytest without a test.
 NO_TEST = 5
 FAILED = re.compile(r"^(?:FAILED|ERROR) (\S+\.py::\w+)", re.MULTILINE)
@@ -98,31 +98,34 @@ def commits() -> int:
 
 
 def results(pairs: list[tuple[Source, Change]], jobs: int) -> Iterator[tuple[Source, Change, str]]:
-    """The changes with the tests that they fail, or nothing. At last come those of tests that fail without a change,
-    which find nothing."""
-    likely, copies, found = Likely(), queue.SimpleQueue[pathlib.Path](), list[tuple[Source, Change, str]]()
+    """The changes, each with a test that it makes fail, or nothing. Those whose test also fails without a change are
+    tried again without this test."""
+    likely, copies, unsound = Likely(), queue.SimpleQueue[pathlib.Path](), set[str]()
 
     def run(pair: tuple[Source, Change]) -> tuple[Source, Change, str]:
         copy = copies.get()
-        failed = failing(*pair, likely.tests(*pair), copy)
+        tests = [test for test in likely.tests(*pair) if test.partition("[")[0] not in unsound]
+        failed = failing(*pair, tests, copy) if tests else ""
         copies.put(copy)
         return *pair, failed
 
-    with tempfile.TemporaryDirectory(prefix="pfs-mutants-") as folder:
+    with (tempfile.TemporaryDirectory(prefix="pfs-mutants-") as folder,
+          concurrent.futures.ThreadPoolExecutor(jobs) as workers):
         for number in range(jobs):
-            copies.put(copied(pathlib.Path(folder) / str(number)))
-        with concurrent.futures.ThreadPoolExecutor(jobs) as workers:
+            copies.put(copy := copied(pathlib.Path(folder) / str(number)))
+        while pairs:
+            found = list[tuple[Source, Change, str]]()
             for result in workers.map(run, pairs):
                 if result[2]:
                     found.append(result)
                 else:
                     yield result
-        names = {failed for *_, failed in found}
-        status, output = run_tests(copies.get(), f"-n{jobs}", *sorted(names)) if names else (0, "")
-    if status > 1:
-        sys.exit(f"mutants: without a change the tests don't run: {output}")
-    unsound = {*FAILED.findall(output)}
-    yield from ((source, change, "" if failed in unsound else failed) for source, change, failed in found)
+            status, output = run_tests(copy, f"-n{jobs}", *{failed for *_, failed in found}) if found else (0, "")
+            if status > 1:
+                sys.exit(f"mutants: without a change the tests don't run: {output}")
+            unsound.update(FAILED.findall(output))
+            yield from (result for result in found if result[2] not in unsound)
+            pairs = [result[:2] for result in found if result[2] in unsound]
 
 
 def main() -> int:

@@ -628,7 +628,6 @@ def test_values_below_0_are_seen_and_long_legends_have_several_lines() -> None:
 
 
 def labels_of(figure: Any) -> tuple[str, str, str]:
-    """The titles of both axes and of the legend."""
     below = figure.axes[-1]
     return below.get_title(), figure._supylabel.get_text(), below.get_legend().get_title().get_text()
 
@@ -678,8 +677,7 @@ def test_labels_are_rotated_where_they_have_no_room(count: int, letters: int, wi
 
 
 def test_texts_of_plots_have_room() -> None:
-    """A line has 12 letters at least; a name has at most 40, and one that begins with an underscore is in the legend
-    too."""
+    """A line has 12 letters at least, and a name at most 40."""
     lines = [reports.wrapped("a " * 40, inches).split("\n") for inches in (0.5, 1.03, 1.2, 4.05, 4.06)]
     assert [max(map(len, each)) for each in lines] == [11, 11, 13, 45, 47]
     assert reports.shown("x" * 40) == "x" * 40 and reports.shown("x" * 41) == "x" * 38 + ".."

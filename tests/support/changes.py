@@ -64,10 +64,13 @@ class Source:
         return self.text[begin:end], self.text[begin:change.start] + change.new.encode() + self.text[change.end:end]
 
     def around(self, change: Change) -> str:
-        """The text of the function of a change, or those of the functions that use a value outside of them."""
-        names = re.findall(r"[A-Z][A-Z_]+", self.lines(change)[0].decode())
-        return self.functions.get(change.function) or "\n".join(
-            text for text in self.functions.values() if any(name in text for name in names))
+        """The text of the function of a change; of another one its statement, and the functions that use its names."""
+        if change.function:
+            return self.functions[change.function]
+        node = next(each for each in self.tree.body if change.start < self.span(each)[1])
+        names = [each.id for each in ast.walk(node) if isinstance(each, ast.Name) and isinstance(each.ctx, ast.Store)]
+        return "\n".join([self.words(node), *(text for text in self.functions.values()
+                                              if any(name in text for name in names))])
 
     def shown(self, change: Change) -> str:
         """As equivalent.txt has it: file and function, the lines before, and after."""

@@ -1,5 +1,4 @@
-"""Which tests of the package for Python are likely to find a change, by the words that they share with its function.
-Nothing is run for this."""
+"""Which tests of the package for Python are likely to find a change: those that share words with its function."""
 import ast
 import math
 import re
@@ -9,7 +8,9 @@ from collections.abc import Iterator
 from support.changes import TOP, Change, Source
 
 # How many tests are chosen. Those that take longer than these seconds, by their marks, are left out.
-MOST_TESTS, MOST_SECONDS = 16, 5
+MOST_TESTS, MOST_SECONDS = 30, 5
+# The test of the examples in docstrings, by the modules of the package.
+EXAMPLES = "tests/python/test_docstrings.py::test_docstrings"
 
 
 def words_in(text: str) -> set[str]:
@@ -29,16 +30,18 @@ class Likely:
         self.weights = {word: math.log(len(self.words) / count) for word, count in counts.items()}
 
     def tests(self, source: Source, change: Change) -> list[str]:
-        """Those that share most, in this order."""
-        own = words_in(source.lines(change)[0].decode())
-        given = own | words_in(f"{source.name} {source.around(change)}")
-        shares = {test: sum(self.weights[word] * (1 + (word in own)) for word in words & given) / math.sqrt(len(words))
-                  for test, words in self.words.items()}
-        return sorted(shares, key=lambda test: -shares[test])[:MOST_TESTS]
+        """The examples of its module, and those that share most, in this order."""
+        module = f"pfs.{source.name[:-3]}".removesuffix(".__init__")
+        examples = [f"{EXAMPLES}[{module}]"] * (b">>> " in source.text and "/" not in source.name)
+        own, name = words_in(source.lines(change)[0].decode()), words_in(source.name)
+        given = own | name | words_in(source.around(change))
+        shares = {test: sum(self.weights[word] * (1 + (word in own) + 3 * (word in name)) for word in words & given)
+                  / math.sqrt(len(words)) for test, words in self.words.items()}
+        return [*examples, *sorted(shares, key=lambda test: -shares[test])[:MOST_TESTS]]
 
 
 def tests_of(text: str, stem: str) -> Iterator[tuple[str, set[str]]]:
-    """The tests of a file that take no longer, with their words."""
+    """The tests of a file that need no browser and take no longer, with their words."""
     tree, lines = ast.parse(text), text.splitlines()
     found = {name: lines[node.lineno - 1:node.end_lineno] for node in tree.body for name in names_of(node)}
     for node in tree.body:
@@ -46,9 +49,10 @@ def tests_of(text: str, stem: str) -> Iterator[tuple[str, set[str]]]:
             first = min([node.lineno, *(each.lineno for each in node.decorator_list)])
             words = words_in("\n".join(lines[first - 1:node.end_lineno]))
             slow = re.search(r"mark\.seconds\(([0-9]+)\)", "\n".join(lines[first - 1:node.lineno]))
-            if slow is None or int(slow[1]) <= MOST_SECONDS:
-                used = (line for name in found.keys() & words for line in found[name])
-                yield node.name, words | words_in("\n".join([stem, *used]))
+            used = (line for name in found.keys() & words for line in found[name])
+            words |= words_in("\n".join([stem, *used]))
+            if "chromium" not in words and (slow is None or int(slow[1]) <= MOST_SECONDS):
+                yield node.name, words
 
 
 def names_of(node: ast.stmt) -> list[str]:
