@@ -54,6 +54,10 @@ class Page:
     def key(self, key: str) -> WebElement:
         return self.one(f"[data-key={json.dumps(key)}]")
 
+    def press(self, key: str) -> None:
+        """Clicks a button of a list, which may be drawn again at any time."""
+        self.browser.execute_script("document.querySelector(arguments[0]).click()", f"[data-key={json.dumps(key)}]")
+
     def click(self, selector: str) -> None:
         self.browser.execute_script("arguments[0].click()", self.one(selector))
 
@@ -146,7 +150,7 @@ def test_a_week(page: Page) -> None:
     page.wait(lambda: len(page.all("#faults li")) == 2)
     page.write(page.key("5,5"), "0")
     page.wait(lambda: len(page.all("#faults li")) == 1)
-    page.browser.execute_script("arguments[0].click()", page.key("9,out"))
+    page.press("9,out")
     page.wait(lambda: "6 jobs, 3 machines" in page.text("#read"))
     # The plan, with dates.
     page.click("#dates summary")
@@ -164,7 +168,7 @@ def test_a_week(page: Page) -> None:
     # Tuesday: the plan is kept, and a job moved, by a button, by a place, and to the front.
     page.click("#keep")
     last = first[-1]
-    page.browser.execute_script("arguments[0].click()", page.key(f"{last}:up"))
+    page.press(f"{last}:up")
     page.wait(lambda: page.order() == [*first[:4], last, first[4]])
     assert page.browser.switch_to.active_element.get_attribute("data-key") == f"{last}:up"
     page.write(page.key(f"{last}:place"), "1")
@@ -173,7 +177,7 @@ def test_a_week(page: Page) -> None:
     assert page.text("#plans tr:nth-child(2) td:nth-child(4)") == "1"
     webdriver.ActionChains(page.browser).drag_and_drop(*page.all("#order td.name")[1:3]).perform()
     page.wait(lambda: page.order() == [last, first[1], first[0], *first[2:5]])
-    page.browser.execute_script("arguments[0].click()", page.key(f"{first[2]}:first"))
+    page.press(f"{first[2]}:first")
     page.wait(lambda: page.order()[0] == first[2] and page.all("#order tr.held"))
     planned(page)
     assert page.order()[0] == first[2], "what is held stays"
