@@ -81,7 +81,7 @@ def test_files_are_the_same_in_each_locale(tmp_path: pathlib.Path) -> None:
 
 @pytest.fixture
 def runs(tmp_path: pathlib.Path, monkeypatch: pytest.MonkeyPatch) -> pathlib.Path:
-    """The folder of copies, whose pfs notes its words and its input and does what the file `does` says."""
+    """The folder of copies, whose pfs notes its arguments and its input and does what the file `does` says."""
     monkeypatch.setattr(one, "HERE", str(tmp_path))
     (tmp_path / "pfs").write_text('#!/bin/sh\necho "$*" > words\ncat > input\n. ./does\n')
     (tmp_path / "pfs").chmod(0o755)
@@ -222,7 +222,7 @@ JOBS = ("Job Jobs job# Order Orders Workorder WO Work-Order Auftrag Auftr\u00e4g
 
 
 def test_words_of_sums_and_jobs(tmp_path: pathlib.Path) -> None:
-    """In five languages: what has no times of its own, and what says that numbers below are names."""
+    """In five languages: what has no times, and what says that numbers below are names."""
     path = tmp_path / "times"
     for names, is_row in ((TOTALS, True), (TOTALS, False), (QUANTITIES, False)):
         for name in names:

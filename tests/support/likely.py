@@ -14,13 +14,13 @@ EXAMPLES = "tests/python/test_docstrings.py::test_docstrings"
 
 
 def words_in(text: str) -> set[str]:
-    """The names in a text, and the words of which they are made."""
+    """The names in a text, and their parts."""
     names = set(re.findall(r"[^\W\d]\w+", text))
     return names | {word.lower() for name in names for word in re.findall(r"[^\W\d_]{3,}", name)}
 
 
 class Likely:
-    """The words of each test, with those of what its file defines for it, and how rare each word is."""
+    """The names and parts in each test, and in what its file defines for it, and how rare each word is."""
 
     def __init__(self) -> None:
         paths = [path for path in (TOP / "tests/python").glob("test_*.py") if path.stem != "test_web_page"]
