@@ -71,7 +71,7 @@ fn first_least(spans: &[u64], held: usize) -> Placed<u64>
 // The first place of the least makespan, from a place on, and the last one. `best` is the first of all places.
 #[inline(always)]
 fn least_from(spans: &[u64], held: usize, best: Placed<u64>) -> Least
-    requires { held < length spans.now }
+    requires held { held < length spans.now }
     requires best { IsFirstLeast (λ place. slice_index_or spans.now place 0) (length spans.now) best.place }
     requires span { best.span ≡ slice_index_or spans.now best.place 0 }
     ensures least { IsLeastFrom (λ place. slice_index_or spans.now place 0) held (length spans.now) result.place result.last }
@@ -183,17 +183,18 @@ fn best_of_all(
     requires size { seq.now.size ≡ instance.now.shop.jobs }
     requires job { job < instance.now.shop.jobs }
     requires absent { Contains seq.now.jobs job → ⊥ }
-    requires room { length spans.old ≤ length seq.now.jobs + 1 }
     ensures best { IsFirstLeast (makespan_with instance.now.shop seq.now.jobs job) (length seq.now.jobs + 1) result.place }
     ensures span { result.span ≡ makespan_with instance.now.shop seq.now.jobs job result.place }
-    ensures spans { (place : ℕ) → place < length spans.old
+    ensures spans { (place : ℕ) → place ≤ length seq.now.jobs → place < length spans.old
         → slice_index_or spans.new place 0 ≡ makespan_with instance.now.shop seq.now.jobs job place }
+    ensures long { length spans.new ≡ length spans.old }
     ensures search { IsSearchOf instance.now.shop search.new }
 {
     // Called for its contract, which says that no place before the best one is as good.
     pfs_insert::laws::best_place();
     let mut bench = instance.metered();
-    let best = search.best(&mut bench, seq.as_slice(), job, spans);
+    let count = spans.len().min(seq.len() + 1);
+    let best = search.best(&mut bench, seq.as_slice(), job, &mut spans[..count]);
     Placed {
         place: best.place,
         span: bench.reveal(best.span),
@@ -230,8 +231,8 @@ fn find_place(
             return best;
         }
     }
-    let spans = &mut places.spans[..seq.len() + 1];
-    let best = best_of_all(instance, search, seq, job, spans);
+    let best = best_of_all(instance, search, seq, job, &mut places.spans);
+    let spans = &places.spans[..seq.len() + 1];
     choose(instance, &mut places.heads, spans, best, seq, job, options)
 }
 
@@ -285,8 +286,7 @@ pub(crate) fn span_of(
     }
     let last = len - 1;
     let job = seq.remove_at(last);
-    let spans = &mut places.spans[..len];
-    let _best = best_of_all(instance, search, seq, job, spans);
+    let _best = best_of_all(instance, search, seq, job, &mut places.spans);
     seq.insert_at(last, job);
     places.spans[last]
 }

@@ -1,4 +1,5 @@
-use Rattle.std.proofs.Common.{◌≡◌, ℕ, ◌<◌, length, get_or, subst}
+use Rattle.std.proofs.Common.{◌≡◌, ℕ, ◌<◌, ◌∙◌, drop, get_or, length, rules, subst, take}
+use Rattle.std.proofs.lemmas.List.{get_or_append_left}
 use Rattle.pfs_base.specs.FlowShop.{FlowShop}
 use Rattle.pfs_insert.specs.Inserter.{IsBestPlace}
 use Rattle.pfs_insert.specs.Insertion.{makespan_with}
@@ -17,10 +18,12 @@ returns-clause-best c =
     rw is.place_is (c.best_place.ensures shop jobs job)
 
 pub returns-clause-spans : goal.returns-clause-spans
-returns-clause-spans c =
-    subst (λ (s : FlowShop). (place : ℕ) → place < length c.args.spans.now
-    → get_or c.best-best.new.spans place 0 ≡ makespan_with s c.args.seq.now.jobs c.args.job place)
-    c.metered-bench.ensures.shop (rw c.as_slice.ensures.value at c.best-best.ensures.spans)
+returns-clause-spans c place among within =
+    let written = c.best-best.new.spans in
+    let is = subst (λ (s : FlowShop). (place : ℕ) → place < length (take c.min-count.result c.args.spans.now)
+    → get_or written place 0 ≡ makespan_with s c.args.seq.now.jobs c.args.job place)
+    c.metered-bench.ensures.shop (rw c.as_slice.ensures.value at c.best-best.ensures.spans) in
+    get_or_append_left written (drop c.min-count.result c.args.spans.now) 0 place (search rules) ∙ is place (search rules)
 
 pub returns-clause-search : goal.returns-clause-search
 returns-clause-search c =
