@@ -390,7 +390,7 @@ fn visit_once(instance: &Instance, search: &mut Search, seq: &mut Seq, list: &[u
     for job in list {
         let job = *job as usize;
         take_out(seq, job);
-        let best = search.best(&mut instance.metered(), seq.as_slice(), job);
+        let best = search.best(&mut instance.metered(), seq.as_slice(), job, &mut []);
         seq.insert_at(best.place, job);
     }
 }
