@@ -17,9 +17,8 @@ use pfs_order::Seq;
 use pfs_search::Search;
 use std::alloc::{AllocError, Global};
 
-// Few held jobs are at most this part of a sequence: then a second evaluation, with the makespans at all places, takes
-// less time on average than to write these makespans each time.
-const FEW_HELD: usize = 32;
+// Which part of a sequence few held jobs are, at most: the others evaluate all places once instead of twice.
+const FEW_HELD: usize = 8;
 
 /// What a place is chosen with: the makespans with a job at each place, and heads.
 #[derive(Drop)]
