@@ -7,61 +7,49 @@ repeats the case, and stores its files in a folder.
 
 usage: tests/fuzz.py [--seconds N] [--seed N] [--program PATH] [--case N]"""
 import argparse
-import collections
 import dataclasses
 import itertools
 import os
 import pathlib
 import re
 import shlex
-import subprocess
 import sys
 import tempfile
+import threading
 import time
 from collections.abc import Iterable, Sequence
 from random import Random
-from typing import IO, Any
 
 sys.dont_write_bytecode = True
 from support import second_program
-from support.lines import KINDS, kind_of
 from support.pipes import unread
-from support.second_program import COMMANDS, LONGEST_INPUT, UNREADABLE, Contents, Instance, Stop
+from support.program import Program, Ran
+from support.second_program import COMMANDS, UNREADABLE, Contents, Instance, Stop
 
 TOP = pathlib.Path(__file__).resolve().parent.parent
 PROGRAM = TOP / "crates" / "pfs" / "out" / "pfs"
 # A search of more rounds is too long for the second program.
 MOST_ROUNDS = 40
 MOST_PASSES = 20
-MIB = 1 << 20
 # A pipe holds more than a piece.
 LONGEST_PIECE = 16_384
-# The time limit of a program.
-MOST_SECONDS = 60
-
-# Standard output, standard error and exit status; no status is that of a program that hangs.
-Answer = tuple[bytes, bytes, int | None]
 
 
 @dataclasses.dataclass
 class Case:
     """Words, files by their names, and standard input. `pieces` has for a file (standard input is `stdin`) the lengths
-    of the pieces in which the program gets it through a pipe; the others lie there whole. `is_full`: standard output
-    takes no byte."""
+    of the pieces in which the program gets it through a pipe; the others lie there whole."""
     words: list[bytes]
     files: dict[bytes, Contents]
     stdin: bytes = b""
     pieces: dict[bytes, list[int]] = dataclasses.field(default_factory=dict)
-    is_full: bool = False
 
-    def changed(self, **changes: Any) -> "Case":
-        return dataclasses.replace(self, **changes)
+    def texts(self) -> dict[bytes, Contents]:
+        """All files that it needs."""
+        return {b"stdin": self.stdin} | {name: text for name, text in self.files.items() if name != b"/dev/null"}
 
-    def wanted(self) -> Answer:
-        text, got, status = second_program.answer(self.words, self.stdin, self.files)
-        if self.is_full and text:
-            return b"", b"pfs: write failed after 0 bytes\n", 4
-        return text, got, status
+    def wanted(self) -> Ran:
+        return Ran(*second_program.answer(self.words, self.stdin, self.files))
 
     def is_quick(self) -> bool:
         """Whether the second program is fast on this case."""
@@ -75,96 +63,52 @@ class Case:
         rounds, passes = [int(options.get(name, 0)) for name in (b"--rounds", b"--passes")]
         return rounds <= MOST_ROUNDS and rounds * passes <= MOST_PASSES
 
-    def has_great_files(self) -> bool:
-        return any(text is not None and len(text) > MIB for text in self.files.values())
-
 
 # Running a case
 
-class Feeder:
-    """Writes pieces into a pipe, the next once the last has been read, and then closes it."""
-
-    def __init__(self, descriptor: int, text: bytes, lengths: list[int]) -> None:
-        self.descriptor: int | None = descriptor
-        self.pieces = cut(text, lengths)
-
-    def step(self) -> bool:
-        """Does what can be done now, and tells whether that was something."""
-        if self.descriptor is None or unread(self.descriptor):
-            return False
-        if self.pieces:
-            os.write(self.descriptor, self.pieces.pop(0))
-        else:
-            self.close()
-        return True
-
-    def close(self) -> None:
-        if self.descriptor is not None:
-            os.close(self.descriptor)
-            self.descriptor = None
+def feed(pipe: pathlib.Path, text: bytes, lengths: list[int], ended: threading.Event) -> None:
+    """Write a text into a named pipe in pieces of these lengths, and the rest in pieces that any pipe holds: the next
+    once the last has been read, until the program ends."""
+    ends = [0, *itertools.accumulate(lengths)]
+    ends += range(ends[-1] + LONGEST_PIECE, len(text) + LONGEST_PIECE, LONGEST_PIECE)
+    # Open for reading too, so that neither this nor the program's opening waits.
+    with open(os.open(pipe, os.O_RDWR), "wb", buffering=0) as end:
+        for start, stop in itertools.pairwise(ends):
+            end.write(text[start:stop])
+            while unread(end.fileno()):
+                if ended.wait(0.00005):
+                    return
 
 
-def cut(text: bytes, lengths: list[int]) -> list[bytes]:
-    """Pieces of these lengths, and the rest in pieces that any pipe holds, so that no write waits."""
-    pieces, start = [], 0
-    for length in lengths:
-        pieces.append(text[start:start + length])
-        start += length
-    pieces += [text[at:at + LONGEST_PIECE] for at in range(start, len(text), LONGEST_PIECE)]
-    return [piece for piece in pieces if piece]
-
-
-def lay_files(case: Case, folder: pathlib.Path) -> list[Feeder]:
-    """Makes the files of a case and its standard input, and feeders for those that are pipes."""
-    feeders = []
-    texts: dict[bytes, Contents] = {b"stdin": case.stdin, **case.files}
-    for name, text in texts.items():
-        if name.startswith(b"/"):
-            continue
+def lay_files(case: Case, folder: pathlib.Path) -> None:
+    """Make the files of a case and its standard input; those that it gets in pieces as pipes."""
+    for name, text in case.texts().items():
         path = folder / os.fsdecode(name)
         if text is None:
             os.mkdir(path)
         elif name in case.pieces:
             os.mkfifo(path)
-            # Open for reading too, so that neither this nor the program's opening waits.
-            feeders.append(Feeder(os.open(path, os.O_RDWR), text, case.pieces[name]))
         else:
             path.write_bytes(text)
-    return feeders
 
 
-def run(program: pathlib.Path, case: Case) -> Answer:
-    """What the program writes to standard output and to standard error, and its status."""
+def run(program: Program, case: Case) -> Ran:
+    """What the program prints and reports, and its status."""
+    ended = threading.Event()
     with tempfile.TemporaryDirectory(prefix="fuzz-") as name:
         folder = pathlib.Path(name)
-        output, errors = pathlib.Path("/dev/full") if case.is_full else folder / "stdout", folder / "stderr"
-        feeders = lay_files(case, folder)
+        lay_files(case, folder)
+        feeders = [threading.Thread(target=feed, args=(folder / os.fsdecode(name), text, case.pieces[name], ended))
+                   for name, text in case.texts().items() if name in case.pieces]
+        for feeder in feeders:
+            feeder.start()
         try:
-            with (open(folder / "stdin", "rb", buffering=0) as stdin, open(output, "wb") as stdout,
-                  open(errors, "wb") as stderr):
-                status = run_fed([os.fsencode(program)] + case.words, folder, stdin, stdout, stderr, feeders)
+            with open(folder / "stdin", "rb", buffering=0) as stdin:
+                return program.run(case.words, folder, stdin)
         finally:
+            ended.set()
             for feeder in feeders:
-                feeder.close()
-        return b"" if case.is_full else output.read_bytes(), errors.read_bytes(), status
-
-
-def run_fed(words: list[bytes], folder: pathlib.Path, stdin: IO[bytes], stdout: IO[bytes], stderr: IO[bytes],
-            feeders: list[Feeder]) -> int | None:
-    """The status of a program that is fed, or None where it doesn't end."""
-    end = time.monotonic() + MOST_SECONDS
-    child = subprocess.Popen(words, cwd=folder, stdin=stdin, stdout=stdout, stderr=stderr)
-    while feeders and child.poll() is None and time.monotonic() < end:
-        if not any([feeder.step() for feeder in feeders]):
-            time.sleep(0.00005)
-        if all(feeder.descriptor is None for feeder in feeders):
-            break
-    try:
-        return child.wait(max(0, end - time.monotonic()))
-    except subprocess.TimeoutExpired:
-        child.kill()
-        child.wait()
-        return None
+                feeder.join()
 
 
 # Random instance files
@@ -296,17 +240,6 @@ def with_number_changed(random: Random, text: bytes, start: int) -> bytes:
     return text[:match.start()] + b"%d" % value + text[match.end():]
 
 
-def near_the_limit(random: Random, text: bytes) -> bytes:
-    """The text with plain bytes or zeros put in, so that it ends near the greatest number of bytes."""
-    missing = LONGEST_INPUT - len(text) + random.choice([-1, 0, 1, 1, 2])
-    place = random.choice([0] + [match.end() for match in re.finditer(rb"\n", text)])
-    filler = random.choice([b" ", b"x", b"0", b"x" * 99_999 + b"\n"])
-    last = b"" if filler == b"0" else b"\n"
-    many, rest = divmod(missing - len(last), len(filler))
-    # Each operation copies 64 MiB.
-    return b"".join([text[:place], filler * many, filler[:rest], last, text[place:]])
-
-
 # Random command lines
 
 ODD_WORDS = [
@@ -431,7 +364,7 @@ def instance_text(random: Random, text: bytes) -> bytes:
         return mutated(random, text)
     if kind < 0.43:
         return b"".join(random.choice(BYTES) for _ in range(random.randint(0, 60)))
-    return near_the_limit(random, text) if kind < 0.435 else text
+    return text
 
 
 def order_text(random: Random, text: bytes) -> bytes:
@@ -459,73 +392,53 @@ def random_case(random: Random) -> Case:
     if random.random() < 0.01:
         del files[random.choice(names)]
     files.setdefault(b"/dev/null", b"")
-    case = Case(words, files, b"" if words else text, is_full=random.random() < 0.02)
-    return case if case.has_great_files() else in_pieces(random, case)
+    return in_pieces(random, Case(words, files, b"" if words else text))
 
 
 def in_pieces(random: Random, case: Case) -> Case:
     """The case with some of its files in pieces. A file that is named twice, and an empty one, lies there whole."""
-    texts: dict[bytes, Contents] = {b"stdin": case.stdin, **case.files}
     pieces = {}
-    for name, text in texts.items():
+    for name, text in case.texts().items():
         is_read = case.words.count(name) == 1 if name != b"stdin" else not case.words
         if is_read and text and random.random() < 0.5:
             pieces[name] = lengths_of_pieces(random, text)
-    return case.changed(pieces=pieces)
+    return dataclasses.replace(case, pieces=pieces)
 
 
 # Telling of a failing case
 
-def tell(program: pathlib.Path, case: Case) -> None:
-    """Keeps the files of the case in a folder and prints how to run it."""
+def tell(program: Program, case: Case) -> None:
+    """Keep the files of the case in a folder and print how to run it."""
     folder = pathlib.Path(tempfile.mkdtemp(prefix="pfs-differs-"))
-    lay_files(case.changed(pieces={}), folder)
+    lay_files(dataclasses.replace(case, pieces={}), folder)
     words = " ".join(shlex.quote(os.fsdecode(word)) for word in case.words)
-    output = " > /dev/full" if case.is_full else ""
-    print(f"in a shell: cd {folder} && {program} {words} < stdin{output}".encode(errors="replace").decode())
+    print(f"in a shell: cd {folder} && {program.path} {words} < stdin".encode(errors="replace").decode())
     if case.pieces:
         print(f"with files through pipes, in pieces of these lengths: {case.pieces}")
     print(f"wanted {shown(case.wanted())}\ngot    {shown(run(program, case))}", flush=True)
 
 
-def shown(answer: Answer) -> str:
-    text, got, status = answer
-    return f"{text[:600]!r}, {got[:600]!r}, {status}"
+def shown(ran: Ran) -> str:
+    return f"{ran.stdout[:600]!r}, {ran.stderr[:600]!r}, {ran.status}"
 
 
-def search(program: pathlib.Path, seed: int, seconds: float, numbers: Iterable[int], has_great_files: bool) -> bool:
-    """Runs the cases of these numbers for so long, or until the two programs differ. Tells whether they agree, on one
+def search(program: Program, seed: int, seconds: float, numbers: Iterable[int]) -> bool:
+    """Run the cases of these numbers for so long, or until the two programs differ. Return whether they agree, on one
     case at least. A case is made from the seed and its number, so a machine's speed changes how many there are, and no
     case."""
-    start = time.monotonic()
-    kinds: collections.Counter[str] = collections.Counter()
-    for number in numbers:
-        if time.monotonic() >= start + seconds:
-            break
+    end, count = time.monotonic() + seconds, 0
+    for number in itertools.takewhile(lambda _: time.monotonic() < end, numbers):
         case = random_case(Random(f"{seed} {number}"))
-        if not case.is_quick() or (case.has_great_files() and not has_great_files):
+        if not case.is_quick():
             continue
-        wanted = case.wanted()
-        kinds[kind_of(*wanted[:2])] += 1
-        if run(program, case) != wanted:
-            spent = time.monotonic() - start
-            print(f"seed {seed}, case {number}, after {spent:.1f} s: the programs differ", flush=True)
-            print(f"to repeat it: {TOP}/tests/fuzz.py --program {program} --seed {seed} --case {number}", flush=True)
+        count += 1
+        if run(program, case) != case.wanted():
+            print(f"seed {seed}, case {number}: the programs differ", flush=True)
+            print(f"to repeat it: {TOP}/tests/fuzz.py --program {program.path} --seed {seed} --case {number}", flush=True)
             tell(program, case)
             return False
-    print(f"seed {seed}: {kinds.total()} cases in {seconds:g} s, on which both programs agree")
-    return kinds.total() > 0 and are_known(kinds)
-
-
-def are_known(kinds: collections.Counter[str]) -> bool:
-    """Whether all these kinds of output are known. Print those that aren't, and those that didn't occur."""
-    missing = sorted(KINDS.keys() - kinds.keys() - {"no memory"})
-    if missing:
-        print(f"kinds of output that did not occur: {missing}")
-    unknown = sorted(kinds.keys() - KINDS.keys())
-    if unknown:
-        print(f"kinds of answers that are not known: {unknown}")
-    return not unknown
+    print(f"seed {seed}: {count} cases in {seconds:g} s, on which both programs agree")
+    return count > 0
 
 
 def main() -> int:
@@ -536,7 +449,7 @@ def main() -> int:
     parser.add_argument("--case", type=int, help="runs the case of this number alone")
     given = parser.parse_args()
     numbers = itertools.count(1) if given.case is None else [given.case]
-    return 0 if search(given.program.resolve(), given.seed, given.seconds, numbers, True) else 1
+    return 0 if search(Program(given.program.resolve()), given.seed, given.seconds, numbers) else 1
 
 
 if __name__ == "__main__":
