@@ -24,7 +24,7 @@ sys.dont_write_bytecode = True
 from support import second_program
 from support.pipes import unread
 from support.program import Program, Ran
-from support.second_program import COMMANDS, UNREADABLE, Contents, Instance, Stop
+from support.second_program import COMMANDS, NEEDED, UNREADABLE, Contents, Instance, Stop
 
 TOP = pathlib.Path(__file__).resolve().parent.parent
 PROGRAM = TOP / "crates" / "pfs" / "out" / "pfs"
@@ -215,19 +215,9 @@ def mutated(random: Random, text: bytes) -> bytes:
     for _ in range(random.choice([1, 1, 1, 2, 3, 8])):
         start = random.randint(0, len(text))
         end = min(len(text), start + random.choice([0, 1, 1, 2, 5, 40]))
-        kind = random.randrange(7)
-        if kind == 0:
-            text = text[:start]
-        elif kind == 1:
-            text = text[:start] + text[end:]
-        elif kind == 2:
-            text = text[:start] + random.choice(BYTES) + text[start + 1:]
-        elif kind == 3:
-            text = text[:end] + text[start:]
-        elif kind == 4:
-            text = text[:start] + random.choice(INSERTED) + text[start:]
-        else:
-            text = with_number_changed(random, text, start)
+        front, rest = text[:start], text[start:]
+        text = random.choice([front, front + text[end:], text[:end] + rest, front + random.choice(BYTES) + rest[1:],
+                              front + random.choice(INSERTED) + rest, *[with_number_changed(random, text, start)] * 2])
     return text
 
 
@@ -269,45 +259,29 @@ class Line:
     def option(self, name: bytes, value: bytes) -> list[bytes]:
         return [name + b"=" + value] if self.random.random() < 0.4 else [name, value]
 
-    def block(self) -> list[list[bytes]]:
-        if self.random.random() < 0.5:
-            return []
-        block = self.random.choice([1, 1, 1, 2, 2, 3, 4, 1_000, 1_001, 0])
-        return [self.option(b"--block", self.number(block))]
-
-    def layout(self, layout: bytes) -> bytes:
-        chance = self.random.random()
-        return layout if chance < 0.93 else b"x" if chance < 0.94 else self.random.choice([b"taillard", b"orlib"])
-
-    def search(self, jobs: int) -> list[list[bytes]]:
-        """Options of a search of this many jobs."""
-        options = []
-        if self.random.random() < 0.6:
-            rounds = self.random.choice([0, 1, 2, 3, 10, MOST_ROUNDS, 1_000_001])
-            options.append(self.option(b"--rounds", self.number(rounds)))
-        if self.random.random() < 0.5:
-            take = self.random.choice([1, 2, 3, 4, jobs, jobs + 1, self.random.randint(1, jobs), 5_000, 5_001, 0])
-            options.append(self.option(b"--take", self.number(take)))
-        if self.random.random() < 0.6:
-            seed = self.random.choice(SEEDS + [self.random.randrange(2**64)] * 4)
-            options.append(self.option(b"--seed", self.number(seed)))
-        if self.random.random() < 0.4:
-            passes = self.random.choice([0, 1, 1, 2, 3, 100, 101])
-            options.append(self.option(b"--passes", self.number(passes)))
-        return options + ([[b"--cells"]] if self.random.random() < 0.6 else [])
+    def value(self, name: bytes, layout: bytes, jobs: int) -> bytes:
+        """A value of an option, for a file in a layout and a search of this many jobs."""
+        if name == b"--to":
+            layout = self.random.choice([b"taillard", b"orlib"])
+        if name in (b"--layout", b"--from", b"--to"):
+            return self.random.choice([layout] * 30 + [b"x", b"taillard", b"orlib"])
+        return self.number(self.random.choice({
+            b"--block": [1, 1, 1, 2, 2, 3, 4, 1_000, 1_001, 0],
+            b"--rounds": [0, 1, 2, 3, 10, MOST_ROUNDS, 1_000_001],
+            b"--take": [1, 2, 3, 4, jobs, jobs + 1, self.random.randint(1, jobs), 5_000, 5_001, 0],
+            b"--seed": SEEDS + [self.random.randrange(2**64)] * 4,
+            b"--passes": [0, 1, 1, 2, 3, 100, 101],
+        }[name]))
 
     def mixed(self, command: bytes, options: list[list[bytes]], paths: list[bytes]) -> list[bytes]:
         """The options in any order before, between and after the paths. The paths may follow `--`, and do if they look
         like options."""
-        random = self.random
-        random.shuffle(options)
-        if random.random() < 0.1 or any(path.startswith(b"--") for path in paths):
+        if self.random.random() < 0.1 or any(path.startswith(b"--") for path in paths):
+            self.random.shuffle(options)
             return [command] + sum(options, []) + [b"--"] + paths
-        parts = options + [[path] for path in paths]
-        places = sorted(random.sample(range(len(parts)), len(paths)))
-        rest = iter(options)
-        parts = [[paths[places.index(at)]] if at in places else next(rest) for at in range(len(parts))]
-        return [command] + sum(parts, [])
+        parts, rest = options + [[]] * len(paths), iter(paths)
+        self.random.shuffle(parts)
+        return [command] + sum((part or [next(rest)] for part in parts), [])
 
     def generate(self) -> list[bytes]:
         sizes = [self.random.randint(1, 60), self.random.randint(1, 20)]
@@ -322,40 +296,23 @@ class Line:
         command = self.random.choice(commands + [b"check"] + [b"solve"] * (not is_great))
         if command == b"generate":
             return self.generate()
-        layouts = {b"--layout": layout, b"--from": layout, b"--to": self.random.choice([b"taillard", b"orlib"])}
         options, paths = COMMANDS[command]
-        given = [self.option(name, self.layout(name_of)) for name, name_of in layouts.items() if name in options]
-        given += self.block() + (self.search(jobs) if command == b"solve" else [])
+        given = []
+        for name, (read, default) in options.items():
+            if default is NEEDED or self.random.random() < 0.5:
+                given.append([name] if read is None else self.option(name, self.value(name, layout, jobs)))
         return self.mixed(command, given, self.names[:len(paths)])
 
     def mutated(self, words: Sequence[bytes]) -> list[bytes]:
         words = list(words)
         for _ in range(self.random.choice([1, 1, 2])):
             place = self.random.randint(0, len(words))
-            kind = self.random.randrange(4)
-            if kind == 0:
-                words[place:place] = [self.random.choice(ODD_WORDS)]
-            elif kind == 1:
-                del words[place:place + 1]
-            elif kind == 2:
-                words[place:place + 1] = [self.random.choice(ODD_WORDS)]
-            else:
-                words[place:place] = words[max(0, place - 1):place]
+            new = self.random.choice([[], [self.random.choice(ODD_WORDS)], words[place:place + 1] * 2])
+            words[place:place + self.random.randrange(2)] = new
         return words
 
 
 # Random cases
-
-def lengths_of_pieces(random: Random, text: bytes) -> list[int]:
-    """Lengths of at most some sixty pieces."""
-    most = random.choice([1, 2, 3, 10, 100, 5_000])
-    lengths: list[int] = []
-    left = len(text)
-    while left > 0 and len(lengths) < 60:
-        lengths.append(random.randint(1, most))
-        left -= lengths[-1]
-    return lengths
-
 
 def instance_text(random: Random, text: bytes) -> bytes:
     """The text of an instance file, or what may become of it."""
@@ -401,7 +358,8 @@ def in_pieces(random: Random, case: Case) -> Case:
     for name, text in case.texts().items():
         is_read = case.words.count(name) == 1 if name != b"stdin" else not case.words
         if is_read and text and random.random() < 0.5:
-            pieces[name] = lengths_of_pieces(random, text)
+            most = random.choice([1, 2, 3, 10, 100, 5_000])
+            pieces[name] = [random.randint(1, most) for _ in range(60)]
     return dataclasses.replace(case, pieces=pieces)
 
 
