@@ -480,7 +480,7 @@ def test_the_greatest_table_is_drawn_soon_and_small(ending: str, scripts: pathli
     """Within 20 seconds, 300 MB of memory and 20 MB of file."""
     picture = greatest / f"picture.{ending}"
     ran = run_limited(Program(scripts / "pfs-gantt"), ["--critical", "table", picture.name], greatest, 4_000_000_000)
-    assert ran.status == 0 and picture.read_bytes().startswith(BEGINNINGS[ending])
+    assert ran.ran.status == 0 and picture.read_bytes().startswith(BEGINNINGS[ending])
     assert (ran.seconds < 20, ran.resident < 300e6, picture.stat().st_size < 20e6) == (True,) * 3, ran
 
 

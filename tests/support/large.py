@@ -2,12 +2,10 @@
 import pathlib
 import subprocess
 import sys
-from collections.abc import Iterable
 from typing import NamedTuple
 
-from support.files import TITLE
 from support.needs import tool
-from support.program import Program
+from support.program import Program, Ran
 
 # Runs a program, and writes into a file its exit status, its processor seconds and its greatest resident memory in
 # bytes. The kernel's figure includes the memory of the process that starts the program, so that one is small.
@@ -57,29 +55,11 @@ def write_many_lines(path: pathlib.Path, jobs: int, machines: int, lines: int) -
             file.write(plain * each + time)
 
 
-def write_equal_times(path: pathlib.Path, jobs: int, machines: int, time: int, notes: int) -> None:
-    """The canonical text of jobs that all take as long on each machine, with equal notes."""
-    times = b" ".join([b"%d" % time] * jobs) + b"\n"
-    with open(path, "wb") as file:
-        file.write(TITLE)
-        file.write(b"%d %d %d %d %d\nprocessing times :\n" % (jobs, machines, notes, notes, notes))
-        for _ in range(machines):
-            file.write(times)
-
-
 class LargeRun(NamedTuple):
-    """The result of a run: standard error, the exit status, the processor seconds and the greatest resident memory.
-    Standard output is in a file."""
-    stderr: bytes
-    status: int
+    """The result of a run, with its processor seconds and its greatest resident memory."""
+    ran: Ran
     seconds: float
     resident: int
-    output: pathlib.Path
-
-    def prints(self, parts: Iterable[bytes]) -> bool:
-        """Whether the output is these parts, one after the other."""
-        with open(self.output, "rb") as file:
-            return all(file.read(len(part)) == part for part in parts) and file.read(1) == b""
 
 
 def run_limited(program: Program, words: list[str], folder: pathlib.Path, memory: int,
@@ -92,4 +72,4 @@ def run_limited(program: Program, words: list[str], folder: pathlib.Path, memory
     with open(stdin, "rb") as given, open(output, "wb") as stdout, open(errors, "wb") as stderr:
         subprocess.run(measuring, cwd=folder, stdin=given, stdout=stdout, stderr=stderr, check=True)
     status, seconds, resident = got.read_text().split()
-    return LargeRun(errors.read_bytes(), int(status), float(seconds), int(resident), output)
+    return LargeRun(Ran(output.read_bytes(), errors.read_bytes(), int(status)), float(seconds), int(resident))
