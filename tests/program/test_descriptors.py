@@ -69,26 +69,6 @@ def test_an_odd_input(pfs: Program, folder: pathlib.Path, path: str, flags: int,
     os.close(descriptor)
 
 
-@pytest.fixture
-def pipe() -> Iterator[tuple[int, int]]:
-    """The ends of a pipe, which are closed after the test."""
-    ends = os.pipe()
-    yield ends
-    for end in ends:
-        os.close(end)
-
-
-def test_a_pipe_that_has_nothing_yet(pfs: Program, folder: pathlib.Path, pipe: tuple[int, int]) -> None:
-    """A read that would have to wait and doesn't fails."""
-    os.set_blocking(pipe[0], False)
-    assert pfs.run([], folder, pipe[0]) == refused("read failed")
-
-
-def test_a_pipe_that_stays_open(pfs: Program, folder: pathlib.Path, pipe: tuple[int, int]) -> None:
-    os.write(pipe[1], THREE_JOBS)
-    assert pfs.run([], folder, pipe[0]) == ELEVEN
-
-
 # Files that are named by the descriptors that the program was started with
 
 @pytest.mark.parametrize("path", ["/dev/stdin", "/dev/fd/0", "/proc/self/fd/0"])
@@ -96,16 +76,6 @@ def test_a_pipe_that_stays_open(pfs: Program, folder: pathlib.Path, pipe: tuple[
 def test_a_path_of_the_input(pfs: Program, worked: pathlib.Path, line: str, name: str, path: str) -> None:
     with open(worked / name, "rb") as file:
         assert pfs.run(line.replace(name, path), worked, file) == ANSWERS[line]
-
-
-def test_a_pipe_by_its_number(pfs: Program, folder: pathlib.Path, pipe: tuple[int, int]) -> None:
-    os.write(pipe[1], THREE_JOBS)
-    line = VALUE.replace("three", f"/dev/fd/{pipe[0]}")
-    assert pfs.run(line, folder, pass_fds=(pipe[0],)) == ELEVEN
-
-
-def test_a_number_that_is_not_open(pfs: Program, folder: pathlib.Path) -> None:
-    assert pfs.run(VALUE.replace("three", "/dev/fd/99"), folder) == refused("cannot open")
 
 
 # Paths of files that aren't regular
@@ -181,10 +151,6 @@ def test_a_pipe_without_a_reader_is_a_failed_write(pfs: Program, worked: pathlib
     assert pfs.run(line, worked, stdout=unread_end, restore_signals=restores) == unwritten(0)
 
 
-def test_no_reader_of_errors(pfs: Program, worked: pathlib.Path, unread_end: int) -> None:
-    assert pfs.run("value --layout taillard mixed", worked, stderr=unread_end) == Ran(b"", b"", 2)
-
-
 @BOTH_WAYS
 def test_a_reader_that_leaves(pfs: Program, folder: pathlib.Path, restores: bool) -> None:
     """The reader leaves once the pipe is full: what the pipe holds went out."""
@@ -194,15 +160,6 @@ def test_a_reader_that_leaves(pfs: Program, folder: pathlib.Path, restores: bool
     wait_for("the pipe is full", lambda: unread(read_end) == PAGE)
     os.close(read_end)
     assert ended(child) == unwritten(PAGE)
-
-
-def test_a_pipe_that_does_not_wait(pfs: Program, folder: pathlib.Path) -> None:
-    """No write is repeated."""
-    read_end, write_end = page_pipe()
-    os.set_blocking(write_end, False)
-    assert pfs.run("generate 500 20 1", folder, stdout=write_end) == unwritten(PAGE)
-    os.close(read_end)
-    os.close(write_end)
 
 
 # Named pipes
@@ -221,12 +178,6 @@ def test_a_named_pipe_that_stays_open(pfs: Program, piped: pathlib.Path) -> None
     os.write(writer, THREE_JOBS + b"what follows isn't looked at")
     assert ended(child) == ELEVEN
     os.close(writer)
-
-
-def test_a_named_pipe_with_nothing(pfs: Program, piped: pathlib.Path) -> None:
-    child = pfs.start("value --layout taillard pipe", piped)
-    os.close(opened_for_writing(piped / "pipe"))
-    assert ended(child) == refused("no block, found 0", 2)
 
 
 # Signals
