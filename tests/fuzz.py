@@ -307,8 +307,8 @@ class Line:
         words = list(words)
         for _ in range(self.random.choice([1, 1, 2])):
             place = self.random.randint(0, len(words))
-            new = self.random.choice([[], [self.random.choice(ODD_WORDS)], words[place:place + 1] * 2])
-            words[place:place + self.random.randrange(2)] = new
+            new: list[list[bytes]] = [[], [self.random.choice(ODD_WORDS)], words[place:place + 1] * 2]
+            words[place:place + self.random.randrange(2)] = self.random.choice(new)
         return words
 
 
