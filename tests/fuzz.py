@@ -8,13 +8,16 @@ repeats the case, and stores its files in a folder.
 usage: tests/fuzz.py [--seconds N] [--seed N] [--program PATH] [--case N]"""
 import argparse
 import dataclasses
+import fcntl
 import itertools
 import os
 import pathlib
 import re
 import shlex
+import struct
 import sys
 import tempfile
+import termios
 import threading
 import time
 from collections.abc import Iterable, Sequence
@@ -22,7 +25,6 @@ from random import Random
 
 sys.dont_write_bytecode = True
 from support import second_program
-from support.pipes import unread
 from support.program import Program, Ran
 from support.second_program import COMMANDS, NEEDED, UNREADABLE, Contents, Instance, Stop
 
@@ -65,6 +67,12 @@ class Case:
 
 
 # Running a case
+
+def unread(descriptor: int) -> int:
+    """How many bytes of a pipe haven't been read."""
+    count: int = struct.unpack("i", fcntl.ioctl(descriptor, termios.FIONREAD, b"\0" * 4))[0]
+    return count
+
 
 def feed(pipe: pathlib.Path, text: bytes, lengths: list[int], ended: threading.Event) -> None:
     """Write a text into a named pipe in pieces of these lengths, and the rest in pieces that any pipe holds: the next
@@ -153,10 +161,9 @@ class Writer:
         most_jobs, most_machines = self.random.choice(great if self.is_great else small)
         jobs, machines = self.random.randint(1, most_jobs), self.random.randint(1, most_machines)
         shop = Instance(jobs, machines, [self.random.choice(NOTES) for _ in range(3)])
-        most = self.random.choice([1, 9, 99, 3_000, 1_000_000_000])
-        for row in shop.times:
-            for job in range(jobs):
-                row[job] = self.random.choice(TIMES) if self.chance(0.05) else self.random.randint(0, most)
+        most = self.random.choice([0, 1, 3, 9, 99, 3_000, 65_534, 65_535, 65_536, 1_000_000_000])
+        times = self.random.choice([range(most + 1), [0, 0, 1, most], TIMES])
+        shop.times = [self.random.choices(times, k=jobs) for _ in range(machines)]
         return shop
 
     def block(self, shop: Instance) -> list[bytes]:

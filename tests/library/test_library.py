@@ -281,13 +281,9 @@ Call = tuple[str, Arguments]
 
 def shop_of(random: Random) -> Instance:
     """A random instance, often one with many equal sums."""
-    most_jobs, most_machines = random.choice([(9, 5), (9, 5), (12, 26)])
-    notes = [random.choice(fuzz.NOTES) for _ in range(3)]
-    shop = Instance(random.randint(1, most_jobs), random.randint(1, most_machines), notes)
-    most = random.choice([0, 1, 3, 9, 99, 3_000, 65_534, 65_535, 65_536, 1_000_000_000])
-    times = random.choice([range(most + 1), [0, 0, 1, most]])
-    shop.times = [random.choices(times, k=shop.jobs) for _ in range(shop.machines)]
-    return shop
+    writer = fuzz.Writer(random)
+    writer.is_great = False
+    return writer.shop()
 
 
 def given(shop: Instance) -> Arguments:

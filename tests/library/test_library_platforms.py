@@ -6,22 +6,10 @@ import re
 import pytest
 from support.library import HEADER, Library, compile_quietly
 from support.needs import tool
-from support.tools import output_of, run_tool
+from support.tools import TOP, output_of, run_tool
 
-PROGRAM = """#include <pfs.h>
-#include <stdio.h>
-
-int main(void) {
-    uint32_t times[] = {3, 2, 2, 5, 4, 1}, order[3];
-    struct pfs_instance instance = {NULL};
-    uint64_t makespan = 0, cells;
-    int number = pfs_prepare(times, 6, 3, 2, &instance);
-    if (number == PFS_OK)
-        number = pfs_neh(&instance, order, 3, &makespan, &cells);
-    pfs_release(&instance);
-    return printf("%d, makespan %d\\n", number, (int)makespan) < 0;
-}
-"""
+# The example of the page.
+[PROGRAM] = re.findall(r"^```c\n(.*?)^```$", (TOP / "docs" / "LIBRARY.md").read_text(), re.MULTILINE | re.DOTALL)
 SHARED, STATIC = "libpfs.so.1", "libpfs.a"
 
 
@@ -38,7 +26,7 @@ def program(libpfs: Library, folder: pathlib.Path, compiler: str, library: str, 
                          ids=["shared", "archive", "static program"])
 def test_a_program_runs_with_musl(libpfs: Library, folder: pathlib.Path, library: str, options: list[str]) -> None:
     made = program(libpfs, folder, "musl-gcc", library, *options)
-    assert output_of([made], folder) == "0, makespan 10\n"
+    assert output_of([made], folder) == "makespan 10\n"
 
 
 def test_the_stack_is_not_executable(libpfs: Library, folder: pathlib.Path) -> None:
@@ -51,6 +39,6 @@ def test_the_stack_is_not_executable(libpfs: Library, folder: pathlib.Path) -> N
 def test_an_old_processor_is_reported(libpfs: Library, folder: pathlib.Path, library: str) -> None:
     """The page says so: an emulated processor without the instructions of x86-64-v2, and one with them."""
     made = program(libpfs, folder, "gcc", library)
-    assert output_of([tool("qemu-x86_64"), "-cpu", "Nehalem", made], folder) == "0, makespan 10\n"
+    assert output_of([tool("qemu-x86_64"), "-cpu", "Nehalem", made], folder) == "makespan 10\n"
     old = run_tool([tool("qemu-x86_64"), "-cpu", "qemu64", made], folder)
     assert (old.status, old.stdout) == (127, "") and "CPU ISA level is lower than required" in old.stderr

@@ -1,6 +1,8 @@
 """Unusual descriptors and files: closed descriptors, pipes whose other end is closed or waits, folders, devices,
 signals, and the longest command lines that Linux allows. Each run is checked for its exact output, errors and
 status."""
+import contextlib
+import fcntl
 import os
 import pathlib
 import resource
@@ -9,14 +11,17 @@ import socket
 from collections.abc import Iterator
 
 import pytest
+from fuzz import unread
 from support.files import FILES, THREE_JOBS, USAGE
 from support.lines import ANSWERS, CHECK, EACH, SHORT, SOLVE, VALUE, WITH_INSTANCE, WITH_ORDER, refused, unwritten
-from support.pipes import PAGE, opened_for_writing, page_pipe, unread, wait_for
 from support.program import Program, Ran, Words, ended
+from support.tools import wait_until
 
 ELEVEN = ANSWERS[VALUE]
 # The longest word that Linux passes on, without its end, and how many words are many.
 LONGEST_WORD = 131_071
+# The least size of a pipe.
+PAGE = 4_096
 MANY = 100_000
 
 # The signals that kill a program by default.
@@ -154,10 +159,11 @@ def test_a_pipe_without_a_reader_is_a_failed_write(pfs: Program, worked: pathlib
 @BOTH_WAYS
 def test_a_reader_that_leaves(pfs: Program, folder: pathlib.Path, restores: bool) -> None:
     """The reader leaves once the pipe is full: what the pipe holds went out."""
-    read_end, write_end = page_pipe()
+    read_end, write_end = os.pipe()
+    assert fcntl.fcntl(write_end, fcntl.F_SETPIPE_SZ, PAGE) == PAGE
     child = pfs.start("generate 500 20 1", folder, stdout=write_end, restore_signals=restores)
     os.close(write_end)
-    wait_for("the pipe is full", lambda: unread(read_end) == PAGE)
+    wait_until(lambda: unread(read_end) == PAGE, "the pipe is full")
     os.close(read_end)
     assert ended(child) == unwritten(PAGE)
 
@@ -169,6 +175,20 @@ def piped(worked: pathlib.Path) -> pathlib.Path:
     """The worked files and a named pipe."""
     os.mkfifo(worked / "pipe")
     return worked
+
+
+def opened_for_writing(pipe: pathlib.Path) -> int:
+    """The end of a named pipe to write to, once a program opens the other."""
+    ends: list[int] = []
+
+    def is_opened() -> bool:
+        with contextlib.suppress(OSError):
+            ends.append(os.open(pipe, os.O_WRONLY | os.O_NONBLOCK))
+        return ends != []
+
+    wait_until(is_opened, f"the program opens {pipe.name}")
+    os.set_blocking(ends[0], True)
+    return ends[0]
 
 
 def test_a_named_pipe_that_stays_open(pfs: Program, piped: pathlib.Path) -> None:
@@ -199,7 +219,7 @@ def test_a_signal_kills_the_program(pfs: Program, piped: pathlib.Path, number: s
     child = pfs.start("value --layout taillard pipe", piped, preexec_fn=as_usual)
     writer = opened_for_writing(piped / "pipe")
     os.write(writer, THREE_JOBS[:100])
-    wait_for("the pipe is read", lambda: unread(writer) == 0)
+    wait_until(lambda: unread(writer) == 0, "the pipe is read")
     child.send_signal(number)
     assert ended(child) == Ran(b"", b"", -number)
     os.close(writer)

@@ -10,7 +10,7 @@ from typing import NamedTuple
 import pytest
 from support import second_program
 from support.files import FILES
-from support.large import LargeRun, run_limited, write_many_lines, write_one_line, write_repeated
+from support.large import LargeRun, many_lines, one_line, run_limited
 from support.lines import ANSWERS, EACH, ELEVEN, WITH_INSTANCE
 from support.program import Program, Ran
 from support.second_program import LONGEST_TIME, MOST_JOBS, MOST_MACHINES, MOST_NOTE, Instance
@@ -53,8 +53,8 @@ MANY_JOBS, MANY_MACHINES = 2_000, 200
 
 
 class Great(NamedTuple):
-    """How such a file, or a smaller one like it, is written, and what `value` prints or reports of it."""
-    write: Callable[[pathlib.Path, int], None]
+    """Such a file, or a smaller one like it, by its size, and what `value` prints or reports of it."""
+    text: Callable[[int], bytes]
     printed: Callable[[int], bytes] = lambda size: b""
     got: bytes = b""
     times: int = 0
@@ -62,15 +62,15 @@ class Great(NamedTuple):
 
 def fill(part: bytes, got: bytes) -> Great:
     """A file of equal parts, which holds no instance."""
-    return Great(lambda path, size: write_repeated(path, part, size), got=got)
+    return Great(lambda size: (part * size)[:size], got=got)
 
 
 GREAT = {
     **{f"nothing but {part!r}": fill(part, NONE) for part in (b" ", b"\n", b"x", b"\0", b"\xff")},
     **{f"nothing but {part!r}": fill(part, COUNT) for part in (b"7", b"7 ")},
-    "one line": Great(write_one_line, lambda size: ELEVEN),
+    "one line": Great(one_line, lambda size: ELEVEN),
     "a million lines": Great(
-        lambda path, size: write_many_lines(path, MANY_JOBS * size // SIZE, MANY_MACHINES, 1_000_000 * size // SIZE),
+        lambda size: many_lines(MANY_JOBS * size // SIZE, MANY_MACHINES, 1_000_000 * size // SIZE),
         lambda size: b"makespan %d\n" % (MANY_JOBS * size // SIZE + MANY_MACHINES - 1),
         times=MANY_JOBS * MANY_MACHINES),
 }
@@ -84,7 +84,7 @@ def test_a_great_file_in_linear_time(pfs: Program, folder: pathlib.Path, kind: s
     great, path, words = GREAT[kind], folder / "great", words_of("value", folder / "great")
     seconds = []
     for size in (SIZE // 8, SIZE):
-        great.write(path, size)
+        path.write_bytes(great.text(size))
         seconds.append(run_large(pfs, words, folder, great.printed(size), great.got, 4 * great.times).seconds)
     assert seconds[1] <= 27 * seconds[0] + 0.1, f"{seconds[1]} s, and {seconds[0]} s for an eighth of the file"
     if path.stat().st_size == SIZE:
@@ -95,10 +95,10 @@ def test_a_great_file_in_linear_time(pfs: Program, folder: pathlib.Path, kind: s
 
 
 @pytest.fixture(scope="module")
-def one_line(tmp_path_factory: pytest.TempPathFactory) -> Iterator[pathlib.Path]:
+def line(tmp_path_factory: pytest.TempPathFactory) -> Iterator[pathlib.Path]:
     """The three jobs on one line of 64 MiB."""
     path = tmp_path_factory.mktemp("line") / "great"
-    write_one_line(path, SIZE)
+    path.write_bytes(one_line(SIZE))
     yield path
     path.unlink()
 
@@ -109,15 +109,15 @@ ONE_LINE = pytest.mark.xdist_group("one line")
 @ONE_LINE
 @pytest.mark.seconds(3)
 @pytest.mark.parametrize("command", [command for command in COMMANDS if command != "value"])
-def test_a_line(pfs: Program, folder: pathlib.Path, one_line: pathlib.Path, command: str) -> None:
+def test_a_line(pfs: Program, folder: pathlib.Path, line: pathlib.Path, command: str) -> None:
     (folder / "best").write_bytes(FILES["best"])
-    run_large(pfs, words_of(command, one_line, folder / "best"), folder, ANSWERS[EACH[command]].stdout)
+    run_large(pfs, words_of(command, line, folder / "best"), folder, ANSWERS[EACH[command]].stdout)
 
 
 @ONE_LINE
 @pytest.mark.seconds(3)
-def test_a_line_as_input(pfs: Program, folder: pathlib.Path, one_line: pathlib.Path) -> None:
-    run_large(pfs, [], folder, ELEVEN, stdin=one_line)
+def test_a_line_as_input(pfs: Program, folder: pathlib.Path, line: pathlib.Path) -> None:
+    run_large(pfs, [], folder, ELEVEN, stdin=line)
 
 
 # The greatest instance

@@ -14,45 +14,21 @@ _, ended, usage = os.wait4(os.posix_spawnp(sys.argv[2], sys.argv[2:], os.environ
 with open(sys.argv[1], "w") as file:
     print(os.waitstatus_to_exitcode(ended), usage.ru_utime + usage.ru_stime, usage.ru_maxrss * 1024, file=file)
 """
-PIECE = 65_536
 # A program that takes more processor time does too much.
 MOST_SECONDS = 60
 
 
-def write_repeated(path: pathlib.Path, part: bytes, size: int) -> None:
-    """A file of this size, of one part after the other."""
-    many = part * (PIECE // len(part))
-    with open(path, "wb", buffering=0) as file:
-        for start in range(0, size, len(many)):
-            file.write(many[:size - start])
+def one_line(size: int) -> bytes:
+    """The three jobs with all times on one line, which fill a file of this size by their leading zeros."""
+    each, rest = divmod(size - len(b"3 2 0 0 0\n3 2 4 2 5 1"), 6)
+    return b"3 2 0 0 0\n" + b"0" * rest + b" ".join(b"0" * each + time for time in (b"3", b"2", b"4", b"2", b"5", b"1"))
 
 
-def write_one_line(path: pathlib.Path, size: int) -> None:
-    """The three jobs with all times on one line, which fill the file by their leading zeros."""
-    head = b"3 2 0 0 0\n"
-    times = [b"3", b" 2", b" 4", b" 2", b" 5", b" 1"]
-    with open(path, "wb") as file:
-        file.write(head)
-        left = size - len(head) - sum(map(len, times))
-        for place, time in enumerate(times):
-            zeros = left // (len(times) - place)
-            left -= zeros
-            file.write(time[:-1])
-            for start in range(0, zeros, PIECE):
-                file.write(b"0" * min(PIECE, zeros - start))
-            file.write(time[-1:])
-
-
-def write_many_lines(path: pathlib.Path, jobs: int, machines: int, lines: int) -> None:
+def many_lines(jobs: int, machines: int, lines: int) -> bytes:
     """Jobs that all take 1 on each machine, one time a line, and plain lines before and between, each of 67 bytes."""
     time, plain = b"0" * 65 + b"1\n", b" \t\r+-x" * 11 + b"\n"
     each, rest = divmod(lines - jobs * machines - 1, jobs * machines)
-    with open(path, "wb") as file:
-        for _ in range(rest):
-            file.write(plain)
-        file.write(b"%d %d 0 0 0\n" % (jobs, machines))
-        for _ in range(jobs * machines):
-            file.write(plain * each + time)
+    return plain * rest + b"%d %d 0 0 0\n" % (jobs, machines) + (plain * each + time) * (jobs * machines)
 
 
 class LargeRun(NamedTuple):
