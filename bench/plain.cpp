@@ -33,7 +33,7 @@ public:
     bool read(Instance& shop) { return read_sizes(shop) && read_times(shop); }
 
 private:
-    // Returns whether the file goes on, within the most bytes.
+    // Returns whether the file has more bytes within the limit.
     bool has_more() {
         if (at == end && file != nullptr) {
             at = piece;
