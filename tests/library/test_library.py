@@ -1,6 +1,6 @@
-"""The library for C: its header, its manual page and the symbols of its files; each function on each invalid argument
-(support/library_calls.c), also with failing allocations, under valgrind and with gcc's sanitizers; and on random
-instances and files against a second implementation (support/second_library.py)."""
+"""The library for C: its header, its manual page, where it runs, and the symbols of its files; each function on each
+invalid argument (support/library_calls.c), also with failing allocations, under valgrind and with gcc's sanitizers; and
+on random instances and files against a second implementation (support/second_library.py)."""
 import ctypes
 import pathlib
 import re
@@ -8,6 +8,7 @@ import subprocess
 import threading
 from collections.abc import Callable
 from random import Random
+from typing import Any
 
 import fuzz
 import pytest
@@ -19,7 +20,7 @@ from support.needs import tool
 from support.program import Program, Ran
 from support.second_library import ITERATE_OPTIONS, OPTIONS, by_job
 from support.second_program import Instance, generated, makespan
-from support.tools import csv_rows, output_of
+from support.tools import csv_rows, output_of, run_tool
 
 CALLS = SUPPORT / "library_calls.c"
 # The functions that allocate nothing once their instance is prepared, those that do, and those that need none.
@@ -160,11 +161,28 @@ def test_the_manual_page_has_each_function() -> None:
     assert set(re.findall(r"^\.Fn (\w+)", MANUAL.read_text(), re.MULTILINE)) == NAMES
 
 
-def test_the_example_of_the_page_prints_its_makespan(libpfs: Library, top: pathlib.Path, folder: pathlib.Path) -> None:
-    page, = re.findall(r"^```c\n(.*?)^```$", (top / "docs" / "LIBRARY.md").read_text(), re.MULTILINE | re.DOTALL)
-    (folder / "example.c").write_text(page)
-    program = compiled(folder / "example", [folder / "example.c"], libpfs)
+def example(libpfs: Library, folder: pathlib.Path, *words: str, **how: Any) -> Program:
+    """The example of the page."""
+    page = (HEADER.parent.parent / "docs" / "LIBRARY.md").read_text()
+    (folder / "example.c").write_text(re.findall(r"^```c\n(.*?)^```$", page, re.MULTILINE | re.DOTALL)[0])
+    return compiled(folder / "example", [folder / "example.c"], libpfs, *words, **how)
+
+
+@pytest.mark.parametrize(("compiler", "is_static", "words"), [
+    ("gcc", False, []), ("musl-gcc", False, []), ("musl-gcc", True, []), ("musl-gcc", True, ["-static"])])
+def test_the_example_of_the_page_prints_its_makespan(libpfs: Library, folder: pathlib.Path, compiler: str,
+                                                     is_static: bool, words: list[str]) -> None:
+    program = example(libpfs, folder, *words, compiler=compiler, is_static=is_static)
     assert program.run([], folder) == Ran(b"makespan 10\n", b"", 0)
+
+
+@pytest.mark.parametrize("is_static", [False, True])
+def test_an_old_processor_is_reported(libpfs: Library, folder: pathlib.Path, is_static: bool) -> None:
+    """The page says so: an emulated processor without the instructions of x86-64-v2, and one with them."""
+    made = example(libpfs, folder, is_static=is_static).path
+    assert output_of([tool("qemu-x86_64"), "-cpu", "Nehalem", made], folder) == "makespan 10\n"
+    old = run_tool([tool("qemu-x86_64"), "-cpu", "qemu64", made], folder)
+    assert (old.status, old.stdout) == (127, "") and "CPU ISA level is lower than required" in old.stderr
 
 
 def test_the_table_of_calls_of_the_page_has_each_function(top: pathlib.Path) -> None:
@@ -184,7 +202,9 @@ def test_the_library_exports_only_the_names_of_the_header(libpfs: Library) -> No
 
 
 def test_the_library_needs_only_the_c_library(libpfs: Library) -> None:
-    got = output_of([tool("readelf"), "--dynamic", "--wide", libpfs.path], libpfs.path.parent)
+    """And no executable stack."""
+    got = output_of([tool("readelf"), "--dynamic", "--segments", "--wide", libpfs.path], libpfs.path.parent)
+    assert re.findall(r"^ *GNU_STACK(?: +0x\w+){5} +([RWE]+)", got, re.MULTILINE) == ["RW"]
     assert re.findall(r"\(NEEDED\).*\[(.*)\]", got) == ["libc.so.6"]
     assert re.findall(r"\(SONAME\).*\[(.*)\]", got) == ["libpfs.so.1"]
     assert "TEXTREL" not in got
