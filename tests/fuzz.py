@@ -398,8 +398,9 @@ def search(program: Program, seed: int, seconds: float, numbers: Iterable[int]) 
             continue
         count += 1
         if run(program, case) != case.wanted():
-            print(f"seed {seed}, case {number}: the programs differ", flush=True)
-            print(f"to repeat it: {TOP}/tests/fuzz.py --program {program.path} --seed {seed} --case {number}", flush=True)
+            print(f"seed {seed}, case {number}: the programs differ")
+            words = f"{TOP}/tests/fuzz.py --program {program.path} --seed {seed} --case {number}"
+            print(f"to repeat it: {words}", flush=True)
             tell(program, case)
             return False
     print(f"seed {seed}: {count} cases in {seconds:g} s, on which both programs agree")

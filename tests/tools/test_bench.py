@@ -87,7 +87,7 @@ def modules_of(head: str, functions: Iterable[str]) -> dict[str, str]:
 
 
 def name_of(function: str) -> str:
-    return re.findall(r"fn (\w+)", function)[0]
+    return str(re.findall(r"fn (\w+)", function)[0])
 
 
 @pytest.fixture(scope="session")
