@@ -1,7 +1,6 @@
 """Unusual descriptors and files: closed descriptors, pipes whose other end is closed or waits, folders, devices,
 signals, and the longest command lines that Linux allows. Each run is checked for its exact output, errors and
 status."""
-import contextlib
 import fcntl
 import os
 import pathlib
@@ -171,33 +170,18 @@ def test_a_reader_that_leaves(pfs: Program, folder: pathlib.Path, restores: bool
 # Named pipes
 
 @pytest.fixture
-def piped(worked: pathlib.Path) -> pathlib.Path:
-    """The worked files and a named pipe."""
+def piped(worked: pathlib.Path) -> Iterator[int]:
+    """The end of a named pipe among the worked files, which stays open."""
     os.mkfifo(worked / "pipe")
-    return worked
+    end = os.open(worked / "pipe", os.O_RDWR)
+    yield end
+    os.close(end)
 
 
-def opened_for_writing(pipe: pathlib.Path) -> int:
-    """The end of a named pipe to write to, once a program opens the other."""
-    ends: list[int] = []
-
-    def is_opened() -> bool:
-        with contextlib.suppress(OSError):
-            ends.append(os.open(pipe, os.O_WRONLY | os.O_NONBLOCK))
-        return ends != []
-
-    wait_until(is_opened, f"the program opens {pipe.name}")
-    os.set_blocking(ends[0], True)
-    return ends[0]
-
-
-def test_a_named_pipe_that_stays_open(pfs: Program, piped: pathlib.Path) -> None:
+def test_a_named_pipe_that_stays_open(pfs: Program, worked: pathlib.Path, piped: int) -> None:
     """The program ends after the block, and doesn't wait for the end of the file."""
-    child = pfs.start("value --layout taillard pipe", piped)
-    writer = opened_for_writing(piped / "pipe")
-    os.write(writer, THREE_JOBS + b"what follows isn't looked at")
-    assert ended(child) == ELEVEN
-    os.close(writer)
+    os.write(piped, THREE_JOBS + b"what follows isn't looked at")
+    assert pfs.run("value --layout taillard pipe", worked) == ELEVEN
 
 
 # Signals
@@ -214,15 +198,13 @@ def no_core() -> None:
 
 
 @pytest.mark.parametrize("number", [*ENDING, signal.SIGKILL], ids=lambda number: str(number.name))
-def test_a_signal_kills_the_program(pfs: Program, piped: pathlib.Path, number: signal.Signals) -> None:
+def test_a_signal_kills_the_program(pfs: Program, worked: pathlib.Path, piped: int, number: signal.Signals) -> None:
     """A program that waits is killed and prints nothing."""
-    child = pfs.start("value --layout taillard pipe", piped, preexec_fn=as_usual)
-    writer = opened_for_writing(piped / "pipe")
-    os.write(writer, THREE_JOBS[:100])
-    wait_until(lambda: unread(writer) == 0, "the pipe is read")
+    child = pfs.start("value --layout taillard pipe", worked, preexec_fn=as_usual)
+    os.write(piped, THREE_JOBS[:100])
+    wait_until(lambda: unread(piped) == 0, "the pipe is read")
     child.send_signal(number)
     assert ended(child) == Ran(b"", b"", -number)
-    os.close(writer)
 
 
 @pytest.mark.parametrize("restores, answer", [(False, unwritten(5)), (True, Ran(b"", b"", -signal.SIGXFSZ))],
