@@ -22,11 +22,12 @@ int main(int count, char** words) try {
         pfs::List times(jobs * machines);
         pfs::check(pfs_generate(jobs, machines, number(word), times.data(), times.size()));
         pfs::Instance shop(times, jobs, machines);
-        std::uint64_t bound = shop.bound(), neh = shop.neh().makespan;
+        std::uint64_t bound = shop.bound();
+        pfs::Solution neh = shop.neh();
         pfs_rounds_options options{1, jobs < 4 ? jobs : 4, 0, static_cast<std::uint32_t>(number(3)), 0};
-        std::uint64_t found = shop.rounds(options, shop.neh().order).makespan;
+        std::uint64_t found = shop.rounds(options, neh.order).makespan;
         std::printf("%s: bound %" PRIu64 ", NEH %" PRIu64 " (%.2f %%), found %" PRIu64 " (%.2f %%)\n", words[word],
-                    bound, neh, gap(neh, bound), found, gap(found, bound));
+                    bound, neh.makespan, gap(neh.makespan, bound), found, gap(found, bound));
     }
 } catch (const std::exception& fault) {
     std::fprintf(stderr, "gaps: %s\n", fault.what());
