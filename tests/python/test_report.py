@@ -1,10 +1,12 @@
 """The report of experiments: its tables, its statistics by plain definitions, and what its plots show."""
+import contextlib
 import csv
 import itertools
 import math
 import os
 import pathlib
 import re
+import shutil
 import statistics
 import time
 from collections.abc import Callable
@@ -21,6 +23,7 @@ for _name in ("matplotlib", "pandas", "scipy"):
 import matplotlib as mpl
 import pandas
 from matplotlib.colors import to_hex
+from pfs.experiments import ExperimentError
 from pfs.experiments import __main__ as experiments
 from pfs.experiments import report as typed
 from pfs.experiments.statistics import common, holm
@@ -46,6 +49,8 @@ out,20,5,100,4,0,4,1,0,1.961,3.960,4.000,7.000,0.5000
 out,100,10,0,4,0,0,1,0,,,,,
 out,100,10,100,4,0,1,0,0,0.000,0.000,0.000,0.000,2.0000
 """
+HEADS = ("method | jobs | machines | rounds | take | passes | runs | failed | audited | mean rpd, % | greatest rpd, % "
+         "| mean gap, % | greatest gap, % | mean time, s")
 FILES = ["gap.png", "instances.csv", "rpd.png", "seconds.png", "sizes.csv", "sizes.md", "sizes.tex",
          "table.csv", "table.md", "time.png"]
 Reported = Callable[..., Done]
@@ -89,9 +94,9 @@ def test_a_report_has_its_table_and_its_plots(ending: str, begin: bytes, report:
     assert sorted(os.listdir(folder / "report")) == [name.replace("png", ending) for name in FILES]
     assert (folder / "report" / "table.csv").read_bytes() == TABLE.encode()
     assert (folder / "report" / "table.md").read_text() == got.stdout
-    rows = [[cell.strip() for cell in line[1:-1].split("|")] for line in got.stdout.splitlines()[2:-2]]
-    assert rows == [line.split(",") for line in TABLE.splitlines()[1:]]
-    assert got.stdout.endswith("\n\nRPD: relative to the best makespan of any of these runs.\n")
+    rows = [HEADS, " | ".join(["---:"] * 14), *(line.replace(",", " | ") for line in TABLE.splitlines()[1:])]
+    assert got.stdout == "".join(f"| {row} |\n" for row in rows) + (
+        "\nRPD: relative to the best makespan of any of these runs.\n")
     for name in ("gap", "rpd", "seconds", "time"):
         picture = (folder / "report" / f"{name}.{ending}").read_bytes()
         assert picture.startswith(begin) and len(picture) > 5000, name
@@ -102,23 +107,21 @@ def test_a_report_has_its_table_and_its_plots(ending: str, begin: bytes, report:
     assert sorted(os.listdir(folder / "none")) == ["table.csv", "table.md"]
 
 
-BAD = [("20,5,0", "20,5,0.5"), ("ok\n", "ok,a,b,c,d\n"), (",110,", f",{'1' * 320},"), (",110,", f",1{'0' * 19},"),
-       ("10.0000", "1e308"), ("10.0000", "nan"), ("10.0000", "x"), ("0.001000", "inf"), ("0.001000", "-0.1"),
+BAD = [("ok\n", "ok,a,b,c,d\n"), (",110,", f",{'1' * 320},"), ("10.0000", "nan"), ("10.0000", "x"), ("0.001000", "inf"),
        ("0.001000", "1_0"), ("0.001000", "\N{ARABIC-INDIC DIGIT ONE}"), (REPORTED[len(HEAD):], "")]
 # The status, the arguments, and what is said.
 WORDS = [(4, "none.csv report", "none.csv: "), (3, "--width 0 out.csv report", "'0' is not a number of inches"),
          (3, "--dpi 25.5 out.csv report", "'25.5' is not a whole number from 20 to 1,200"),
          (4, "out.csv out.csv", "out.csv: "), (4, "out.csv out.csv/report", "out.csv/report: "),
          (4, "--reference none out.csv report", "none: "),
-         (2, "--reference other.csv out.csv report", "other.csv: no column makespan"),
+         (2, "--reference other.csv out.csv report", "other.csv: no column instance, makespan"),
          (2, "--reference two.csv out.csv report", "two.csv: a has two makespans"),
          (2, "--reference ranks.csv out.csv report", "ranks.csv: two columns are named 'makespan'"),
          (2, "--reference three.csv out.csv report", "three.csv: '1.000' is not a whole number"),
          (2, "out.csv ./out.csv report", "a CSV is named twice, and its runs would count twice"),
-         (2, "out.csv ranks.csv .", "ranks.csv is read, and writing would replace it: name another folder"),
          (2, "--reference ranks.csv out.csv .", "ranks.csv is read, and writing would replace it"),
-         (2, "out.csv other.csv report", "other.csv: no column makespan"),
-         (2, "means.csv report", "published means are columns")]
+         (2, "other.csv report", "other.csv: no column instance, makespan"),
+         (2, "means.csv report", "published means are columns beside the runs of another CSV")]
 
 
 @pytest.mark.parametrize(("text", "status", "words", "said"), [
@@ -127,13 +130,34 @@ WORDS = [(4, "none.csv report", "none.csv: "), (3, "--width 0 out.csv report", "
     ids=[*(f"{new[:9]!r}" for _, new in BAD), *(words for _, words, _ in WORDS)])
 def test_what_is_refused_is_said_on_one_line_and_nothing_is_left(text: str, status: int, words: str, said: str,
                                                                  report: Reported, folder: pathlib.Path) -> None:
-    got = report(words=words, out=text, other="instance,length\na,1\n", means="jobs,machines,rpd\n2,2,1\n",
+    got = report(words=words, out=text, other="name,length\na,1\n", means="jobs,machines,rpd\n2,2,1\n",
                  two="instance,makespan\na,50\na,51\n", ranks="instance,makespan,makespan\na,50,51\n",
                  three="instance,makespan\na,1.000\n")
     assert (got.status, got.stdout) == (status, "")
     assert re.fullmatch(f"pfs-experiments report: [^\n]*{re.escape(said)}[^\n]*\n", got.stderr), got.stderr
     assert sorted(os.listdir(folder)) == ["means.csv", "other.csv", "out.csv", "ranks.csv", "three.csv",
                                           "two.csv"]
+
+
+@pytest.mark.parametrize("name", ["table", "instances", "best", "comparison", "ranks", "sizes"])
+def test_no_table_replaces_a_csv_that_is_read(name: str, report: Reported) -> None:
+    assert report(words=f"{name}.csv .", **{name: REPORTED}) == Done(
+        2, "", f"pfs-experiments report: {name}.csv is read, and writing would replace it: name another folder\n")
+
+
+# The greatest number of each column. The first nine are whole.
+LIMITS = {**dict.fromkeys(("jobs", "machines", "take", "passes"), 10 ** 6), "rounds": 10 ** 9, "cells": 2 ** 64 - 1,
+          **dict.fromkeys(("bound", "proved_bound", "reference", "makespan"), 10 ** 18 - 1),
+          **dict.fromkeys(("seconds", "time_factor"), 10 ** 12), **dict.fromkeys(("gap_percent", "rpd"), 10 ** 20)}
+
+
+@pytest.mark.parametrize("column", LIMITS)
+def test_the_limits_of_columns(column: str) -> None:
+    most, least = LIMITS[column], -100 if column in ("gap_percent", "rpd") else 0
+    for text, is_taken in ((most, True), (least, True), (most + max(1, most >> 50), False), (least - 1, False),
+                           (0.5, column not in [*LIMITS][:9]), ("", True)):
+        with contextlib.nullcontext() if is_taken else pytest.raises(ExperimentError, match=f"the column {column}, "):
+            typed.numbers_in(pandas.DataFrame({column: [str(text)]}), [column], "p")
 
 
 def test_a_csv_that_pandas_wrote_and_the_greatest_numbers(report: Reported, folder: pathlib.Path) -> None:
@@ -381,6 +405,23 @@ def test_the_effect_size_and_the_counts_are_by_instance(report: Reported, folder
         1] == ("a", "100", "2", "101", "103", f"{8 ** 0.5:.15g}", f"{200 / 101:.3f}")
 
 
+COMPARED = ("method,rounds,take,passes,time_factor,other_method,other_rounds,other_take,other_passes,other_time_factor,"
+            "instances,won,tied,lost,p,pairs,p_holm,median_difference_percent,vargha_delaney_a")
+
+
+def test_methods_without_an_rpd_are_compared_by_their_makespans(report: Reported, folder: pathlib.Path) -> None:
+    """Three have ranks if they have two instances."""
+    head = "instance,makespan\n"
+    texts = {"a": f"{head}i,1\n", "b": f"{head}i,2\n", "best": f"{head}z,1\n"}
+    assert report(**texts).status == 0
+    assert [[*row.values()][-9:] for row in csv_rows(folder / "report" / "comparison.csv")] == [
+        ["1", "1", "0", "0", "", "0", "", "", "1.000"]]
+    for ending, count in (("", 0), ("j,5\n", 3)):
+        shutil.rmtree(folder / "report")
+        assert report(**{name: f"{head}i,{at}\n{ending}" for at, name in enumerate("abc", 1)}).status == 0
+        assert (folder / "report" / "ranks.csv").exists() == (count > 0)
+
+
 def test_only_equal_rounds_or_times_are_compared(report: Reported, folder: pathlib.Path) -> None:
     """And Holm's correction is for these. Settings of one method are compared too, and a method that tells neither is
     compared with all."""
@@ -389,6 +430,8 @@ def test_only_equal_rounds_or_times_are_compared(report: Reported, folder: pathl
         f"i{at},{1000 + at + more},1000,{budget}\n" for at in range(6) for more, budget in enumerate(own))
         for name, own in budgets.items()})
     assert got.status == 0 and (folder / "report" / "comparison.md").read_text() in got.stdout
+    assert (folder / "report" / "comparison.csv").read_text().partition("\n")[0] == COMPARED
+    assert "; ties count half.\n" in got.stdout and got.stdout.endswith("p: Friedman's test.\n")
     names = ("method", "rounds", "time_factor", "take")
     rows = columns(folder, "comparison", *names, *(f"other_{name}" for name in names), "won")
     assert sorted((" ".join(filter(None, row[:4])), " ".join(filter(None, row[4:8]))) for row in rows) == [
@@ -443,6 +486,21 @@ PAPER = "instance,jobs,machines,makespan,method,reference\n" + "".join(
     for at, rpd in enumerate(rpds))
 
 
+TEX = r"""% \usepackage{booktabs}
+\begin{tabular}{lrr}
+\toprule
+jobs$\times$machines & 5\% \& more & mine\_1 \\
+\midrule
+20$\times$5 & 2.000 & 2.000 \\
+50$\times$5 & 1.500 & 5.000 \\
+\midrule
+mean & 1.750 & 3.500 \\
+\bottomrule
+\end{tabular}
+{\par\footnotesize Mean RPD, \%. Not audited, only stated: 5\% \& more, mine\_1.\par}
+"""
+
+
 def test_the_table_of_sizes_has_each_method_and_published_mean(report: Reported, folder: pathlib.Path) -> None:
     """And a row of means. With a method that lacks instances, only the others are in it, which a note says."""
     sizes = folder / "report" / "sizes.csv"
@@ -461,16 +519,14 @@ def test_the_table_of_sizes_has_each_method_and_published_mean(report: Reported,
     assert cells_of(sizes) == wanted
     lines = sizes.with_suffix(".md").read_text().splitlines()
     assert [line.replace("\\&", "&")[2:-2].split(" | ") for line in lines[:1] + lines[2:5]] == wanted
-    tex = sizes.with_suffix(".tex").read_text()
-    assert re.findall(r"\\(?:top|mid|bottom)rule", tex) == ["\\toprule", "\\midrule", "\\midrule", "\\bottomrule"]
-    assert r"jobs$\times$machines & 5\% \& more & mine\_1 \\" in tex and r"mean & 1.750 & 3.500 \\" in tex
-    assert r"\begin{tabular}{lrr}" in tex
-    published = "jobs,machines,rpd,method\n20,5,0.04,P\n20,5,0.5,Q\n50,5,1.25,Q\n"
+    assert sizes.with_suffix(".tex").read_text() == TEX
+    published = "jobs,machines,rpd,method\n20,5,0.04,P\n20,5,0.5,Q\n50,5,1.25,Q\n20,5,0.7,out\n50,5,0.9,\n"
     assert report(out="instance,jobs,machines,makespan,reference\na,20,5,100.5,100\nb,50,5,102,100\n",
                   paper=published).status == 0
-    assert cells_of(sizes) == [["jobs×machines", "out", "P", "Q"], ["20×5", "0.500", "0.040", "0.500"],
-                               ["50×5", "2.000", "", "1.250"], ["mean", "1.250", "", "0.875"]]
-    assert "Not audited, only stated: P, Q, out." in sizes.with_suffix(".tex").read_text()
+    assert cells_of(sizes) == [["jobs×machines", "out", "P", "Q", "out (published)", "paper"],
+                               ["20×5", "0.500", "0.040", "0.500", "0.700", ""],
+                               ["50×5", "2.000", "", "1.250", "", "0.900"], ["mean", "1.250", "", "0.875", "", ""]]
+    assert "Not audited, only stated: P, Q, out, paper." in sizes.with_suffix(".tex").read_text()
     assert column(folder, "best", "instances") == ["100.5", "102"]
 
 
@@ -511,17 +567,23 @@ def test_lines_bands_scale_and_colours_of_the_plots_by_rounds(done: Callable[[st
                           for at, rounds in enumerate((0, 10, 100, 1000, 10000))))[0]
     places = [axis.transData.transform((rounds, 0))[0] for rounds in (0, 10, 100, 1000, 10000)]
     steps = [later - place for place, later in zip(places[1:], places[2:])]
-    assert steps == pytest.approx([steps[0]] * 3, rel=0.01) and 0 < places[1] - places[0]
-    lines = panels("".join(f"{jobs},{jobs},5,{rounds},4,0,1,1,9,9,{jobs}.0,1,0.1,ok\n"
-                           for jobs in (20, 50, 100, 200, 500) for rounds in (0, 10)))[0].get_lines()
+    assert steps == pytest.approx([steps[0]] * 3, rel=0.01) and 0 < places[1] - places[0] < steps[0] / 2
+    lines = panels("".join(f"{jobs},{jobs},{machines},{rounds},4,0,1,1,9,9,{jobs}.0,1,0.1,ok\n" for machines, jobs in
+                           enumerate((20, 50, 100, 200, 500)) for rounds in (0, 10)))[0].get_lines()
+    assert [line.get_linestyle() for line in lines] == ["-", "--", ":", "-.", "-"]
     fills = [to_hex(line.get_color()) for line in lines]
-    assert len(fills) == 5 and min(map(least_difference, fills, fills[1:])) > 10, fills
+    assert (len(fills), fills[0], fills[-1]) == (5, "#440154", "#7ad151"), "of viridis"
+    assert min(map(least_difference, fills, fills[1:])) > 10, fills
     several = panels("a,20,5,0,2,0,1,1,1,1,30.0,1000,0.001000,ok\n" + "".join(
         f"a,20,5,{rounds},{take},{passes},1,1,1,1,{gap:.4f},1000,0.001000,ok\n"
         for (take, passes), gaps in GAPS.items() for rounds, gap in zip((5, 10), gaps)))[:-1]
     assert {axis.get_title(): lines_of(axis)["20×5"] for axis in several} == {
         f"out, take {take}, passes {passes}": [(0, 30.0), (5, first), (10, second)]
         for (take, passes), (first, second) in GAPS.items()}
+    beside = panels("".join(f"a,20,5,5,4,{passes},1,1,1,1,1.0,1,0.1,ok\n" for passes in (0, 3)))[:-1]
+    assert [axis.get_subplotspec().colspan.start for axis in (*several, *beside)] == [0, 1] * 3
+    runs = done("instance,jobs,machines,rounds,makespan,gap_percent\na,2,2,5,9,1.0\n")
+    assert reports.by_rounds(runs, "gap_percent", "y", "title", None) is None, "of unknown takes"
 
 
 def test_the_plots_of_times(done: Callable[[str], Any]) -> None:
@@ -531,11 +593,18 @@ def test_the_plots_of_times(done: Callable[[str], Any]) -> None:
     assert lines_of(first) == {"out": [(0.002, pytest.approx(12.708, abs=0.001)),
                                        (0.5, pytest.approx(1.961, abs=0.001))]}
     assert first.get_xscale() == "log" and len([tick for tick in first.get_xticks() if 1e-3 <= tick <= 10]) >= 2
+    text = "instance,jobs,machines,method,rounds,makespan,seconds,reference\n" + "".join(
+        f"a,20,5,m{at},{rounds},{100 + rounds},{3 - rounds},100\n" for at in range(6) for rounds in (1, 2))
+    axis = reports.by_seconds(done(text), None).axes[0]
+    assert [line.get_marker() for line in axis.get_lines()] == [*"os^Dvo"] and lines_of(axis)["m0"] == [(1, 2), (2, 1)]
     figure = reports.cell_times(done(HEAD + "a,20,5,0,4,0,1,1,101,100,1.0000,1000,0.001000,ok\n" + "".join(
         f"a,20,5,100,4,0,{at},1,101,100,1.0000,1000000,{time / 1000:.6f},ok\n"
         for at, time in enumerate((1, 2, 3, 4, 10)))), None)
     drawn = sorted({round(float(y), 6) for line in figure.axes[0].get_lines() for y in line.get_ydata()})
     assert drawn == [1, 2, 3, 4, 10] and "at 100 rounds" in figure._suptitle.get_text().replace("\n", " ")
+    assert figure.axes[0].get_ylim()[0] == 0
+    figure = reports.cell_times(done(HEAD + "a,20,5,0,4,0,1,1,101,100,1.0000,1000,0.001000,ok\n"), None)
+    assert "at 0 rounds" in figure._suptitle.get_text()
     figure = reports.cell_times(done("instance,jobs,machines,makespan,cells,seconds,time_factor\na,2,2,9,9,1,3\n"),
                                 None)
     assert "cell of searches by time" in figure._suptitle.get_text()
@@ -555,7 +624,8 @@ def test_trajectories_have_their_mean_and_the_share_that_reaches_the_target(done
     and 1. Runs without a trajectory aren't drawn, and the larger shop has another panel."""
     text = WAY_HEAD + "".join(f"i,20,5,{method},{seed},{way[-3:]},100,{seconds},{way}\n"
                               for method, ways in WAYS.items() for seed, (seconds, way) in enumerate(ways))
-    figures = reports.along(done(text + "j,50,5,a,,101,100,3,3:101\nj,50,5,b,,101,100,7,\n"), None)
+    text += "j,50,5,a,,101,100,3,3:101\nj,50,5,b,,101,100,7,\nj,50,5,c,,101,100,,1:110 3:101\n"
+    figures = reports.along(done(text + "".join(f"j,50,5,{name},,101,100,3,3:101\n" for name in "de")), None)
     assert {name: labels_of(figure)[:2] for name, figure in figures.items()} == {
         "trajectory": ("processor time, s", "mean RPD, %"), "target": ("processor time, s", "share of the runs")}
     first, second = figures["trajectory"].axes[:2]
@@ -564,13 +634,15 @@ def test_trajectories_have_their_mean_and_the_share_that_reaches_the_target(done
     assert [(lines[name][0], lines[name][-1]) for name in "ab"] == [((2, 8), (40, 3)), ((3, 11.5), (6, 2))]
     for x, y in lines["a"]:
         assert y == pytest.approx(8 if x < 10 else 5 if x < 20 else 3), x
-    assert list(lines_of(second)) == ["a"] and {y for _, y in lines_of(second)["a"]} == {1}
+    assert [*lines_of(second)] == [*"acde"] and {y for _, y in lines_of(second)["a"]} == {1}
+    assert [line.get_linestyle() for axis in (first, second) for line in axis.get_lines()] == [
+        "-", "--", "-", "-.", ":", "-"]
     first, second = figures["target"].axes[:2]
     assert first.get_title() == "20×5: RPD of at most 2.500 %"
     assert lines_of(first) == {"a": [(1, 0), (20, 0.5), (40, 0.5)], "b": [(0.5, 0), (5, 0.5), (6, 0.5)]}
-    assert lines_of(second) == {"a": [(3, 0), (3, 1), (3, 1)]}
+    assert lines_of(second) == dict.fromkeys("ade", [(3, 0), (3, 1), (3, 1)]) | {"c": [(1, 0), (3, 1), (3, 1)]}
     assert {line.get_drawstyle() for line in first.get_lines()} == {"steps-post"}
-    assert reports.along(done(WAY_HEAD + "i,20,5,a,1,104,100,1,\n"), None) == {}
+    assert reports.along(done(WAY_HEAD + "i,20,5,a,1,104,100,1,\nj,20,5,a,1,0,0,1,1:0\n"), None) == {}
 
 
 # The layout of plots
@@ -585,25 +657,32 @@ def styles_of(labels: int) -> dict[str, dict[str, Any]]:
     return {f"label {label}": {"color": "black"} for label in range(labels)}
 
 
-@pytest.mark.parametrize(("panels", "columns", "width", "wide", "rows", "across"), [
-    (1, 3, None, 6.5, 1, 1), (2, 3, None, 8.4, 1, 2), (5, 3, None, 12.6, 2, 3), (4, 2, None, 8.4, 2, 2),
-    (5, 3, 5.0, 5, 3, 2), (3, 3, 2.0, 2, 3, 1), (3, 3, 6.7, 6.7, 1, 3), (3, 3, 6.5, 6.5, 2, 2)])
-def test_panels_are_in_rows_above_their_legend(panels: int, columns: int, width: float | None, wide: float, rows: int,
-                                               across: int) -> None:
+def assert_in_rows(panels: list[Any], across: int) -> None:
     """Of equal scales, whose marks have numbers at the left and below the last panel of each column."""
-    figure = reports.panels(points_of(panels, 2), styles_of(2), columns, width, "the x", "the y", "a title", "a legend")
+    panels[0].figure.draw_without_rendering()
+    for at, panel in enumerate(panels):
+        place = panel.get_subplotspec()
+        assert (panel.get_title(), place.rowspan.start, place.colspan.start) == (f"panel {at}", *divmod(at, across))
+        assert [any(label.get_visible() and label.get_text() for label in labels)
+                for labels in (panel.get_yticklabels(), panel.get_xticklabels())] == [
+                    at % across == 0, at + across >= len(panels)], at
+        assert panel.get_xlim() == panels[0].get_xlim() and panel.get_ylim() == panels[0].get_ylim()
+
+
+@pytest.mark.parametrize(("panels", "columns", "width", "wide", "high", "rows", "across"), [
+    (1, 3, None, 6.5, 4.525, 1, 1), (2, 3, None, 8.4, 4.075, 1, 2), (5, 3, None, 12.6, 7.225, 2, 3),
+    (4, 2, None, 8.4, 7.225, 2, 2), (5, 3, 5.0, 5, 6.925, 3, 2), (3, 3, 2.0, 2, 7.095, 3, 1),
+    (3, 3, 6.7, 6.7, 2.925, 1, 3), (3, 3, 6.5, 6.5, 5.8, 2, 2)])
+def test_panels_are_in_rows_above_their_legend(panels: int, columns: int, width: float | None, wide: float, high: float,
+                                               rows: int, across: int) -> None:
+    """They are three quarters as high as wide, but from 2 to 3.6 inches."""
+    figure = reports.panels(points_of(panels, 2, -1), styles_of(2), columns, width, "the x", "the y", "a title",
+                            "a legend")
     *axes, below = figure.axes
-    assert figure.get_size_inches()[0] == pytest.approx(wide)
-    assert [axis.get_title() for axis in axes] == [f"panel {at}" for at in range(panels)]
-    places = [(spec.rowspan.start, spec.colspan.start) for spec in (axis.get_subplotspec() for axis in axes)]
-    assert places == [divmod(at, across) for at in range(panels)] and below.get_subplotspec().rowspan.start == rows
-    assert below.get_subplotspec().colspan == range(across)
-    figure.draw_without_rendering()
-    for at, axis in enumerate(axes):
-        shown = [bool([label for label in labels if label.get_visible() and label.get_text()])
-                 for labels in (axis.get_yticklabels(), axis.get_xticklabels())]
-        assert shown == [at % across == 0, at + across >= panels], at
-        assert axis.get_xlim() == axes[0].get_xlim() and axis.get_ylim() == axes[0].get_ylim()
+    assert [*figure.get_size_inches()] == pytest.approx([wide, high])
+    assert_in_rows(axes, across)
+    place = below.get_subplotspec()
+    assert len(axes) == panels and (place.rowspan.start, place.colspan) == (rows, range(across))
     legend = below.get_legend()
     assert [text.get_text() for text in legend.get_texts()] == ["label 0", "label 1"]
     assert (legend.get_title().get_text(), below.get_title(), figure._supylabel.get_text()) == (
@@ -614,9 +693,12 @@ def test_panels_are_in_rows_above_their_legend(panels: int, columns: int, width:
 
 
 def test_values_below_0_are_seen_and_long_legends_have_several_lines() -> None:
-    axes = reports.panels(points_of(1, 30, -5.0), styles_of(30), 3, None, "x", "y", "title", "legend").axes
+    points = points_of(1, 30, -5.0).assign(panel="a " * 50)
+    axes = reports.panels(points, styles_of(30), 3, None, "x", "y", "b " * 50, "legend").axes
     assert axes[0].get_ylim()[0] < -4
     figure = axes[0].figure
+    lines = [text.split("\n") for text in (axes[0].get_title(), figure._suptitle.get_text())]
+    assert [max(map(len, each)) for each in lines] == [67, 69]
     figure.draw_without_rendering()
     box = axes[-1].get_legend().get_window_extent()
     assert 0 <= box.x0 and box.x1 <= figure.bbox.width and 0 <= box.y0, "inside of the picture"
@@ -624,7 +706,9 @@ def test_values_below_0_are_seen_and_long_legends_have_several_lines() -> None:
     bands = points_of(1, 1, 3).assign(low=-1.0, high=9.0)
     axis = reports.panels(bands, styles_of(1), 3, None, "x", "y", "title", "legend").axes[0]
     assert axis.get_ylim()[0] < 0
-    assert {round(float(y), 6) for y in axis.collections[0].get_paths()[0].vertices[:, 1]} == {-1, 9}
+    band, line = axis.collections[0], axis.get_lines()[0]
+    assert {round(float(y), 6) for y in band.get_paths()[0].vertices[:, 1]} == {-1, 9}
+    assert (band.get_alpha(), *band.get_linewidth(), line.get_clip_on(), line.get_zorder()) == (0.2, 0, False, 3)
 
 
 def labels_of(figure: Any) -> tuple[str, str, str]:
@@ -676,6 +760,12 @@ def test_labels_are_rotated_where_they_have_no_room(count: int, letters: int, wi
     assert [label.get_text() for label in axis.get_xticklabels()] == labels
 
 
+def test_what_a_cell_shows() -> None:
+    """No number is -0, and only what is unknown of a setting is -1."""
+    cells = {("rpd", -0.0): "0.000", ("mean_rpd_percent", -1): "-1.000", ("other_take", -1): "", ("p", None): ""}
+    assert [typed.cell(*each) for each in cells] == [*cells.values()]
+
+
 def test_texts_of_plots_have_room() -> None:
     """A line has 12 letters at least, and a name at most 40."""
     lines = [reports.wrapped("a " * 40, inches).split("\n") for inches in (0.5, 1.03, 1.2, 4.05, 4.06)]
@@ -687,7 +777,8 @@ def test_texts_of_plots_have_room() -> None:
 @pytest.mark.parametrize("way", ["1", "1:", "x:104", "1:104 ", "2:110 1:104", "1:104 2:104", "1:103 2:104", "1:110",
                                  "1e9:104", "-1:104", "1:110  2:104", "1:1_04", "\N{ARABIC-INDIC DIGIT ONE}:104"])
 def test_a_trajectory_leads_to_the_makespan_of_its_run(way: str, report: Reported) -> None:
-    """Each point is later, and shorter. That of a run that failed isn't read."""
+    """Each point is shorter, and none is earlier. That of a run that failed isn't read."""
+    assert typed.way_of("1:110 1:104", 104, "", "") == [(1, 110), (1, 104)]
     got = report(WAY_HEAD + f"i,20,5,a,1,,,,x\ni,20,5,a,2,104,100,1,{way}\n")
     assert got == Done(2, "", "pfs-experiments report: out.csv: line 3: the trajectory must be SECONDS:MAKESPAN for "
                               "each better makespan, up to that of the run\n")
@@ -731,6 +822,30 @@ def test_differences_are_paired_by_instance_and_seed_in_a_panel_for_each_size(do
     assert reports.differences(done("instance,makespan,method,reference\na,103,m,100\n"), None) is None
 
 
+TEXTS = {"gap": "Gap to the bound: mean, and range over the seeds; gap to the lower bound, %; jobs×machines",
+         "rpd": "Relative percentage deviation: mean, and range over the seeds; RPD, %; jobs×machines",
+         "seconds": "Mean relative percentage deviation by time; RPD, %; processor time, s; method",
+         "time": "processor time per table cell, ns; jobs×machines", "differences": "95 %",
+         "trajectory": "Mean relative percentage deviation during the search; mean RPD, %; processor time, s; setting",
+         "target": "Time to target: runs that have reached it; share of the runs; processor time, s; setting"}
+
+
+@pytest.mark.parametrize(("panels", "settings", "width", "wide", "high", "across"), [
+    (1, 1, None, 6.5, 0.8 + 0.955, 1), (2, 2, None, 6.5, 0.8 + 1.21, 2), (4, 1, None, 6.8, 0.8 + 2 * 0.955, 3),
+    (4, 1, 3.5, 3.5, 0.8 + 4 * 0.955, 1), (4, 1, 4.0, 4, 0.8 + 2 * 0.955, 2)])
+def test_panels_of_differences_are_in_rows(panels: int, settings: int, width: float | None, wide: float, high: float,
+                                           across: int, monkeypatch: pytest.MonkeyPatch) -> None:
+    """Each name of a setting has 1.5 lines of 0.17 inches, and a panel 0.7 inches more."""
+    monkeypatch.setattr(reports.statistics, "differences", lambda _: pandas.DataFrame([
+        {"panel": f"panel {panel}", "first": "a", "setting": f"setting {at}", "mean": 0.5, "half": 1.0}
+        for panel in range(panels) for at in range(settings)]))
+    figure = reports.differences(None, width)
+    assert [*figure.get_size_inches()] == pytest.approx([wide, high])
+    assert_in_rows(figure.axes[:panels], across)
+    assert figure.axes[0].get_ylim() == (-0.5, settings - 0.5)
+    assert [axis.axison for axis in figure.axes] == [at < panels for at in range(len(figure.axes))]
+
+
 @pytest.mark.parametrize(("width", "options"), [("3.5", ["--no-title"]), ("7", [])])
 def test_all_is_inside_of_the_picture_and_can_be_read(width: str, options: list[str], report: Reported,
                                                       folder: pathlib.Path) -> None:
@@ -741,7 +856,7 @@ def test_all_is_inside_of_the_picture_and_can_be_read(width: str, options: list[
         f'"the method of somebody, number {at}",0.01:120 0.05:{100 + at}\n'
         for at in range(3) for name, jobs in (("i", 20 + at), ("j", 20)) for rounds in (1, 10, 1000))
     assert report(text, "--format", "svg", "--width", width, *options).status == 0
-    for name in ("gap", "rpd", "seconds", "time", "differences", "trajectory", "target"):
+    for name, texts in TEXTS.items():
         picture = (folder / "report" / f"{name}.svg").read_text()
         assert f'width="{72 * float(width):g}pt"' in picture
         letters = re.findall(r'<text style="font: ([0-9.]+)px [^"]*?(?:text-anchor: (\w+))?" x="([0-9.]+)" '
@@ -751,7 +866,8 @@ def test_all_is_inside_of_the_picture_and_can_be_read(width: str, options: list[
         for size, anchor, x, shown in letters:
             after = {"middle": 0.25, "end": 0}.get(anchor, 0.5) * float(size) * len(shown)
             assert float(x) + after <= 72 * float(width) + 2, shown
-        assert options == [] or "interval" not in picture and "range over" not in picture
+        assert options or [text for text in texts.split("; ") if f"{text}<" not in picture] == []
+        assert not options or not re.search("interval|range over", picture)
 
 
 @pytest.mark.parametrize("ending", ["svg", "pdf"])
