@@ -6,7 +6,6 @@ import math
 import os
 import pathlib
 import re
-import shutil
 import statistics
 import time
 from collections.abc import Callable
@@ -137,12 +136,6 @@ def test_what_is_refused_is_said_on_one_line_and_nothing_is_left(text: str, stat
     assert re.fullmatch(f"pfs-experiments report: [^\n]*{re.escape(said)}[^\n]*\n", got.stderr), got.stderr
     assert sorted(os.listdir(folder)) == ["means.csv", "other.csv", "out.csv", "ranks.csv", "three.csv",
                                           "two.csv"]
-
-
-@pytest.mark.parametrize("name", ["table", "instances", "best", "comparison", "ranks", "sizes"])
-def test_no_table_replaces_a_csv_that_is_read(name: str, report: Reported) -> None:
-    assert report(words=f"{name}.csv .", **{name: REPORTED}) == Done(
-        2, "", f"pfs-experiments report: {name}.csv is read, and writing would replace it: name another folder\n")
 
 
 # The greatest number of each column. The first nine are whole.
@@ -411,15 +404,13 @@ COMPARED = ("method,rounds,take,passes,time_factor,other_method,other_rounds,oth
 
 def test_methods_without_an_rpd_are_compared_by_their_makespans(report: Reported, folder: pathlib.Path) -> None:
     """Three have ranks if they have two instances."""
-    head = "instance,makespan\n"
-    texts = {"a": f"{head}i,1\n", "b": f"{head}i,2\n", "best": f"{head}z,1\n"}
-    assert report(**texts).status == 0
+    texts = {name: f"instance,makespan\ni,{at}\n" for at, name in enumerate("abc", 1)}
+    assert report(**texts, best="instance,makespan\nz,1\n").status == 0
     assert [[*row.values()][-9:] for row in csv_rows(folder / "report" / "comparison.csv")] == [
-        ["1", "1", "0", "0", "", "0", "", "", "1.000"]]
-    for ending, count in (("", 0), ("j,5\n", 3)):
-        shutil.rmtree(folder / "report")
-        assert report(**{name: f"{head}i,{at}\n{ending}" for at, name in enumerate("abc", 1)}).status == 0
-        assert (folder / "report" / "ranks.csv").exists() == (count > 0)
+        ["1", "1", "0", "0", "", "0", "", "", "1.000"]] * 3
+    for more, count in (("", 0), ("j,5\n", 1)):
+        assert report(**{name: text + more for name, text in texts.items()}).status == 0
+        assert len([*folder.glob("report/ranks.csv")]) == count
 
 
 def test_only_equal_rounds_or_times_are_compared(report: Reported, folder: pathlib.Path) -> None:
@@ -459,6 +450,8 @@ def test_three_settings_have_average_ranks(report: Reported, folder: pathlib.Pat
         ("2", "a", "5", "5", "2.00"), ("2", "c", "", "5", "2.00"), ("2", "d", "5", "5", "2.00")]
     ranks, count, ties = (6, 9.5, 14.5), 5, 2 ** 3 - 2
     statistic = (12 / (count * 3 * 4) * sum(rank ** 2 for rank in ranks) - 3 * count * 4) / (1 - ties / (count * 24))
+    for path in (folder / "report").glob("*.csv"):
+        assert report(words=f"report/{path.name} report").stderr.endswith(" would replace it: name another folder\n")
     assert list(map(float, column(folder, "p", "ranks"))) == pytest.approx([math.exp(-statistic / 2)] * 3 + [1] * 3,
                                                                            rel=1e-3)
 
@@ -760,14 +753,9 @@ def test_labels_are_rotated_where_they_have_no_room(count: int, letters: int, wi
     assert [label.get_text() for label in axis.get_xticklabels()] == labels
 
 
-def test_what_a_cell_shows() -> None:
-    """No number is -0, and only what is unknown of a setting is -1."""
-    cells = {("rpd", -0.0): "0.000", ("mean_rpd_percent", -1): "-1.000", ("other_take", -1): "", ("p", None): ""}
-    assert [typed.cell(*each) for each in cells] == [*cells.values()]
-
-
 def test_texts_of_plots_have_room() -> None:
-    """A line has 12 letters at least, and a name at most 40."""
+    """A line has 12 letters at least, and a name at most 40. In tables no number is -0."""
+    assert [typed.cell("rpd", value) for value in (-0.0, -1)] == ["0.000", "-1.000"]
     lines = [reports.wrapped("a " * 40, inches).split("\n") for inches in (0.5, 1.03, 1.2, 4.05, 4.06)]
     assert [max(map(len, each)) for each in lines] == [11, 11, 13, 45, 47]
     assert reports.shown("x" * 40) == "x" * 40 and reports.shown("x" * 41) == "x" * 38 + ".."
