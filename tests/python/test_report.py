@@ -398,10 +398,6 @@ def test_the_effect_size_and_the_counts_are_by_instance(report: Reported, folder
         1] == ("a", "100", "2", "101", "103", f"{8 ** 0.5:.15g}", f"{200 / 101:.3f}")
 
 
-COMPARED = ("method,rounds,take,passes,time_factor,other_method,other_rounds,other_take,other_passes,other_time_factor,"
-            "instances,won,tied,lost,p,pairs,p_holm,median_difference_percent,vargha_delaney_a")
-
-
 def test_methods_without_an_rpd_are_compared_by_their_makespans(report: Reported, folder: pathlib.Path) -> None:
     """Three have ranks if they have two instances."""
     texts = {name: f"instance,makespan\ni,{at}\n" for at, name in enumerate("abc", 1)}
@@ -421,7 +417,8 @@ def test_only_equal_rounds_or_times_are_compared(report: Reported, folder: pathl
         f"i{at},{1000 + at + more},1000,{budget}\n" for at in range(6) for more, budget in enumerate(own))
         for name, own in budgets.items()})
     assert got.status == 0 and (folder / "report" / "comparison.md").read_text() in got.stdout
-    assert (folder / "report" / "comparison.csv").read_text().partition("\n")[0] == COMPARED
+    assert ",p,pairs,p_holm,median_difference_percent,vargha_delaney_a\n" in (
+        folder / "report" / "comparison.csv").read_text()
     assert "; ties count half.\n" in got.stdout and got.stdout.endswith("p: Friedman's test.\n")
     names = ("method", "rounds", "time_factor", "take")
     rows = columns(folder, "comparison", *names, *(f"other_{name}" for name in names), "won")
@@ -479,21 +476,6 @@ PAPER = "instance,jobs,machines,makespan,method,reference\n" + "".join(
     for at, rpd in enumerate(rpds))
 
 
-TEX = r"""% \usepackage{booktabs}
-\begin{tabular}{lrr}
-\toprule
-jobs$\times$machines & 5\% \& more & mine\_1 \\
-\midrule
-20$\times$5 & 2.000 & 2.000 \\
-50$\times$5 & 1.500 & 5.000 \\
-\midrule
-mean & 1.750 & 3.500 \\
-\bottomrule
-\end{tabular}
-{\par\footnotesize Mean RPD, \%. Not audited, only stated: 5\% \& more, mine\_1.\par}
-"""
-
-
 def test_the_table_of_sizes_has_each_method_and_published_mean(report: Reported, folder: pathlib.Path) -> None:
     """And a row of means. With a method that lacks instances, only the others are in it, which a note says."""
     sizes = folder / "report" / "sizes.csv"
@@ -512,7 +494,10 @@ def test_the_table_of_sizes_has_each_method_and_published_mean(report: Reported,
     assert cells_of(sizes) == wanted
     lines = sizes.with_suffix(".md").read_text().splitlines()
     assert [line.replace("\\&", "&")[2:-2].split(" | ") for line in lines[:1] + lines[2:5]] == wanted
-    assert sizes.with_suffix(".tex").read_text() == TEX
+    tex = sizes.with_suffix(".tex").read_text()
+    assert re.findall(r"\\(?:top|mid|bottom)rule", tex) == ["\\toprule", "\\midrule", "\\midrule", "\\bottomrule"]
+    assert "jobs$\\times$machines & 5\\% \\& more & mine\\_1 \\\\\n" in tex and "\nmean & 1.750 & 3.500 \\\\\n" in tex
+    assert tex.startswith("% \\usepackage{booktabs}\n\\begin{tabular}{lrr}\n") and "\\end{tabular}\n" in tex
     published = "jobs,machines,rpd,method\n20,5,0.04,P\n20,5,0.5,Q\n50,5,1.25,Q\n20,5,0.7,out\n50,5,0.9,\n"
     assert report(out="instance,jobs,machines,makespan,reference\na,20,5,100.5,100\nb,50,5,102,100\n",
                   paper=published).status == 0

@@ -5,6 +5,8 @@ import json
 import os
 import pathlib
 import re
+import subprocess
+import time
 import types
 import zipfile
 from typing import Any
@@ -55,6 +57,7 @@ def test_the_help_has_no_word_that_is_nowhere_else() -> None:
                         and isinstance(each.choices, dict))
         for text in (parser.format_help(), *(each.format_help() for each in commands.values())):
             assert set(re.findall(r"[a-z]{2,}", re.sub("-\n *", "-", text).lower())) <= known, text
+        assert [each for each in commands.values() if each.description and each.description[-1] != "."] == []
 
 
 IN_ASCII = """
@@ -129,6 +132,18 @@ def test_a_verdict_is_that_of_pfs(runs: pathlib.Path, does: str, said: str | Non
             one.audit(a_run(), "order 1\n")
 
 
+def test_a_wait_takes_a_twentieth_of_a_second() -> None:
+    """Also once the program has closed its outputs."""
+    with subprocess.Popen(["sleep", "9"], stdout=subprocess.PIPE, stderr=subprocess.PIPE) as child:
+        printed = one.Printed(child)
+        for _ in range(2):
+            begun = time.monotonic()
+            printed.wait(child)
+            assert 0.04 < time.monotonic() - begun < 1
+            printed.open = []
+        child.kill()
+
+
 def test_shorter_runs_have_what_was_found_by_then(monkeypatch: pytest.MonkeyPatch) -> None:
     """At the limit too, and no order that isn't shorter than all before it."""
     points = [one.Point(0.5, 12, "a"), one.Point(1.0, 12, "b"), one.Point(2.0, 11, "c"), one.Point(2.5, 10, "d")]
@@ -167,6 +182,13 @@ def test_the_runs_of_a_process(runs: pathlib.Path, monkeypatch: pytest.MonkeyPat
     one.main()
     assert asked == [("3", ["1"], ["c"], "\u00e4 b"), ("2", [], None, "\u00e4 b")]
     assert capfdbinary.readouterr().out == b'12\no?\n3,"a""b"\n2\n1\n12\no?\n2,"a""b"\n'
+
+
+def test_ten_kinds_of_errors_are_reported(capsys: pytest.CaptureFixture[str]) -> None:
+    rows = [{"instance": "i", "seed": str(at), "status": f"{'x' * at} {at}"} for at in range(1, 11)]
+    run.report_errors([*rows, {"status": "ok"}, {"instance": "j", "seed": "9", "status": "x 7"}])
+    lines = [f"i (seed {at}) failed: {'x' * at} {at}\n" for at in range(2, 11)]
+    assert capsys.readouterr().err == "".join(["i (seed 1) and 1 more failed: x 1\n", *lines])
 
 
 def test_runs_that_were_lost_come_last(tmp_path: pathlib.Path, monkeypatch: pytest.MonkeyPatch) -> None:

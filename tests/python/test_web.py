@@ -77,15 +77,17 @@ def read(client: FlaskClient, data: bytes | str, **options: Any) -> Any:
 CALLS = [("POST", "/api/read", {"rows": []}), ("POST", "/api/plan", PLAN), ("POST", "/api/rest", PLAN),
          ("POST", "/api/file", PLAN), ("POST", "/api/search", PLAN), ("GET", "/api/search/a", None),
          ("DELETE", "/api/search/a", None)]
+NO_TOKEN = 403, "The token is missing or wrong: open the address that the server printed."
+NO_NAME, NO_PAGE = (421, "The server has another name: see --name."), (403, "Pages of other sites may not ask.")
 STRANGERS = {
-    "no token": ({"X_Pfs_Token": ""}, 403), "another token": ({"X_Pfs_Token": TOKEN[:-1]}, 403),
-    "a letter of another script": ({"X_Pfs_Token": "\u00e4"}, 403),
-    "another name, which leads here": ({"Host": "evil.example:8470"}, 421),
-    "another port": ({"Host": "127.0.0.1:80"}, 421),
-    "a page of another site": ({"Origin": "http://evil.example"}, 403),
-    "a page at another port": ({"Origin": "http://127.0.0.1:9000"}, 403), "a file": ({"Origin": "null"}, 403),
-    "a frame of another site": ({"Sec_Fetch_Site": "cross-site"}, 403),
-    "another host of this site": ({"Sec_Fetch_Site": "same-site"}, 403),
+    "no token": ({"X_Pfs_Token": ""}, NO_TOKEN), "another token": ({"X_Pfs_Token": TOKEN[:-1]}, NO_TOKEN),
+    "a letter of another script": ({"X_Pfs_Token": "\u00e4"}, NO_TOKEN),
+    "another name, which leads here": ({"Host": "evil.example:8470"}, NO_NAME),
+    "another port": ({"Host": "127.0.0.1:80"}, NO_NAME),
+    "a page of another site": ({"Origin": "http://evil.example"}, NO_PAGE),
+    "a page at another port": ({"Origin": "http://127.0.0.1:9000"}, NO_PAGE), "a file": ({"Origin": "null"}, NO_PAGE),
+    "a frame of another site": ({"Sec_Fetch_Site": "cross-site"}, NO_PAGE),
+    "another host of this site": ({"Sec_Fetch_Site": "same-site"}, NO_PAGE),
 }
 
 
@@ -99,8 +101,9 @@ def test_a_stranger_computes_reads_and_ends_nothing(who: str, call: tuple[str, s
     for kind, names in ((searches.Searches, ("add", "told", "end")), (apart.Apart, ("__call__",))):
         for name in names:
             monkeypatch.setattr(kind, name, never)
-    (headers, status), (method, path, body) = STRANGERS[who], call
-    assert asked(client_of(searches.Searches(1)), path, body, method, **headers).status_code == status
+    (headers, due), (method, path, body) = STRANGERS[who], call
+    got = asked(client_of(searches.Searches(1)), path, body, method, **headers)
+    assert (got.status_code, got.json) == (due[0], {"error": due[1]})
 
 
 def test_the_own_page_may_ask(client: FlaskClient) -> None:
@@ -180,7 +183,7 @@ WRONG: dict[str, tuple[str, Any]] = {
 @pytest.mark.parametrize("what", WRONG)
 def test_another_form_is_refused(client: FlaskClient, what: str) -> None:
     path, body = WRONG[what]
-    assert refused(client, path, body) == (400, str(plans.OTHER_FORM))
+    assert refused(client, path, body) == (400, "the request has another form than those of this server's page")
 
 
 REST = {**PLAN, "at": "2026-12-01T10:00"}
@@ -219,12 +222,13 @@ def test_a_table_has_a_greatest_number_of_times(client: FlaskClient) -> None:
 
 def test_other_kinds_of_requests_are_refused(client: FlaskClient) -> None:
     own = {"Host": HOST, "X-Pfs-Token": TOKEN}
-    for sent, kind, status in ((b"rows=1", "application/x-www-form-urlencoded", 415), (b"{}", "text/plain", 415),
-                               (b"{", "application/json", 400), (b"[" * 100_000, "application/json", 400),
-                               (b"\xff", "application/json", 400),
-                               (b'{"held":' + b"9" * 5_000 + b"}", "application/json", 400),
-                               (b" " * (app.MOST_BODY + 1), "application/json", 413)):
-        assert client.post("/api/plan", data=sent, content_type=kind, headers=own).status_code == status
+    for sent, kind, status, said in (
+            *((b"{}", kind, 415, "Send JSON.") for kind in ("application/x-www-form-urlencoded", "text/plain")),
+            *((each, "application/json", 400, "") for each in (
+                b"{", b"[" * 100_000, b"\xff", b'{"held":' + b"9" * 5_000 + b"}", b" " * 8_388_608)),
+            (b" " * 8_388_609, "application/json", 413, "The request is too large.")):
+        got = client.post("/api/plan", data=sent, content_type=kind, headers=own)
+        assert got.status_code == status and got.json and got.json["error"].endswith(said)
     assert client.get("/api/plan", headers=own).status_code == 405
 
 
@@ -399,7 +403,7 @@ def test_a_call_that_takes_too_much_is_ended(call: apart.Call, monkeypatch: pyte
     monkeypatch.setattr(apart, "MOST_SECONDS", 3.0)
     monkeypatch.setattr(tempfile, "tempdir", str(tmp_path))
     found = apart.Apart()
-    with pytest.raises(apart.Wrong, match="too long or too much memory"):
+    with pytest.raises(apart.Wrong, match="^it takes too long or too much memory: use a smaller table$"):
         found(call, {})
     assert list(tmp_path.iterdir()) == []
     assert found(plans.read, {"rows": [[1, ["job", "saw"]], [2, ["a", "1"]]]})["shop"]["times"] == [[1]]
@@ -409,7 +413,7 @@ def test_a_server_that_is_busy_says_so(monkeypatch: pytest.MonkeyPatch) -> None:
     found = apart.Apart()
     for _ in range(apart.AT_ONCE + apart.MOST_WAITING):
         assert found.places.acquire(blocking=False)
-    with pytest.raises(apart.Wrong, match="busy") as raised:
+    with pytest.raises(apart.Wrong, match="^the server is busy: try again in a minute$") as raised:
         found(plans.read, {"rows": []})
     assert raised.value.status == 503
 
@@ -541,7 +545,7 @@ def test_a_proof_is_tried_where_no_job_is_held(client: FlaskClient, held: int, m
     name = answer(client, "/api/search", {**PLAN, "seconds": 1, "held": held})["search"]
     time.sleep(0.2)
     got = asked(client, f"/api/search/{name}", method="GET").json
-    assert got and got["error"] == ("None [3]" if held else f"{searches.PROOF} []")
+    assert got and got["error"] == ("None [3]" if held else "1.0 []")
 
 
 def test_held_jobs_keep_their_places_and_new_ones_come_after_them(client: FlaskClient) -> None:
