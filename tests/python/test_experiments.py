@@ -154,6 +154,7 @@ REFUSED: dict[str, tuple[int, str, str, str, dict[str, str]]] = {
     "no Slurm": (4, "slurm plan.toml out.csv", "sbatch is not installed (Debian: slurm-client)", "", {"PATH": "/none"}),
     "no words": (3, "run", "required: PLAN, CSV (pfs-experiments run --help ", "", {}),
     "another option": (3, "check out.csv --jobs", "--jobs", "", {}),
+    "no tasks": (3, "slurm plan.toml out.csv --tasks 0", "from 1 to 1,000,000,000 ", "", {}),
 }
 
 
@@ -451,19 +452,25 @@ def test_the_search_that_accepts_longer_orders(experiment: Experiment, with_libr
 
 
 def test_bounds_are_proved_and_optima_counted(experiment: Experiment, with_library: dict[str, str]) -> None:
-    """From the best order of each instance. A later call keeps what is proved, and a makespan below it is rejected."""
-    text = 'instances = ["shops/*"]\nseeds = [1, 2]\nrounds = [0, 200]\nmethod = "m"\n'
+    """From the best order of each instance, of those that are in the folder and whose run succeeded. A later call keeps
+    what is proved, and a makespan below it is rejected."""
+    first, second = (experiment.folder / "shops" / name for name in "ab")
+    first.write_text(first.read_text() + second.read_text())
+    text = 'instances = ["shops/a"]\nblocks = [1, 2]\nseeds = [1, 2]\nrounds = [0, 200]\nmethod = "m"\n'
     assert experiment.plan(text).run().status == 0
     before = csv_rows(experiment.folder / "out.csv")
+    head, *lines = (experiment.folder / "out.csv").read_text().splitlines()
+    others = [lines[-1].replace("shops/a:2", "x"), lines[-1].replace(",ok,out", ",no,none")]
+    (experiment.folder / "out.csv").write_text("\n".join([head, *others, *lines]))
 
     def call(*words: str) -> Done:
         return run_tool([experiment.scripts / "pfs-experiments", *words], experiment.folder, env=with_library)
 
     got = call("prove", "out.csv", "--seconds", "60")
     assert got.status == 0 and "out.csv: 2 of 2 best orders are optimal\n" in got.stderr
-    assert got.stdout == "shops/a: 1278, optimal\n" + f"shops/b: {before[-1]['makespan']}, optimal\n"
+    assert got.stdout == f"shops/a:1: 1278, optimal\nshops/a:2: {before[-1]['makespan']}, optimal\n"
     after = csv_rows(experiment.folder / "out.csv")
-    bounds = {"shops/a": "1278", "shops/b": before[-1]["makespan"]}
+    bounds = {"shops/a:1": "1278", "shops/a:2": before[-1]["makespan"]}
     assert after == [row | {"proved_bound": bounds[row["instance"]]} for row in before]
     assert experiment.script("check", "out.csv").status == 0
     assert call("report", "out.csv", "report").status == 0
@@ -477,6 +484,8 @@ def test_bounds_are_proved_and_optima_counted(experiment: Experiment, with_libra
     (experiment.folder / "new.csv").write_text("instance,makespan,bound,proved_bound\nx,1277,9,1278\nx,1278,9,\n")
     assert "the makespan 1277 of x is below the bound 1278" in call("report", "new.csv", "report").stderr
     assert "none.csv was not started: none.csv.d is missing\n" in call("prove", "none.csv").stderr
+    (experiment.folder / "out.csv").write_text("\n".join([head, *lines]).replace(",1278,", ",x,"))
+    assert_refused(call("prove", "out.csv"), "out.csv: invalid literal for int() with base 10: 'x'")
 
 
 def test_readmes_plans_by_time(experiment: Experiment, with_library: dict[str, str]) -> None:

@@ -5,8 +5,6 @@ import json
 import os
 import pathlib
 import re
-import subprocess
-import time
 import types
 import zipfile
 from typing import Any
@@ -57,7 +55,11 @@ def test_the_help_has_no_word_that_is_nowhere_else() -> None:
                         and isinstance(each.choices, dict))
         for text in (parser.format_help(), *(each.format_help() for each in commands.values())):
             assert set(re.findall(r"[a-z]{2,}", re.sub("-\n *", "-", text).lower())) <= known, text
-        assert [each for each in commands.values() if each.description and each.description[-1] != "."] == []
+    shown = " ".join(parsers[1].format_help().split())
+    assert [each for each in commands.values() if each.description not in shown or each.description[-1] != "."] == []
+    for name in ("run", "slurm"):
+        assert command_line().parse_known_args([name, "p", "c", "--ret"])[1] == ["--ret"], "of another program"
+    assert command_line().parse_args(["check", "c", "--pf", "x"]).pfs == "x"
 
 
 IN_ASCII = """
@@ -130,18 +132,6 @@ def test_a_verdict_is_that_of_pfs(runs: pathlib.Path, does: str, said: str | Non
     else:
         with pytest.raises(one.Failed, match=f"^{re.escape(said)}$"):
             one.audit(a_run(), "order 1\n")
-
-
-def test_a_wait_takes_a_twentieth_of_a_second() -> None:
-    """Also once the program has closed its outputs."""
-    with subprocess.Popen(["sleep", "9"], stdout=subprocess.PIPE, stderr=subprocess.PIPE) as child:
-        printed = one.Printed(child)
-        for _ in range(2):
-            begun = time.monotonic()
-            printed.wait(child)
-            assert 0.04 < time.monotonic() - begun < 1
-            printed.open = []
-        child.kill()
 
 
 def test_shorter_runs_have_what_was_found_by_then(monkeypatch: pytest.MonkeyPatch) -> None:

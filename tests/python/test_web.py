@@ -1,6 +1,7 @@
 """The server of the page for planners, by Flask's client: who may send requests, the responses, limits, and searches.
 tests/python/test_web_server.py starts it, and test_web_page.py looks at the page."""
 import base64
+import binascii
 import copy
 import io
 import json
@@ -8,6 +9,7 @@ import os
 import pathlib
 import random
 import re
+import resource
 import tempfile
 import time
 import zipfile
@@ -232,6 +234,14 @@ def test_other_kinds_of_requests_are_refused(client: FlaskClient) -> None:
     assert client.get("/api/plan", headers=own).status_code == 405
 
 
+@pytest.mark.parametrize(("error", "status", "said"), [
+    (MemoryError(), 503, "the server has too little memory for this"), (ValueError("a"), 422, "a"),
+    (KeyError("a"), 500, "the server failed; its log says why"), (ImportError("a"), 422, "a"),
+    (RecursionError(), 400, str(plans.OTHER_FORM)), (binascii.Error(), 400, str(plans.OTHER_FORM))])
+def test_what_is_said_of_errors(error: Exception, status: int, said: str) -> None:
+    assert app.failed(error) == ({"error": said}, status)
+
+
 def leaves(value: Any, path: tuple[Any, ...] = ()) -> Iterator[tuple[Any, ...]]:
     """Where the values of a request are."""
     yield path
@@ -386,6 +396,10 @@ def greedy(given: dict[str, Any], folder: str) -> int:
     return len(bytes(apart.MOST_MEMORY))
 
 
+def limits(given: dict[str, Any], folder: str) -> list[int]:
+    return [resource.getrlimit(kind)[0] for kind in (resource.RLIMIT_CPU, resource.RLIMIT_AS, resource.RLIMIT_CORE)]
+
+
 def dies(given: dict[str, Any], folder: str) -> None:
     os.kill(os.getpid(), 9)
 
@@ -399,19 +413,22 @@ def sleeps(given: dict[str, Any], folder: str) -> str:
 @pytest.mark.parametrize("call", [endless, greedy, dies, sleeps])
 def test_a_call_that_takes_too_much_is_ended(call: apart.Call, monkeypatch: pytest.MonkeyPatch,
                                              tmp_path: pathlib.Path) -> None:
-    """It leaves no file, and other calls work."""
-    monkeypatch.setattr(apart, "MOST_SECONDS", 3.0)
+    """It leaves no file, and other calls work. That a process has died is seen at once."""
+    found, begun = apart.Apart(), time.monotonic()
+    if call in (endless, sleeps):
+        monkeypatch.setattr(apart, "MOST_SECONDS", 3.0)
     monkeypatch.setattr(tempfile, "tempdir", str(tmp_path))
-    found = apart.Apart()
     with pytest.raises(apart.Wrong, match="^it takes too long or too much memory: use a smaller table$"):
         found(call, {})
-    assert list(tmp_path.iterdir()) == []
+    assert list(tmp_path.iterdir()) == [] and time.monotonic() - begun < 50
+    monkeypatch.setattr(apart, "MOST_SECONDS", 60.0)
     assert found(plans.read, {"rows": [[1, ["job", "saw"]], [2, ["a", "1"]]]})["shop"]["times"] == [[1]]
+    assert found(limits, {}) == [40, 2_147_483_648, 0]
 
 
 def test_a_server_that_is_busy_says_so(monkeypatch: pytest.MonkeyPatch) -> None:
     found = apart.Apart()
-    for _ in range(apart.AT_ONCE + apart.MOST_WAITING):
+    for _ in range(8):
         assert found.places.acquire(blocking=False)
     with pytest.raises(apart.Wrong, match="^the server is busy: try again in a minute$") as raised:
         found(plans.read, {"rows": []})
@@ -526,7 +543,7 @@ def shop_of(jobs: int, machines: int) -> dict[str, Any]:
             "times": made.times.tolist()}
 
 
-LONG: dict[str, Any] = {"shop": shop_of(30, 20), "seconds": 600}
+LONG: dict[str, Any] = {"shop": shop_of(30, 20), "seconds": 700}
 
 
 def test_a_search_finds_what_the_package_finds(client: FlaskClient) -> None:
@@ -534,18 +551,21 @@ def test_a_search_finds_what_the_package_finds(client: FlaskClient) -> None:
     assert sorted(found["order"]) == sorted(SHOP["jobs"]) and found["makespan"] == "15.5 h" and found["isOptimal"]
 
 
+NAMES = ("method", "seed", "start", "hold", "time_limit", "prove")
+
+
 @pytest.mark.parametrize("held", [0, 1])
 def test_a_proof_is_tried_where_no_job_is_held(client: FlaskClient, held: int, monkeypatch: pytest.MonkeyPatch) -> None:
     def solve(_: pfs.Instance, rounds: int | None = None, **options: Any) -> SimpleNamespace:
         if rounds is None:
-            raise ValueError(f"{options['prove']} {options['hold']}")
+            raise ValueError(" ".join(str(options[name]) for name in NAMES))
         return SimpleNamespace(optimal=False)
 
     monkeypatch.setattr(pfs.Instance, "solve", solve)
-    name = answer(client, "/api/search", {**PLAN, "seconds": 1, "held": held})["search"]
+    name = answer(client, "/api/search", {**PLAN, "seconds": 1, "held": held, "seed": 5})["search"]
     time.sleep(0.2)
     got = asked(client, f"/api/search/{name}", method="GET").json
-    assert got and got["error"] == ("None [3]" if held else "1.0 []")
+    assert got and got["error"] == f"iterated-greedy 5 [3, 0, 1, 2] {'[3] 1 None' if held else '[] 1 1.0'}"
 
 
 def test_held_jobs_keep_their_places_and_new_ones_come_after_them(client: FlaskClient) -> None:
@@ -577,7 +597,6 @@ def test_a_search_that_fails_says_why(client: FlaskClient, monkeypatch: pytest.M
 
 
 def test_searches_wait_in_a_queue_and_are_limited(monkeypatch: pytest.MonkeyPatch) -> None:
-    monkeypatch.setattr(searches, "MOST_WAITING", 3)
     monkeypatch.setattr(searches, "MOST_OF_ONE", 3)
     found = searches.Searches(1)
     client = client_of(found)
@@ -586,12 +605,21 @@ def test_searches_wait_in_a_queue_and_are_limited(monkeypatch: pytest.MonkeyPatc
         assert [answer(client, f"/api/search/{name}", method="GET")["place"] for name in names] == [0, 1, 2]
         waited(client, names[0], lambda told: told["rounds"] > 0)
         assert [run.state for run in found.runs.values()] == ["searching", "waiting", "waiting"]
-        assert refused(client, "/api/search", LONG)[0] == 429
-        monkeypatch.setattr(searches, "MOST_OF_ONE", 9)
-        names.append(answer(client, "/api/search", LONG)["search"])
-        assert refused(client, "/api/search", LONG)[0] == 503
+        told = answer(client, f"/api/search/{names[2]}", method="GET")
+        assert told == {"state": "waiting", "place": 2, "rounds": 0, "limit": 600, "seconds": 0.0, "makespan": "",
+                        "bound": told["bound"]} and told["bound"].endswith(" h")
+        assert refused(client, "/api/search", LONG) == (
+            429, "3 searches of this address run or wait: end one of them")
+        monkeypatch.setattr(searches, "MOST_OF_ONE", 99)
+        names += [answer(client, "/api/search", LONG)["search"] for _ in range(14)]
+        assert refused(client, "/api/search", LONG) == (503, "too many searches wait: try again in a minute")
         answer(client, f"/api/search/{names[1]}", method="DELETE")
-        assert asked(client, f"/api/search/{names[1]}", method="GET").status_code == 404
+        got = asked(client, f"/api/search/{names[1]}", method="GET")
+        assert (got.status_code, got.json) == (404, {"error": "this search is over"})
+        last = found.runs[names[-1]]
+        for seconds in (19.5, 1):
+            last.asked -= seconds
+            assert last.is_left() == (seconds == 1), "after 20 seconds"
         assert answer(client, f"/api/search/{names[2]}", method="GET")["place"] == 1
         answer(client, f"/api/search/{names[0]}", method="DELETE")
         waited(client, names[2], lambda told: told["state"] == "searching")

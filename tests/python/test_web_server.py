@@ -99,8 +99,9 @@ def test_the_manual_page_has_the_options() -> None:
 
 
 @pytest.mark.parametrize(("words", "said"), [
-    (["--host", "0.0.0.0"], "--host needs --name"), (["--host", "0.0.0.0", "--name", "a"], "--host needs --name"),
-    (["--port", "0"], "'0' is not a whole number"), (["--searches", "0"], "'0' is not a whole number"),
+    *((["--host", "0.0.0.0", *more], "--host needs --name, by which planners open the page, and --token-file")
+      for more in ([], ["--name", "a"], ["--token-file", "a"])),
+    (["--port", "0"], "from 1 to 65,535"), (["--searches", "0"], "from 1 to 256"),
     (["--token-file", "."], ".: other users can read the token: chmod o= ."), (["extra"], "unrecognized arguments: e")])
 def test_what_would_be_unsafe_is_rejected(words: list[str], said: str, tmp_path: pathlib.Path) -> None:
     tmp_path.chmod(0o704)
