@@ -867,57 +867,41 @@ def test_the_csv_has_a_failed_run_with_its_status(experiment: Experiment) -> Non
 
 # Interruptions
 
-# After how many runs which process gets which signal.
-Kills = list[tuple[int, str, int]]
-KILLS: dict[str, Kills] = {
-    "interrupted": [(2, "all", signal.SIGINT)], "terminated": [(1, "starter", signal.SIGTERM)],
-    "killed three times": [(0, "starter", signal.SIGKILL), (2, "parallel", signal.SIGKILL), (1, "all", signal.SIGKILL)],
-}
-
-
-def interrupted(experiment: Experiment, most: int, whom: str, number: int) -> set[str]:
-    """Starts the plan, lets `most` more runs finish and sends a signal while two wait; returns the runs that are done
-    by then."""
-    before, started_before = len(experiment.done()), len(experiment.started())
+def interrupted(experiment: Experiment, whom: str, number: int) -> set[str]:
+    """Starts the plan, lets two runs finish and sends a signal while two wait; returns the runs that are done by
+    then."""
     with experiment.gate() as let_through:
         begun = experiment.start("--jobs", "2")
-        let_through(most)
+        let_through(2)
         try:
-            wait_until(lambda: len(experiment.done()) == before + most
-                       and len(experiment.started()) == started_before + most + 2, f"{most} runs are done, two wait")
+            wait_until(lambda: (len(experiment.done()), len(experiment.started())) == (2, 4), "two are done, two wait")
             done = experiment.done()
         finally:
-            os.kill({"all": -begun.pid, "starter": begun.pid}.get(whom) or
-                    int((experiment.folder / "parallel").read_text()), number)
+            os.kill(-begun.pid if whom == "all" else begun.pid, number)
             begun.wait(60)
-        if (whom, number) != ("all", signal.SIGKILL):
-            wait_until(lambda: experiment.left() == [], "what a start has begun ends with it")
-    wait_until(lambda: experiment.left() == [], "what a start has begun ends")
+        wait_until(lambda: experiment.left() == [], "what a start has begun ends with it")
     return done
 
 
-@pytest.mark.parametrize("kills", KILLS.values(), ids=KILLS)
-def test_no_run_is_lost_or_made_again(kills: Kills, experiment: Experiment) -> None:
-    """Each run is in the CSV once, and none that was done before a kill is made again."""
-    wanted, made = experiment.plan(HALF).wanted(rounds=(10,)), {}
+@pytest.mark.parametrize(("whom", "number"), [
+    ("all", signal.SIGINT), ("starter", signal.SIGTERM), ("starter", signal.SIGKILL)])
+def test_no_run_is_lost_or_made_again(whom: str, number: int, experiment: Experiment) -> None:
+    """Each run is in the CSV once, and none that was done before a signal is made again."""
+    wanted = experiment.plan(HALF).wanted(rounds=(10,))
     # as a start leaves it that was killed while it made copies
     (experiment.runs / "pfs-experiment-begun" / "instances").mkdir(parents=True)
-    for most, whom, number in kills:
-        done = interrupted(experiment, most, whom, number)
-        counts = experiment.searches()
-        made.update({number: counts[number] for number in done})
-        if number in (signal.SIGINT, signal.SIGTERM):
-            so_far = experiment.rows()
-            assert len(so_far) >= most and [row for row in so_far if row not in wanted] == [], "the CSV so far"
-            assert experiment.script("check", "out.csv").status == 0, "the orders so far, each whole"
-        if whom == "starter":
-            assert len(experiment.started()) <= most + 2, "runs that GNU parallel begins without its starter"
+    made = dict.fromkeys(interrupted(experiment, whom, number), 1)
+    if number != signal.SIGKILL:
+        so_far = experiment.rows()
+        assert len(so_far) >= 2 and [row for row in so_far if row not in wanted] == [], "the CSV so far"
+        assert experiment.script("check", "out.csv").status == 0, "the orders so far, each whole"
+    assert len(experiment.started()) <= 4, "runs that GNU parallel begins without its starter"
     assert experiment.run(program=experiment.replacement()).status == 0
     assert experiment.rows() == wanted and len([*experiment.runs.glob("pfs-experiment-*")]) == 1
     counts = experiment.searches()
     assert [number for number, count in counts.items() if count == 0] == [], "runs that were never made"
-    assert {number: counts[number] for number in made if counts[number] != made[number]} == {}, "runs made again"
-    assert sum(counts.values()) <= len(counts) + 2 * len(kills), "searches that were lost by kills"
+    assert made.items() <= counts.items(), "runs made again"
+    assert sum(counts.values()) <= len(counts) + 2, "searches that were lost"
 
 
 # 60 runs, which are short enough to share processes.
