@@ -16,6 +16,7 @@ import zipfile
 from collections.abc import Callable, Iterator
 from types import SimpleNamespace
 from typing import Any
+from unittest import mock
 
 import pfs
 import pytest
@@ -51,6 +52,7 @@ def client() -> FlaskClient:
 
 def asked(client: FlaskClient, path: str, body: Any = None, method: str = "POST", **headers: str) -> TestResponse:
     sent = {"Host": HOST, "X-Pfs-Token": TOKEN, **{name.replace("_", "-"): text for name, text in headers.items()}}
+    sent = {name: text for name, text in sent.items() if text != "none"}
     more: dict[str, Any] = {"data": json.dumps(body), "content_type": "application/json"} if method == "POST" else {}
     return client.open(path, method=method, headers=sent, **more)
 
@@ -82,7 +84,7 @@ CALLS = [("POST", "/api/read", {"rows": []}), ("POST", "/api/plan", PLAN), ("POS
 NO_TOKEN = 403, "The token is missing or wrong: open the address that the server printed."
 NO_NAME, NO_PAGE = (421, "The server has another name: see --name."), (403, "Pages of other sites may not ask.")
 STRANGERS = {
-    "no token": ({"X_Pfs_Token": ""}, NO_TOKEN), "another token": ({"X_Pfs_Token": TOKEN[:-1]}, NO_TOKEN),
+    "no token": ({"X_Pfs_Token": "none"}, NO_TOKEN), "another token": ({"X_Pfs_Token": TOKEN[:-1]}, NO_TOKEN),
     "a letter of another script": ({"X_Pfs_Token": "\u00e4"}, NO_TOKEN),
     "another name, which leads here": ({"Host": "evil.example:8470"}, NO_NAME),
     "another port": ({"Host": "127.0.0.1:80"}, NO_NAME),
@@ -177,7 +179,7 @@ WRONG: dict[str, tuple[str, Any]] = {
     "no kind": ("/api/file", PLAN), "a kind that is a path": ("/api/file", {**PLAN, "kind": "../../etc/cron.d/x"}),
     "a kind that is a list": ("/api/file", {**PLAN, "kind": []}),
     "seconds below 0": ("/api/search", {**PLAN, "seconds": -1}),
-    "a broken seed": ("/api/search", {**PLAN, "seed": 0.5}),
+    "a broken seed": ("/api/search", {**PLAN, "seed": 0.5}), "too many held": ("/api/search", {**PLAN, "held": 5}),
     "machines down as a list": ("/api/rest", {**PLAN, "at": "2026-12-01T10:00", "down": ["saw"]}),
 }
 
@@ -238,8 +240,9 @@ def test_other_kinds_of_requests_are_refused(client: FlaskClient) -> None:
     (MemoryError(), 503, "the server has too little memory for this"), (ValueError("a"), 422, "a"),
     (KeyError("a"), 500, "the server failed; its log says why"), (ImportError("a"), 422, "a"),
     (RecursionError(), 400, str(plans.OTHER_FORM)), (binascii.Error(), 400, str(plans.OTHER_FORM))])
-def test_what_is_said_of_errors(error: Exception, status: int, said: str) -> None:
+def test_what_is_said_of_errors(error: Exception, status: int, said: str, caplog: pytest.LogCaptureFixture) -> None:
     assert app.failed(error) == ({"error": said}, status)
+    assert ("a request failed\nKeyError: 'a'\n" in caplog.text) == (status == 500)
 
 
 def leaves(value: Any, path: tuple[Any, ...] = ()) -> Iterator[tuple[Any, ...]]:
@@ -548,24 +551,29 @@ LONG: dict[str, Any] = {"shop": shop_of(30, 20), "seconds": 700}
 
 def test_a_search_finds_what_the_package_finds(client: FlaskClient) -> None:
     found = waited(client, answer(client, "/api/search", {"shop": SHOP, "seconds": 5})["search"])
-    assert sorted(found["order"]) == sorted(SHOP["jobs"]) and found["makespan"] == "15.5 h" and found["isOptimal"]
+    assert sorted(found["order"]) == sorted(SHOP["jobs"]) and (found["makespan"], found["least"]) == ("15.5 h", 155)
 
 
 NAMES = ("method", "seed", "start", "hold", "time_limit", "prove")
 
 
-@pytest.mark.parametrize("held", [0, 1])
-def test_a_proof_is_tried_where_no_job_is_held(client: FlaskClient, held: int, monkeypatch: pytest.MonkeyPatch) -> None:
-    def solve(_: pfs.Instance, rounds: int | None = None, **options: Any) -> SimpleNamespace:
-        if rounds is None:
-            raise ValueError(" ".join(str(options[name]) for name in NAMES))
-        return SimpleNamespace(optimal=False)
-
-    monkeypatch.setattr(pfs.Instance, "solve", solve)
-    name = answer(client, "/api/search", {**PLAN, "seconds": 1, "held": held, "seed": 5})["search"]
+@pytest.mark.parametrize(("held", "options", "said"), [
+    (1, {"seed": 2**53, "seconds": 10**6}, "iterated-greedy 9007199254740992 [3, 0, 1, 2] [3] 600 None"),
+    (None, {}, "iterated-greedy 0 [3, 0, 1, 2] [] 0 1.0")])
+def test_a_proof_is_tried_where_no_job_is_held(
+        client: FlaskClient, held: int | None, options: dict[str, int], said: str, monkeypatch: pytest.MonkeyPatch,
+        caplog: pytest.LogCaptureFixture) -> None:
+    """Before the search, and after it."""
+    optimum = mock.Mock(return_value=SimpleNamespace(optimal=False))
+    monkeypatch.setattr(pfs.Instance, "optimum", optimum)
+    monkeypatch.setattr(pfs.Instance, "solve", lambda _, **given: int(" ".join(str(given[name]) for name in NAMES)))
+    caplog.set_level("INFO")
+    name = answer(client, "/api/search", {**PLAN, "held": held, **options})["search"]
     time.sleep(0.2)
     got = asked(client, f"/api/search/{name}", method="GET").json
-    assert got and got["error"] == f"iterated-greedy 5 [3, 0, 1, 2] {'[3] 1 None' if held else '[] 1 1.0'}"
+    assert got and got["error"] == f"invalid literal for int() with base 10: '{said}'"
+    assert [(*each.args, each.kwargs["start"]) for each in optimum.call_args_list] == [(0.1, [3, 0, 1, 2])] * (not held)
+    assert "search: 4 jobs, 3 machines, 0 rounds\n" in caplog.text
 
 
 def test_held_jobs_keep_their_places_and_new_ones_come_after_them(client: FlaskClient) -> None:
@@ -625,6 +633,7 @@ def test_searches_wait_in_a_queue_and_are_limited(monkeypatch: pytest.MonkeyPatc
         waited(client, names[2], lambda told: told["state"] == "searching")
     finally:
         found.end_all()
+    assert all(run.is_set() for run in found.runs.values())
 
 
 def test_a_search_ends_when_nobody_asks(monkeypatch: pytest.MonkeyPatch) -> None:
