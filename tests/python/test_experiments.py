@@ -307,8 +307,8 @@ def test_names_of_instances_are_not_formulas_in_a_spreadsheet(experiment: Experi
     assert [os.path.normpath(row["instance"]) for row in rows] == HOSTILE
     assert [(experiment.folder / row["order"]).exists() for row in rows] == [True] * len(HOSTILE)
     assert experiment.script("check", "=out.csv").status == 0
-    for name, said in ((b"\xff", "b'shops/\\xff' is not UTF-8"), (b"a\n", "'shops/a\\n' contains a tab or a line end")):
-        shutil.copy(experiment.folder / "shops" / "b", experiment.folder / "shops" / os.fsdecode(name))
+    for name, said in (("\udcff", "b'shops/\\xff' is not UTF-8"), ("a\n", "'shops/a\\n' contains a tab or a line end")):
+        shutil.copy(experiment.folder / "shops" / "b", experiment.folder / "shops" / name)
         assert_refused(experiment.plan(PLAN).run(), f"plan.toml: the name {said}\n")
 
 

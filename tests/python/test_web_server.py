@@ -99,8 +99,8 @@ def test_the_manual_page_has_the_options() -> None:
 
 
 @pytest.mark.parametrize(("words", "said"), [
-    *((["--host", "0.0.0.0", *more], "--host needs --name, by which planners open the page, and --token-file")
-      for more in ([], ["--name", "a"], ["--token-file", "a"])),
+    *((f"--host 0.0.0.0 {more}".split(), "--host needs --name, by which planners open the page, and --token-file")
+      for more in ("", "--name a", "--token-file a")),
     (["--port", "0"], "from 1 to 65,535"), (["--searches", "0"], "from 1 to 256"),
     (["--token-file", "."], ".: other users can read the token: chmod o= ."), (["extra"], "unrecognized arguments: e")])
 def test_what_would_be_unsafe_is_rejected(words: list[str], said: str, tmp_path: pathlib.Path) -> None:

@@ -453,7 +453,7 @@ def by_time(figure: Figure, points: pd.DataFrame) -> Figure:
     """Scales the horizontal axis of all panels for these times."""
     least, most = (math.log10(points["x"].agg(end)) for end in ("min", "max"))
     scale(figure.axes[0], 10.0 ** math.floor(least), 10.0 ** max(math.ceil(most), math.floor(least) + 1),
-          lambda value: f"{value:,.0f}" if 1 <= value < 1e6 else f"{value:g}", "log")
+          "{:,g}".format, "log")
     return figure
 
 

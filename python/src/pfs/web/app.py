@@ -54,7 +54,8 @@ def check(names: set[str], token: str) -> None:
 
 def given() -> dict[str, Any]:
     """What a request says."""
-    return dict(plans.field({"body": request.get_json()}, "body", dict, {}))
+    found: dict[str, Any] = plans.field({"body": request.get_json()}, "body", dict, {})
+    return found
 
 
 def failed(error: Exception) -> tuple[dict[str, str], int]:
