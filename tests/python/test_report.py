@@ -550,8 +550,6 @@ def test_lines_bands_scale_and_colours_of_the_plots_by_rounds(done: Callable[[st
         f"out, take {take}, passes {passes}": [(0, 30.0), (5, first), (10, second)]
         for (take, passes), (first, second) in GAPS.items()}
     assert [axis.get_subplotspec().colspan.start for axis in several] == [0, 1] * 2
-    runs = done("instance,jobs,machines,rounds,makespan,gap_percent\na,2,2,5,9,1.0\n")
-    assert reports.by_rounds(runs, "gap_percent", "y", "title", None) is None, "of unknown takes"
 
 
 def test_the_plots_of_times(done: Callable[[str], Any]) -> None:
