@@ -59,7 +59,6 @@ INVALID = {
     "unknown key 'seed'": ALL + "seed = [1]\n", "rounds must be a list of whole numbers": ALL + "rounds = 3\n",
     **{f'{key} needs search = "iterated-greedy"': f"{ALL}{key} = {value}\n"
        for key, value in (("partial", 1), ("ties", '"idle"'), ("temperature", 1))},
-    "ties must": ALL + 'ties = "last"\n', "search must": ALL + 'search = "a"\n', "layout must": ALL + 'layout = "a"\n',
     "instances must be a list of paths": "", "instances must be a list of": 'instances = "shops/b"\n',
     "instances must be a list": "instances = []\n", "instances must be": "instances = [1]\n",
     "no file matches none*": 'instances = ["none*"]', "shops is not a file": 'instances = ["sh*"]',
@@ -86,9 +85,8 @@ INVALID = {
        for at, value in enumerate(("[1]", "[]", "1"))},
     "key 'layout' of methods": ALL + '[[methods]]\nlayout = "orlib"\n',
     "each of methods needs method, a name that no other one has": ALL + "[[methods]]\n[[methods]]\n",
-    "anytime must be true or false": MINE + 'anytime = 1\n', "anytime is for a command with time_factors":
-    MINE + 'anytime = true\ncommand = "a {instance}"\n', "anytime is for a command":
-    ALL + "anytime = true\ntime_factors = [1]\n",
+    "anytime is for a command with time_factors": MINE + 'anytime = true\ncommand = "a {instance}"\n',
+    "anytime is for a command": ALL + "anytime = true\ntime_factors = [1]\n",
     **{f"grid must be a table of lists, of different numbers or texts, by the names in the command{' ' * at}":
        GRID + text for at, text in enumerate((
            "grid = 3\n", "grid = []\n", "[grid]\n", "[grid]\nx = 1\n", "[grid]\nx = []\n",
@@ -154,6 +152,8 @@ REFUSED: dict[str, tuple[int, str, str, str, dict[str, str]]] = {
     "no Slurm": (4, "slurm plan.toml out.csv", "sbatch is not installed (Debian: slurm-client)", "", {"PATH": "/none"}),
     "no words": (3, "run", "required: PLAN, CSV (pfs-experiments run --help ", "", {}),
     "another option": (3, "check out.csv --jobs", "--jobs", "", {}),
+    "an instance that isn't made": (2, "taillard .", "/program generate 20 5 873654221 failed: exit 3\n",
+                                    "#!/bin/sh\n[ $2 = 1 ] || exit 3\nprintf '1 1 1 0 0\nprocessing times :\n1\n'", {}),
     "no tasks": (3, "slurm plan.toml out.csv --tasks 0", "from 1 to 1,000,000,000 ", "", {}),
 }
 

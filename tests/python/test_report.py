@@ -280,9 +280,9 @@ def test_orders_are_audited_where_the_instance_is_at_hand(experiment: Experiment
             2, "", f"pfs-experiments report: out.csv: line 3, ta001: {why}\n")
     assert experiment.plan('instances = ["shops/b"]\n').run("runs.csv").status == 0
     text, (row,) = (folder / "runs.csv").read_text(), csv_rows(folder / "runs.csv")
-    (folder / "other.csv").write_text(text.replace(row["order"], (folder / row["order"]).read_text().split("\n")[1]))
+    (folder / "\udcff.csv").write_text(text.replace(row["order"], (folder / row["order"]).read_text().split("\n")[1]))
     assert report_of(text, "runs.csv").status == 0 and column(folder, "audited") == ["1"]
-    assert tool("report", "runs.csv", "other.csv", "report").status == 0 and column(folder, "audited") == ["1", "1"]
+    assert tool("report", "runs.csv", "\udcff.csv", "report").status == 0 and column(folder, "audited") == ["1", "1"]
     more = int(row["makespan"]) + 1
     assert report_of(text.replace(f",{row['makespan']},", f",{more},", 1), "runs.csv").stderr == (
         f"pfs-experiments report: runs.csv: line 2, shops/b: wrong makespan: states {more}, takes {row['makespan']}\n")
