@@ -214,7 +214,9 @@ def test_the_command(tmp_path: pathlib.Path, monkeypatch: pytest.MonkeyPatch,
     pathlib.Path("one.csv").write_text(f'instance,Cmax,order,method\nta001,1448,"{[*range(20)]}",=IG\n')
     assert run("one.csv --csv out.csv") == 0
     assert capsys.readouterr().out == "one.csv: 1 orders audited, 1 valid (0 optimal), 0 wrong\n"
-    assert pathlib.Path("out.csv").read_text().splitlines()[1] == "2,ta001,'=IG,1448,1448,1232,True,valid,,"
+    assert pathlib.Path("out.csv").read_text() == (
+        "line,instance,method,stated,makespan,bound,valid,verdict,why,sheet\n"
+        "2,ta001,'=IG,1448,1448,1232,True,valid,,\n")
     assert run("one.csv --first 1") == 1
     assert capsys.readouterr().out.startswith("line 2, ta001 =IG: counted from 0: others count from 1; counted from ")
     with pytest.raises(ExperimentError, match="none is not a folder"):

@@ -55,6 +55,11 @@ def test_the_help_has_no_word_that_is_nowhere_else() -> None:
                         and isinstance(each.choices, dict))
         for text in (parser.format_help(), *(each.format_help() for each in commands.values())):
             assert set(re.findall(r"[a-z]{2,}", re.sub("-\n *", "-", text).lower())) <= known, text
+    shown = " ".join(parsers[1].format_help().split())
+    assert [each for each in commands.values() if each.description not in shown or each.description[-1] != "."] == []
+    for name in ("run", "slurm"):
+        assert command_line().parse_known_args([name, "p", "c", "--ret"])[1] == ["--ret"], "of another program"
+    assert command_line().parse_args(["check", "c", "--pf", "x"]).pfs == "x"
 
 
 IN_ASCII = """
@@ -167,6 +172,13 @@ def test_the_runs_of_a_process(runs: pathlib.Path, monkeypatch: pytest.MonkeyPat
     one.main()
     assert asked == [("3", ["1"], ["c"], "\u00e4 b"), ("2", [], None, "\u00e4 b")]
     assert capfdbinary.readouterr().out == b'12\no?\n3,"a""b"\n2\n1\n12\no?\n2,"a""b"\n'
+
+
+def test_ten_kinds_of_errors_are_reported(capsys: pytest.CaptureFixture[str]) -> None:
+    rows = [{"instance": "i", "seed": str(at), "status": f"{'x' * at} {at}"} for at in range(1, 11)]
+    run.report_errors([*rows, {"status": "ok"}, {"instance": "j", "seed": "9", "status": "x 7"}])
+    lines = [f"i (seed {at}) failed: {'x' * at} {at}\n" for at in range(2, 11)]
+    assert capsys.readouterr().err == "".join(["i (seed 1) and 1 more failed: x 1\n", *lines])
 
 
 def test_runs_that_were_lost_come_last(tmp_path: pathlib.Path, monkeypatch: pytest.MonkeyPatch) -> None:

@@ -19,7 +19,7 @@ OTHER = {"<": "<=", "<=": "<", ">": ">=", ">=": ">", "==": "!=", "!=": "==", "in
          "%": "//", "|": "&", "&": "|"}
 COPIES = ("list", "tuple", "dict", "set", "sorted", "copy")
 # What gives the same for two arguments in either order.
-SYMMETRIC = ("max", "min", "gcd")
+SYMMETRIC = ("max", "min", "gcd", "suppress")
 # The bytes from the first number to the second become the text.
 Edit = tuple[int, int, str]
 
@@ -123,7 +123,7 @@ class Source:
                 yield from self.of_call(node)
             case ast.Return(value=ast.expr() as value):
                 yield from ((*self.span(value), other) for other in (*returned, "None") if other != self.words(value))
-            case ast.ExceptHandler(body=[first, *_]):
+            case ast.ExceptHandler(body=[first, *_]) if not self.words(first).startswith('"""'):
                 yield self.span(first)[0], self.span(node)[1], "pass"
             case ast.comprehension(ifs=tests):
                 yield from ((*self.span(test), f"(not ({self.words(test)}))") for test in tests)
