@@ -1,5 +1,7 @@
 """Tables of times: what is read, and that nothing is read as another plan."""
+import csv
 import datetime
+import io
 import pathlib
 import pickle
 import sys
@@ -8,6 +10,9 @@ from typing import Any
 
 import pfs
 import pytest
+from hypothesis import given
+from hypothesis import strategies as st
+from pfs import _tables
 from pfs._orders import order_in
 from support.plainly import written
 
@@ -23,6 +28,7 @@ UNITS = "the times of '{}' are in {}, and others are in {}: use one unit"
 ADD = "were missing: add it, or write `job` into the first cell of the table"
 GROUPED = ("'{}' may be {}, or have decimals: leave out thousands separators, or say which decimal sign the table has "
            "(`decimal`)")
+NO_NAME = "the machine has no name"
 NO_ROW = f"the names of the machines are numbers, as if the row of names {ADD}"
 NO_COLUMN = f"the names of the jobs are numbers, as if the column of names {ADD}"
 UNGROUPED = "isn't a time: leave out thousands separators"
@@ -66,8 +72,8 @@ BAD_TABLES: dict[str, tuple[str | bytes, int, int, str]] = {
     "a long row": ("job,saw\na,3,4\n", 1, 3, TITLE),
     "a decimal comma": ('job,saw\na,"3,5"\n', 2, 2, "'3,5' isn't a time"),
     "ten decimals": ("job,saw\na,0.0123456789\n", 2, 2, f"'0.0123456789' has more than 9 decimals: {ROUND}"),
-    "a time too long with decimals": ("job,saw\na,1000000\nb,0.0001\nc,0.0003\n", 3, 2, "'0.0001' has 4 decimals, in "
-                                      f"which the time in B2 is above 1,000,000,000: {ROUND}"),
+    "a time too long with decimals": ("job,saw\na,1000000000\nb,0.0001\nc,0.0003\n", 3, 2, "'0.0001' has 4 decimals, "
+                                      f"in which the time in B2 is above 1,000,000,000: {ROUND}"),
     "a fault after cells of many lines": ('"job\n\n",saw\n\n"a\r\nb",3\r\n"c\n",3\nd,-1\n', 5, 2, "'-1' isn't a time"),
     "a fault after a spreadsheet's first line": ("sep=;\njob;saw\na;-1\n", 2, 2, "'-1' isn't a time"),
     "a name twice after a cell of two lines": ('job,saw\n"a\nb",3\nc,1\nc,1\n', 4, 1, "the job 'c' is in A3 too"),
@@ -78,6 +84,7 @@ BAD_TABLES |= {f"the time {cell}": (f"job,saw\na,{cell}\n", 2, 2, "the time is a
 BAD_TABLES |= {
     "an older workbook": (b"\xd0\xcf\x11\xe0\xa1\xb1\x1a\xe1", 1, 0,
                           f"is a spreadsheet's own file: {SAVE_AS}, or as .xlsx"),
+    "bytes that begin like those of one": (b"\xd0\xcf\x11,saw\na,3\n", 1, 0, f"isn't text in UTF-8: {SAVE_AS}"),
     "another encoding": (b"job,saw\nb\xe4r,3\n", 2, 0, f"isn't text in UTF-8: {SAVE_AS}"),
     "a byte of no letter": (b"job,saw\nb\x81r,3\n", 2, 0, f"isn't text in UTF-8: {SAVE_AS}")}
 # Tables that would be read as another plan, and where and why they are rejected; perhaps with options.
@@ -105,7 +112,7 @@ WRONG_TABLES: dict[str, tuple[Any, ...]] = {
     "another table below": ("job;saw\na;3\n\njob;drill;paint\nb;3;4\n", 1, 3, TITLE),
     "no row of names": ("a;3;12\nb;20;5\n", 1, 2, NO_ROW),
     "no column of names": ("saw;drill\n3;12\n20;5\n", 2, 1, NO_COLUMN),
-    "no names": ("3,2\n1.5,4\n", 1, 2, NO_ROW),
+    "no names of both": ("3,2\n1.5,4\n", 1, 2, NO_ROW),
     "no row of names above hours": ("a;3:00;1:12\nb;0:20;5:00\n", 1, 2, NO_ROW),
     "no row of names, and times that count from 1": ("a;1;2\nb;20;5\n", 1, 2, NO_ROW),
     "no row of names, and times that count from 0": ("a;0;1\nb;20;5\n", 1, 2, NO_ROW),
@@ -136,9 +143,9 @@ WRONG_TABLES: dict[str, tuple[Any, ...]] = {
                                    UNITS.format("drill", "min", "h")),
     "a table turned round": ("Maschine [min];A;B\nsaw;1;2\ndrill;3;4\n", 1, 1, "'Maschine [min]' says that the rows "
                              "are machines, but a row is a job: turn the table round, or write `job` here"),
-    "machines without names": ("job;;\na;1;2\nb;3;4\n", 1, 2, "the machine has no name"),
-    "a machine without a name": ("job [h];\na;1\nb;5\n", 1, 2, "the machine has no name"),
-    "machines without names, and another word": ("Auftrag;;\na;1;2\nb;3;4\n", 1, 2, "the machine has no name"),
+    "machines without names": ("job;;\na;1;2\nb;3;4\n", 1, 2, NO_NAME),
+    "a machine without a name": ("job [h];\na;1\nb;5\n", 1, 2, NO_NAME),
+    "machines without names, and another word": ("Auftrag;;\na;1;2\nb;3;4\n", 1, 2, NO_NAME),
     "a title, and no machines": ("Plan;;\na;1;2\nb;3;4\n", 2, 2, NO_ROW),
     "two units in German": ("job;saw [Stunden];drill [Minuten]\na;3;2\n", 1, 3,
                             UNITS.format("drill", "Minuten", "Stunden")),
@@ -146,6 +153,11 @@ WRONG_TABLES: dict[str, tuple[Any, ...]] = {
                             UNITS.format("drill", "minutes", "heures")),
     "hours beside numbers": ("job;saw\na;1:30\nb;2\n", 3, 2,
                              "'2' isn't hours and minutes, as other times of the table are"),
+    "no time among hours": ("job;saw;drill\na;1:30;2:00\nb;1:00;\n", 3, 3, MISSING),
+    "a column without a name": ("job,saw,\na,1,x\n", 1, 0, "no column is named ' ': this row has saw (`machines`)",
+                                {"machines": [" "]}),
+    "no names": ("job\na\n", 1, 0, "no column is named 'x': this row has no other names (`machines`)",
+                 {"machines": ["x"]}),
     "61 minutes": ("job;saw\na;1:30\nb;1:61\n", 3, 2,
                    "'1:61' isn't hours and minutes, as other times of the table are"),
     "numbers in hours and minutes": ("job [h:mm];saw\na;0\nb;2,5\n", 3, 2,
@@ -163,6 +175,7 @@ WRONG_TABLES |= {f"{cell} with {decimal}": (f"job;saw\na;{cell}\n", 2, 2, f"{cel
 # Tables that look a little like the ones above and are right: what makes them so, and their times.
 
 RIGHT_TABLES = {
+    "a name that begins like an archive": ("PK\x03;saw\na;3\n", [[3]]),
     "a semicolon in half of the lines": ('job,saw\n"a;b",3\n', [[3]]),
     "three decimals": ("job;saw;drill\na;0,125;2\nb;1,5;1,125\n", [[125, 2000], [1500, 1125]]),
     "a fraction of one": ("job;saw\na;0.125\n", [[125]]),
@@ -211,7 +224,8 @@ def test_tables(tmp_path: pathlib.Path, content: bytes) -> None:
 @pytest.mark.parametrize("case", RIGHT_TABLES)
 def test_tables_that_look_wrong_and_are_right(tmp_path: pathlib.Path, case: str) -> None:
     text, times = RIGHT_TABLES[case]
-    assert pfs.read_csv(written(tmp_path, text)).times.tolist() == times
+    shop = pfs.read_csv(written(tmp_path, text))
+    assert shop.times.tolist() == times and (shop.unit == "h:mm") == (":" in text)
 
 
 @pytest.mark.parametrize(("head", "given_unit", "unit"), [
@@ -254,6 +268,10 @@ def test_totals_that_are_allowed(tmp_path: pathlib.Path, case: str) -> None:
     assert shop.jobs == WRONG_TABLES[case][0].count("\n") - 1
 
 
+# How many more faults these tables have.
+MORE = {"thousands with points": 1, "another table below": 2, "no names of both": 1}
+
+
 @pytest.mark.parametrize("case", [*BAD_TABLES, *WRONG_TABLES])
 def test_tables_that_are_rejected(tmp_path: pathlib.Path, case: str) -> None:
     cases: dict[str, tuple[Any, ...]] = {**BAD_TABLES, **WRONG_TABLES}
@@ -262,6 +280,8 @@ def test_tables_that_are_rejected(tmp_path: pathlib.Path, case: str) -> None:
     with pytest.raises(pfs.TableFault) as fault:
         pfs.read_csv(tmp_path / "file", **dict(*words))
     assert (fault.value.line, fault.value.column, fault.value.text) == (line, column, why)
+    assert bool(fault.value.head) == (line > 1 and column > 1 and case != "a title, and no machines")
+    assert len(fault.value.others) == MORE.get(case, 0)
     place = f"cell {'ABCDE'[column - 1]}{line}{f', column {fault.value.head!r}' if fault.value.head else ''}: "
     assert str(fault.value).split("\n")[0] == f"{tmp_path / 'file'}: {place if column else f'line {line}, '}{why}"
     assert pickle.loads(pickle.dumps(fault.value)).text == why
@@ -342,7 +362,7 @@ def test_half_a_letter_of_utf_16_is_the_only_fault(tmp_path: pathlib.Path) -> No
 def test_columns_that_are_machines(tmp_path: pathlib.Path) -> None:
     """They are found by their names in the first row that has all of them, and are machines in the given order."""
     path = written(tmp_path, MESSY.replace("1.250,5;;", "1.250,5;22;").replace("Summe", "A-1003"))
-    shop = pfs.read_csv(path, machines=["Fr\u00e4sen", " drehen"], decimal=",")
+    shop = pfs.read_csv(path, machines=iter(["Fr\u00e4sen", " drehen"]), decimal=",")
     assert (shop.machine_names, shop.decimals) == (("Fr\u00e4sen", "Drehen"), 1)
     assert shop.times.tolist() == [[0, 300], [220, 12505], [0, 12805]]
     units = written(tmp_path, "job;saw [min];drill [min];qty\na;1;2;3\n", "units")
@@ -434,10 +454,30 @@ def test_workbooks_need_openpyxl(tmp_path: pathlib.Path, monkeypatch: pytest.Mon
 
 @pytest.mark.parametrize("more", [0, 1])
 def test_a_row_may_have_as_many_cells_as_a_spreadsheet(tmp_path: pathlib.Path, more: int) -> None:
-    path = tmp_path / "table.csv"
-    path.write_text("job,saw" + "," * (16_382 + more) + "\nchair,3\n")
+    path = written(tmp_path, 'job,"saw\n"\nchair,3' + "," * (16_382 + more) + "\n")
     if more:
-        with pytest.raises(pfs.TableFault, match="line 1, the row has more than 16,384 cells"):
+        with pytest.raises(pfs.TableFault, match="line 3, the row has more than 16,384 cells"):
             pfs.read_csv(path)
     else:
         assert pfs.read_csv(path).times.tolist() == [[3]]
+
+
+@given(st.text("ab,;\"\r\n", max_size=20))
+def test_lines_of_a_text(text: str) -> None:
+    """As Python's files have them, also the last one without an end."""
+    assert [*_tables.lines_of(text)] == [*io.StringIO(text, newline="")]
+
+
+@given(st.sampled_from(",;\t"), st.lists(st.tuples(*[st.text(",;\t\"\n =a", max_size=4)] * 2), min_size=1))
+def test_the_delimiter_of_a_text(delimiter: str, rows: list[tuple[str, str]]) -> None:
+    """No sign in quotes is one, and a first line may name another."""
+    text = io.StringIO()
+    csv.writer(text, delimiter=delimiter, quoting=csv.QUOTE_ALL).writerows(rows)
+    assert _tables.delimiter_of(text.getvalue()) == delimiter
+    assert _tables.delimiter_of(f"\nsep=|\n{text.getvalue()}") == "|"
+    assert _tables.delimiter_of(f"a{delimiter}b\nsep=|\n") in (delimiter, ",")
+
+
+def test_the_delimiter_is_that_of_the_first_lines(monkeypatch: pytest.MonkeyPatch) -> None:
+    monkeypatch.setattr(_tables, "MOST_ROWS", 1)
+    assert [_tables.delimiter_of("a;b\n" * 5 + "a,b\n" * 4 + last + "a;b\n") for last in ("a,b\n", "")] == [",", ";"]

@@ -189,26 +189,31 @@ def test_runs_that_were_lost_come_last(tmp_path: pathlib.Path, monkeypatch: pyte
 
 # Tables and workbooks
 
+SKIPS = "write 0 where a job skips a machine"
+NO_MACHINE = "leave the column out if it is no machine, or say which columns are machines (`machines`)"
+DAYS_OF_24 = "a cell with the format of a time has a number of days: format it as a number, and write the time again"
+HOURS = "other times of the table are numbers: write all of them like this, or none"
+UNGROUPED = "leave out thousands separators"
+EITHER = f"{UNGROUPED}, or say which decimal sign the table has (`decimal`)"
+UNIT = "write the unit in brackets into the first cell of the table"
+
+
 @pytest.mark.parametrize(("cell", "hint"), [
-    *((cell, _tables.SKIPS) for cell in ("-", "\u2012", "\u2013", "\u2015", "n/a", "N/A", "na", "NA", "n.a.", "N.A")),
+    *((cell, SKIPS) for cell in ("-", "\u2012", "\u2013", "\u2015", "n/a", "N/A", "na", "NA", "n.a.", "N.A")),
     *((cell, "the formula has an error") for cell in ("#DIV/0!", "#N/A", "#NAME?")),
-    ("24:00", "a cell with the format"), ("96:00", "a cell with the format"), ("1200:00", "a cell with the format"),
-    ("23:00", "other times of the table are numbers"), ("12:30", "other times of the table are numbers"),
+    ("24:00", DAYS_OF_24), ("96:00", DAYS_OF_24), ("1200:00", DAYS_OF_24), ("23:00", HOURS), ("12:30", HOURS),
     ("1:30:15", "write hours and minutes, as 1:30, or a number"), ("1 h 30", "write hours and minutes as 1:30"),
-    ("2h05", "write hours and minutes as 1:30"), ("1'000", "leave out thousands separators"),
-    ("12 000,5", "leave out thousands separators"), ("1.000,5", "leave out thousands separators, or say which"),
-    ("1,000.5", "leave out thousands separators, or say which"), ("3 min.", "write the unit in brackets"),
-    ("3,5 h", "write the unit in brackets"), ("oak", _tables.NO_MACHINE), ("4.12.", _tables.NO_MACHINE),
-    ("4/12/2026 8:00", _tables.NO_MACHINE), ("5abc5", _tables.NO_MACHINE), ("3x3", ""), ("-3", ""), ("5.", "")])
+    ("2h05", "write hours and minutes as 1:30"), ("1'000", UNGROUPED), ("12 000,5", UNGROUPED), ("1.000,5", EITHER),
+    ("1,000.5", EITHER), ("3 min.", UNIT), ("3,5 h", UNIT), ("oak", NO_MACHINE), ("4.12.", NO_MACHINE),
+    ("4/12/2026 8:00", NO_MACHINE), ("5abc55", NO_MACHINE), ("3x3", ""), ("-3", ""), ("5.", "")])
 def test_what_to_write_instead_of_what_is_no_time(tmp_path: pathlib.Path, cell: str, hint: str) -> None:
     """Of a column that was named as a machine, it is a job that skips it."""
     (tmp_path / "times").write_text(f"job;saw;drill\na;1;5\nb;2,5;{cell}\nc;3;7\n")
     for machines in (None, ["drill", "saw"]):
         with pytest.raises(pfs.TableFault) as fault:
             pfs.read_csv(tmp_path / "times", machines=machines)
-        due = _tables.SKIPS if machines and hint == _tables.NO_MACHINE else hint
-        assert fault.value.text.startswith(f"{cell!r} isn't a time{f': {due}' if due else ''}"), fault.value
-        assert due or fault.value.text == f"{cell!r} isn't a time"
+        due = SKIPS if machines and hint == NO_MACHINE else hint
+        assert fault.value.text == f"{cell!r} isn't a time{f': {due}' if due else ''}"
 
 
 TOTALS = ("Total,SUBTOTAL,Grand total,Summe,Summen,Sum,sums,Zwischensumme,Gesamt,Gesamtzeit,Somme,Suma,Totale,"
