@@ -66,7 +66,8 @@ def test_a_number_in_a_cell_with_the_format_of_a_time(tmp_path: pathlib.Path, of
     book.save(path)
     assert fault_of(office(path, "xlsx"))[2].startswith("'2160:00' isn't a time: a cell with the format of a time")
     assert fault_of(office(path, "ods")) == (
-        1, 0, "isn't a workbook that openpyxl reads (it is of LibreOffice's own format: save it as .xlsx)")
+        1, 0, "isn't a workbook that openpyxl reads (it is of LibreOffice's own format): save it as .xlsx or as CSV "
+        "UTF-8")
 
 
 def test_what_another_plan_says_of_its_end(tmp_path: pathlib.Path) -> None:

@@ -1,6 +1,5 @@
 """Tables of times: what is read, and that nothing is read as another plan."""
 import csv
-import datetime
 import io
 import pathlib
 import pickle
@@ -381,50 +380,6 @@ def test_columns_that_are_machines(tmp_path: pathlib.Path) -> None:
         "Termin, Bemerkung (`machines`)")
 
 
-def test_workbooks_are_read_and_written(tmp_path: pathlib.Path) -> None:
-    """Numbers have points, times of day and lengths of time are hours and minutes, and rows count as in the sheet."""
-    openpyxl = pytest.importorskip("openpyxl")
-    book = openpyxl.Workbook()
-    rows: list[list[object]] = [["Week 49"], [], ["Job [h]", "saw", None, "drill"], ["a, 1", 1.1 + 2.2, None, 1250],
-                                ["b\n2", 0.125, None, 0]]
-    for row in rows:
-        book.active.append(row)
-    book.save(tmp_path / "numbers.xlsx")
-    shop = pfs.read_csv(tmp_path / "numbers.xlsx")
-    assert (shop.job_names, shop.machine_names, shop.unit) == (("a, 1", "b\n2"), ("saw", "drill"), "h")
-    assert (shop.times.tolist(), shop.decimals) == ([[3300, 1250000], [125, 0]], 3)
-    book.active["D5"] = "soon"
-    book.save(tmp_path / "numbers.xlsx")
-    with pytest.raises(pfs.TableFault, match="cell D5, column 'drill': 'soon' isn't a time"):
-        pfs.read_csv(tmp_path / "numbers.xlsx")
-    book = openpyxl.Workbook()
-    hours: list[list[object]] = [["job", "saw", "drill"], ["a", datetime.time(1, 30), datetime.timedelta(days=70)],
-                                 ["b", 0, datetime.time(0, 5)],
-                                 ["c", datetime.timedelta(hours=30), 0]]
-    for row in hours:
-        book.active.append(row)
-    book.save(tmp_path / "hours.xlsx")
-    assert pfs.read_csv(tmp_path / "hours.xlsx").times.tolist() == [[90, 100800], [0, 5], [1800, 0]]
-    book.active["B2"] = datetime.time(1, 30, 20)
-    book.save(tmp_path / "hours.xlsx")
-    with pytest.raises(pfs.TableFault, match="cell B2, column 'saw': '1:30:20' isn't hours and minutes"):
-        pfs.read_csv(tmp_path / "hours.xlsx")
-    shop = pfs.Instance([[15, 10]], job_names=["=1+1"], machine_names=["saw", "a\x1b"], unit="h", decimals=1)
-    shop.schedule([0]).to_xlsx(tmp_path / "out.xlsx")
-    sheet = openpyxl.load_workbook(tmp_path / "out.xlsx").active
-    assert list(sheet.values) == [("job", "machine", "start", "end"), ("=1+1", "saw", 0, 1.5),
-                                  ("=1+1", "a\\x1b", 1.5, 2.5)]
-    assert sheet["A2"].data_type == "s"
-    shop.schedule([0]).to_xlsx(tmp_path / "out.xlsx", calendar=pfs.Calendar("2026-11-30T06:00"))
-    sheet = openpyxl.load_workbook(tmp_path / "out.xlsx").active
-    assert [cell.value for cell in sheet[3][2:]] == [datetime.datetime(2026, 11, 30, 7, 30),
-                                                     datetime.datetime(2026, 11, 30, 8, 30)]
-    clock = pfs.Instance([[90]], unit="h:mm")
-    clock.schedule([0]).to_xlsx(tmp_path / "out.xlsx")
-    cell = openpyxl.load_workbook(tmp_path / "out.xlsx").active["D2"]
-    assert (cell.value, cell.number_format) == (datetime.timedelta(minutes=90), "[h]:mm")
-
-
 @pytest.mark.parametrize("content", [b"PK\x03\x04\x14\0rest", "bomb"])
 def test_archives_that_are_no_workbooks(tmp_path: pathlib.Path, content: bytes | str) -> None:
     pytest.importorskip("openpyxl")
@@ -436,7 +391,7 @@ def test_archives_that_are_no_workbooks(tmp_path: pathlib.Path, content: bytes |
                 for _ in range(300):
                     part.write(bytes(2**20))
     why = "File is not a zip file" if isinstance(content, bytes) else "its parts are too large"
-    with pytest.raises(pfs.TableFault, match=f"isn't a workbook that openpyxl reads .{why}.: save it as CSV UTF-8$"):
+    with pytest.raises(pfs.TableFault, match=f"openpyxl reads .{why}.: save it as .xlsx or as CSV UTF-8$"):
         pfs.read_csv(tmp_path / "file")
 
 

@@ -290,7 +290,8 @@ def archive_of(**parts: bytes) -> zipfile.ZipFile:
     ({"worksheets/a_xml": b"<x:row/>" + b"<c>" * 5, "worksheets/b_xml": b"<row>" + b"<c>" * 5 + b"<row><c>"},
      "it has too many cells"),
     ({"a_xml": b" " * 400}, ""), ({"a_xml": b" " * 401}, "its parts are too large"),
-    ({"mimetype": b""}, "it is of LibreOffice's own format: save it as .xlsx")])
+    ({"worksheets_xml": b"<" * 11}, "its part worksheets.xml is too large"),
+    ({"mimetype": b""}, "it is of LibreOffice's own format")])
 def test_the_largest_parts_of_workbooks(parts: dict[str, bytes], why: str, monkeypatch: pytest.MonkeyPatch) -> None:
     for name, most in (("MOST_TAGS", 10), ("MOST_STYLES", 8), ("MOST_IN_ROW", 5), ("MOST_CELLS", 10)):
         monkeypatch.setattr(_workbooks, name, most)
