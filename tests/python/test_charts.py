@@ -129,6 +129,54 @@ def test_width_dpi_title_and_axes_of_ones_own(tmp_path: pathlib.Path) -> None:
         a_schedule().plot("chart.html", ax=axes[0])
 
 
+def test_the_lines_of_a_picture() -> None:
+    """How wide they are, in points, and which of them cover others. No text is a formula."""
+    calendar = pfs.Calendar("2026-11-30T06:00", shifts="06:00-10:00,11:00-16:00")
+    shop = pfs.Instance([[600, 60], [60, 600]], unit="min", job_names=["$a$", "b"], machine_names=["$x$", "$y$"])
+    figure = shop.schedule([0, 1]).plot(critical=True, bound=True, calendar=calendar, title="$t$")
+    axis, = figure.axes
+    drawn = {each.get_gid(): each for each in (*axis.collections, *axis.lines)}
+    assert {name: (each.get_zorder(), each.get_clip_on(), *np.atleast_1d(each.get_linewidth()))
+            for name, each in drawn.items()} == {
+        **{f"{name}-{at}": (1, True, wide) for at in (1, 2) for name, wide in (("strip", 0), ("machine", 0.5))},
+        "days": (2.5, True, 0.9), "shifts": (2.5, True, 0.6), "critical-1": (3, False, 2), "critical-2": (3, False, 2),
+        "beside-bound": (3.5, False, 2.4), "bound": (3.6, False, 1.2)}
+    for name, colour in {"days": "black", "shifts": "black", "critical-1": "black", "machine-1": "white"}.items():
+        assert matplotlib.colors.to_hex(drawn[name].get_edgecolor()[0]) == matplotlib.colors.to_hex(colour)
+    (_, days), (_, shifts) = (drawn[name].get_linestyle()[0] for name in ("days", "shifts"))
+    assert (days, len(shifts), drawn["bound"]._unscaled_dash_pattern) == (None, 2, (0, (4, 3)))
+    right, = axis.child_axes
+    texts = [*axis.texts[:-1], axis.title, axis.xaxis.label, *axis.get_yticklabels(), *figure.texts]
+    assert not any(text.get_parse_math() for text in texts) and axis.title._linespacing == 1.3
+    assert {(text.get_zorder(), text.get_clip_on()) for text in axis.texts[:-1]} == {(4, True)}
+    assert [text.get_size() for text in (axis.xaxis.label, axis.yaxis.label, axis.texts[-1])] == [9, 9, 9]
+    assert [name for each in (axis, right) for name, spine in each.spines.items() if spine.get_visible()] == ["bottom"]
+    assert [each.yaxis.get_major_ticks()[0].tick1line.get_markersize() for each in (axis, right)] == [0, 0]
+
+
+@pytest.mark.parametrize(("key", "length", "label"), [
+    (True, 82, ("", 7)), (True, 83, ("1", 7)), (True, 465, ("1", 7)), (True, 466, ("1 abcd\u2026", 7)),
+    (True, 763, ("1 abcdefgh\u2026", 7)), (True, 764, ("abcdefghij", 8)), (False, 642, ("", 7)),
+    (False, 643, ("abcdefghij", 7))])
+def test_what_fits_a_bar(key: bool, length: int, label: tuple[str, int]) -> None:
+    """Letters of 8 points are 0.66 of this wide, those of 7 points 0.64. An inch has 72 points, and is 1,000 units."""
+    chart = _drawing.Chart([1], np.array([[0]]), np.array([[10_500]]), ["abcdefghij"], ["saw"], key=key)
+    assert chart.label_of(0, length) == label
+
+
+@pytest.mark.parametrize(("width", "jobs", "letters", "rows", "columns"), [
+    (12, 12, 27, 2, 6), (12, 12, 28, 3, 4), (2, 2, 40, 2, 1)])
+def test_what_fits_a_key(width: int, jobs: int, letters: int, rows: int, columns: int) -> None:
+    """Columns have room for their longest names and four letters more."""
+    ends = np.arange(1, jobs + 1)[:, None]
+    names = [f"{job:2}".replace(" ", "x").ljust(letters - len(f"{job} "), "y") for job in range(1, jobs + 1)]
+    chart = _drawing.Chart([*range(1, jobs + 1)], ends - 1, ends, names, ["x" * 15], width, key=True)
+    assert [len(column) for column in chart.key_columns] == [rows] * columns
+    assert {len(item) for column in chart.key_columns for item in column} == {min(letters, 21 if width == 2 else 99)}
+    assert chart.key_height == pytest.approx(0.2 + 0.14 * rows)
+    assert chart.beside == pytest.approx(1.85 if width == 12 else 1.5), "room for five more letters than ten"
+
+
 def test_the_narrowest_scale_has_marks() -> None:
     axis, = pfs.Instance([[90]], unit="h:mm").schedule([0]).plot(width=2, title=False).axes
     assert [mark.get_text() for mark in axis.get_xticklabels()] == ["0:00"]

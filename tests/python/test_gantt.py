@@ -2,6 +2,7 @@
 job's number if that fits. The tests look at the figure that matplotlib saves. An invalid time table is rejected, and no
 file is left."""
 import itertools
+import math
 import os
 import pathlib
 import random
@@ -12,9 +13,11 @@ from unittest import mock
 
 import numpy
 import pytest
+from hypothesis import given
+from hypothesis import strategies as st
 from pfs import _drawing, _gantt
 from support import second_program
-from support.colours import contrast, hexadecimal, least_difference
+from support.colours import contrast, hexadecimal, least_difference, seen, turn
 from support.files import generated
 from support.large import run_limited
 from support.lines import TIME_TABLE
@@ -274,6 +277,25 @@ def test_neighbours_of_many_jobs_are_distinguishable(jobs: int, folder: pathlib.
     assert min(least_difference(fill, IDLE) for fill in fills) >= 5
 
 
+def test_many_jobs_have_each_hue_and_three_lightnesses() -> None:
+    """Where a screen has such a colour."""
+    fills = _drawing.colours(range(1, 321))
+    places = [place for place, fill in enumerate(fills) if 0 < min(fill) and max(fill) < 1]
+    assert len(places) > 160
+    for place in places:
+        lightness, red, yellow = seen(hexadecimal(fills[place]), "all cones")
+        assert lightness == pytest.approx((40, 75, 57)[place % 3], abs=0.3)
+        assert math.hypot(red, yellow) == pytest.approx(45, abs=0.8)
+        assert turn(math.degrees(math.atan2(yellow, red)), place) == pytest.approx(0, abs=0.8)
+
+
+@given(st.tuples(*[st.integers(0, 255)] * 3))
+def test_letters_have_a_contrast(fill: tuple[int, int, int]) -> None:
+    red, green, blue = (part / 255 for part in fill)
+    ink = {"black": "#000000", "white": "#ffffff"}[_drawing.ink((red, green, blue))]
+    assert contrast(ink, hexadecimal((red, green, blue))) > 4.57
+
+
 @pytest.mark.parametrize("width", ["12", "50"])
 def test_the_outline_of_the_path_leaves_an_operation_of_one_unit_to_be_seen(width: str, folder: pathlib.Path) -> None:
     """Half of its line lies on the first and on the last operation that it surrounds, each a unit long here."""
@@ -430,25 +452,22 @@ STEPS = Case("", [*range(1, 2001)], schedule_of([[600 if job == 1000 else 1, 1] 
 
 
 def test_a_pixel_of_an_image_has_the_mean_of_the_colours_at_its_time(folder: pathlib.Path) -> None:
-    """Grey where no operation is, one colour where one is, and none of these where there are several. With more pixels
-    the rows are bars."""
+    """Of idle time it is grey. Each row has white above and below. With more pixels the rows are bars."""
     said = ("pfs-gantt: 4,000 operations are too many or too short to draw one by one: the rows are an image of 100 "
             "dots per inch\n")
     image, = STEPS.drawn(folder, "--dpi", "100", said=said).axis.images
     assert tuple(image.get_extent()) == (0, 2600, 2.5, 0.5)
-    pixels = [[hexadecimal(pixel / 255) for pixel in line] for line in image.get_array()]
-    assert len(pixels[0]) == 1050, "pixels from left to right: 12 inches but for 1.5, at 100 an inch"
-    each = len(pixels) // 2
-    for machine in STEPS.machines():
-        for at, fill in enumerate(pixels[each * machine + each // 2]):
-            start, end = (2600 * edge / 1050 for edge in (at, at + 1))
-            busy = sum(min(last, end) - max(first, start) for _, first, last in STEPS.operations(machine)
-                       if first < end and start < last) / (end - start)
-            assert (fill == IDLE) == (busy < 1e-9), f"pixel {at} of machine {machine + 1}: {fill}, {busy:.3f} busy"
-    assert {fill for line in (pixels[0], pixels[each - 1], pixels[-1]) for fill in line} == {"#ffffff"}, "between rows"
-    long = {fill for at, fill in enumerate(pixels[each // 2]) if 1000 < 2600 * at / 1050 < 1595}
+    pixels, edges = image.get_array().astype(int), numpy.arange(1051)[:, None] * 2600 / 1050
+    assert pixels.shape == (20, 1050, 3), "pixels from left to right: 12 inches but for 1.5, at 100 an inch"
     bars = STEPS.drawn(folder, "--dpi", "300")
-    assert long == colours_of(STEPS, bars)[1001] and not bars.axis.images, "colours of the one long operation"
+    assert not bars.axis.images
+    for machine in STEPS.machines():
+        _, first, last = numpy.array(STEPS.operations(machine)).T
+        busy = (numpy.minimum(last, edges[1:]) - numpy.maximum(first, edges[:-1])).clip(0) * 1050 / 2600
+        fills = numpy.array([list(bytes.fromhex(bar.fill[1:])) for bar in bars.bars(f"machine-{machine + 1}")])
+        due = busy @ fills + 0xd9 * (1 - busy.sum(axis=1, keepdims=True))
+        rows = pixels[10 * machine:10 * machine + 10]
+        assert abs(rows[1:9] - due).max() < 1.1 and (rows[[0, 9]] == 255).all()
 
 
 def test_from_this_number_of_operations_on_the_rows_are_an_image() -> None:

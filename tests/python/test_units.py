@@ -357,11 +357,17 @@ def test_a_page_has_what_its_script_reads(tmp_path: pathlib.Path) -> None:
     assert data["words"] == {text: text for text in {*said, *(day.title() for day in DAYS)}}
 
 
-@pytest.mark.parametrize(("width", "size", "marks"), [(6, 9, 5), (6.1, 11, "auto")])
-def test_narrow_pictures_have_smaller_titles_and_fewer_marks(width: float, size: int, marks: int | str) -> None:
+@pytest.mark.parametrize(("width", "size", "marks", "letters"), [
+    (2, 9, 5, 20), (6, 9, 5, 72), (6.1, 11, "auto", 60), (12, 11, "auto", 129)])
+def test_narrow_pictures_have_smaller_titles_and_fewer_marks(width: float, size: int, marks: int | str,
+                                                             letters: int) -> None:
+    """And these have lines of as many letters."""
     pytest.importorskip("matplotlib")
-    axis = _drawing.draw(chart_of(30, 2, width=width)).axes[0]
-    assert axis.title.get_fontsize() == size and axis.xaxis.get_major_locator()._nbins == marks
+    for more in (0, 1):
+        chart = chart_of(30, 2, width=width, title=f"a {'b' * (letters - 2 + more)}")
+        axis = _drawing.draw(chart).axes[0]
+        assert axis.title.get_fontsize() == size and axis.xaxis.get_major_locator()._nbins == marks
+        assert axis.title.get_text().count("\n") == more
 
 
 # The server for planners, and calendar files
