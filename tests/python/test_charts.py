@@ -141,10 +141,10 @@ def test_the_lines_of_a_picture() -> None:
         **{f"{name}-{at}": (1, True, wide) for at in (1, 2) for name, wide in (("strip", 0), ("machine", 0.5))},
         "days": (2.5, True, 0.9), "shifts": (2.5, True, 0.6), "critical-1": (3, False, 2), "critical-2": (3, False, 2),
         "beside-bound": (3.5, False, 2.4), "bound": (3.6, False, 1.2)}
-    for name, colour in {"days": "black", "shifts": "black", "critical-1": "black", "machine-1": "white"}.items():
-        assert matplotlib.colors.to_hex(drawn[name].get_edgecolor()[0]) == matplotlib.colors.to_hex(colour)
-    (_, days), (_, shifts) = (drawn[name].get_linestyle()[0] for name in ("days", "shifts"))
-    assert (days, len(shifts), drawn["bound"]._unscaled_dash_pattern) == (None, 2, (0, (4, 3)))
+    assert [matplotlib.colors.to_hex(drawn[name].get_edgecolor()[0]) for name in ("days", "critical-1", "machine-1")
+            ] == ["#000000", "#000000", "#ffffff"]
+    assert [bool(drawn[name].get_linestyle()[0][1]) for name in ("days", "shifts")] == [False, True]
+    assert drawn["bound"]._unscaled_dash_pattern == (0, (4, 3))
     right, = axis.child_axes
     texts = [*axis.texts[:-1], axis.title, axis.xaxis.label, *axis.get_yticklabels(), *figure.texts]
     assert not any(text.get_parse_math() for text in texts) and axis.title._linespacing == 1.3
@@ -164,17 +164,15 @@ def test_what_fits_a_bar(key: bool, length: int, label: tuple[str, int]) -> None
     assert chart.label_of(0, length) == label
 
 
-@pytest.mark.parametrize(("width", "jobs", "letters", "rows", "columns"), [
-    (12, 12, 27, 2, 6), (12, 12, 28, 3, 4), (2, 2, 40, 2, 1)])
-def test_what_fits_a_key(width: int, jobs: int, letters: int, rows: int, columns: int) -> None:
-    """Columns have room for their longest names and four letters more."""
+@pytest.mark.parametrize(("width", "jobs", "name", "item", "rows", "columns"), [
+    (12, 12, "x" * 24, f"12 {'x' * 24}", 2, 6), (12, 12, "x" * 25, f"12 {'x' * 25}", 3, 4),
+    (2, 2, "x" * 40, f"2 {'x' * 18}\u2026", 2, 1)])
+def test_what_fits_a_key(width: int, jobs: int, name: str, item: str, rows: int, columns: int) -> None:
+    """Columns have room for their longest names and four letters more, and machines for five more than ten."""
     ends = np.arange(1, jobs + 1)[:, None]
-    names = [f"{job:2}".replace(" ", "x").ljust(letters - len(f"{job} "), "y") for job in range(1, jobs + 1)]
-    chart = _drawing.Chart([*range(1, jobs + 1)], ends - 1, ends, names, ["x" * 15], width, key=True)
-    assert [len(column) for column in chart.key_columns] == [rows] * columns
-    assert {len(item) for column in chart.key_columns for item in column} == {min(letters, 21 if width == 2 else 99)}
-    assert chart.key_height == pytest.approx(0.2 + 0.14 * rows)
-    assert chart.beside == pytest.approx(1.85 if width == 12 else 1.5), "room for five more letters than ten"
+    chart = _drawing.Chart([*range(1, jobs + 1)], ends - 1, ends, [name] * jobs, ["y" * 15], width, key=True)
+    assert [len(column) for column in chart.key_columns] == [rows] * columns and chart.key_columns[-1][-1] == item
+    assert (chart.key_height, chart.beside) == pytest.approx((0.2 + 0.14 * rows, 1.85 if width == 12 else 1.5))
 
 
 def test_the_narrowest_scale_has_marks() -> None:

@@ -45,11 +45,7 @@ def test_machines_with_a_comma_in_their_names(tmp_path: pathlib.Path) -> None:
 
 
 @pytest.mark.parametrize(("cell", "hint"), [
-    ("-", "write 0 where a job skips a machine"), ("n/a", "write 0 where a job skips a machine"),
-    ("x", "write 0 where a job skips a machine"), ("3 of a lot", "write 0 where a job skips a machine"),
-    ("#REF!", "the formula has an error"),
-    ("#DIV/0!", "the formula has an error"), ("1:30", "other times of the table are numbers: write all of them like "
-                                                      "this, or none"),
+    ("3 of a lot", "write 0 where a job skips a machine"), ("#REF!", "the formula has an error"),
     ("12,5", "it is text that looks like a number: format the cell as a number, and write it again"),
     ("2160:00", "a cell with the format of a time has a number of days: format it as a number, and write the time "
                 "again")])

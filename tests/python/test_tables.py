@@ -30,8 +30,6 @@ GROUPED = ("'{}' may be {}, or have decimals: leave out thousands separators, or
 NO_NAME = "the machine has no name"
 NO_ROW = f"the names of the machines are numbers, as if the row of names {ADD}"
 NO_COLUMN = f"the names of the jobs are numbers, as if the column of names {ADD}"
-UNGROUPED = "isn't a time: leave out thousands separators"
-MINUTES = "times such as 1:30 may be hours and minutes, or minutes and seconds: write [h:mm] instead of {}, or numbers"
 ROUND = "round it, or say how many decimals to keep (`decimals`)"
 # Ways to write one table.
 TABLES = [
@@ -60,8 +58,6 @@ BAD_TABLES: dict[str, tuple[str | bytes, int, int, str]] = {
     "a word": ("job,saw\n\na,x\n", 3, 2, f"'x' isn't a time: {NO_MACHINE}"),
     "a date": ("job,saw\na,4.12.2026\nb,5.12.\n", 2, 2,
                f"'4.12.2026' isn't a time: {NO_MACHINE} (and 1 more cell of the column)"),
-    "a number with a word": ("job,saw\na,10 pieces\n", 2, 2,
-                             "'10 pieces' isn't a time: write the unit in brackets into the first cell of the table"),
     "a minus": ("job,saw\na,-1\n", 2, 2, "'-1' isn't a time"),
     "a digit of another script": ("job,saw\na,\u0663\n", 2, 2, "'\u0663' isn't a time"),
     "no time": ("job,saw,drill\na,3,\n", 2, 3, MISSING),
@@ -117,23 +113,11 @@ WRONG_TABLES: dict[str, tuple[Any, ...]] = {
     "no row of names, and times that count from 0": ("a;0;1\nb;20;5\n", 1, 2, NO_ROW),
     "no row of names, and a job in brackets": ("chair (red);1;2\nb;20;5\n", 1, 2, NO_ROW),
     "no column of names, and times that count from 1": ("saw;drill\n1;12\n2;5\n", 2, 1, NO_COLUMN),
-    "minutes and seconds": ("job [min];saw\na;1:30\n", 1, 1, MINUTES.format("min")),
-    "minutes and seconds in German": ("job;saw [Minuten]\na;1:30\n", 1, 1, MINUTES.format("Minuten")),
-    "hours, minutes and seconds": ("job;saw\na;1:30:10\n", 2, 2,
-                                   "'1:30:10' isn't a time: write hours and minutes, as 1:30, or a number"),
-    "hours and minutes with a letter": ("job;saw\na;3h30\n", 2, 2,
-                                        "'3h30' isn't a time: write hours and minutes as 1:30"),
-    "both signs in a number": ("job;saw\na;1.250,5\n", 2, 2, "'1.250,5' isn't a time: leave out thousands separators, "
-                               "or say which decimal sign the table has (`decimal`)"),
+    "minutes and seconds": ("job [min];saw\na;1:30\n", 1, 1, "times such as 1:30 may be hours and minutes, or minutes "
+                            "and seconds: write [h:mm] instead of min, or numbers"),
     "hours, minutes and seconds beside others": (
         "job;saw\na;1:30\nb;1:30:10\n", 3, 2,
         "'1:30:10' isn't hours and minutes, as other times of the table are: leave out the seconds"),
-    "thousands with apostrophes": ("job;saw\na;1'000\n", 2, 2, f'"1\'000" {UNGROUPED}'),
-    "thousands with typographic apostrophes": ("job;saw\na;1\u2019000,5\n", 2, 2, f"'1\u2019000,5' {UNGROUPED}"),
-    "thousands with blanks": ("job;saw\na;12 345 678\n", 2, 2, f"'12 345 678' {UNGROUPED}"),
-    "thousands with fixed blanks": ("job;saw\na;1\xa0000\n", 2, 2, f"'1\\xa0000' {UNGROUPED}"),
-    "a unit at a time": ("job;saw\na;1,5 h\n", 2, 2,
-                         "'1,5 h' isn't a time: write the unit in brackets into the first cell of the table"),
     "two units": ("job;saw [min];drill [h]\na;3;2\n", 1, 3, UNITS.format("drill", "h", "min")),
     "minutes beside hours and minutes": ("job [h:mm];saw [min]\na;1:30\n", 1, 2, UNITS.format("saw", "min", "h:mm")),
     "a machine without a unit": ("job;saw [min];drill\na;3;2\n", 1, 3,
@@ -144,12 +128,7 @@ WRONG_TABLES: dict[str, tuple[Any, ...]] = {
                              "are machines, but a row is a job: turn the table round, or write `job` here"),
     "machines without names": ("job;;\na;1;2\nb;3;4\n", 1, 2, NO_NAME),
     "a machine without a name": ("job [h];\na;1\nb;5\n", 1, 2, NO_NAME),
-    "machines without names, and another word": ("Auftrag;;\na;1;2\nb;3;4\n", 1, 2, NO_NAME),
     "a title, and no machines": ("Plan;;\na;1;2\nb;3;4\n", 2, 2, NO_ROW),
-    "two units in German": ("job;saw [Stunden];drill [Minuten]\na;3;2\n", 1, 3,
-                            UNITS.format("drill", "Minuten", "Stunden")),
-    "two units in French": ("job;saw (heures);drill (minutes)\na;3;2\n", 1, 3,
-                            UNITS.format("drill", "minutes", "heures")),
     "hours beside numbers": ("job;saw\na;1:30\nb;2\n", 3, 2,
                              "'2' isn't hours and minutes, as other times of the table are"),
     "no time among hours": ("job;saw;drill\na;1:30;2:00\nb;1:00;\n", 3, 3, MISSING),
@@ -185,8 +164,6 @@ RIGHT_TABLES = {
     "one job": ("job;saw;drill;paint\na;1;2;3\n", [[1, 2, 3]]),
     "no work": ("job;saw;drill;paint\na;0;0;0\nb;0;0;0\nc;0;0;0\n", [[0, 0, 0]] * 3),
     "names that begin like a total": ("job;saw;Summer\na;1;2\nMeansteel;3;4\nTotally;4;7\n", [[1, 2], [3, 4], [4, 7]]),
-    "numbers of orders below a usual name": ("Fertigungsauftrags-Nr.;saw;drill\n4711;3;12\n4713;20;5\n",
-                                             [[3, 12], [20, 5]]),
     "numbers of orders in the US": ("Work order #,saw,drill\n4711,3,12\n4713,20,5\n", [[3, 12], [20, 5]]),
     "numbers of orders in France": ("N\u00b0 OF;saw;drill\n4711;3;12\n4713;20;5\n", [[3, 12], [20, 5]]),
     "a date beside the title": ("Plan;;30.11.2026\nAuftrag;saw;drill\na;3;2\n", [[3, 2]]),

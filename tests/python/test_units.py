@@ -203,7 +203,8 @@ UNIT = "write the unit in brackets into the first cell of the table"
     *((cell, "the formula has an error") for cell in ("#DIV/0!", "#N/A", "#NAME?")),
     ("24:00", DAYS_OF_24), ("96:00", DAYS_OF_24), ("1200:00", DAYS_OF_24), ("23:00", HOURS), ("12:30", HOURS),
     ("1:30:15", "write hours and minutes, as 1:30, or a number"), ("1 h 30", "write hours and minutes as 1:30"),
-    ("2h05", "write hours and minutes as 1:30"), ("1'000", UNGROUPED), ("12 000,5", UNGROUPED), ("1.000,5", EITHER),
+    ("2h05", "write hours and minutes as 1:30"), ("1'000", UNGROUPED), ("12 000,5", UNGROUPED),
+    ("12 345 678", UNGROUPED), ("1\u2019000", UNGROUPED), ("1\u02bc000", UNGROUPED), ("1.000,5", EITHER),
     ("1,000.5", EITHER), ("3 min.", UNIT), ("3,5 h", UNIT), ("oak", NO_MACHINE), ("4.12.", NO_MACHINE),
     ("4/12/2026 8:00", NO_MACHINE), ("5abc55", NO_MACHINE), ("3x3", ""), ("-3", ""), ("5.", "")])
 def test_what_to_write_instead_of_what_is_no_time(tmp_path: pathlib.Path, cell: str, hint: str) -> None:

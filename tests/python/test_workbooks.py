@@ -54,10 +54,6 @@ def test_workbooks_are_read_and_written(tmp_path: pathlib.Path) -> None:
     assert list(sheet.values) == [("job", "machine", "start", "end"), ("=1+1", "saw", 0, 1.5),
                                   ("=1+1", "a\\x1b", 1.5, 2.5)]
     assert sheet["A2"].data_type == "s"
-    shop.schedule([0]).to_xlsx(tmp_path / "out.xlsx", calendar=pfs.Calendar("2026-11-30T06:00"))
-    sheet = openpyxl.load_workbook(tmp_path / "out.xlsx").active
-    assert [cell.value for cell in sheet[3][2:]] == [datetime.datetime(2026, 11, 30, 7, 30),
-                                                     datetime.datetime(2026, 11, 30, 8, 30)]
     clock = pfs.Instance([[90]], unit="h:mm")
     clock.schedule([0]).to_xlsx(tmp_path / "out.xlsx")
     cell = openpyxl.load_workbook(tmp_path / "out.xlsx").active["D2"]
@@ -100,15 +96,6 @@ def test_a_text_that_may_have_thousands(tmp_path: pathlib.Path) -> None:
     path = book_of(tmp_path / "times.xlsx", ("job", "saw", "drill"), ("1.500", 1.125, 2.5), ("chair", "1.500", 750))
     assert fault_of(path) == (3, 2, "'1.500' may be 1500, or have decimals: leave out thousands separators, or say "
                                     "which decimal sign the table has (`decimal`)")
-
-
-@pytest.mark.parametrize("rows", [
-    [("job [min]", "saw"), ("table", 3), ("=Orders!A3", "=Orders!B3"), ("chair", 2)],
-    [("job [min]", "saw", "=Machines!A2"), ("table", 3, "=B2"), ("chair", 2, "=B3")],
-    [("job [min]", "saw"), ("table", 3), ("chair", "=B2")]], ids=["a job", "a machine", "a time"])
-def test_no_formula_without_a_value_is_left_out(tmp_path: pathlib.Path, rows: list[Sequence[object]]) -> None:
-    text = fault_of(book_of(tmp_path / "times.xlsx", *rows))[2]
-    assert text.startswith("has a formula without a value") and text.endswith("in a spreadsheet and save it")
 
 
 def test_a_formula_may_have_an_empty_text(tmp_path: pathlib.Path, office: Office) -> None:
@@ -288,8 +275,8 @@ def test_a_schedule_shows_seconds_where_there_are_some(tmp_path: pathlib.Path) -
     schedule = pfs.Instance([[90], [30]], unit="s").schedule([0, 1])
     schedule.to_xlsx(tmp_path / "plan.xlsx", calendar=pfs.Calendar("2026-11-30T06:00"))
     cells = [row[2:] for row in openpyxl.load_workbook(tmp_path / "plan.xlsx")["schedule"].iter_rows(2)]
-    assert [cell.number_format for row in cells for cell in row] == [
-        f"yyyy-mm-dd hh:mm{seconds}" for seconds in ("", ":ss", ":ss", "")]
+    assert [(cell.value.second, cell.number_format) for row in cells for cell in row] == [
+        (0, "yyyy-mm-dd hh:mm"), (30, "yyyy-mm-dd hh:mm:ss"), (30, "yyyy-mm-dd hh:mm:ss"), (0, "yyyy-mm-dd hh:mm")]
 
 
 def test_all_schedules_are_written(tmp_path: pathlib.Path) -> None:
