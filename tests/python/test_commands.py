@@ -1,4 +1,5 @@
 """`python3 -m pfs search` and `python3 -m pfs plan`."""
+import argparse
 import csv
 import datetime
 import fcntl
@@ -19,6 +20,7 @@ import time
 import types
 from collections.abc import Callable, Iterator
 from typing import Any
+from unittest import mock
 
 import pfs
 import pytest
@@ -317,7 +319,8 @@ def test_progress_is_reported_on_a_terminal_only(folder: pathlib.Path) -> None:
 # and how long it still takes: by its own rounds, and not beyond the limit.
 LEFT: list[tuple[float | None, int | None, int, int, float, str]] = [
     (None, 400, 100, 200, 10.0, "0:00:20"), (5.0, None, 0, 7, 2.0, "0:00:03"), (3.0, 1_000_000, 0, 1, 1.0, "0:00:02"),
-    (3.0, 1_000_000, 0, 1, 2.5, "0:00:01"), (3.0, 1_000_000, 0, 1, 4.0, "0:00:00")]
+    (3.0, 1_000_000, 0, 1, 2.5, "0:00:01"), (3.0, 1_000_000, 0, 1, 4.0, "0:00:00"),
+    (10_000_002.0, None, 0, 1_007, 3.0, "2777:46:39"), (10_000_003.0, None, 0, 7, 3.0, "")]
 
 
 @pytest.mark.parametrize(("limit", "rounds", "begun", "done", "spent", "left"), LEFT)
@@ -325,7 +328,7 @@ def test_the_time_that_is_left(monkeypatch: pytest.MonkeyPatch, limit: float | N
                                done: int, spent: float, left: str) -> None:
     now, lines = [0.0], list[str]()
     monkeypatch.setattr(_commands, "time", types.SimpleNamespace(monotonic=lambda: now[0]))
-    search = _search.Search(pfs.taillard(1), None, begun, None, 0, 0)
+    search = _search.Search(pfs.Instance(pfs.taillard(1).times, unit="h:mm"), None, begun, None, 0, 0)
     progress = _commands.ProgressLine(search, rounds, limit)
     monkeypatch.setattr(progress, "shown", True)
     monkeypatch.setattr(progress, "show", lines.append)
@@ -334,7 +337,65 @@ def test_the_time_that_is_left(monkeypatch: pytest.MonkeyPatch, limit: float | N
     progress.update(done, 1278)
     assert limit or not lines[0].endswith("left"), "nothing is known of the time of a round yet"
     of = "" if rounds is None else f" of {rounds:,}"
-    assert lines[1].startswith(f"round {done}{of}, makespan ") and lines[1].endswith(f", {left} left"), lines
+    assert lines[1] == f"round {done:,}{of}, makespan 21:18, bound 0:00{left and f', {left} left'}"
+
+
+def test_the_progress_of_a_proof(monkeypatch: pytest.MonkeyPatch) -> None:
+    """An error keeps a shorter order that was found before it."""
+    now, lines, asked = [7.0], list[str](), list[Any]()
+    monkeypatch.setattr(_commands, "time", types.SimpleNamespace(monotonic=lambda: now[0]))
+    monkeypatch.setattr(_commands.ProgressLine, "show", lambda _, line: lines.append(line))
+    search: Any = _search.Search(pfs.taillard(1), None, 0, None, 0, 0)
+    errors = [MemoryError(), MemoryError()]
+    setattr(errors[1], "solution", "shorter")
+
+    def proved(*words: Any) -> str:
+        now[0] += 2
+        asked.append((*words[:3], words[3]()))
+        if now[0] > 9:
+            raise errors[now[0] > 11]
+        return "optimal"
+
+    monkeypatch.setattr(_commands, "proved", proved)
+    best: Any = "best"
+    found = [_commands.proved_for(5, search, best, caught) for caught in ([], [2], [])]
+    assert found == [("optimal", None), ("best", errors[0]), ("shorter", errors[1])]
+    assert asked == [(search.shop, "best", 5, is_stopped) for is_stopped in (False, True, False)]
+    assert lines == ["proving that no order is shorter, 0:00:03 left", ""] * 3
+
+
+def test_a_schedule_and_a_chart_are_written_with_all_options() -> None:
+    """The ending decides, in capitals too."""
+    shop, calendar = mock.Mock(), pfs.Calendar("2026-11-30")
+    best: Any = types.SimpleNamespace(bound=3)
+    for path in ("a.XLSX", "b.ICS", "c.csv"):
+        _commands.write_schedule(shop, best, path, ";", True, calendar, "de")
+    _commands.draw(shop, best, "e.svg", calendar, "t", "de")
+    same = {"calendar": calendar, "language": "de"}
+    assert shop.schedule.return_value.mock_calls == [
+        mock.call.to_xlsx("a.XLSX", **same), mock.call.to_ics("b.ICS", calendar),
+        mock.call.to_csv("c.csv", ";", mark=True, **same),
+        mock.call.plot("e.svg", critical=True, bound=3, title="t", **same)]
+    assert shop.schedule.mock_calls[::2] == [mock.call(best)] * 4
+    with pytest.raises(ValueError, match="^a calendar needs `begin`, which says when the work begins$"):
+        _commands.write_schedule(shop, best, "b.ics", ";", True, None, "de")
+
+
+def test_the_endings_of_schedules_and_tables(tmp_path: pathlib.Path) -> None:
+    for what in ("schedule", "table"):
+        for ending in ("", ".csv", ".tsv", ".txt", ".XLSX", ".ics", ".cs", ".ts", ".tx", ".xls", ".ic", "x"):
+            given = [[str(tmp_path / f"a{ending or ''}")], []][::1 if what == "schedule" else -1]
+            if ending in ("", ".csv", ".tsv", ".txt", ".XLSX", "x") or (what, ending) == ("schedule", ".ics"):
+                _commands.check_outputs([], given[0], [], given[1])
+                continue
+            with pytest.raises(ValueError, match=f"a{ending}: the name of a {what} ends with .csv"):
+                _commands.check_outputs([], given[0], [], given[1])
+
+
+def test_until_when_a_machine_is_down() -> None:
+    assert _commands.until_of("a=b=2026-12-01T13:00") == ("a=b", "2026-12-01T13:00")
+    with pytest.raises(argparse.ArgumentTypeError, match="^'a' is not a machine and a time such as drill=2026-12-01"):
+        _commands.until_of("a")
 
 
 def asked(folder: pathlib.Path, monkeypatch: pytest.MonkeyPatch, words: list[str]) -> dict[str, Any]:
@@ -342,6 +403,7 @@ def asked(folder: pathlib.Path, monkeypatch: pytest.MonkeyPatch, words: list[str
     found: dict[str, Any] = {}
 
     def searched(search: Any, rounds: int | None, seconds: float | None, *_: Any) -> tuple[pfs.Solution, None]:
+        assert search.first == 0
         found.update(take=search.take, passes=search.passes, seed=search.seed, rounds=rounds, seconds=seconds,
                      block=search.shop.to_text(), prove=0,
                      method="iterated-greedy" if search.more and search.more.partial else "solve")
@@ -751,6 +813,8 @@ REJECTED = [
     (f"{PLAN} --compare order.html --chart order.html", 3, f"order.html {READ}"),
     (f"{PLAN} --schedule out.ods", 3, "out.ods: the name of a schedule ends with .csv, .ics or .xlsx"),
     (f"{PLAN} --schedule out.html", 3, "out.html: the name of a schedule ends with .csv, .ics or .xlsx"),
+    (f"{PLAN} --schedule out.xlsx", 4,
+     "writing a workbook needs openpyxl (Debian: python3-openpyxl; pip install 'pfs[workbooks]')"),
     (f"{PLAN} --schedule none/out.csv", 4, "none/out.csv" + NOT_THERE),
     (f"{PLAN} --chart none/out.svg", 4, "none/out.svg" + NOT_THERE),
     (f"{PLAN} --chart ok.html --chart none/out.html", 4, "none/out.html" + NOT_THERE),
@@ -805,9 +869,10 @@ CASES = [*((words, status, error, TABLE, "") for words, status, error in REJECTE
 @pytest.mark.parametrize(("words", "status", "error", "table", "order"), CASES)
 def test_what_is_rejected_before_the_search(folder: pathlib.Path, monkeypatch: pytest.MonkeyPatch, words: str,
                                             status: int, error: str, table: str, order: str) -> None:
-    """No file changes. There is no matplotlib here."""
+    """No file changes. There is no matplotlib here, and no openpyxl."""
     modules: dict[str, Any] = sys.modules
-    monkeypatch.setitem(modules, "matplotlib", None)
+    for name in ("matplotlib", "openpyxl"):
+        monkeypatch.setitem(modules, name, None)
     monkeypatch.setattr(_commands, "searched", None)
     (folder / "link.csv").symlink_to("times.csv")
     files = {"times.csv": table, "plain.csv": TABLE.replace(" [h]", ""), "order": order, "order.html": "table\n",

@@ -106,7 +106,7 @@ def with_options(path: pathlib.Path, *options: Sequence[object], name: str = "pf
 @pytest.mark.parametrize(("name", "at"), [("pfs", 1), ("PFS", 0)])
 def test_options_on_a_sheet(tmp_path: pathlib.Path, name: str, at: int) -> None:
     book_of(tmp_path / "plain.xlsx", *ROWS)
-    with_options(tmp_path / "times.xlsx", ["# each week"], ["begin", datetime.datetime(2026, 11, 30, 6)], [],
+    with_options(tmp_path / "times.xlsx", ["# each week", 1, 2], ["begin", datetime.datetime(2026, 11, 30, 6)], [],
                  ["--shift", "fri:06:00-12:00"], ["closed", datetime.datetime(2026, 12, 4)], ["take", 2], ["report"],
                  name=name, at=at)
     words = ["--begin", "2026-11-30T06:00", "--shift", "fri:06:00-12:00", "--closed", "2026-12-04", "--take", "2",

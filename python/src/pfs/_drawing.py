@@ -11,7 +11,7 @@ import textwrap
 from collections.abc import Sequence
 from dataclasses import dataclass
 from functools import cached_property
-from typing import Any
+from typing import Any, TypeAlias
 
 from pfs._names import CLOCK, amount
 from pfs._words import ENGLISH, Say
@@ -46,11 +46,11 @@ PALETTE = """
     f0783c 9696f0 326ef0 96c8fa 00aac8 3296aa 64aa8c b41e32 32788c 32a06e aac8a0 3c78aa 509682 465a82 a0d278""".split()
 
 # Red, green and blue, each from 0 to 1.
-Colour = tuple[float, float, float]
+Colour: TypeAlias = tuple[float, float, float]
 # Figures and axes of matplotlib, and arrays of NumPy, which have no types here.
-Figure = Any
-Axis = Any
-Array = Any
+Figure: TypeAlias = Any
+Axis: TypeAlias = Any
+Array: TypeAlias = Any
 
 
 @dataclass
