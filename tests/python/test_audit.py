@@ -96,13 +96,6 @@ def rows_of(*orders: Any, makespan: Any = 10) -> list[dict[str, Any]]:
     return [{"instance": "small", "makespan": makespan, "order": order} for order in orders]
 
 
-@pytest.mark.parametrize("order", ["2 1 3", "2,1,3", "2; 1; 3", "[2, 1, 3]", "(2 1 3)", "J2 J1 J3", "job_2,job_1,job_3",
-                                   "[2 1\n 3]", [2, 1, 3], (2, 1, 3), np.array([2, 1, 3])])
-def test_spellings(order: Any) -> None:
-    [found] = pfs.audit(rows_of(order), [SMALL])
-    assert found == (0, "small", "", 10, 10, 10, True, "valid and optimal", "", "")
-
-
 @pytest.mark.parametrize(("order", "verdict", "why"), [
     ("2 1 999999999", "job out of range", "job 999999999 at place 3: the jobs are 1 to 3; job 3 is missing"),
     ("2 1 2", "job twice", "job 2 at places 1 and 3; job 3 is missing"), ("2 1", "job missing", "job 3 is missing"),

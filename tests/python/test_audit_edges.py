@@ -127,7 +127,7 @@ def test_one_reader_of_orders(order: str, tmp_path: pathlib.Path) -> None:
 @pytest.mark.parametrize("order", [[2, 1, 3], (2.0, 1.0, 3.0), np.array([2.0, 1.0, 3.0]), np.array([2, 1, 3], np.uint8),
                                    ["J2", "J1", "J3"], pandas.Series([2, 1, 3]), iter([2, 1, 3])])
 def test_lists_of_jobs(order: Any) -> None:
-    assert pfs.audit(rows_of(order), [SMALL])[0].valid
+    assert pfs.audit(rows_of(order), [SMALL]) == [(0, "small", "", 10, 10, 10, True, "valid and optimal", "", "")]
 
 
 @pytest.mark.parametrize("order", [*UNREADABLE, {2, 1, 3}, {2: 1}, b"213", [2.5, 1, 3], [True, 0, 3], [[2, 1, 3]],

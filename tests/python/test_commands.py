@@ -1,6 +1,6 @@
 """`python3 -m pfs search` and `python3 -m pfs plan`."""
 import argparse
-import csv
+import contextlib
 import datetime
 import fcntl
 import hashlib
@@ -340,56 +340,50 @@ def test_the_time_that_is_left(monkeypatch: pytest.MonkeyPatch, limit: float | N
     assert lines[1] == f"round {done:,}{of}, makespan 21:18, bound 0:00{left and f', {left} left'}"
 
 
-def test_the_progress_of_a_proof(monkeypatch: pytest.MonkeyPatch) -> None:
-    """An error keeps a shorter order that was found before it."""
-    now, lines, asked = [7.0], list[str](), list[Any]()
-    monkeypatch.setattr(_commands, "time", types.SimpleNamespace(monotonic=lambda: now[0]))
-    monkeypatch.setattr(_commands.ProgressLine, "show", lambda _, line: lines.append(line))
-    search: Any = _search.Search(pfs.taillard(1), None, 0, None, 0, 0)
-    errors = [MemoryError(), MemoryError()]
-    setattr(errors[1], "solution", "shorter")
+class Failed(MemoryError):
+    solution = "shorter"
 
-    def proved(*words: Any) -> str:
-        now[0] += 2
-        asked.append((*words[:3], words[3]()))
-        if now[0] > 9:
-            raise errors[now[0] > 11]
+
+@pytest.mark.parametrize(("error", "found"), [(None, "optimal"), (MemoryError(), "best"), (Failed(), "shorter")])
+def test_the_progress_of_a_proof(monkeypatch: pytest.MonkeyPatch, error: MemoryError | None, found: str) -> None:
+    """An error keeps a shorter order that was found before it."""
+    lines = list[str]()
+
+    def proved(shop: pfs.Instance, best: str, seconds: float, is_stopped: Callable[[], bool]) -> str:
+        assert (shop, best, seconds, is_stopped()) == (search.shop, "best", 5, True)
+        if error:
+            raise error
         return "optimal"
 
+    search = _search.Search(pfs.taillard(1), None, 0, None, 0, 0)
     monkeypatch.setattr(_commands, "proved", proved)
-    best: Any = "best"
-    found = [_commands.proved_for(5, search, best, caught) for caught in ([], [2], [])]
-    assert found == [("optimal", None), ("best", errors[0]), ("shorter", errors[1])]
-    assert asked == [(search.shop, "best", 5, is_stopped) for is_stopped in (False, True, False)]
-    assert lines == ["proving that no order is shorter, 0:00:03 left", ""] * 3
+    monkeypatch.setattr(_commands, "time", types.SimpleNamespace(monotonic=iter([7.0, 7.0, 9.0]).__next__))
+    monkeypatch.setattr(_commands.ProgressLine, "show", lambda _, line: lines.append(line))
+    call: Any = _commands.proved_for
+    assert call(5, search, "best", [2]) == (found, error)
+    assert lines == ["proving that no order is shorter, 0:00:03 left", ""]
 
 
-def test_a_schedule_and_a_chart_are_written_with_all_options() -> None:
-    """The ending decides, in capitals too."""
-    shop, calendar = mock.Mock(), pfs.Calendar("2026-11-30")
-    best: Any = types.SimpleNamespace(bound=3)
+def test_the_ending_of_a_schedule_says_how_it_is_written() -> None:
+    """In capitals too."""
+    shop, calendar, best = mock.Mock(), pfs.Calendar("2026-11-30"), pfs.Solution([0], 1)
     for path in ("a.XLSX", "b.ICS", "c.csv"):
         _commands.write_schedule(shop, best, path, ";", True, calendar, "de")
-    _commands.draw(shop, best, "e.svg", calendar, "t", "de")
     same = {"calendar": calendar, "language": "de"}
     assert shop.schedule.return_value.mock_calls == [
         mock.call.to_xlsx("a.XLSX", **same), mock.call.to_ics("b.ICS", calendar),
-        mock.call.to_csv("c.csv", ";", mark=True, **same),
-        mock.call.plot("e.svg", critical=True, bound=3, title="t", **same)]
-    assert shop.schedule.mock_calls[::2] == [mock.call(best)] * 4
-    with pytest.raises(ValueError, match="^a calendar needs `begin`, which says when the work begins$"):
-        _commands.write_schedule(shop, best, "b.ics", ";", True, None, "de")
+        mock.call.to_csv("c.csv", ";", mark=True, **same)]
 
 
-def test_the_endings_of_schedules_and_tables(tmp_path: pathlib.Path) -> None:
-    for what in ("schedule", "table"):
-        for ending in ("", ".csv", ".tsv", ".txt", ".XLSX", ".ics", ".cs", ".ts", ".tx", ".xls", ".ic", "x"):
-            given = [[str(tmp_path / f"a{ending or ''}")], []][::1 if what == "schedule" else -1]
-            if ending in ("", ".csv", ".tsv", ".txt", ".XLSX", "x") or (what, ending) == ("schedule", ".ics"):
-                _commands.check_outputs([], given[0], [], given[1])
-                continue
-            with pytest.raises(ValueError, match=f"a{ending}: the name of a {what} ends with .csv"):
-                _commands.check_outputs([], given[0], [], given[1])
+@pytest.mark.parametrize(("ending", "takes"), [
+    *((each, 2) for each in ("", ".csv", ".tsv", ".TXT", ".xlsx")), (".ics", 1),
+    *((each, 0) for each in (".cs", ".ts", ".tx", ".xls", ".ic"))])
+def test_the_endings_of_schedules_and_tables(tmp_path: pathlib.Path, ending: str, takes: int) -> None:
+    path = [str(tmp_path / f"a{ending}")]
+    for at, (what, given) in enumerate({"schedule": (path, [], []), "table": ([], [], path)}.items()):
+        with contextlib.nullcontext() if at < takes else pytest.raises(
+                ValueError, match=f"a{ending}: the name of a {what} ends with .csv"):
+            _commands.check_outputs([], *given)
 
 
 def test_until_when_a_machine_is_down() -> None:
@@ -852,10 +846,6 @@ BAD_TABLES = [
     ("job;saw\na;1.000\n", "", "cell B2, column 'saw': '1.000' may be 1000, or have decimals: leave out thousands "
      "separators, or say which decimal sign the table has (--decimal point or --decimal comma)"),
     ("job [min];saw\na;1\n", "--unit h", "cell A1: the times are in min, and --unit is h: use one unit"),
-    ("job [min];saw\na;1:30\n", "", "cell A1: times such as 1:30 may be hours and minutes, or minutes and "
-     "seconds: write [h:mm] instead of min, or numbers"),
-    ("job;saw;eta\na;1;soon\n", "", "cell C2, column 'eta': 'soon' isn't a time: leave the column out if it is no "
-     "machine, or say which columns are machines (--machines)"),
     ("job;saw;drill;all\na;1;2;3\nb;3;4;7\n", "", "cell D1: the column 'all' has the sums of the columns "
      "before: leave it out, or allow totals (--allow-totals)"),
 ]
@@ -892,20 +882,6 @@ def test_what_the_messages_propose_is_taken(folder: pathlib.Path) -> None:
         run(["plan", "times.csv", "--rounds", "0", *words.split()], folder)
 
 
-def test_a_workbook_is_planned(folder: pathlib.Path) -> None:
-    """From its table to its schedule, which is an order too."""
-    openpyxl = pytest.importorskip("openpyxl")
-    book = openpyxl.Workbook()
-    for row in csv.reader(TABLE.replace(",", ".").splitlines(), delimiter=";"):
-        book.active.append([float(cell) if cell[0].isdigit() else cell for cell in row])
-    book.save(folder / "times.xlsx")
-    words = ["plan", "times.xlsx", "--schedule", "out.xlsx"]
-    printed = run(words, folder)
-    assert printed == run(["plan", "times.xlsx", "--order", "out.xlsx"], folder)
-    (folder / "times.csv").write_text(TABLE)
-    assert printed == run(["plan", "times.csv"], folder)
-
-
 def test_pages_and_searches_need_no_other_package(folder: pathlib.Path) -> None:
     (folder / "times.csv").write_text(TABLE)
     for name in ("matplotlib", "pandas", "tqdm"):
@@ -918,15 +894,6 @@ def test_pages_and_searches_need_no_other_package(folder: pathlib.Path) -> None:
     assert child.returncode == 0, f"a plan with a page needs an optional package: {got.decode()}"
     assert printed.startswith(b"makespan ") and (folder / "page.html").stat().st_size > 0
     assert (folder / "out.csv").stat().st_size > 0
-
-
-@pytest.mark.parametrize("names", [["lamp; red", "lamp; blue", "chair"], ["a\tb", "c\td", "e"], [" =1+1", "=2", "-a"],
-                                   ["a; b\nc", "d", "e; f; g"]])
-def test_a_schedule_is_read_back(folder: pathlib.Path, names: list[str]) -> None:
-    table = "job,saw,drill\n" + "".join(f'"{name}",{3 - at},{at}\n' for at, name in enumerate(names))
-    (folder / "times.csv").write_text(table)
-    printed = run(["plan", "times.csv", "--schedule", "out.csv"], folder)
-    assert run(["plan", "times.csv", "--order", "out.csv"], folder) == printed
 
 
 @pytest.mark.parametrize("kind", [OSError, MemoryError, ImportError, ValueError])

@@ -45,7 +45,6 @@ FILES = [*map(str.encode, TABLES), *("\ufeffjob\tsaw\tdrill\r\ntable\t3\t2\r\nch
 BAD_TABLES: dict[str, tuple[str | bytes, int, int, str]] = {
     "nothing": ("", 1, 0, "the table is empty"),
     "one line": ("job,saw\n", 1, 0, "0 jobs: there may be 1 to 5,000"),
-    "one line of other words": ("x,saw\n", 1, 0, "0 jobs: there may be 1 to 5,000"),
     "no machine": ("job\na\n", 1, 0, "0 machines: there may be 1 to 200"),
     "many machines": ("job" + "".join(f",m{at}" for at in range(201)) + "\na" + ",1" * 201, 1, 0,
                       "201 machines: there may be 1 to 200"),
@@ -109,10 +108,7 @@ WRONG_TABLES: dict[str, tuple[Any, ...]] = {
     "no column of names": ("saw;drill\n3;12\n20;5\n", 2, 1, NO_COLUMN),
     "no names of both": ("3,2\n1.5,4\n", 1, 2, NO_ROW),
     "no row of names above hours": ("a;3:00;1:12\nb;0:20;5:00\n", 1, 2, NO_ROW),
-    "no row of names, and times that count from 1": ("a;1;2\nb;20;5\n", 1, 2, NO_ROW),
-    "no row of names, and times that count from 0": ("a;0;1\nb;20;5\n", 1, 2, NO_ROW),
     "no row of names, and a job in brackets": ("chair (red);1;2\nb;20;5\n", 1, 2, NO_ROW),
-    "no column of names, and times that count from 1": ("saw;drill\n1;12\n2;5\n", 2, 1, NO_COLUMN),
     "minutes and seconds": ("job [min];saw\na;1:30\n", 1, 1, "times such as 1:30 may be hours and minutes, or minutes "
                             "and seconds: write [h:mm] instead of min, or numbers"),
     "hours, minutes and seconds beside others": (

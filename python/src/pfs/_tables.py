@@ -452,7 +452,8 @@ def leave_out_totals(table: Rows) -> None:
     """Report rows and columns that are named as sums, means or quantities. Columns may be if they were chosen."""
     for cells, pattern, what in (
             (table.jobs, NO_JOB, "the row {!r} looks like a sum or a mean"),
-            ([] if table.is_chosen else table.machines, NO_TIMES, "the column {!r} looks like a sum, a mean or a quantity")):
+            ([] if table.is_chosen else table.machines, NO_TIMES,
+             "the column {!r} looks like a sum, a mean or a quantity")):
         for cell in [cell for cell in cells if pattern.match(cell.text)]:
             table.report(cell, f"{what.format(cell.text)}: leave it out, or allow totals (`allow_totals`)")
             cells.remove(cell)
