@@ -43,7 +43,7 @@ def bytes_of(source: Source, most: int) -> tuple[bytes, str]:
     if hasattr(source, "read"):
         return read_up_to(source.read, most + 1), str(getattr(source, "name", ""))
     with open(source, "rb") as file:
-        return read_up_to(file.read, most + 1), os.fspath(source)
+        return bytes_of(file, most)[0], os.fspath(source)
 
 
 def content_of(path: str, what: str = "file") -> bytes:
