@@ -25,7 +25,7 @@ from unittest import mock
 import pfs
 import pytest
 from pfs import _commands, _library, _rounds, _search, _state
-from pfs._cli import VERSION, Misused, version
+from pfs._cli import Misused, version
 from support import plainly
 from support.commands import ended, without_summary
 from support.plainly import environment
@@ -1051,19 +1051,6 @@ def test_no_module_is_imported_from_the_current_folder(words: list[str], tmp_pat
 def test_what_the_program_prints(folder: pathlib.Path, words: list[str], status: int, out: str, got: str) -> None:
     done = pfs_plan(folder, *words)
     assert (done.returncode, done.stdout, done.stderr) == (status, out.replace("VERSION", version()), got)
-
-
-def test_the_version_of_a_checkout(monkeypatch: pytest.MonkeyPatch) -> None:
-    """It is that of the package where no commit is known."""
-    run = mock.Mock(return_value=mock.Mock(returncode=0, stdout="12ab with changes\n"))
-    monkeypatch.setattr("subprocess.run", run)
-    monkeypatch.setattr("pathlib.Path.exists", lambda path: path == TOP / ".git")
-    assert version() == f"{VERSION}, commit 12ab with changes"
-    assert run.call_args.args == (
-        ["git", "-C", str(TOP), "describe", "--always", "--exclude=*", "--dirty= with changes"],)
-    for more in ({"return_value": mock.Mock(returncode=128)}, {"side_effect": OSError}):
-        run.configure_mock(**more)
-        assert version() == VERSION
 
 
 @pytest.mark.parametrize("words", [["-m", "pfs", "plan", "times.csv", "--chart", "made.png"],
