@@ -340,27 +340,13 @@ def test_the_time_that_is_left(monkeypatch: pytest.MonkeyPatch, limit: float | N
     assert lines[1] == f"round {done:,}{of}, makespan 21:18, bound 0:00{left and f', {left} left'}"
 
 
-class Failed(MemoryError):
-    solution = "shorter"
-
-
-@pytest.mark.parametrize(("error", "found"), [(None, "optimal"), (MemoryError(), "best"), (Failed(), "shorter")])
-def test_the_progress_of_a_proof(monkeypatch: pytest.MonkeyPatch, error: MemoryError | None, found: str) -> None:
-    """An error keeps a shorter order that was found before it."""
-    lines = list[str]()
-
-    def proved(shop: pfs.Instance, best: str, seconds: float, is_stopped: Callable[[], bool]) -> str:
-        assert (shop, best, seconds, is_stopped()) == (search.shop, "best", 5, True)
-        if error:
-            raise error
-        return "optimal"
-
-    search = _search.Search(pfs.taillard(1), None, 0, None, 0, 0)
-    monkeypatch.setattr(_commands, "proved", proved)
+def test_the_progress_of_a_proof(monkeypatch: pytest.MonkeyPatch) -> None:
+    lines, asked = list[str](), list[Any]()
+    search, call = _search.Search(pfs.taillard(1), None, 0, None, 0, 0), getattr(_commands, "proved_for")
+    monkeypatch.setattr(_commands, "proved", lambda *given: asked.append((*given[:3], given[3]())))
     monkeypatch.setattr(_commands, "time", types.SimpleNamespace(monotonic=iter([7.0, 7.0, 9.0]).__next__))
     monkeypatch.setattr(_commands.ProgressLine, "show", lambda _, line: lines.append(line))
-    call: Any = _commands.proved_for
-    assert call(5, search, "best", [2]) == (found, error)
+    assert call(5, search, "best", [2]) == (None, None) and asked == [(search.shop, "best", 5, True)]
     assert lines == ["proving that no order is shorter, 0:00:03 left", ""]
 
 

@@ -235,13 +235,6 @@ def colours_of(case: Case, picture: Picture) -> dict[int, set[str]]:
     return found
 
 
-def test_a_jobs_colour_is_that_of_its_number_and_not_of_its_place(folder: pathlib.Path) -> None:
-    times = [[3, 2], [2, 5], [4, 1], [1, 1]]
-    cases = [Case("", order, schedule_of([times[job - 1] for job in order])) for order in ([1, 2, 3, 4], [3, 1, 4, 2])]
-    found = [colours_of(case, case.drawn(folder)) for case in cases]
-    assert found[0] == found[1], "colours of the same jobs in another order"
-
-
 # How much the colours of jobs differ, as the page says.
 COLOURS = re.search(r"Any two of up to (\d+) jobs have colours that differ by ([\d.]+) or more \(CIEDE2000; of (\d+) "
                     r"jobs by ([\d.]+)\).* Of more jobs, neighbours in the order differ by ([\d.]+) or more",

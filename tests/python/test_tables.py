@@ -403,9 +403,3 @@ def test_the_delimiter_of_a_text(delimiter: str, rows: list[tuple[str, str]]) ->
     csv.writer(text, delimiter=delimiter, quoting=csv.QUOTE_ALL).writerows(rows)
     assert _tables.delimiter_of(text.getvalue()) == delimiter
     assert _tables.delimiter_of(f"\nsep=|\n{text.getvalue()}") == "|"
-    assert _tables.delimiter_of(f"a{delimiter}b\nsep=|\n") in (delimiter, ",")
-
-
-def test_the_delimiter_is_that_of_the_first_lines(monkeypatch: pytest.MonkeyPatch) -> None:
-    monkeypatch.setattr(_tables, "MOST_ROWS", 1)
-    assert [_tables.delimiter_of("a;b\n" * 5 + "a,b\n" * 4 + last + "a;b\n") for last in ("a,b\n", "")] == [",", ";"]

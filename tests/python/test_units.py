@@ -338,14 +338,21 @@ def test_more_jobs_than_pixels_of_a_row_are_an_image() -> None:
 
 
 def test_a_page_has_what_its_script_reads(tmp_path: pathlib.Path) -> None:
-    """And nothing else: each field of the data by its name, with dates and without."""
+    """And nothing else: each field of the data by its name, with dates and without. Colours are those of job numbers."""
     script = TOP.joinpath("python/src/pfs/chart.html").read_text()
     calendar = pfs.Calendar("2026-11-30T12:00", shifts="06:00-14:00", closed="2026-12-02")
     made = pfs.Instance([[300, 30], [20, 500]], unit="min").schedule([1, 0])
     for given in (None, calendar):
-        made.plot(tmp_path / "chart.html", calendar=given)
+        made.plot(tmp_path / "chart.html", critical=True, bound=540, calendar=given)
         data = json.loads(re.findall(r'id="data">(.*?)</script>', (tmp_path / "chart.html").read_text())[0])
         assert data.keys() == {*re.findall(r"\btable\.(\w+)", script)}
+        plain = dict.fromkeys(("words", "dates", "breaks", "steps")) | {
+            "jobs": ["1", "0"], "machines": ["0", "1"], "starts": [[0, 20], [20, 520]], "ends": [[20, 320], [520, 550]],
+            "makespan": 550, "bound": 540, "critical": [[0, 0, 0], [1, 0, 1]], "shares": ["42 %", "4 %"], "unit": "min",
+            "decimals": 0, "fills": ["#5a7800", "#326ebe"], "inks": ["white"] * 2, "idle": "#d9d9d9", "isNamed": False,
+            "sign": "#"}
+        assert data | dict.fromkeys(("words", "dates", "breaks", "steps")) == plain
+        assert given or (data["dates"], data["breaks"], data["steps"]) == (None, [], [])
     named = {*re.findall(r"\btable\.dates\.(\w+)", script)}
     for fields in re.findall(r"const \{([^}]*)\} = table\.dates", script):
         named |= {*fields.split(", ")}

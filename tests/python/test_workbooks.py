@@ -220,12 +220,6 @@ def test_what_openpyxl_does_not_say_of_a_sheet() -> None:
     assert [*_workbooks.formulas_without_values(SHEET)] == ["B1", "A1"]
 
 
-def test_the_first_rows_decide_how_wide_a_column_is(tmp_path: pathlib.Path) -> None:
-    sheet = openpyxl.Workbook().active
-    _workbooks.write_sheet(sheet, [*[("a",)] * 1_999, ("bb",), ("ccc",)])
-    assert sheet.column_dimensions["A"].width == 5
-
-
 def test_rows_after_the_last_one_of_a_table_are_not_read(tmp_path: pathlib.Path,
                                                          monkeypatch: pytest.MonkeyPatch) -> None:
     path = book_of(tmp_path / "times.xlsx", *([f"j{at}", 1] for at in range(10_050)))
