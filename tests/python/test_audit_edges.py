@@ -12,6 +12,7 @@ import numpy as np
 import pandas
 import pfs
 import pytest
+from pfs._causes import Causes, Stated
 from pfs._orders import order_in
 from pfs.experiments import ExperimentError
 from pfs.experiments.__main__ import command_line
@@ -416,6 +417,21 @@ def test_orders_of_another_size_are_tried_on_instances_of_that_size() -> None:
     assert found.verdict == "wrong size"
     assert found.why == f"20 jobs, but the instance has 50; the order takes {stated} on ta001"
     assert "; the order" not in pfs.audit([row("ta031", [0] * 20, stated), table[1]], first=1)[0].why
+
+
+def test_how_many_causes_are_sought() -> None:
+    """Three hints, 50 other instances and rows, 5,000 pairs of an order and 500,000 of all."""
+    rows = [Stated(f"row {at}", f"i{at}", "", 60, pfs.Instance([[at], [60 - at]])) for at in range(53)]
+    causes = Causes(rows)
+    assert causes.of(rows[0], [0, 1], 70) == [f"the order takes 60 on i{at}" for at in (1, 2, 3)]
+    assert len([*causes.on_others(rows[0], [0, 1])]) == 50
+    alone = Causes(row._replace(shop=rows[0].shop) for row in rows)
+    assert next(alone.possible(rows[0], [0, 1])) == "row 1 states it for this instance (as with 49 other rows)"
+    many = [Stated("", "", "", count, pfs.Instance([[1]] * count)) for count in (100, 101)]
+    assert [len(causes.pairs(row, [*range(row.makespan)])) for row in many] == [4_950, 100]
+    assert causes.orders == 500_000 - 4_950
+    causes.orders = 4_949
+    assert len(causes.pairs(many[0], [*range(100)])) == 99
 
 
 @pytest.mark.seconds(8)
