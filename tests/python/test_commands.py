@@ -1,5 +1,4 @@
 """`python3 -m pfs search` and `python3 -m pfs plan`."""
-import argparse
 import contextlib
 import datetime
 import fcntl
@@ -72,7 +71,7 @@ def rounds_in(folder: pathlib.Path) -> int:
     if not path.exists():
         return -1
     text = path.read_text()
-    found = re.fullmatch(r'\{"state": .*"rounds": (\d+), .*\}\n', text)
+    found = re.fullmatch(r'\{"state": "pfs search 2", .*"rounds": (\d+), .*\}\n', text)
     assert found, f"a state that isn't whole: {text[:200]!r}"
     return int(found[1])
 
@@ -370,12 +369,6 @@ def test_the_endings_of_schedules_and_tables(tmp_path: pathlib.Path, ending: str
         with contextlib.nullcontext() if at < takes else pytest.raises(
                 ValueError, match=f"a{ending}: the name of a {what} ends with .csv"):
             _commands.check_outputs([], *given)
-
-
-def test_until_when_a_machine_is_down() -> None:
-    assert _commands.until_of("a=b=2026-12-01T13:00") == ("a=b", "2026-12-01T13:00")
-    with pytest.raises(argparse.ArgumentTypeError, match="^'a' is not a machine and a time such as drill=2026-12-01"):
-        _commands.until_of("a")
 
 
 def asked(folder: pathlib.Path, monkeypatch: pytest.MonkeyPatch, words: list[str]) -> dict[str, Any]:
@@ -815,6 +808,8 @@ REJECTED = [
      f"argument --days: 'mo-fr' is not a day of the week such as mon, or days such as mon-fri {HELP}"),
     (f"{PLAN} {BEGIN} --closed 24.12.", 3,
      f"argument --closed: '24.12.' is not a date such as 2026-12-24, or dates such as 2026-12-24..2027-01-01 {HELP}"),
+    (f"{PLAN} --down drill", 3,
+     f"argument --down: 'drill' is not a machine and a time such as drill=2026-12-01T13:00 {HELP}"),
     (f"{PLAN} --shift 06:00-14:00", 3, "--shift needs --begin, which says when the work begins"),
     (f"{PLAN} --days mon-fri", 3, "--days needs --begin, which says when the work begins"),
     (f"{PLAN} --closed 2026-12-24", 3, "--closed needs --begin, which says when the work begins"),

@@ -57,7 +57,6 @@ BAD_TABLES: dict[str, tuple[str | bytes, int, int, str]] = {
     "a word": ("job,saw\n\na,x\n", 3, 2, f"'x' isn't a time: {NO_MACHINE}"),
     "a date": ("job,saw\na,4.12.2026\nb,5.12.\n", 2, 2,
                f"'4.12.2026' isn't a time: {NO_MACHINE} (and 1 more cell of the column)"),
-    "a minus": ("job,saw\na,-1\n", 2, 2, "'-1' isn't a time"),
     "a digit of another script": ("job,saw\na,\u0663\n", 2, 2, "'\u0663' isn't a time"),
     "no time": ("job,saw,drill\na,3,\n", 2, 3, MISSING),
     "a short row": ("job,saw,drill\na,3\n", 2, 3, MISSING),
@@ -180,7 +179,6 @@ RIGHT_TABLES = {
     "empty columns at the right": ("job;saw;;\na;3;;\nb;2\n;;;\n", [[3], [2]]),
     "a title above numbered machines": ("Plan\njob;1;2\na;3;2\nb;1;4\n", [[3, 2], [1, 4]]),
     "titles": ("Plan, week 48\nof the workshop;;\njob;saw;drill\na;3;2\nb;1;4\n", [[3, 2], [1, 4]]),
-    "hours and minutes": ("job;saw;drill\na;1:30;0:05\n", [[90, 5]]),
 }
 
 

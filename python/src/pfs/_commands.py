@@ -393,7 +393,11 @@ def checked(reader: Callable[[str], object]) -> Callable[[str], str]:
 
 
 def until_of(text: str) -> tuple[str, str]:
-    """Parse a machine and a date and time."""
+    """Parse a machine and a date and time.
+
+    >>> until_of("a = b=2026-12-01T13:00")
+    ('a = b', '2026-12-01T13:00')
+    """
     machine, sign, moment = text.rpartition("=")
     if not sign:
         raise argparse.ArgumentTypeError(f"{text!r} is not a machine and a time such as drill=2026-12-01T13:00")

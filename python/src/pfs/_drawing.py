@@ -197,7 +197,11 @@ def critical_path(starts: Array, ends: Array) -> list[tuple[int, int]]:
 
 
 def shortened(text: str, most: int) -> str:
-    """Return the text, cut if it is longer than this."""
+    """Return the text, cut if it is longer than this.
+
+    >>> shortened("drill", 5), shortened("drill 12", 7), shortened("drill 12", 6)
+    ('drill', 'drill…', 'drill…')
+    """
     return text if len(text) <= most else f"{text[:most - 1].rstrip()}\u2026"
 
 
