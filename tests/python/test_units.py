@@ -338,7 +338,7 @@ def test_more_jobs_than_pixels_of_a_row_are_an_image() -> None:
 
 
 def test_a_page_has_what_its_script_reads(tmp_path: pathlib.Path) -> None:
-    """And nothing else: each field of the data by its name, with dates and without. Colours are those of job numbers."""
+    """And nothing else: each field of the data by its name, with dates and without. Colours are by job numbers."""
     script = TOP.joinpath("python/src/pfs/chart.html").read_text()
     calendar = pfs.Calendar("2026-11-30T12:00", shifts="06:00-14:00", closed="2026-12-02")
     made = pfs.Instance([[300, 30], [20, 500]], unit="min").schedule([1, 0])

@@ -723,8 +723,8 @@ def described(shop: Instance) -> str:
 
     >>> described(Instance([[35, 20]], machine_names=["saw", "drill"], unit="min", decimals=1))
     '1 job, 2 machines (saw, drill), times in min with 1 decimal'
-    >>> described(Instance([[1] * 12])), described(Instance([[1] * 13]))[-33:]
-    ('1 job, 12 machines (0, 1, 2, 3, 4, 5, 6, 7, 8, 9, 10, 11), times without a unit', '10, 11, ..), times without a unit')
+    >>> described(Instance([[1] * 12]))[-33:], described(Instance([[1] * 13]))[-33:]
+    (' 9, 10, 11), times without a unit', '10, 11, ..), times without a unit')
     """
     names = [shop.machine_name(machine) for machine in range(shop.machines)]
     decimals = f" with {counted(shop.decimals, 'decimal')}" if shop.decimals else ""
