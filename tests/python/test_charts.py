@@ -135,12 +135,13 @@ def test_the_lines_of_a_picture() -> None:
     shop = pfs.Instance([[600, 60], [60, 600]], unit="min", job_names=["$a$", "b"], machine_names=["$x$", "$y$"])
     figure = shop.schedule([0, 1]).plot(critical=True, bound=True, calendar=calendar, title="$t$")
     axis, = figure.axes
-    assert {each.get_gid(): (each.get_zorder(), each.get_clip_on(), *each.get_edgecolor()[:, 0], *each.get_linewidth(),
-                             each.get_linestyle()[0][1] is None) for each in axis.collections} == {
+    due: dict[str, tuple[Any, ...]] = {
         **{f"strip-{at}": (1, True, 0, True) for at in (1, 2)},
         **{f"machine-{at}": (1, True, 1, 0.5, True) for at in (1, 2)},
         **{f"critical-{at}": (3, False, 0, 2, True) for at in (1, 2)},
         "days": (2.5, True, 0, 0.9, True), "shifts": (2.5, True, 0, 0.6, False)}
+    assert {each.get_gid(): (each.get_zorder(), each.get_clip_on(), *each.get_edgecolor()[:, 0], *each.get_linewidth(),
+                             each.get_linestyle()[0][1] is None) for each in axis.collections} == due
     assert [(each.get_gid(), each.get_zorder(), each.get_linewidth(), each._unscaled_dash_pattern[1])
             for each in axis.lines] == [("beside-bound", 3.5, 2.4, None), ("bound", 3.6, 1.2, (4, 3))]
     right, = axis.child_axes

@@ -1,5 +1,4 @@
 """`python3 -m pfs search` and `python3 -m pfs plan`."""
-import contextlib
 import datetime
 import fcntl
 import hashlib
@@ -364,11 +363,14 @@ def test_the_ending_of_a_schedule_says_how_it_is_written() -> None:
     *((each, 2) for each in ("", ".csv", ".tsv", ".TXT", ".xlsx")), (".ics", 1),
     *((each, 0) for each in (".cs", ".ts", ".tx", ".xls", ".ic"))])
 def test_the_endings_of_schedules_and_tables(tmp_path: pathlib.Path, ending: str, takes: int) -> None:
-    path = [str(tmp_path / f"a{ending}")]
-    for at, (what, given) in enumerate({"schedule": (path, [], []), "table": ([], [], path)}.items()):
-        with contextlib.nullcontext() if at < takes else pytest.raises(
-                ValueError, match=f"a{ending}: the name of a {what} ends with .csv"):
-            _commands.check_outputs([], *given)
+    path = str(tmp_path / f"a{ending}")
+    for at, what in enumerate(("schedule", "table")):
+        outputs = [path][:1 - at], [path][:at]
+        if at < takes:
+            _commands.check_outputs([], outputs[0], [], outputs[1])
+            continue
+        with pytest.raises(ValueError, match=f"a{ending}: the name of a {what} ends with .csv"):
+            _commands.check_outputs([], outputs[0], [], outputs[1])
 
 
 def asked(folder: pathlib.Path, monkeypatch: pytest.MonkeyPatch, words: list[str]) -> dict[str, Any]:
