@@ -420,13 +420,11 @@ def test_orders_of_another_size_are_tried_on_instances_of_that_size() -> None:
 
 
 def test_how_many_causes_are_sought() -> None:
-    """Three hints, 50 other instances and rows, 5,000 pairs of an order and 500,000 of all."""
+    """Three hints, 50 other instances, 5,000 pairs of an order and 500,000 of all."""
     rows = [Stated(f"row {at}", f"i{at}", "", 60, pfs.Instance([[at], [60 - at]])) for at in range(53)]
     causes = Causes(rows)
     assert causes.of(rows[0], [0, 1], 70) == [f"the order takes 60 on i{at}" for at in (1, 2, 3)]
     assert len([*causes.on_others(rows[0], [0, 1])]) == 50
-    alone = Causes(row._replace(shop=rows[0].shop) for row in rows)
-    assert next(alone.possible(rows[0], [0, 1])) == "row 1 states it for this instance (as with 49 other rows)"
     many = [Stated("", "", "", count, pfs.Instance([[1]] * count)) for count in (100, 101)]
     assert [len(causes.pairs(row, [*range(row.makespan)])) for row in many] == [4_950, 100]
     assert causes.orders == 500_000 - 4_950

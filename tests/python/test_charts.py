@@ -142,8 +142,7 @@ def test_the_lines_of_a_picture() -> None:
         "days": (2.5, True, 0, 0.9, True), "shifts": (2.5, True, 0, 0.6, False)}
     assert {each.get_gid(): (each.get_zorder(), each.get_clip_on(), *each.get_edgecolor()[:, 0], *each.get_linewidth(),
                              each.get_linestyle()[0][1] is None) for each in axis.collections} == due
-    assert [(each.get_gid(), each.get_zorder(), each.get_linewidth(), each._unscaled_dash_pattern[1])
-            for each in axis.lines] == [("beside-bound", 3.5, 2.4, None), ("bound", 3.6, 1.2, (4, 3))]
+    assert [each._unscaled_dash_pattern for each in axis.lines] == [(0, None), (0, (4, 3))]
     right, = axis.child_axes
     texts = [*axis.texts[:-1], axis.title, axis.xaxis.label, *axis.get_yticklabels(), *figure.texts]
     assert not any(text.get_parse_math() for text in texts) and axis.title._linespacing == 1.3

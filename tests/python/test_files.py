@@ -130,14 +130,6 @@ def test_blocks_their_names_and_the_end_of_the_file(tmp_path: pathlib.Path) -> N
     assert len(pfs.read_all(io.BytesIO(b"1 1\n0 7\n" * 1000), "orlib")) == 1000
 
 
-@pytest.mark.parametrize(("text", "first", "due"), [
-    ("2, 1, 3", 1, [1, 0, 2]), ("1 0 2", 0, [1, 0, 2]), ("[2;1;3]", 1, [1, 0, 2]), ("(2,1 , 3,)\n", 1, [1, 0, 2]),
-    ("  {01\t02\n3}  ", 1, [0, 1, 2]), ("0", 0, [0]), ("1", 1, [0])])
-def test_orders_of_papers(text: str, first: int, due: list[int]) -> None:
-    order = pfs.parse_order(text, first=first)
-    assert order.tolist() == due and order.dtype == "int64"
-
-
 @pytest.mark.parametrize(("text", "first", "kind", "why"), [
     ("", 0, ValueError, "there is no order"), ("1,,2", 1, ValueError, "'' at place 2 isn't the number of a job"),
     ("1, -2", 1, ValueError, "'-2' at place 2"), ("1.5", 1, ValueError, "'1.5' isn't a list of jobs"),

@@ -364,6 +364,8 @@ def parse_order(text: str, first: int = 0) -> Order:
     [1, 0, 2]
     >>> pfs.Instance([[3, 2], [2, 5], [4, 1]]).makespan(order)
     10
+    >>> pfs.parse_order("J1 J0 J2")
+    array([1, 0, 2])
     """
     if not isinstance(text, str):
         raise TypeError(f"text must be a str, not {text!r}")
