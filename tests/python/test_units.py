@@ -13,7 +13,7 @@ from unittest import mock
 import numpy as np
 import pfs
 import pytest
-from pfs import _cli, _drawing, _library, _tables, _workbooks
+from pfs import _cli, _drawing, _gantt, _library, _tables, _workbooks
 from pfs._calendar import DAYS
 from pfs._commands import words
 from pfs._names import seconds_in
@@ -49,10 +49,8 @@ def test_the_help_has_no_word_that_is_nowhere_else() -> None:
                                   for ending in ("md", "1", "py") for path in (TOP / folder).rglob(f"*.{ending}")
                                   if path.suffix != ".py" or folder == "tests")]
     known = {word for page in pages for word in re.findall(r"[a-z]{2,}", page.read_text().lower())}
-    parsers = [words(), command_line()]
-    for parser in parsers:
-        commands = next(each.choices for each in parser._actions if each.dest in ("command", "==SUPPRESS==")
-                        and isinstance(each.choices, dict))
+    for parser in (words(), command_line(), _gantt.words()):
+        commands: dict[str, Any] = next((each.choices for each in parser._actions if isinstance(each.choices, dict)), {})
         for text in (parser.format_help(), *(each.format_help() for each in commands.values())):
             assert set(re.findall(r"[a-z]{2,}", re.sub("-\n *", "-", text).lower())) <= known, text
 
