@@ -50,7 +50,8 @@ def test_the_help_has_no_word_that_is_nowhere_else() -> None:
                                   if path.suffix != ".py" or folder == "tests")]
     known = {word for page in pages for word in re.findall(r"[a-z]{2,}", page.read_text().lower())}
     for parser in (words(), command_line(), _gantt.words()):
-        commands: dict[str, Any] = next((each.choices for each in parser._actions if isinstance(each.choices, dict)), {})
+        commands: dict[str, Any] = next((each.choices for each in parser._actions
+                                         if isinstance(each.choices, dict)), {})
         for text in (parser.format_help(), *(each.format_help() for each in commands.values())):
             assert set(re.findall(r"[a-z]{2,}", re.sub("-\n *", "-", text).lower())) <= known, text
 
