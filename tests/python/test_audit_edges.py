@@ -428,8 +428,6 @@ def test_how_many_causes_are_sought() -> None:
     many = [Stated("", "", "", count, pfs.Instance([[1]] * count)) for count in (100, 101)]
     assert [len(causes.pairs(row, [*range(row.makespan)])) for row in many] == [4_950, 100]
     assert causes.orders == 500_000 - 4_950
-    causes.orders = 4_949
-    assert len(causes.pairs(many[0], [*range(100)])) == 99
 
 
 @pytest.mark.seconds(8)

@@ -640,7 +640,7 @@ def test_the_lists_are_there_without_scripts(tmp_path: pathlib.Path) -> None:
     plan(["<b>", *NAMES[1:]]).plot(tmp_path / "chart.html", calendar=DATES, title="KW <48>")
     text = (tmp_path / "chart.html").read_text("utf-8")
     lists = text[text.index('<div id="lists">'):text.index('<script type="application/json"')]
-    assert lists.count("<table>") == 3 and "<td>&lt;b&gt;<" in lists and "hidden" not in lists
+    assert lists.count("<table>") == lists.count("</tbody></table>") == 3 and "<td>&lt;b&gt;<" in lists and "hidden" not in lists
     rows = re.findall(r"<tr>(?:<td[^>]*>([^<]*))(?:<td[^>]*>([^<]*))(?:<td[^>]*>([^<]*))(?:<td[^>]*>([^<]*))", lists)
     assert rows[0] == ("1", "&lt;b&gt;", "06:00", "Sat 2026-12-05 08:40")
     assert '<div id="drawn" hidden>' in text and "<noscript>" in text and "<h1>KW &lt;48&gt;</h1>" in text

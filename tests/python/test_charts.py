@@ -142,7 +142,6 @@ def test_the_lines_of_a_picture() -> None:
         "days": (2.5, True, 0, 0.9, True), "shifts": (2.5, True, 0, 0.6, False)}
     assert {each.get_gid(): (each.get_zorder(), each.get_clip_on(), *each.get_edgecolor()[:, 0], *each.get_linewidth(),
                              each.get_linestyle()[0][1] is None) for each in axis.collections} == due
-    assert [each._unscaled_dash_pattern for each in axis.lines] == [(0, None), (0, (4, 3))]
     right, = axis.child_axes
     texts = [*axis.texts[:-1], axis.title, axis.xaxis.label, *axis.get_yticklabels(), *figure.texts]
     assert not any(text.get_parse_math() for text in texts) and axis.title._linespacing == 1.3
@@ -166,7 +165,6 @@ def test_what_fits_a_bar(key: bool, length: int, label: tuple[str, int]) -> None
     (12, 12, "x" * 24, f"12 {'x' * 24}", 2, 6), (12, 12, "x" * 25, f"12 {'x' * 25}", 3, 4),
     (2, 2, "x" * 40, f"2 {'x' * 18}\u2026", 2, 1)])
 def test_what_fits_a_key(width: int, jobs: int, name: str, item: str, rows: int, columns: int) -> None:
-    """Columns have room for their longest names and four letters more, and machines for five more than ten."""
     ends = np.arange(1, jobs + 1)[:, None]
     chart = _drawing.Chart([*range(1, jobs + 1)], ends - 1, ends, [name] * jobs, ["y" * 15], width, key=True)
     assert [len(column) for column in chart.key_columns] == [rows] * columns and chart.key_columns[-1][-1] == item

@@ -22,7 +22,7 @@ from unittest import mock
 
 import pfs
 import pytest
-from pfs import _commands, _library, _rounds, _search, _state
+from pfs import _commands, _library, _rounds, _search, _state, _wording
 from pfs._cli import Misused, version
 from support import plainly
 from support.commands import ended, without_summary
@@ -349,7 +349,6 @@ def test_the_progress_of_a_proof(monkeypatch: pytest.MonkeyPatch) -> None:
 
 
 def test_the_ending_of_a_schedule_says_how_it_is_written() -> None:
-    """In capitals too."""
     shop, calendar, best = mock.Mock(), pfs.Calendar("2026-11-30"), pfs.Solution([0], 1)
     for path in ("a.XLSX", "b.ICS", "c.csv"):
         _commands.write_schedule(shop, best, path, ";", True, calendar, "de")
@@ -855,6 +854,14 @@ def test_what_is_rejected_before_the_search(folder: pathlib.Path, monkeypatch: p
     before = {path: path.read_bytes() for path in folder.iterdir()}
     assert run(words.split(), folder, status, f"pfs: {error}\n") == ""
     assert {path: path.read_bytes() for path in folder.iterdir()} == before
+
+
+def test_messages_name_options_and_controls_that_there_are() -> None:
+    options, controls = zip(*_wording.WORDS.values())
+    assert {option.split()[0] for option in options} <= _commands.plan_words()._option_string_actions.keys()
+    page = "".join((TOP / "python/src/pfs/web/static" / name).read_text() for name in ("page.html", "page.js"))
+    for name in (control.removesuffix(", above the table").strip('"') for control in controls):
+        assert re.search(rf'[>"]{name}[ <,"]', page) or name in ("the tick for sums", "the ticks above the columns")
 
 
 def test_what_the_messages_propose_is_taken(folder: pathlib.Path) -> None:

@@ -270,7 +270,6 @@ def test_neighbours_of_many_jobs_are_distinguishable(jobs: int, folder: pathlib.
 
 
 def test_many_jobs_have_each_hue_and_three_lightnesses() -> None:
-    """Where a screen has such a colour."""
     fills = _drawing.colours(range(1, 321))
     places = [place for place, fill in enumerate(fills) if 0 < min(fill) and max(fill) < 1]
     assert len(places) > 160
@@ -548,10 +547,14 @@ def test_a_table_without_end(scripts: pathlib.Path, folder: pathlib.Path, matplo
     assert got == Done(2, "", "pfs-gantt: not a time table: longer than 67,108,864 bytes\n")
 
 
-@pytest.mark.parametrize("size", ["5001 1", "1 201", "5001 201", "20 1000", "100000 1"])
-def test_sizes_over_the_limits_are_rejected_at_once(folder: pathlib.Path, size: str) -> None:
-    got = gantt(folder, "table", "picture.svg", text=THREE.replace("3 2", size, 1))
-    assert got == Done(2, "", "pfs-gantt: a time table has at most 5,000 jobs and 200 machines\n")
+@pytest.mark.parametrize(("text", "said"), [
+    *((THREE.replace("3 2", size, 1), "a time table has at most 5,000 jobs and 200 machines")
+      for size in ("5001 1", "1 201", "5001 201", "20 1000", "100000 1")),
+    ("", "not a time table: the first line must be `table N M`"),
+    (THREE[:-1], "the time table is incomplete: its last line has no line end")])
+def test_sizes_over_the_limits_are_rejected_at_once(folder: pathlib.Path, text: str, said: str) -> None:
+    """And what is no table."""
+    assert gantt(folder, "table", "picture.svg", text=text) == Done(2, "", f"pfs-gantt: {said}\n")
 
 
 @pytest.mark.parametrize(("status", "words", "text"), [

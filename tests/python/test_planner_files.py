@@ -5,6 +5,7 @@ import pathlib
 import re
 import warnings
 from collections.abc import Sequence
+from typing import Any
 
 import pfs
 import pytest
@@ -40,21 +41,13 @@ def test_machines_with_a_comma_in_their_names(tmp_path: pathlib.Path) -> None:
 @pytest.mark.parametrize(("cell", "hint"), [
     ("3 of a lot", "write 0 where a job skips a machine"), ("#REF!", "the formula has an error"),
     ("12,5", "it is text that looks like a number: format the cell as a number, and write it again"),
-    ("2160:00", "a cell with the format of a time has a number of days: format it as a number, and write the time "
-                "again")])
-def test_hints_for_cells(tmp_path: pathlib.Path, cell: str, hint: str) -> None:
+    (datetime.datetime(1900, 3, 30), "a cell with the format of a time has a number of days: format it as a number, "
+     "and write the time again")])
+def test_hints_for_cells(tmp_path: pathlib.Path, cell: Any, hint: str) -> None:
+    """A spreadsheet counts days from 1900 on: 90 are 2160 hours."""
     path = book_of(tmp_path / "times.xlsx", ("job", "saw", "drill"), ("table", 3, 2), ("chair", 1, cell))
-    assert fault_of(path, machines=["saw", "drill"]) == (3, 3, f"{cell!r} isn't a time: {hint}")
-
-
-def test_a_number_in_a_cell_with_the_format_of_a_time(tmp_path: pathlib.Path, office: Office) -> None:
-    """And a workbook of LibreOffice's own format."""
-    path = book_of(tmp_path / "times.xlsx", ("job", "saw", "drill"), ("table", 3, 2), ("chair", 1, 90))
-    book = openpyxl.load_workbook(path)
-    book.active["C3"].number_format = "h:mm"
-    book.save(path)
-    assert fault_of(path)[2].startswith("'2160:00' isn't a time: a cell with the format of a time")
-    assert fault_of(office(path, "ods"))[2].startswith("isn't a workbook that openpyxl reads (it is of LibreOffice's")
+    assert fault_of(path, machines=["saw", "drill"]) == (
+        3, 3, f"{cell if isinstance(cell, str) else '2160:00'!r} isn't a time: {hint}")
 
 
 def test_what_another_plan_says_of_its_end(tmp_path: pathlib.Path) -> None:

@@ -400,4 +400,4 @@ def test_the_delimiter_of_a_text(delimiter: str, rows: list[tuple[str, str]]) ->
     text = io.StringIO()
     csv.writer(text, delimiter=delimiter, quoting=csv.QUOTE_ALL).writerows(rows)
     assert _tables.delimiter_of(text.getvalue()) == delimiter
-    assert _tables.delimiter_of(f"\nsep=|\n{text.getvalue()}") == "|"
+    assert _tables.delimiter_of(f"\nsep=| \r\n{text.getvalue()}") == "|"
