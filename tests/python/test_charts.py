@@ -171,9 +171,13 @@ def test_what_fits_a_key(width: int, jobs: int, name: str, item: str, rows: int,
     assert (chart.key_height, chart.beside) == pytest.approx((0.2 + 0.14 * rows, 1.85 if width == 12 else 1.5))
 
 
-def test_the_narrowest_scale_has_marks() -> None:
-    axis, = pfs.Instance([[90]], unit="h:mm").schedule([0]).plot(width=2, title=False).axes
-    assert [mark.get_text() for mark in axis.get_xticklabels()] == ["0:00"]
+def test_marks_of_hours_and_minutes() -> None:
+    cases = [(2, 90, 120), (100, 90, 2), (12, 9, 1), (12, 10, 2), (12, 18, 2), (12, 19, 5), (12, 45, 5), (12, 46, 10),
+             (12, 90, 10), (12, 91, 15), (12, 135, 15), (12, 136, 30), (12, 270, 30), (12, 271, 60), (12, 541, 120)]
+    for width, makespan, step in cases:
+        axis, = pfs.Instance([[makespan]], unit="h:mm").schedule([0]).plot(width=width, title=False, dpi=20).axes
+        assert [mark.get_text() for mark in axis.get_xticklabels()] == [
+            f"{at // 60}:{at % 60:02}" for at in range(0, makespan + 1, step)], makespan
 
 
 def test_a_page_lists_so_many_operations() -> None:
@@ -198,7 +202,9 @@ def test_jupyter_shows_the_chart(monkeypatch: pytest.MonkeyPatch) -> None:
     ({"width": float("nan")}, ValueError, "width must be from 2 to 100 inches, not nan"),
     ({"width": "4"}, TypeError, "width must be a number of inches, not '4'"),
     ({"width": True}, TypeError, "width must be a number of inches, not True"),
-    ({"dpi": 10}, ValueError, "dpi must be from 20 to 2,400, not 10"),
+    ({"width": 100.1}, ValueError, "width must be from 2 to 100 inches, not 100.1"),
+    ({"dpi": 19}, ValueError, "dpi must be from 20 to 2,400, not 19"),
+    ({"dpi": 2401}, ValueError, "dpi must be from 20 to 2,400, not 2401"),
     ({"dpi": 99.5}, TypeError, "dpi must be an integer"),
     ({"title": 3}, TypeError, "title must be True, False or a text, not 3"),
     ({"ax": 3}, TypeError, "ax must be matplotlib axes, not 3")])
