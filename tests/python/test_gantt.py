@@ -36,8 +36,6 @@ BEGINNINGS = {"svg": b"<?xml", "png": b"\x89PNG\r\n", "pdf": b"%PDF-"}
 Schedule = list[list[tuple[int, int]]]
 
 BAD = {
-    "an empty line": "\n",
-    "a verdict": "wrong size\norder 2\njobs 3\n",
     "another line after it": THREE + "makespan 10\n",
     "carriage returns": THREE.replace("\n", "\r\n"),
     "two blanks": THREE.replace(" 9 10", "  9 10"),

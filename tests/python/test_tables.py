@@ -160,7 +160,6 @@ RIGHT_TABLES = {
     "no work": ("job;saw;drill;paint\na;0;0;0\nb;0;0;0\nc;0;0;0\n", [[0, 0, 0]] * 3),
     "names that begin like a total": ("job;saw;Summer\na;1;2\nMeansteel;3;4\nTotally;4;7\n", [[1, 2], [3, 4], [4, 7]]),
     "numbers of orders in the US": ("Work order #,saw,drill\n4711,3,12\n4713,20,5\n", [[3, 12], [20, 5]]),
-    "numbers of orders in France": ("N\u00b0 OF;saw;drill\n4711;3;12\n4713;20;5\n", [[3, 12], [20, 5]]),
     "a date beside the title": ("Plan;;30.11.2026\nAuftrag;saw;drill\na;3;2\n", [[3, 2]]),
     "a title above some machines": ("Week;;minutes;;\nOF;saw;drill;paint\na;3;2;1\n", [[3, 2, 1]]),
     "an empty second column": ("job;;saw\na;;3\n", [[3]]),
@@ -396,7 +395,6 @@ def test_lines_of_a_text(text: str) -> None:
 
 @given(st.sampled_from(",;\t"), st.lists(st.tuples(*[st.text(",;\t\"\n =a", max_size=4)] * 2), min_size=1))
 def test_the_delimiter_of_a_text(delimiter: str, rows: list[tuple[str, str]]) -> None:
-    """No sign in quotes is one, and a first line may name another."""
     text = io.StringIO()
     csv.writer(text, delimiter=delimiter, quoting=csv.QUOTE_ALL).writerows(rows)
     assert _tables.delimiter_of(text.getvalue()) == delimiter
