@@ -63,9 +63,10 @@ def test_what_another_plan_says_of_its_end(tmp_path: pathlib.Path) -> None:
     # Written again by a spreadsheet, and with parts of seconds.
     text = (tmp_path / "monday.csv").read_text("utf-8-sig")
     (tmp_path / "dos.csv").write_text(re.sub("([^;\n]+)", r'"\1"', text).replace("\n", "\r\n"), "utf-8", newline="")
-    (tmp_path / "parts.csv").write_text(text.replace("12:10", "12:10:00,5"), "utf-8")
-    for name, said in (("dos.csv", end), ("parts.csv", f"{end}:00,5")):
-        assert f"{name}: says {said}\n" in ended([*words, "--compare", name], tmp_path)[2]
+    assert f"dos.csv: says {end}\n" in ended([*words, "--compare", "dos.csv"], tmp_path)[2]
+    for new, said in (("12:10:00,5", "12:10:00,5"), ("12:10:00", "12:10"), ("12:00", "12:00")):
+        (tmp_path / "parts.csv").write_text(text.replace("12:10", new), "utf-8")
+        assert f"says end 2026-12-01 {said}\n" in ended([*words, "--compare", "parts.csv"], tmp_path)[2]
     (tmp_path / "names").write_text("table\nchair\n")
     assert "says" not in ended([*words, "--compare", "names"], tmp_path)[2]
 
