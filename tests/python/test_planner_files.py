@@ -60,7 +60,6 @@ def test_what_another_plan_says_of_its_end(tmp_path: pathlib.Path) -> None:
         got = ended([*words, "--closed", "2026-12-01", "--order", "monday.txt", "--compare", name], tmp_path)[2]
         both = "makespan 850 min, end 2026-12-02 12:10"
         assert got == f"{name}: says {said}\n{name}: {both}; the plan: {both}\n"
-    # Written again by a spreadsheet, and with parts of seconds.
     text = (tmp_path / "monday.csv").read_text("utf-8-sig")
     (tmp_path / "dos.csv").write_text(re.sub("([^;\n]+)", r'"\1"', text).replace("\n", "\r\n"), "utf-8", newline="")
     assert f"dos.csv: says {end}\n" in ended([*words, "--compare", "dos.csv"], tmp_path)[2]
