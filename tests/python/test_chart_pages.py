@@ -636,7 +636,7 @@ def test_the_sheet_of_a_day_has_its_jobs(chromium: str, tmp_path: pathlib.Path) 
 
 
 def test_the_lists_are_there_without_scripts(tmp_path: pathlib.Path) -> None:
-    """Names are escaped, and nothing hides them but a script."""
+    """Names are escaped by `lists_of`, and nothing hides the lists but a script."""
     shop = pfs.Instance([[60, 0], [120, 90]], job_names=["<b>", "c"], machine_names=["saw", "drill"], unit="min")
     calendar = pfs.Calendar("2026-11-30T12:30", "06:00-14:00")
     shop.schedule([1, 0]).plot(tmp_path / "chart.html", calendar=calendar, title="KW <48>")

@@ -177,7 +177,7 @@ def test_marks_of_hours_and_minutes() -> None:
     for width, makespan, step in cases:
         axis, = pfs.Instance([[makespan]], unit="h:mm").schedule([0]).plot(width=width, title=False, dpi=20).axes
         assert [mark.get_text() for mark in axis.get_xticklabels()] == [
-            f"{at // 60}:{at % 60:02}" for at in range(0, makespan + 1, step)], makespan
+            f"{at // 60}:{at % 60:02}" for at in range(0, makespan + 1, step)] and step in _chart.MINUTES, makespan
 
 
 def test_a_page_lists_so_many_operations() -> None:

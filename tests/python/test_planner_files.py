@@ -51,7 +51,7 @@ def test_hints_for_cells(tmp_path: pathlib.Path, cell: Any, hint: str) -> None:
 
 
 def test_what_another_plan_says_of_its_end(tmp_path: pathlib.Path) -> None:
-    """It had another calendar: the slip by a holiday is seen."""
+    """By `stated_end`: it had another calendar, and the slip by a holiday is seen."""
     (tmp_path / "times.csv").write_text(TABLE)
     words = ["plan", "times.csv", "--begin", "2026-11-30T06:00", "--shift", "06:00-14:00"]
     (tmp_path / "monday.txt").write_text(ended([*words, "--schedule", "monday.csv"], tmp_path)[1])
