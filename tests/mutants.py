@@ -26,7 +26,7 @@ import coverage
 TOP = pathlib.Path(__file__).resolve().parents[1]
 PACKAGE = TOP / "python" / "src" / "pfs"
 REST = re.compile(r"(@[^]|]*)?(\|\w+)?$")  # what follows the name of a test: its group, and what is run of it
-MOST_SECONDS = 60  # that the tests of a change took when they were noted
+SHARE = 0.05  # of the time of all tests, which those of a change take at most
 # All processes end with the first one, where the system permits that.
 APART = ["unshare", "--pid", "--fork", "--kill-child", "--mount-proc", "sh", "-c", '"$@"; exit $?', "sh"]
 PYTEST = [*(APART if subprocess.run([*APART, "true"], capture_output=True).returncode == 0 else []), "prlimit",
@@ -134,17 +134,16 @@ class Noted:
                 break
         tests = sorted(found, key=lambda test: (self.seconds[test], test))
         before = itertools.accumulate((self.seconds[test] for test in tests), initial=0.0)
-        return [test for test, seconds in zip(tests, before) if seconds < MOST_SECONDS]
+        return [test for test, seconds in zip(tests, before) if seconds < SHARE * sum(self.seconds.values())]
 
 
 @functools.cache
-def failing(*tests: str, change: Change | None = None) -> list[str]:
-    """The first of the tests that fails in a copy with this change, or all if none is named; [] if none fails."""
+def failing(module: str, text: str, *tests: str) -> list[str]:
+    """The first test that fails in a copy with this text of a module, or all if pytest names none; [] if none fails."""
     with tempfile.TemporaryDirectory(prefix="pfs-mutants-") as folder:
         copy = pathlib.Path(folder, "pfs")
         subprocess.run(["rsync", "-a", "--exclude=/.git", "--exclude=out/", f"{TOP}/", copy], check=True)
-        if change:
-            (copy / PACKAGE.relative_to(TOP) / change.module).write_text(change.text())
+        (copy / PACKAGE.relative_to(TOP) / module).write_text(text)
         env = os.environ | {"PYTHONDONTWRITEBYTECODE": "1", "TMPDIR": folder, "CI": "false", "PFS_MUTANT": "1"}
         done = subprocess.run([*PYTEST, f"--basetemp={folder}/pytest", *tests], cwd=copy, env=env, text=True,
                               errors="replace", stdin=subprocess.DEVNULL, capture_output=True, start_new_session=True)
@@ -155,8 +154,8 @@ def failing(*tests: str, change: Change | None = None) -> list[str]:
 
 def is_found(change: Change, tests: list[str]) -> bool:
     """Whether a test fails by a change and passes without it."""
-    while tests and (failed := failing(*tests, change=change)):
-        if not failing(*failed):
+    while tests and (failed := failing(change.module, change.text(), *tests)):
+        if not failing(change.module, ast.unparse(change.nodes[0]), *failed):
             return True
         tests = [test for test in tests if test not in failed]
     return False
