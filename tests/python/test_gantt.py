@@ -513,7 +513,7 @@ def test_a_full_disk_keeps_the_old_picture(scripts: pathlib.Path, folder: pathli
     (folder / "table").write_text(THREE)
     (folder / f"picture.{ending}").write_text("the old one")
     got = run_tool([tool("prlimit"), "--fsize=1000", scripts / "pfs-gantt", "table", f"picture.{ending}"], folder,
-                   env=os.environ | {"COVERAGE_PROCESS_START": ""})  # which writes a file too
+                   env=os.environ | {"COV_CORE_DATAFILE": ""})  # which writes a file too
     assert got == Done(4, "", f"pfs-gantt: picture.{ending}: File too large\n")
     assert (folder / f"picture.{ending}").read_text() == "the old one", "the picture was written in place"
     assert sorted(os.listdir(folder)) == [f"picture.{ending}", "table"]
