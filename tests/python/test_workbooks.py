@@ -171,7 +171,7 @@ def test_small_workbooks_with_large_parts(tmp_path: pathlib.Path, case: str, unt
     before, begun = (resource.getrusage(resource.RUSAGE_SELF) for _ in range(2))
     assert fault_of(path)[2] == f"isn't a workbook that openpyxl reads ({why}): save it as .xlsx or as CSV UTF-8"
     after = resource.getrusage(resource.RUSAGE_SELF)
-    assert after.ru_utime - begun.ru_utime < 4 and after.ru_maxrss - before.ru_maxrss < 120_000
+    assert after.ru_utime - begun.ru_utime < 8 and after.ru_maxrss - before.ru_maxrss < 120_000
 
 
 DATE = datetime.datetime
