@@ -142,7 +142,8 @@ def failing(module: str, text: str, *tests: str) -> list[str]:
     """The first test that fails in a copy with this text of a module, or all if pytest names none; [] if none fails."""
     with tempfile.TemporaryDirectory(prefix="pfs-mutants-") as folder:
         copy = pathlib.Path(folder, "pfs")
-        subprocess.run(["rsync", "-a", "--exclude=/.git", "--exclude=out/", f"{TOP}/", copy], check=True)
+        leaving = (f"--exclude={name}" for name in ("/.git", "/crates", "out/"))
+        subprocess.run(["rsync", "-a", *leaving, f"{TOP}/", copy], check=True)
         (copy / PACKAGE.relative_to(TOP) / module).write_text(text)
         env = os.environ | {"PYTHONDONTWRITEBYTECODE": "1", "TMPDIR": folder, "CI": "false", "PFS_MUTANT": "1"}
         done = subprocess.run([*PYTEST, f"--basetemp={folder}/pytest", *tests], cwd=copy, env=env, text=True,
