@@ -12,6 +12,7 @@ import re
 import shutil
 import signal
 import subprocess
+import sys
 import time
 from concurrent.futures import ThreadPoolExecutor
 from random import Random
@@ -55,44 +56,45 @@ ALL, ONLY_B = 'instances = ["shops/*"]\n', 'instances = ["shops/b"]\n'
 MINE = ALL + 'method = "m"\n'
 GRID = MINE + 'command = "a {instance} {x}"\n'
 INVALID = {
-    "seed": ALL + "seed = [1]\n", "rounds must": ALL + "rounds = 3\n", "rounds must be": ALL + "rounds = []\n",
-    "seeds": ALL + "seeds = [1.5]\n", "seeds must": ALL + "seeds = [true]\n", "passes": ALL + "passes = [101]\n",
-    "search must": ALL + 'search = "neh"\n', "search": ALL + "search = 1\n",
-    **{f"{key} must be {what}{' ' * at}": f'{ALL}search = "iterated-greedy"\n{key} = {value}\n'
-       for key, what, values in (("partial", "a whole number from 0 to 100", "-1 101 1.0 true"),
-                                 ("ties", '"first" or "idle"', '1 "last"'),
-                                 ("temperature", "a number from 0 to 1,000", "-0.1 1000.1 nan true"))
-       for at, value in enumerate(values.split())},
+    "unknown key 'seed'": ALL + "seed = [1]\n", "rounds must be a list of whole numbers": ALL + "rounds = 3\n",
     **{f'{key} needs search = "iterated-greedy"': f"{ALL}{key} = {value}\n"
        for key, value in (("partial", 1), ("ties", '"idle"'), ("temperature", 1))},
-    "repetitions": ALL + "repetitions = 0\n", "layout": ALL + 'layout = "csv"\n', "plan.toml": ALL + "rounds = [1\n",
-    "instances": "", "none*": 'instances = ["none*"]', "shops is not a file": 'instances = ["sh*"]',
-    "from 0 to 1,000,000": ALL + "rounds = [1000001]\n", "shops/b has only 3 jobs": ALL + "takes = [2, 4]\n",
-    "blocks": ALL + "blocks = [1001]\n", "reference must": ALL + "reference = 1\n",
+    "instances must be a list of paths": "", "instances must be a list of": 'instances = "shops/b"\n',
+    "instances must be a list": "instances = []\n", "instances must be": "instances = [1]\n",
+    "no file matches none*": 'instances = ["none*"]', "shops is not a file": 'instances = ["sh*"]',
+    "no file matches": 'instances = ["shops/\\u0000"]\n', "plan.toml: ": ALL + "rounds = [1\n",
+    "takes has 4, but shops/b has only 3 jobs": ALL + "takes = [2, 4]\n",
+    "reference must be the path of a CSV": ALL + 'reference = "a\\u0000"\n', "reference must": ALL + "reference = 1\n",
     "none.csv": ALL + 'reference = "none.csv"\n', "no column instance, makespan": ALL + 'reference = "plan.toml"\n',
-    "nested": "x = " + "[" * 5000 + "]" * 5000, "shops/": 'instances = ["shops/\\u0000"]\n',
-    "time_factors": ALL + "time_factors = [nan]\n",
-    "needs method": ALL + 'command = "a {instance}"\n', "must contain {instance}": MINE + 'command = "a"\n',
-    "{x}, but there are only {block}, {instance}": MINE + 'command = "a {instance} {x}"\n',
-    "needs time_factors": MINE + 'command = "a {instance} {seconds}"\n',
-    "must contain {block}": MINE + 'blocks = [2]\ncommand = "a {instance}"\n',
-    "rounds is for pfs": MINE + 'rounds = [1]\ncommand = "a {instance}"\n',
-    "no file matches a": MINE + 'command = "./a {instance}"\n', "files needs": MINE + 'files = ["shops/*"]\n',
+    "the values are nested too deeply": "x = " + "[" * 5000 + "]" * 5000,
+    "command needs method, the name of the program, and files needs command": ALL + 'command = "a {instance}"\n',
+    "command needs method": MINE + 'command = ""\n', "command must be a command": MINE + 'command = "\\u0000"\n',
+    "command must contain {instance}": MINE + 'command = "a"\n',
+    "command: No closing quotation": MINE + """command = "a '{instance}"\n""",
+    "{}, but there are only {block}, {instance}, {jobs}, {machines}, {name}, {seconds}, {seed}":
+    MINE + 'command = "a {instance} {}"\n', "command contains {x}, but there are only": GRID,
+    "command contains {seconds}, which needs time_factors": MINE + 'command = "a {instance} {seconds}"\n',
+    "command must contain {block}": MINE + 'blocks = [2]\ncommand = "a {instance}"\n',
+    **{f"{key} is for pfs, not for a command": f'{MINE}{key} = {value}\ncommand = "a {{instance}}"\n'
+       for key, value in (("rounds", [1]), ("takes", [1]), ("passes", [1]), ("search", '"solve"'))},
+    "no file matches a": MINE + 'command = "./a {instance}"\n', "files needs command": MINE + 'files = ["shops/*"]\n',
     "/etc/passwd": MINE + 'command = "a {instance}"\nfiles = ["/etc/passwd"]\n',
-    "../": MINE + 'command = "a {instance}"\nfiles = ["../*/shops/a"]\n', "method": ALL + 'method = "a\\nb"\n',
-    "must be tables": ALL + "methods = [1]\n", "key 'layout' of methods": ALL + '[[methods]]\nlayout = "orlib"\n',
-    "each of methods needs method": ALL + "[[methods]]\n[[methods]]\n",
-    "anytime must be true or false": MINE + 'anytime = 1\n', "anytime is for a command with time_factors":
-    MINE + 'anytime = true\ncommand = "a {instance}"\n', "anytime is for a command":
-    ALL + "anytime = true\ntime_factors = [1]\n",
-    **{f"grid must be a table of lists, of different numbers or texts{' ' * at}": GRID + text
-       for at, text in enumerate(("grid = 3\n", "grid = []\n", "[grid]\n", "[grid]\nx = 1\n", "[grid]\nx = []\n",
-                                  "[grid]\nx = [1, 1]\n", '[grid]\nx = [1, "1"]\n', "[grid]\nx = [true]\n",
-                                  "[grid]\nx = [[1]]\n", '[grid]\nx = ["a\\nb"]\n'))},
+    "../": MINE + 'command = "a {instance}"\nfiles = ["../*/shops/a"]\n',
+    "a name without control characters": ALL + 'method = "a\\nb"\n', "a name without": ALL + 'method = ""\n',
+    **{f"methods must be tables: write [[methods]] before the keys of each{' ' * at}": f"{ALL}methods = {value}\n"
+       for at, value in enumerate(("[1]", "[]", "1"))},
+    "key 'layout' of methods": ALL + '[[methods]]\nlayout = "orlib"\n',
+    "each of methods needs method, a name that no other one has": ALL + "[[methods]]\n[[methods]]\n",
+    "anytime is for a command with time_factors": MINE + 'anytime = true\ncommand = "a {instance}"\n',
+    "anytime is for a command": ALL + "anytime = true\ntime_factors = [1]\n",
+    **{f"grid must be a table of lists, of different numbers or texts, by the names in the command{' ' * at}":
+       GRID + text for at, text in enumerate((
+           "grid = 3\n", "grid = []\n", "[grid]\n", "[grid]\nx = 1\n", "[grid]\nx = []\n",
+           "[grid]\nx = [1, 1]\n", '[grid]\nx = [1, "1"]\n', "[grid]\nx = [true]\n", "[grid]\nx = [[1]]\n",
+           '[grid]\nx = ["a\\nb"]\n'))},
     "grid has y, so the command must contain {y}": GRID + "[grid]\nx = [1]\ny = [2]\n",
     "grid has seed, so": GRID.replace("{x}", "{seed}") + "[grid]\nseed = [1]\n",
-    "grid has x, so": ALL + "[grid]\nx = [1]\n", "command needs method": GRID.replace("method", "#") +
-    "[grid]\nx = [1]\n", "{x}, but there are only": GRID,
+    "grid has x, so": ALL + "[grid]\nx = [1]\n", "command needs": GRID.replace("method", "#") + "[grid]\nx = [1]\n",
 }
 
 
@@ -114,7 +116,7 @@ LIMITS: dict[str, tuple[float, float, float]] = {
 def test_the_limits_of_a_plan(key: str) -> None:
     what, is_right = plan.VALUES[key]
     least, most, step = LIMITS[key]
-    given: list[Any] = [least, most, least - step, most + step, True, str(least)]
+    given: list[Any] = [least, most, least - step, most + step, float("nan"), True, str(least)]
     if what.startswith("a list"):
         given = [*([each] for each in given), [], [least, most + step], least, (least,)]
     assert [*map(is_right, given)] == [True, True] + [False] * (len(given) - 2)
@@ -150,6 +152,9 @@ REFUSED: dict[str, tuple[int, str, str, str, dict[str, str]]] = {
     "no Slurm": (4, "slurm plan.toml out.csv", "sbatch is not installed (Debian: slurm-client)", "", {"PATH": "/none"}),
     "no words": (3, "run", "required: PLAN, CSV (pfs-experiments run --help ", "", {}),
     "another option": (3, "check out.csv --jobs", "--jobs", "", {}),
+    "an instance that isn't made": (2, "taillard .", "/program generate 20 5 873654221 failed: exit 3\n",
+                                    "#!/bin/sh\n[ $2 = 1 ] || exit 3\nprintf '1 1 1 0 0\nprocessing times :\n1\n'", {}),
+    "no tasks": (3, "slurm plan.toml out.csv --tasks 0", "from 1 to 1,000,000,000 ", "", {}),
 }
 
 
@@ -302,14 +307,16 @@ def test_names_of_instances_are_not_formulas_in_a_spreadsheet(experiment: Experi
     assert [os.path.normpath(row["instance"]) for row in rows] == HOSTILE
     assert [(experiment.folder / row["order"]).exists() for row in rows] == [True] * len(HOSTILE)
     assert experiment.script("check", "=out.csv").status == 0
-    shutil.copy(experiment.folder / "shops" / "b", experiment.folder / os.fsdecode(b"shops/\xff"))
-    assert_refused(experiment.plan(PLAN).run(), "plan.toml: the name b'shops/\\xff' is not UTF-8")
+    for name, said in (("\udcff", "b'shops/\\xff' is not UTF-8"), ("a\n", "'shops/a\\n' contains a tab or a line end")):
+        shutil.copy(experiment.folder / "shops" / "b", experiment.folder / "shops" / name)
+        assert_refused(experiment.plan(PLAN).run(), f"plan.toml: the name {said}\n")
 
 
 # Folders that are damaged, and small disks
 
 RESULTS = [b"\xff\n", b'1,"\n', b"1,\0\n", b"o\n1,x,y,z,t,ok\n", b"1,1,1,1,1.000000,ok\n",
-           b"o\n1,1,1,1,1.000000,o", b"o\n1,1,1,1,1.000000,ok,12"]
+           b"o\n1,1,1,1,1.000000,o", b"o\n1,1,1,1,1.000000,ok,12", b"o\n1,1,1,1,1.000000,ok,,,,\n",
+           b"o\n1,1,1,1,1.0000000,ok\n", b"o\n1,%b,1,1,1.000000,ok\n" % (b"1" * 19)]
 # Files of results, each after its length.
 FILES = [None, b"", b"2", b"x\n", b"\xff\n", b"99\no\n1,1,1,1,1.000000,ok\n",
          *(b"%d\n%b" % (len(data), data) for data in RESULTS)]
@@ -411,6 +418,9 @@ def test_runs_by_time_take_their_time(experiment: Experiment, with_library: dict
                                     row["seed"], "--cells", row["instance"])
         assert (experiment.folder / row["order"]).read_text() + f"cells {row['cells']}\n" == wanted
     assert experiment.script("check", "out.csv") == Done(0, "out.csv: 12 orders audited, 0 of them wrong\n", "")
+    table, = experiment.runs.glob("pfs-experiment-*/runs.tsv")
+    assert [line.split("\t")[5] for line in table.read_text().splitlines()[4:]] == [
+        "0.05"] * 2 + ["0.125"] * 2 + ["0.003"] * 2 + ["0.0075"] * 2
     sums = json.loads((experiment.runs / "provenance.json").read_text())["sha256"]
     assert sums["libpfs.so.1"] == hashlib.sha256(pathlib.Path(with_library["PFS_LIBRARY"]).read_bytes()).hexdigest()
 
@@ -434,9 +444,6 @@ def test_the_search_that_accepts_longer_orders(experiment: Experiment, with_libr
         found = pfs.read(experiment.folder / row["instance"], "taillard").solve(method="iterated-greedy", **words)
         assert (experiment.folder / row["order"]).read_text() == found.to_text(), row
     assert experiment.script("check", "out.csv").status == 0
-    mine = MINE + 'search = "iterated-greedy"\ncommand = "./mine {instance}"\n'
-    assert experiment.plan(mine).run("new.csv").stderr == (
-        "pfs-experiments run: plan.toml: search is for pfs, not for a command\n")
     assert experiment.plan(text.format("")).run("new.csv", env=with_library).status == 0
     for was, new in (('search = "iterated-greedy"\n[[', "[["),
                      ("ature = 40", "ature = 0"), ("partial = 2", "partial = 3")):
@@ -445,19 +452,25 @@ def test_the_search_that_accepts_longer_orders(experiment: Experiment, with_libr
 
 
 def test_bounds_are_proved_and_optima_counted(experiment: Experiment, with_library: dict[str, str]) -> None:
-    """From the best order of each instance. A later call keeps what is proved, and a makespan below it is rejected."""
-    text = 'instances = ["shops/*"]\nseeds = [1, 2]\nrounds = [0, 200]\nmethod = "m"\n'
+    """From the best order of each instance, of those that are in the folder and whose run succeeded. A later call keeps
+    what is proved, and a makespan below it is rejected."""
+    first, second = (experiment.folder / "shops" / name for name in "ab")
+    first.write_text(first.read_text() + second.read_text())
+    text = 'instances = ["shops/a"]\nblocks = [1, 2]\nseeds = [1, 2]\nrounds = [0, 200]\nmethod = "m"\n'
     assert experiment.plan(text).run().status == 0
     before = csv_rows(experiment.folder / "out.csv")
+    head, *lines = (experiment.folder / "out.csv").read_text().splitlines()
+    others = [lines[-1].replace("shops/a:2", "x"), lines[-1].replace(",ok,out", ",no,none")]
+    (experiment.folder / "out.csv").write_text("\n".join([head, *others, *lines]))
 
     def call(*words: str) -> Done:
         return run_tool([experiment.scripts / "pfs-experiments", *words], experiment.folder, env=with_library)
 
     got = call("prove", "out.csv", "--seconds", "60")
     assert got.status == 0 and "out.csv: 2 of 2 best orders are optimal\n" in got.stderr
-    assert got.stdout == "shops/a: 1278, optimal\n" + f"shops/b: {before[-1]['makespan']}, optimal\n"
+    assert got.stdout == f"shops/a:1: 1278, optimal\nshops/a:2: {before[-1]['makespan']}, optimal\n"
     after = csv_rows(experiment.folder / "out.csv")
-    bounds = {"shops/a": "1278", "shops/b": before[-1]["makespan"]}
+    bounds = {"shops/a:1": "1278", "shops/a:2": before[-1]["makespan"]}
     assert after == [row | {"proved_bound": bounds[row["instance"]]} for row in before]
     assert experiment.script("check", "out.csv").status == 0
     assert call("report", "out.csv", "report").status == 0
@@ -471,6 +484,8 @@ def test_bounds_are_proved_and_optima_counted(experiment: Experiment, with_libra
     (experiment.folder / "new.csv").write_text("instance,makespan,bound,proved_bound\nx,1277,9,1278\nx,1278,9,\n")
     assert "the makespan 1277 of x is below the bound 1278" in call("report", "new.csv", "report").stderr
     assert "none.csv was not started: none.csv.d is missing\n" in call("prove", "none.csv").stderr
+    (experiment.folder / "out.csv").write_text("\n".join([head, *lines]).replace(",1278,", ",x,"))
+    assert_refused(call("prove", "out.csv"), "out.csv: invalid literal for int() with base 10: 'x'")
 
 
 def test_readmes_plans_by_time(experiment: Experiment, with_library: dict[str, str]) -> None:
@@ -800,7 +815,7 @@ LINES = [
     ("0.1", f"{SLEEP} & {SLEEP} > /dev/null 2>&1 & sleep 0.1; echo 1", "1 2"), ("0.1", "sleep 1; echo 2", "2 0"),
     ("0.2", f"({SPIN} &); sleep 1000", r"took too long: [01]\.\d\d s of processor time instead of 0.2 s"),
     ("0.05", "for each in $(seq 200); do (for at in $(seq 30000); do :; done); done; echo 3", "took too long: .*"),
-    ("0.01", "python3 -c 'import time\nwhile time.process_time() < 0.3: pass'; echo 4", "4 0"),
+    ("0.01", "python3 -c 'import time\nwhile time.process_time() < 0.3: pass'; printf 4", "4 0"),
     ("9", "kill -9 $$", "signal 9"), ("9", "echo first >&2; echo ' a   b ' >&2; exit 3", "exit 3, a b"),
     ("9", "printf '%0999d b\n' 0 >&2; exit 3", "exit 3, 0{200}"),
     ("9", "head -c 2000000 /dev/zero; sleep 2; touch late", "more than 1,048,576 bytes printed"),
@@ -852,57 +867,41 @@ def test_the_csv_has_a_failed_run_with_its_status(experiment: Experiment) -> Non
 
 # Interruptions
 
-# After how many runs which process gets which signal.
-Kills = list[tuple[int, str, int]]
-KILLS: dict[str, Kills] = {
-    "interrupted": [(2, "all", signal.SIGINT)], "terminated": [(1, "starter", signal.SIGTERM)],
-    "killed three times": [(0, "starter", signal.SIGKILL), (2, "parallel", signal.SIGKILL), (1, "all", signal.SIGKILL)],
-}
-
-
-def interrupted(experiment: Experiment, most: int, whom: str, number: int) -> set[str]:
-    """Starts the plan, lets `most` more runs finish and sends a signal while two wait; returns the runs that are done
-    by then."""
-    before, started_before = len(experiment.done()), len(experiment.started())
+def interrupted(experiment: Experiment, whom: str, number: int) -> set[str]:
+    """Starts the plan, lets two runs finish and sends a signal while two wait; returns the runs that are done by
+    then."""
     with experiment.gate() as let_through:
         begun = experiment.start("--jobs", "2")
-        let_through(most)
+        let_through(2)
         try:
-            wait_until(lambda: len(experiment.done()) == before + most
-                       and len(experiment.started()) == started_before + most + 2, f"{most} runs are done, two wait")
+            wait_until(lambda: (len(experiment.done()), len(experiment.started())) == (2, 4), "two are done, two wait")
             done = experiment.done()
         finally:
-            os.kill({"all": -begun.pid, "starter": begun.pid}.get(whom) or
-                    int((experiment.folder / "parallel").read_text()), number)
+            os.kill(-begun.pid if whom == "all" else begun.pid, number)
             begun.wait(60)
-        if (whom, number) != ("all", signal.SIGKILL):
-            wait_until(lambda: experiment.left() == [], "what a start has begun ends with it")
-    wait_until(lambda: experiment.left() == [], "what a start has begun ends")
+        wait_until(lambda: experiment.left() == [], "what a start has begun ends with it")
     return done
 
 
-@pytest.mark.parametrize("kills", KILLS.values(), ids=KILLS)
-def test_no_run_is_lost_or_made_again(kills: Kills, experiment: Experiment) -> None:
-    """Each run is in the CSV once, and none that was done before a kill is made again."""
-    wanted, made = experiment.plan(HALF).wanted(rounds=(10,)), {}
+@pytest.mark.parametrize(("whom", "number"), [
+    ("all", signal.SIGINT), ("starter", signal.SIGTERM), ("starter", signal.SIGKILL)])
+def test_no_run_is_lost_or_made_again(whom: str, number: int, experiment: Experiment) -> None:
+    """Each run is in the CSV once, and none that was done before a signal is made again."""
+    wanted = experiment.plan(HALF).wanted(rounds=(10,))
     # as a start leaves it that was killed while it made copies
     (experiment.runs / "pfs-experiment-begun" / "instances").mkdir(parents=True)
-    for most, whom, number in kills:
-        done = interrupted(experiment, most, whom, number)
-        counts = experiment.searches()
-        made.update({number: counts[number] for number in done})
-        if number in (signal.SIGINT, signal.SIGTERM):
-            so_far = experiment.rows()
-            assert len(so_far) >= most and [row for row in so_far if row not in wanted] == [], "the CSV so far"
-            assert experiment.script("check", "out.csv").status == 0, "the orders so far, each whole"
-        if whom == "starter":
-            assert len(experiment.started()) <= most + 2, "runs that GNU parallel begins without its starter"
+    made = dict.fromkeys(interrupted(experiment, whom, number), 1)
+    if number != signal.SIGKILL:
+        so_far = experiment.rows()
+        assert len(so_far) >= 2 and [row for row in so_far if row not in wanted] == [], "the CSV so far"
+        assert experiment.script("check", "out.csv").status == 0, "the orders so far, each whole"
+    assert len(experiment.started()) <= 4, "runs that GNU parallel begins without its starter"
     assert experiment.run(program=experiment.replacement()).status == 0
     assert experiment.rows() == wanted and len([*experiment.runs.glob("pfs-experiment-*")]) == 1
     counts = experiment.searches()
     assert [number for number, count in counts.items() if count == 0] == [], "runs that were never made"
-    assert {number: counts[number] for number in made if counts[number] != made[number]} == {}, "runs made again"
-    assert sum(counts.values()) <= len(counts) + 2 * len(kills), "searches that were lost by kills"
+    assert made.items() <= counts.items(), "runs made again"
+    assert sum(counts.values()) <= len(counts) + 2, "searches that were lost"
 
 
 # 60 runs, which are short enough to share processes.
@@ -1108,7 +1107,7 @@ ARRAYS = {
     "a command without a time": (MINE + 'seeds = [1, 2]\ncommand = "m {instance} {seed}"\n', [], "1-4"),
     # 100 runs of 1.5 seconds and 100 of 0.09
     "a command with a time": (MINE + f'time_factors = [30]\nseeds = {[*range(100)]}\n'
-                              'command = "m {instance} {seed}"\n', [], "1-3"),
+                              'command = "/bin/m {instance} {seed}"\n', [], "1-3"),
 }
 
 
@@ -1157,8 +1156,11 @@ def test_the_file_has_the_version_the_sums_and_each_start(mine: Experiment, top:
                         stored["version"]) and stored["sha256"] == wanted
     method, = stored["plan"]["methods"]
     assert (method["seeds"], method["method"]) == ([1], "mine")
-    assert [start["host"] for start in stored["starts"]] == [os.uname().nodename] * 2
     assert stored["starts"][0]["at"] <= stored["starts"][1]["at"]
+    for start in stored["starts"]:
+        assert re.fullmatch(r"\d{4}-\d\d-\d\dT\d\d:\d\d:\d\d\+00:00 .+ Linux-.+", " ".join(
+            start.pop(key) for key in ("at", "processor", "system")))
+        assert start == {"host": os.uname().nodename, "processors": os.cpu_count(), "python": sys.version.split()[0]}
     before = mine.columns("makespan")
     write_script(mine.folder / "mine", ORDER.format(order="1 3 2"))
     for name in ("data", "shops/b"):

@@ -46,6 +46,8 @@ out,20,5,100,4,0,4,1,0,1.961,3.960,4.000,7.000,0.5000
 out,100,10,0,4,0,0,1,0,,,,,
 out,100,10,100,4,0,1,0,0,0.000,0.000,0.000,0.000,2.0000
 """
+HEADS = ("method | jobs | machines | rounds | take | passes | runs | failed | audited | mean rpd, % | greatest rpd, % "
+         "| mean gap, % | greatest gap, % | mean time, s")
 FILES = ["gap.png", "instances.csv", "rpd.png", "seconds.png", "sizes.csv", "sizes.md", "sizes.tex",
          "table.csv", "table.md", "time.png"]
 Reported = Callable[..., Done]
@@ -89,9 +91,9 @@ def test_a_report_has_its_table_and_its_plots(ending: str, begin: bytes, report:
     assert sorted(os.listdir(folder / "report")) == [name.replace("png", ending) for name in FILES]
     assert (folder / "report" / "table.csv").read_bytes() == TABLE.encode()
     assert (folder / "report" / "table.md").read_text() == got.stdout
-    rows = [[cell.strip() for cell in line[1:-1].split("|")] for line in got.stdout.splitlines()[2:-2]]
-    assert rows == [line.split(",") for line in TABLE.splitlines()[1:]]
-    assert got.stdout.endswith("\n\nRPD: relative to the best makespan of any of these runs.\n")
+    rows = [HEADS, " | ".join(["---:"] * 14), *(line.replace(",", " | ") for line in TABLE.splitlines()[1:])]
+    assert got.stdout == "".join(f"| {row} |\n" for row in rows) + (
+        "\nRPD: relative to the best makespan of any of these runs.\n")
     for name in ("gap", "rpd", "seconds", "time"):
         picture = (folder / "report" / f"{name}.{ending}").read_bytes()
         assert picture.startswith(begin) and len(picture) > 5000, name
@@ -102,23 +104,22 @@ def test_a_report_has_its_table_and_its_plots(ending: str, begin: bytes, report:
     assert sorted(os.listdir(folder / "none")) == ["table.csv", "table.md"]
 
 
-BAD = [("20,5,0", "20,5,0.5"), ("ok\n", "ok,a,b,c,d\n"), (",110,", f",{'1' * 320},"), (",110,", f",1{'0' * 19},"),
-       ("10.0000", "1e308"), ("10.0000", "nan"), ("10.0000", "x"), ("0.001000", "inf"), ("0.001000", "-0.1"),
-       ("0.001000", "1_0"), ("0.001000", "\N{ARABIC-INDIC DIGIT ONE}"), (REPORTED[len(HEAD):], "")]
+BAD = [("20,5,0", "20,5,0.5"), ("10.0000", "-101"), ("10.0000", "nan"), ("10.0000", "x"), ("ok\n", "ok,a,b,c,d\n"),
+       (",110,", f",{'1' * 320},"), ("0.001000", "inf"), ("0.001000", "1_0"),
+       ("0.001000", "\N{ARABIC-INDIC DIGIT ONE}"), (REPORTED[len(HEAD):], "")]
 # The status, the arguments, and what is said.
 WORDS = [(4, "none.csv report", "none.csv: "), (3, "--width 0 out.csv report", "'0' is not a number of inches"),
          (3, "--dpi 25.5 out.csv report", "'25.5' is not a whole number from 20 to 1,200"),
          (4, "out.csv out.csv", "out.csv: "), (4, "out.csv out.csv/report", "out.csv/report: "),
          (4, "--reference none out.csv report", "none: "),
-         (2, "--reference other.csv out.csv report", "other.csv: no column makespan"),
+         (2, "--reference other.csv out.csv report", "other.csv: no column instance, makespan"),
          (2, "--reference two.csv out.csv report", "two.csv: a has two makespans"),
          (2, "--reference ranks.csv out.csv report", "ranks.csv: two columns are named 'makespan'"),
          (2, "--reference three.csv out.csv report", "three.csv: '1.000' is not a whole number"),
          (2, "out.csv ./out.csv report", "a CSV is named twice, and its runs would count twice"),
-         (2, "out.csv ranks.csv .", "ranks.csv is read, and writing would replace it: name another folder"),
          (2, "--reference ranks.csv out.csv .", "ranks.csv is read, and writing would replace it"),
-         (2, "out.csv other.csv report", "other.csv: no column makespan"),
-         (2, "means.csv report", "published means are columns")]
+         (2, "other.csv report", "other.csv: no column instance, makespan"),
+         (2, "means.csv report", "published means are columns beside the runs of another CSV")]
 
 
 @pytest.mark.parametrize(("text", "status", "words", "said"), [
@@ -127,7 +128,7 @@ WORDS = [(4, "none.csv report", "none.csv: "), (3, "--width 0 out.csv report", "
     ids=[*(f"{new[:9]!r}" for _, new in BAD), *(words for _, words, _ in WORDS)])
 def test_what_is_refused_is_said_on_one_line_and_nothing_is_left(text: str, status: int, words: str, said: str,
                                                                  report: Reported, folder: pathlib.Path) -> None:
-    got = report(words=words, out=text, other="instance,length\na,1\n", means="jobs,machines,rpd\n2,2,1\n",
+    got = report(words=words, out=text, other="name,length\na,1\n", means="jobs,machines,rpd\n2,2,1\n",
                  two="instance,makespan\na,50\na,51\n", ranks="instance,makespan,makespan\na,50,51\n",
                  three="instance,makespan\na,1.000\n")
     assert (got.status, got.stdout) == (status, "")
@@ -143,10 +144,11 @@ def test_a_csv_that_pandas_wrote_and_the_greatest_numbers(report: Reported, fold
     written = pandas.read_csv(folder / "given.csv").to_csv()
     assert ",20.0,5.0," in written and report("\N{BOM}" + written).status == 0
     assert (folder / "report" / "table.csv").read_text() == TABLE
-    lines = [f"a,5000,200,{rounds},5000,100,18446744073709551615,1,{makespan},1,{gap},{cells},{seconds},ok\n"
+    most = 1_000_000
+    lines = [f"a,{most},{most},{rounds},{most},{most},18446744073709551615,1,{makespan},1,{gap},{cells},{seconds},ok\n"
              for rounds, makespan, gap, cells, seconds in (
                  (0, 1, "0.0000", 1, "1e-320"), (0, 999999999999999999, "99999999999999999800.0000", 2, "1e-9"),
-                 (1000000, 999999999999999999, "1e20", 18446744073709551615, "1e12"))]
+                 (1000000000, 999999999999999999, "1e20", 18446744073709551615, "1e12"))]
     assert report(HEAD + "".join(lines)).status == 0
     assert [float(each) for each in column(folder, "greatest_rpd_percent")] == pytest.approx([1e20] * 2)
 
@@ -261,14 +263,16 @@ def test_orders_are_audited_where_the_instance_is_at_hand(experiment: Experiment
         (folder / name).write_text(text if "status" in text else f"instance,seed,makespan,order\n{text}")
         return tool("report", name, "report")
 
-    assert report_of(f"ta001,1,1448,{order}\nta001,2,1300,\ni,1,5,1 2\nta002,1,1400,gone/order\n").status == 0
+    text = f"ta001,1,1448,{order}\nta001,2,1300,\ni,1,5,1 2\nta002,1,1400,gone/order\nta003,1,,1 2\n"
+    assert report_of(text).status == 0
     assert columns(folder, "table", "audited", "runs") == [("0", "1"), ("1", "3")]
     assert "Not audited, only stated: out." in (folder / "report" / "sizes.md").read_text()
     assert report_of(f"ta001,1,1448,{order}\nta001,2,1448,{order}\n").status == 0
     assert "audited" not in (folder / "report" / "sizes.md").read_text()
     assert csv_rows(folder / "report" / "best.csv") == [dict(instance="ta001", method="out", makespan="1448",
                                                              order=order)], "the best order of each instance, once"
-    assert tool("audit", "report/best.csv").stdout.endswith(": 1 orders audited, 1 valid (0 optimal), 0 wrong\n")
+    (folder / "report" / "best.csv").rename(folder / "\udcff.csv")
+    assert tool("audit", "\udcff.csv").stdout == "\\udcff.csv: 1 orders audited, 1 valid (0 optimal), 0 wrong\n"
     unclear = f"ta001,1,1448,{order}\nta002,1,1400,{' '.join(map(str, range(20)))}\n"
     assert "1 orders of out.csv count jobs from 0 and as many from 1" in report_of(unclear).stderr
     for text, why in wrong.items():
@@ -276,16 +280,19 @@ def test_orders_are_audited_where_the_instance_is_at_hand(experiment: Experiment
             2, "", f"pfs-experiments report: out.csv: line 3, ta001: {why}\n")
     assert experiment.plan('instances = ["shops/b"]\n').run("runs.csv").status == 0
     text, (row,) = (folder / "runs.csv").read_text(), csv_rows(folder / "runs.csv")
+    (folder / "\udcff.csv").write_text(text.replace(row["order"], (folder / row["order"]).read_text().split("\n")[1]))
     assert report_of(text, "runs.csv").status == 0 and column(folder, "audited") == ["1"]
+    assert tool("report", "runs.csv", "\udcff.csv", "report").status == 0 and column(folder, "audited") == ["1", "1"]
     more = int(row["makespan"]) + 1
     assert report_of(text.replace(f",{row['makespan']},", f",{more},", 1), "runs.csv").stderr == (
         f"pfs-experiments report: runs.csv: line 2, shops/b: wrong makespan: states {more}, takes {row['makespan']}\n")
     (folder / row["order"]).write_text("order 3\n1 1 2\nmakespan 9\n")
     assert report_of(text, "runs.csv").stderr == (
         f"pfs-experiments report: runs.csv: {row['order']}: order file job repeated at place 2\n")
-    (folder / "runs.csv.d" / "plan.json").write_text("{")
     (folder / row["order"]).unlink()
-    assert report_of(text, "runs.csv").status == 0 and column(folder, "audited") == ["0"]
+    for damaged in (next(folder.glob("runs.csv.d/pfs-*/instances/1")), folder / "runs.csv.d" / "plan.json"):
+        damaged.write_text("{")
+        assert report_of(text, "runs.csv").status == 0 and column(folder, "audited") == ["0"]
 
 
 # Several methods
@@ -318,13 +325,14 @@ def test_methods_without_a_common_instance_are_reported(report: Reported, folder
     for name in "xy":
         (folder / name).mkdir()
         (folder / name / "out.csv").write_text("instance,makespan\n" + "".join(
-            f"{name}{at},{1100 + at}\n" for at in range(12)))
-    first, second = (", ".join(f"{name}{at}" for at in (0, 1, 10, 11, *range(2, 8))) for name in "xy")
+            f"{name}{at},{1100 + at}\n" for at in range(12 if name == "x" else 10)))
+    first, second = (", ".join(f"{name}{at}" for at in places) for name, places in (
+        ("x", (0, 1, 10, 11, *range(2, 8))), ("y", range(10))))
     got = report(words="x/out.csv y/out.csv report")
     assert got.stderr == ("pfs-experiments report: no table of sizes: Compared are the instances and seeds that all "
-                          f"have: x/out.csv lacks runs of {second}, ..; y/out.csv lacks runs of {first}, ...\n")
+                          f"have: x/out.csv lacks runs of {second}; y/out.csv lacks runs of {first}, ...\n")
     assert not (folder / "report" / "comparison.csv").exists()
-    assert "\n23 runs of 23 instances have no reference, and no RPD: x1, x2, x3, x4, x5, x6, x7, x8, x9, x10, ...\n" \
+    assert "\n21 runs of 21 instances have no reference, and no RPD: x1, x2, x3, x4, x5, x6, x7, x8, x9, x10, ...\n" \
         in report(words="--reference best.csv x/out.csv y/out.csv report", best="instance,makespan\nx0,1000\n").stdout
 
 
@@ -381,6 +389,17 @@ def test_the_effect_size_and_the_counts_are_by_instance(report: Reported, folder
         1] == ("a", "100", "2", "101", "103", f"{8 ** 0.5:.15g}", f"{200 / 101:.3f}")
 
 
+def test_methods_without_an_rpd_are_compared_by_their_makespans(report: Reported, folder: pathlib.Path) -> None:
+    """Three have ranks if they have two instances."""
+    texts = {name: f"instance,makespan\ni,{at}\n" for at, name in enumerate("abc", 1)}
+    assert report(**texts, best="instance,makespan\nz,1\n").status == 0
+    assert [[*row.values()][-9:] for row in csv_rows(folder / "report" / "comparison.csv")] == [
+        ["1", "1", "0", "0", "", "0", "", "", "1.000"]] * 3
+    for more, count in (("", 0), ("j,5\n", 1)):
+        assert report(**{name: text + more for name, text in texts.items()}).status == 0
+        assert len([*folder.glob("report/ranks.csv")]) == count
+
+
 def test_only_equal_rounds_or_times_are_compared(report: Reported, folder: pathlib.Path) -> None:
     """And Holm's correction is for these. Settings of one method are compared too, and a method that tells neither is
     compared with all."""
@@ -389,6 +408,9 @@ def test_only_equal_rounds_or_times_are_compared(report: Reported, folder: pathl
         f"i{at},{1000 + at + more},1000,{budget}\n" for at in range(6) for more, budget in enumerate(own))
         for name, own in budgets.items()})
     assert got.status == 0 and (folder / "report" / "comparison.md").read_text() in got.stdout
+    assert ",p,pairs,p_holm,median_difference_percent,vargha_delaney_a\n" in (
+        folder / "report" / "comparison.csv").read_text()
+    assert "; ties count half.\n" in got.stdout and got.stdout.endswith("p: Friedman's test.\n")
     names = ("method", "rounds", "time_factor", "take")
     rows = columns(folder, "comparison", *names, *(f"other_{name}" for name in names), "won")
     assert sorted((" ".join(filter(None, row[:4])), " ".join(filter(None, row[4:8]))) for row in rows) == [
@@ -416,6 +438,8 @@ def test_three_settings_have_average_ranks(report: Reported, folder: pathlib.Pat
         ("2", "a", "5", "5", "2.00"), ("2", "c", "", "5", "2.00"), ("2", "d", "5", "5", "2.00")]
     ranks, count, ties = (6, 9.5, 14.5), 5, 2 ** 3 - 2
     statistic = (12 / (count * 3 * 4) * sum(rank ** 2 for rank in ranks) - 3 * count * 4) / (1 - ties / (count * 24))
+    for path in (folder / "report").glob("*.csv"):
+        assert report(words=f"report/{path.name} report").stderr.endswith(" would replace it: name another folder\n")
     assert list(map(float, column(folder, "p", "ranks"))) == pytest.approx([math.exp(-statistic / 2)] * 3 + [1] * 3,
                                                                            rel=1e-3)
 
@@ -463,14 +487,15 @@ def test_the_table_of_sizes_has_each_method_and_published_mean(report: Reported,
     assert [line.replace("\\&", "&")[2:-2].split(" | ") for line in lines[:1] + lines[2:5]] == wanted
     tex = sizes.with_suffix(".tex").read_text()
     assert re.findall(r"\\(?:top|mid|bottom)rule", tex) == ["\\toprule", "\\midrule", "\\midrule", "\\bottomrule"]
-    assert r"jobs$\times$machines & 5\% \& more & mine\_1 \\" in tex and r"mean & 1.750 & 3.500 \\" in tex
-    assert r"\begin{tabular}{lrr}" in tex
-    published = "jobs,machines,rpd,method\n20,5,0.04,P\n20,5,0.5,Q\n50,5,1.25,Q\n"
+    assert "jobs$\\times$machines & 5\\% \\& more & mine\\_1 \\\\\n" in tex and "\nmean & 1.750 & 3.500 \\\\\n" in tex
+    assert tex.startswith("% \\usepackage{booktabs}\n\\begin{tabular}{lrr}\n") and "\\end{tabular}\n" in tex
+    published = "jobs,machines,rpd,method\n20,5,0.04,P\n20,5,0.5,Q\n50,5,1.25,Q\n20,5,0.7,out\n50,5,0.9,\n"
     assert report(out="instance,jobs,machines,makespan,reference\na,20,5,100.5,100\nb,50,5,102,100\n",
                   paper=published).status == 0
-    assert cells_of(sizes) == [["jobs×machines", "out", "P", "Q"], ["20×5", "0.500", "0.040", "0.500"],
-                               ["50×5", "2.000", "", "1.250"], ["mean", "1.250", "", "0.875"]]
-    assert "Not audited, only stated: P, Q, out." in sizes.with_suffix(".tex").read_text()
+    assert cells_of(sizes) == [["jobs×machines", "out", "P", "Q", "out (published)", "paper"],
+                               ["20×5", "0.500", "0.040", "0.500", "0.700", ""],
+                               ["50×5", "2.000", "", "1.250", "", "0.900"], ["mean", "1.250", "", "0.875", "", ""]]
+    assert "Not audited, only stated: P, Q, out, paper." in sizes.with_suffix(".tex").read_text()
     assert column(folder, "best", "instances") == ["100.5", "102"]
 
 
@@ -511,17 +536,20 @@ def test_lines_bands_scale_and_colours_of_the_plots_by_rounds(done: Callable[[st
                           for at, rounds in enumerate((0, 10, 100, 1000, 10000))))[0]
     places = [axis.transData.transform((rounds, 0))[0] for rounds in (0, 10, 100, 1000, 10000)]
     steps = [later - place for place, later in zip(places[1:], places[2:])]
-    assert steps == pytest.approx([steps[0]] * 3, rel=0.01) and 0 < places[1] - places[0]
-    lines = panels("".join(f"{jobs},{jobs},5,{rounds},4,0,1,1,9,9,{jobs}.0,1,0.1,ok\n"
-                           for jobs in (20, 50, 100, 200, 500) for rounds in (0, 10)))[0].get_lines()
+    assert steps == pytest.approx([steps[0]] * 3, rel=0.01) and 0 < places[1] - places[0] < steps[0] / 2
+    lines = panels("".join(f"{jobs},{jobs},{machines},{rounds},4,0,1,1,9,9,{jobs}.0,1,0.1,ok\n" for machines, jobs in
+                           enumerate((20, 50, 100, 200, 500)) for rounds in (0, 10)))[0].get_lines()
+    assert [line.get_linestyle() for line in lines] == ["-", "--", ":", "-.", "-"]
     fills = [to_hex(line.get_color()) for line in lines]
-    assert len(fills) == 5 and min(map(least_difference, fills, fills[1:])) > 10, fills
+    assert (len(fills), fills[0], fills[-1]) == (5, "#440154", "#7ad151"), "of viridis"
+    assert min(map(least_difference, fills, fills[1:])) > 10, fills
     several = panels("a,20,5,0,2,0,1,1,1,1,30.0,1000,0.001000,ok\n" + "".join(
         f"a,20,5,{rounds},{take},{passes},1,1,1,1,{gap:.4f},1000,0.001000,ok\n"
         for (take, passes), gaps in GAPS.items() for rounds, gap in zip((5, 10), gaps)))[:-1]
     assert {axis.get_title(): lines_of(axis)["20×5"] for axis in several} == {
         f"out, take {take}, passes {passes}": [(0, 30.0), (5, first), (10, second)]
         for (take, passes), (first, second) in GAPS.items()}
+    assert [axis.get_subplotspec().colspan.start for axis in several] == [0, 1] * 2
 
 
 def test_the_plots_of_times(done: Callable[[str], Any]) -> None:
@@ -536,6 +564,7 @@ def test_the_plots_of_times(done: Callable[[str], Any]) -> None:
         for at, time in enumerate((1, 2, 3, 4, 10)))), None)
     drawn = sorted({round(float(y), 6) for line in figure.axes[0].get_lines() for y in line.get_ydata()})
     assert drawn == [1, 2, 3, 4, 10] and "at 100 rounds" in figure._suptitle.get_text().replace("\n", " ")
+    assert figure.axes[0].get_ylim()[0] == 0
     figure = reports.cell_times(done("instance,jobs,machines,makespan,cells,seconds,time_factor\na,2,2,9,9,1,3\n"),
                                 None)
     assert "cell of searches by time" in figure._suptitle.get_text()
@@ -555,7 +584,8 @@ def test_trajectories_have_their_mean_and_the_share_that_reaches_the_target(done
     and 1. Runs without a trajectory aren't drawn, and the larger shop has another panel."""
     text = WAY_HEAD + "".join(f"i,20,5,{method},{seed},{way[-3:]},100,{seconds},{way}\n"
                               for method, ways in WAYS.items() for seed, (seconds, way) in enumerate(ways))
-    figures = reports.along(done(text + "j,50,5,a,,101,100,3,3:101\nj,50,5,b,,101,100,7,\n"), None)
+    text += "j,50,5,a,,101,100,3,3:101\nj,50,5,b,,101,100,7,\nj,50,5,c,,101,100,,1:110 3:101\n"
+    figures = reports.along(done(text), None)
     assert {name: labels_of(figure)[:2] for name, figure in figures.items()} == {
         "trajectory": ("processor time, s", "mean RPD, %"), "target": ("processor time, s", "share of the runs")}
     first, second = figures["trajectory"].axes[:2]
@@ -564,13 +594,14 @@ def test_trajectories_have_their_mean_and_the_share_that_reaches_the_target(done
     assert [(lines[name][0], lines[name][-1]) for name in "ab"] == [((2, 8), (40, 3)), ((3, 11.5), (6, 2))]
     for x, y in lines["a"]:
         assert y == pytest.approx(8 if x < 10 else 5 if x < 20 else 3), x
-    assert list(lines_of(second)) == ["a"] and {y for _, y in lines_of(second)["a"]} == {1}
+    assert [*lines_of(second)] == [*"ac"] and {y for _, y in lines_of(second)["a"]} == {1}
+    assert [line.get_linestyle() for axis in (first, second) for line in axis.get_lines()] == ["-", "--", "-", "-."]
     first, second = figures["target"].axes[:2]
     assert first.get_title() == "20×5: RPD of at most 2.500 %"
     assert lines_of(first) == {"a": [(1, 0), (20, 0.5), (40, 0.5)], "b": [(0.5, 0), (5, 0.5), (6, 0.5)]}
-    assert lines_of(second) == {"a": [(3, 0), (3, 1), (3, 1)]}
+    assert lines_of(second) == {"a": [(3, 0), (3, 1), (3, 1)], "c": [(1, 0), (3, 1), (3, 1)]}
     assert {line.get_drawstyle() for line in first.get_lines()} == {"steps-post"}
-    assert reports.along(done(WAY_HEAD + "i,20,5,a,1,104,100,1,\n"), None) == {}
+    assert reports.along(done(WAY_HEAD + "i,20,5,a,1,104,100,1,\nj,20,5,a,1,0,0,1,1:0\n"), None) == {}
 
 
 # The layout of plots
@@ -585,15 +616,18 @@ def styles_of(labels: int) -> dict[str, dict[str, Any]]:
     return {f"label {label}": {"color": "black"} for label in range(labels)}
 
 
-@pytest.mark.parametrize(("panels", "columns", "width", "wide", "rows", "across"), [
-    (1, 3, None, 6.5, 1, 1), (2, 3, None, 8.4, 1, 2), (5, 3, None, 12.6, 2, 3), (4, 2, None, 8.4, 2, 2),
-    (5, 3, 5.0, 5, 3, 2), (3, 3, 2.0, 2, 3, 1), (3, 3, 6.7, 6.7, 1, 3), (3, 3, 6.5, 6.5, 2, 2)])
-def test_panels_are_in_rows_above_their_legend(panels: int, columns: int, width: float | None, wide: float, rows: int,
-                                               across: int) -> None:
-    """Of equal scales, whose marks have numbers at the left and below the last panel of each column."""
-    figure = reports.panels(points_of(panels, 2), styles_of(2), columns, width, "the x", "the y", "a title", "a legend")
+@pytest.mark.parametrize(("panels", "columns", "width", "wide", "high", "rows", "across"), [
+    (1, 3, None, 6.5, 4.525, 1, 1), (2, 3, None, 8.4, 4.075, 1, 2), (5, 3, None, 12.6, 7.225, 2, 3),
+    (4, 2, None, 8.4, 7.225, 2, 2), (5, 3, 5.0, 5, 6.925, 3, 2), (3, 3, 2.0, 2, 7.095, 3, 1),
+    (3, 3, 6.7, 6.7, 2.925, 1, 3), (3, 3, 6.5, 6.5, 5.8, 2, 2)])
+def test_panels_are_in_rows_above_their_legend(panels: int, columns: int, width: float | None, wide: float, high: float,
+                                               rows: int, across: int) -> None:
+    """Of equal scales, whose marks have numbers at the left and below the last panel of each column. They are three
+    quarters as high as wide, but from 2 to 3.6 inches."""
+    figure = reports.panels(points_of(panels, 2, -1), styles_of(2), columns, width, "the x", "the y", "a title",
+                            "a legend")
     *axes, below = figure.axes
-    assert figure.get_size_inches()[0] == pytest.approx(wide)
+    assert [*figure.get_size_inches()] == pytest.approx([wide, high])
     assert [axis.get_title() for axis in axes] == [f"panel {at}" for at in range(panels)]
     places = [(spec.rowspan.start, spec.colspan.start) for spec in (axis.get_subplotspec() for axis in axes)]
     assert places == [divmod(at, across) for at in range(panels)] and below.get_subplotspec().rowspan.start == rows
@@ -677,7 +711,8 @@ def test_labels_are_rotated_where_they_have_no_room(count: int, letters: int, wi
 
 
 def test_texts_of_plots_have_room() -> None:
-    """A line has 12 letters at least, and a name at most 40."""
+    """A line has 12 letters at least, and a name at most 40. In tables no number is -0."""
+    assert [typed.cell("rpd", value) for value in (-0.0, -1)] == ["0.000", "-1.000"]
     lines = [reports.wrapped("a " * 40, inches).split("\n") for inches in (0.5, 1.03, 1.2, 4.05, 4.06)]
     assert [max(map(len, each)) for each in lines] == [11, 11, 13, 45, 47]
     assert reports.shown("x" * 40) == "x" * 40 and reports.shown("x" * 41) == "x" * 38 + ".."
@@ -687,7 +722,8 @@ def test_texts_of_plots_have_room() -> None:
 @pytest.mark.parametrize("way", ["1", "1:", "x:104", "1:104 ", "2:110 1:104", "1:104 2:104", "1:103 2:104", "1:110",
                                  "1e9:104", "-1:104", "1:110  2:104", "1:1_04", "\N{ARABIC-INDIC DIGIT ONE}:104"])
 def test_a_trajectory_leads_to_the_makespan_of_its_run(way: str, report: Reported) -> None:
-    """Each point is later, and shorter. That of a run that failed isn't read."""
+    """Each point is shorter, and none is earlier. That of a run that failed isn't read."""
+    assert typed.way_of("1:110 1:104", 104, "", "") == [(1, 110), (1, 104)]
     got = report(WAY_HEAD + f"i,20,5,a,1,,,,x\ni,20,5,a,2,104,100,1,{way}\n")
     assert got == Done(2, "", "pfs-experiments report: out.csv: line 3: the trajectory must be SECONDS:MAKESPAN for "
                               "each better makespan, up to that of the run\n")
@@ -731,6 +767,14 @@ def test_differences_are_paired_by_instance_and_seed_in_a_panel_for_each_size(do
     assert reports.differences(done("instance,makespan,method,reference\na,103,m,100\n"), None) is None
 
 
+TEXTS = {"gap": "Gap to the bound: mean, and range over the seeds; gap to the lower bound, %; jobs×machines",
+         "rpd": "Relative percentage deviation: mean, and range over the seeds; RPD, %; jobs×machines",
+         "seconds": "Mean relative percentage deviation by time; RPD, %; processor time, s; method",
+         "time": "processor time per table cell, ns; jobs×machines", "differences": "95 %",
+         "trajectory": "Mean relative percentage deviation during the search; mean RPD, %; processor time, s; setting",
+         "target": "Time to target: runs that have reached it; share of the runs; processor time, s; setting"}
+
+
 @pytest.mark.parametrize(("width", "options"), [("3.5", ["--no-title"]), ("7", [])])
 def test_all_is_inside_of_the_picture_and_can_be_read(width: str, options: list[str], report: Reported,
                                                       folder: pathlib.Path) -> None:
@@ -741,7 +785,7 @@ def test_all_is_inside_of_the_picture_and_can_be_read(width: str, options: list[
         f'"the method of somebody, number {at}",0.01:120 0.05:{100 + at}\n'
         for at in range(3) for name, jobs in (("i", 20 + at), ("j", 20)) for rounds in (1, 10, 1000))
     assert report(text, "--format", "svg", "--width", width, *options).status == 0
-    for name in ("gap", "rpd", "seconds", "time", "differences", "trajectory", "target"):
+    for name, texts in TEXTS.items():
         picture = (folder / "report" / f"{name}.svg").read_text()
         assert f'width="{72 * float(width):g}pt"' in picture
         letters = re.findall(r'<text style="font: ([0-9.]+)px [^"]*?(?:text-anchor: (\w+))?" x="([0-9.]+)" '
@@ -751,7 +795,8 @@ def test_all_is_inside_of_the_picture_and_can_be_read(width: str, options: list[
         for size, anchor, x, shown in letters:
             after = {"middle": 0.25, "end": 0}.get(anchor, 0.5) * float(size) * len(shown)
             assert float(x) + after <= 72 * float(width) + 2, shown
-        assert options == [] or "interval" not in picture and "range over" not in picture
+        assert options or [text for text in texts.split("; ") if f"{text}<" not in picture] == []
+        assert not options or not re.search("interval|range over", picture)
 
 
 @pytest.mark.parametrize("ending", ["svg", "pdf"])

@@ -1,6 +1,7 @@
 """The server of the page for planners, by Flask's client: who may send requests, the responses, limits, and searches.
 tests/python/test_web_server.py starts it, and test_web_page.py looks at the page."""
 import base64
+import binascii
 import copy
 import io
 import json
@@ -8,12 +9,14 @@ import os
 import pathlib
 import random
 import re
+import resource
 import tempfile
 import time
 import zipfile
 from collections.abc import Callable, Iterator
 from types import SimpleNamespace
 from typing import Any
+from unittest import mock
 
 import pfs
 import pytest
@@ -49,6 +52,7 @@ def client() -> FlaskClient:
 
 def asked(client: FlaskClient, path: str, body: Any = None, method: str = "POST", **headers: str) -> TestResponse:
     sent = {"Host": HOST, "X-Pfs-Token": TOKEN, **{name.replace("_", "-"): text for name, text in headers.items()}}
+    sent = {name: text for name, text in sent.items() if text != "none"}
     more: dict[str, Any] = {"data": json.dumps(body), "content_type": "application/json"} if method == "POST" else {}
     return client.open(path, method=method, headers=sent, **more)
 
@@ -77,15 +81,17 @@ def read(client: FlaskClient, data: bytes | str, **options: Any) -> Any:
 CALLS = [("POST", "/api/read", {"rows": []}), ("POST", "/api/plan", PLAN), ("POST", "/api/rest", PLAN),
          ("POST", "/api/file", PLAN), ("POST", "/api/search", PLAN), ("GET", "/api/search/a", None),
          ("DELETE", "/api/search/a", None)]
+NO_TOKEN = 403, "The token is missing or wrong: open the address that the server printed."
+NO_NAME, NO_PAGE = (421, "The server has another name: see --name."), (403, "Pages of other sites may not ask.")
 STRANGERS = {
-    "no token": ({"X_Pfs_Token": ""}, 403), "another token": ({"X_Pfs_Token": TOKEN[:-1]}, 403),
-    "a letter of another script": ({"X_Pfs_Token": "\u00e4"}, 403),
-    "another name, which leads here": ({"Host": "evil.example:8470"}, 421),
-    "another port": ({"Host": "127.0.0.1:80"}, 421),
-    "a page of another site": ({"Origin": "http://evil.example"}, 403),
-    "a page at another port": ({"Origin": "http://127.0.0.1:9000"}, 403), "a file": ({"Origin": "null"}, 403),
-    "a frame of another site": ({"Sec_Fetch_Site": "cross-site"}, 403),
-    "another host of this site": ({"Sec_Fetch_Site": "same-site"}, 403),
+    "no token": ({"X_Pfs_Token": "none"}, NO_TOKEN), "another token": ({"X_Pfs_Token": TOKEN[:-1]}, NO_TOKEN),
+    "a letter of another script": ({"X_Pfs_Token": "\u00e4"}, NO_TOKEN),
+    "another name, which leads here": ({"Host": "evil.example:8470"}, NO_NAME),
+    "another port": ({"Host": "127.0.0.1:80"}, NO_NAME),
+    "a page of another site": ({"Origin": "http://evil.example"}, NO_PAGE),
+    "a page at another port": ({"Origin": "http://127.0.0.1:9000"}, NO_PAGE), "a file": ({"Origin": "null"}, NO_PAGE),
+    "a frame of another site": ({"Sec_Fetch_Site": "cross-site"}, NO_PAGE),
+    "another host of this site": ({"Sec_Fetch_Site": "same-site"}, NO_PAGE),
 }
 
 
@@ -99,8 +105,9 @@ def test_a_stranger_computes_reads_and_ends_nothing(who: str, call: tuple[str, s
     for kind, names in ((searches.Searches, ("add", "told", "end")), (apart.Apart, ("__call__",))):
         for name in names:
             monkeypatch.setattr(kind, name, never)
-    (headers, status), (method, path, body) = STRANGERS[who], call
-    assert asked(client_of(searches.Searches(1)), path, body, method, **headers).status_code == status
+    (headers, due), (method, path, body) = STRANGERS[who], call
+    got = asked(client_of(searches.Searches(1)), path, body, method, **headers)
+    assert (got.status_code, got.json) == (due[0], {"error": due[1]})
 
 
 def test_the_own_page_may_ask(client: FlaskClient) -> None:
@@ -172,7 +179,7 @@ WRONG: dict[str, tuple[str, Any]] = {
     "no kind": ("/api/file", PLAN), "a kind that is a path": ("/api/file", {**PLAN, "kind": "../../etc/cron.d/x"}),
     "a kind that is a list": ("/api/file", {**PLAN, "kind": []}),
     "seconds below 0": ("/api/search", {**PLAN, "seconds": -1}),
-    "a broken seed": ("/api/search", {**PLAN, "seed": 0.5}),
+    "a broken seed": ("/api/search", {**PLAN, "seed": 0.5}), "too many held": ("/api/search", {**PLAN, "held": 5}),
     "machines down as a list": ("/api/rest", {**PLAN, "at": "2026-12-01T10:00", "down": ["saw"]}),
 }
 
@@ -180,7 +187,7 @@ WRONG: dict[str, tuple[str, Any]] = {
 @pytest.mark.parametrize("what", WRONG)
 def test_another_form_is_refused(client: FlaskClient, what: str) -> None:
     path, body = WRONG[what]
-    assert refused(client, path, body) == (400, str(plans.OTHER_FORM))
+    assert refused(client, path, body) == (400, "the request has another form than those of this server's page")
 
 
 REST = {**PLAN, "at": "2026-12-01T10:00"}
@@ -219,13 +226,23 @@ def test_a_table_has_a_greatest_number_of_times(client: FlaskClient) -> None:
 
 def test_other_kinds_of_requests_are_refused(client: FlaskClient) -> None:
     own = {"Host": HOST, "X-Pfs-Token": TOKEN}
-    for sent, kind, status in ((b"rows=1", "application/x-www-form-urlencoded", 415), (b"{}", "text/plain", 415),
-                               (b"{", "application/json", 400), (b"[" * 100_000, "application/json", 400),
-                               (b"\xff", "application/json", 400),
-                               (b'{"held":' + b"9" * 5_000 + b"}", "application/json", 400),
-                               (b" " * (app.MOST_BODY + 1), "application/json", 413)):
-        assert client.post("/api/plan", data=sent, content_type=kind, headers=own).status_code == status
+    for sent, kind, status, said in (
+            *((b"{}", kind, 415, "Send JSON.") for kind in ("application/x-www-form-urlencoded", "text/plain")),
+            *((each, "application/json", 400, "") for each in (
+                b"{", b"[" * 100_000, b"\xff", b'{"held":' + b"9" * 5_000 + b"}", b" " * 8_388_608)),
+            (b" " * 8_388_609, "application/json", 413, "The request is too large.")):
+        got = client.post("/api/plan", data=sent, content_type=kind, headers=own)
+        assert got.status_code == status and got.json and got.json["error"].endswith(said)
     assert client.get("/api/plan", headers=own).status_code == 405
+
+
+@pytest.mark.parametrize(("error", "status", "said"), [
+    (MemoryError(), 503, "the server has too little memory for this"), (ValueError("a"), 422, "a"),
+    (KeyError("a"), 500, "the server failed; its log says why"), (ImportError("a"), 422, "a"),
+    (RecursionError(), 400, str(plans.OTHER_FORM)), (binascii.Error(), 400, str(plans.OTHER_FORM))])
+def test_what_is_said_of_errors(error: Exception, status: int, said: str, caplog: pytest.LogCaptureFixture) -> None:
+    assert app.failed(error) == ({"error": said}, status)
+    assert ("a request failed\nKeyError: 'a'\n" in caplog.text) == (status == 500)
 
 
 def leaves(value: Any, path: tuple[Any, ...] = ()) -> Iterator[tuple[Any, ...]]:
@@ -382,6 +399,10 @@ def greedy(given: dict[str, Any], folder: str) -> int:
     return len(bytes(apart.MOST_MEMORY))
 
 
+def limits(given: dict[str, Any], folder: str) -> list[int]:
+    return [resource.getrlimit(kind)[0] for kind in (resource.RLIMIT_CPU, resource.RLIMIT_AS, resource.RLIMIT_CORE)]
+
+
 def dies(given: dict[str, Any], folder: str) -> None:
     os.kill(os.getpid(), 9)
 
@@ -395,21 +416,24 @@ def sleeps(given: dict[str, Any], folder: str) -> str:
 @pytest.mark.parametrize("call", [endless, greedy, dies, sleeps])
 def test_a_call_that_takes_too_much_is_ended(call: apart.Call, monkeypatch: pytest.MonkeyPatch,
                                              tmp_path: pathlib.Path) -> None:
-    """It leaves no file, and other calls work."""
-    monkeypatch.setattr(apart, "MOST_SECONDS", 3.0)
+    """It leaves no file, and other calls work. That a process has died is seen at once."""
+    found, begun = apart.Apart(), time.monotonic()
+    if call in (endless, sleeps):
+        monkeypatch.setattr(apart, "MOST_SECONDS", 3.0)
     monkeypatch.setattr(tempfile, "tempdir", str(tmp_path))
-    found = apart.Apart()
-    with pytest.raises(apart.Wrong, match="too long or too much memory"):
+    with pytest.raises(apart.Wrong, match="^it takes too long or too much memory: use a smaller table$"):
         found(call, {})
-    assert list(tmp_path.iterdir()) == []
+    assert list(tmp_path.iterdir()) == [] and time.monotonic() - begun < 50
+    monkeypatch.setattr(apart, "MOST_SECONDS", 60.0)
     assert found(plans.read, {"rows": [[1, ["job", "saw"]], [2, ["a", "1"]]]})["shop"]["times"] == [[1]]
+    assert found(limits, {}) == [40, 2_147_483_648, 0]
 
 
 def test_a_server_that_is_busy_says_so(monkeypatch: pytest.MonkeyPatch) -> None:
     found = apart.Apart()
-    for _ in range(apart.AT_ONCE + apart.MOST_WAITING):
+    for _ in range(8):
         assert found.places.acquire(blocking=False)
-    with pytest.raises(apart.Wrong, match="busy") as raised:
+    with pytest.raises(apart.Wrong, match="^the server is busy: try again in a minute$") as raised:
         found(plans.read, {"rows": []})
     assert raised.value.status == 503
 
@@ -522,26 +546,34 @@ def shop_of(jobs: int, machines: int) -> dict[str, Any]:
             "times": made.times.tolist()}
 
 
-LONG: dict[str, Any] = {"shop": shop_of(30, 20), "seconds": 600}
+LONG: dict[str, Any] = {"shop": shop_of(30, 20), "seconds": 700}
 
 
 def test_a_search_finds_what_the_package_finds(client: FlaskClient) -> None:
     found = waited(client, answer(client, "/api/search", {"shop": SHOP, "seconds": 5})["search"])
-    assert sorted(found["order"]) == sorted(SHOP["jobs"]) and found["makespan"] == "15.5 h" and found["isOptimal"]
+    assert sorted(found["order"]) == sorted(SHOP["jobs"]) and (found["makespan"], found["least"]) == ("15.5 h", 155)
 
 
-@pytest.mark.parametrize("held", [0, 1])
-def test_a_proof_is_tried_where_no_job_is_held(client: FlaskClient, held: int, monkeypatch: pytest.MonkeyPatch) -> None:
-    def solve(_: pfs.Instance, rounds: int | None = None, **options: Any) -> SimpleNamespace:
-        if rounds is None:
-            raise ValueError(f"{options['prove']} {options['hold']}")
-        return SimpleNamespace(optimal=False)
+NAMES = ("method", "seed", "start", "hold", "time_limit", "prove")
 
-    monkeypatch.setattr(pfs.Instance, "solve", solve)
-    name = answer(client, "/api/search", {**PLAN, "seconds": 1, "held": held})["search"]
+
+@pytest.mark.parametrize(("held", "options", "said"), [
+    (1, {"seed": 2**53, "seconds": 10**6}, "iterated-greedy 9007199254740992 [3, 0, 1, 2] [3] 600 None"),
+    (None, {}, "iterated-greedy 0 [3, 0, 1, 2] [] 0 1.0")])
+def test_a_proof_is_tried_where_no_job_is_held(
+        client: FlaskClient, held: int | None, options: dict[str, int], said: str, monkeypatch: pytest.MonkeyPatch,
+        caplog: pytest.LogCaptureFixture) -> None:
+    """Before the search, and after it."""
+    optimum = mock.Mock(return_value=SimpleNamespace(optimal=False))
+    monkeypatch.setattr(pfs.Instance, "optimum", optimum)
+    monkeypatch.setattr(pfs.Instance, "solve", lambda _, **given: int(" ".join(str(given[name]) for name in NAMES)))
+    caplog.set_level("INFO")
+    name = answer(client, "/api/search", {**PLAN, "held": held, **options})["search"]
     time.sleep(0.2)
     got = asked(client, f"/api/search/{name}", method="GET").json
-    assert got and got["error"] == ("None [3]" if held else f"{searches.PROOF} []")
+    assert got and got["error"] == f"invalid literal for int() with base 10: '{said}'"
+    assert [(*each.args, each.kwargs["start"]) for each in optimum.call_args_list] == [(0.1, [3, 0, 1, 2])] * (not held)
+    assert "search: 4 jobs, 3 machines, 0 rounds\n" in caplog.text
 
 
 def test_held_jobs_keep_their_places_and_new_ones_come_after_them(client: FlaskClient) -> None:
@@ -573,7 +605,6 @@ def test_a_search_that_fails_says_why(client: FlaskClient, monkeypatch: pytest.M
 
 
 def test_searches_wait_in_a_queue_and_are_limited(monkeypatch: pytest.MonkeyPatch) -> None:
-    monkeypatch.setattr(searches, "MOST_WAITING", 3)
     monkeypatch.setattr(searches, "MOST_OF_ONE", 3)
     found = searches.Searches(1)
     client = client_of(found)
@@ -582,17 +613,27 @@ def test_searches_wait_in_a_queue_and_are_limited(monkeypatch: pytest.MonkeyPatc
         assert [answer(client, f"/api/search/{name}", method="GET")["place"] for name in names] == [0, 1, 2]
         waited(client, names[0], lambda told: told["rounds"] > 0)
         assert [run.state for run in found.runs.values()] == ["searching", "waiting", "waiting"]
-        assert refused(client, "/api/search", LONG)[0] == 429
-        monkeypatch.setattr(searches, "MOST_OF_ONE", 9)
-        names.append(answer(client, "/api/search", LONG)["search"])
-        assert refused(client, "/api/search", LONG)[0] == 503
+        told = answer(client, f"/api/search/{names[2]}", method="GET")
+        assert told == {"state": "waiting", "place": 2, "rounds": 0, "limit": 600, "seconds": 0.0, "makespan": "",
+                        "bound": told["bound"]} and told["bound"].endswith(" h")
+        assert refused(client, "/api/search", LONG) == (
+            429, "3 searches of this address run or wait: end one of them")
+        monkeypatch.setattr(searches, "MOST_OF_ONE", 99)
+        names += [answer(client, "/api/search", LONG)["search"] for _ in range(14)]
+        assert refused(client, "/api/search", LONG) == (503, "too many searches wait: try again in a minute")
         answer(client, f"/api/search/{names[1]}", method="DELETE")
-        assert asked(client, f"/api/search/{names[1]}", method="GET").status_code == 404
+        got = asked(client, f"/api/search/{names[1]}", method="GET")
+        assert (got.status_code, got.json) == (404, {"error": "this search is over"})
+        last = found.runs[names[-1]]
+        for seconds in (19.5, 1):
+            last.asked -= seconds
+            assert last.is_left() == (seconds == 1), "after 20 seconds"
         assert answer(client, f"/api/search/{names[2]}", method="GET")["place"] == 1
         answer(client, f"/api/search/{names[0]}", method="DELETE")
         waited(client, names[2], lambda told: told["state"] == "searching")
     finally:
         found.end_all()
+    assert all(run.is_set() for run in found.runs.values())
 
 
 def test_a_search_ends_when_nobody_asks(monkeypatch: pytest.MonkeyPatch) -> None:

@@ -4,9 +4,9 @@ from __future__ import annotations
 from collections.abc import Iterable, Sequence
 
 from pfs._cli import Refused
-from pfs._names import printable as plain
+from pfs._names import printable
 
-__all__ = ["ExperimentError", "csv_text", "listed", "plain"]
+plain = printable
 
 
 class ExperimentError(Refused):

@@ -252,7 +252,7 @@ def run_command(words: list[str], folder: str, seconds: float | None) -> tuple[s
             printed = Printed(child)
             try:
                 while child.poll() is None and not printed.is_too_much() and time.monotonic() < end:
-                    printed.wait(child)
+                    printed.read(0.05)
                 ended = child.poll() is not None
             finally:
                 left = kill_descendants()
@@ -298,13 +298,6 @@ class Printed:
                 self.points.append(Point(seconds_so_far(), int(point[1]), point[2].decode(errors="replace")))
             else:
                 self.text += line + b"\n"
-
-    def wait(self, child: subprocess.Popen[bytes]) -> None:
-        """Reads more, or waits for the end of the program, for a twentieth of a second."""
-        with contextlib.suppress(subprocess.TimeoutExpired):
-            if not self.open:
-                child.wait(0.05)
-            self.read(0.05 if self.open else 0)
 
     def read(self, seconds: float) -> bool:
         """Reads what is there, or waits for it for this time. Returns whether there was anything."""

@@ -157,7 +157,7 @@ def command_of(path: str, plan: dict[str, Any]) -> dict[str, Any]:
     used = {name for word in words for name in re.findall(r"\{(\w*)\}", word)}
     for name in ("instance", *(["block"] if plan.get("blocks", [1]) != [1] else [])):
         require(name in used, path, f"command must contain {{{name}}}")
-    for name in sorted(used - OF_COMMAND)[:1]:
+    for name in sorted(used - OF_COMMAND):
         there = ", ".join(f"{{{each}}}" for each in sorted(OF_COMMAND))
         raise ExperimentError(f"{path}: command contains {{{name}}}, but there are only {there}")
     require("seconds" not in used or "time_factors" in plan, path,
@@ -176,7 +176,7 @@ def matches(path: str, key: str, patterns: object) -> list[str]:
     require(isinstance(patterns, list) and patterns and all(isinstance(each, str) for each in patterns), path,
             f"{key} must be a list of paths")
     found: dict[str, None] = {}
-    top = os.path.join(os.path.dirname(path) or ".", "")
+    top = os.path.dirname(path)
     for pattern in cast("list[str]", patterns):
         names = sorted(glob.glob(pattern, root_dir=top)) if "\0" not in pattern else []
         require(names, path, f"no file matches {pattern}")

@@ -4,7 +4,6 @@ from __future__ import annotations
 
 import argparse
 import itertools
-import logging
 import math
 import os
 import pathlib
@@ -26,7 +25,7 @@ from pfs._drawing import picture_of
 from pfs.experiments import ExperimentError, csv_text, listed, plain, statistics
 from pfs.experiments.plan import MOST_MAKESPAN, reference_for, reference_of, rows_of
 from pfs.experiments.stage import check_output, write_text
-from pfs.experiments.statistics import SETTING, SIZE, setting_names
+from pfs.experiments.statistics import SETTING, SIZE, setting_names, size_name
 
 # The tables that are written as CSV.
 TABLES = ("table", "instances", "best", "comparison", "ranks", "sizes")
@@ -64,7 +63,6 @@ Axis = Any
 
 def report(args: argparse.Namespace) -> int:
     """Writes the tables and the plots."""
-    logging.getLogger("matplotlib").setLevel(logging.ERROR)
     if len({*map(os.path.realpath, args.csv)}) < len(args.csv):
         raise ExperimentError("a CSV is named twice, and its runs would count twice")
     for name in TABLES:
@@ -81,7 +79,7 @@ def report(args: argparse.Namespace) -> int:
     if done.empty:
         print("pfs-experiments report: no run succeeded: nothing to plot", file=sys.stderr)
         return 1
-    best = done[done["order"] != ""].sort_values(["instance", "makespan"], kind="stable").drop_duplicates("instance")
+    best = done[done["order"] != ""].sort_values(["instance", "makespan"]).drop_duplicates("instance")
     for name, table in (("instances", by_instance(done)), ("best", best[["instance", "method", "makespan", "order"]])):
         if len(table):
             write_text(args.folder / f"{name}.csv", csv_of(cells_of(table)))
@@ -132,7 +130,7 @@ def read(paths: list[str], reference_path: str | None) -> tuple[pd.DataFrame, st
     if len(below):
         names = [f"{markdown(name)} {span:.15g} ({reference:.0f})" for name, span, reference in below.itertuples()]
         note += f"\nBelow the reference: {listed(names)}."
-    return runs.fillna(dict.fromkeys(GROUP[1:], -1)), note
+    return runs.fillna(dict.fromkeys(GROUP, -1)), note
 
 
 def published(path: str) -> pd.DataFrame:
@@ -174,7 +172,7 @@ def numbers_in(read: pd.DataFrame, columns: list[str], path: str) -> pd.DataFram
         given = read[column][read[column] != ""]
         found[column] = values = given.where(given.str.fullmatch(NUMBER)).astype(float)
         least, most = LEAST.get(column, 0), GREATEST[column]
-        for text in given[~values.between(least, most) | ((column in WHOLE) & (values % 1 != 0))][:1]:
+        for text in given[~values.between(least, most) | ((column in WHOLE) & (values % 1 != 0))]:
             raise ExperimentError(f"{path}: {text[:40]!r} is not a number of the column {column}, from {least:g} to "
                                   f"{most:g}")
     return pd.DataFrame(found, index=read.index)
@@ -191,7 +189,7 @@ def check_bounds(runs: pd.DataFrame, taillards: pd.Series) -> None:
     """Rejects a makespan below the bound that a CSV has for its instance, or that of Taillard's instance."""
     stated = runs[["bound", "proved_bound"]].max(axis=1).groupby(runs["instance"]).transform("max")
     bounds = pd.concat([stated, taillards], axis=1).max(axis=1)
-    for _, run in runs[runs["makespan"] < bounds][:1].iterrows():
+    for _, run in runs[runs["makespan"] < bounds].iterrows():
         raise ExperimentError(f"{run['method']}: the makespan {run['makespan']:.0f} of {run['instance']} is below the "
                               f"bound {bounds[run.name]:.0f}: no order has it")
 
@@ -320,10 +318,6 @@ def stacked(head: str) -> str:
 
 
 # Plots. One is left out if no run has its values
-
-def size_name(size: tuple[float, ...]) -> str:
-    return "unknown" if -1 in size else "{:.0f}×{:.0f}".format(*size)
-
 
 def plot(done: pd.DataFrame, shared: pd.DataFrame, folder: pathlib.Path, ending: str, width: float | None, dpi: float,
          titles: bool) -> None:
@@ -459,7 +453,7 @@ def by_time(figure: Figure, points: pd.DataFrame) -> Figure:
     """Scales the horizontal axis of all panels for these times."""
     least, most = (math.log10(points["x"].agg(end)) for end in ("min", "max"))
     scale(figure.axes[0], 10.0 ** math.floor(least), 10.0 ** max(math.ceil(most), math.floor(least) + 1),
-          lambda value: f"{value:,.0f}" if 1 <= value < 1e6 else f"{value:g}", "log")
+          "{:,g}".format, "log")
     return figure
 
 
@@ -496,7 +490,6 @@ def mean_way(ways: list[tuple[Any, Any]], end: float) -> pd.DataFrame:
     """Returns the mean of trajectories from when all have begun."""
     start = max(LEAST_SECONDS, *(times[0] for times, _ in ways))
     x = np.geomspace(start, max(end, start), WAY_POINTS)
-    x[0] = start
     return pd.DataFrame({"x": x, "y": np.mean([values[np.searchsorted(times, x, "right") - 1]
                                                for times, values in ways], axis=0)})
 

@@ -153,7 +153,7 @@ def label_of(plan: dict[str, Any], name: str, block: object) -> str:
 
 def opened(lock: pathlib.Path) -> int:
     """Opens a file that is a lock. Child processes don't inherit it, and no link is followed."""
-    return os.open(lock, os.O_RDWR | os.O_CREAT | os.O_NOFOLLOW | os.O_CLOEXEC, 0o666)
+    return os.open(lock, os.O_RDWR | os.O_CREAT | os.O_NOFOLLOW, 0o666)
 
 
 def lock(folder: pathlib.Path, csv_path: str) -> None:

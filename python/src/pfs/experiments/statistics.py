@@ -42,7 +42,7 @@ def common(runs: pd.DataFrame) -> tuple[pd.DataFrame, dict[Any, list[str]]]:
     shared = due.difference(*lacking.values())
     instances = {instance for instance, _ in shared}
     kept = [pair in shared or (pair[1] is None and pair[0] in instances) for pair in pairs]
-    return runs[kept], {setting: sorted({instance for instance, _ in own}) for setting, own in lacking.items() if own}
+    return runs.loc[kept], {setting: sorted({name for name, _ in own}) for setting, own in lacking.items() if own}
 
 
 def setting_names(settings: list[tuple[Any, ...]]) -> list[str]:
@@ -54,6 +54,10 @@ def setting_names(settings: list[tuple[Any, ...]]) -> list[str]:
                  if value != -1 and len({other[at] for other in others}) > 1]
         names.append(", ".join([method, *parts]))
     return names
+
+
+def size_name(size: tuple[float, ...]) -> str:
+    return "unknown" if -1 in size else "{:.0f}×{:.0f}".format(*size)
 
 
 def compared(done: pd.DataFrame) -> pd.DataFrame:
@@ -107,13 +111,12 @@ def differences(shared: pd.DataFrame) -> pd.DataFrame:
     groups = comparable(table)
     for size, own in table.groupby(level=SIZE):
         for budget, group in groups.items():
-            text = "unknown" if -1 in size else "{:.0f}×{:.0f}".format(*size)
-            panel = ", ".join([text, *([budget_name(budget)] if len(groups) > 1 else [])])
+            panel = ", ".join([size_name(size), *([budget_name(budget)] if len(groups) > 1 else [])])
             for setting in group[1:]:
                 each = own[setting] - own[group[0]]
                 half = scipy.stats.t.ppf(0.975, len(each) - 1) * each.std() / len(each) ** 0.5 if len(each) > 1 else 0
                 rows.append({"panel": panel, "first": names[group[0]], "setting": names[setting], "mean": each.mean(),
-                             "half": half, "pairs": len(each)})
+                             "half": half})
     return pd.DataFrame(rows)
 
 

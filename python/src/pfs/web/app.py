@@ -54,7 +54,8 @@ def check(names: set[str], token: str) -> None:
 
 def given() -> dict[str, Any]:
     """What a request says."""
-    return dict(plans.field({"body": request.get_json()}, "body", dict, {}))
+    found: dict[str, Any] = plans.field({"body": request.get_json()}, "body", dict, {})
+    return found
 
 
 def failed(error: Exception) -> tuple[dict[str, str], int]:
@@ -76,10 +77,10 @@ def made(names: set[str], token: str, searches: Searches) -> Flask:
     app, apart, headers = Flask(__name__), Apart(), {"Content-Security-Policy": policy(), **HEADERS}
     app.register_error_handler(Exception, failed)
     app.before_request(lambda: check(names, token))
-    app.add_url_rule("/", "page", lambda: app.send_static_file("page.html"))
+    app.add_url_rule("/", view_func=lambda: app.send_static_file("page.html"))
     app.add_url_rule("/api/search", "add", lambda: searches.add(given(), request.remote_addr or ""), methods=["POST"])
-    app.add_url_rule("/api/search/<name>", "told", searches.told)
-    app.add_url_rule("/api/search/<name>", "end", searches.end, methods=["DELETE"])
+    app.add_url_rule("/api/search/<name>", view_func=searches.told)
+    app.add_url_rule("/api/search/<name>", view_func=searches.end, methods=["DELETE"])
 
     @app.after_request
     def add_headers(answer: Response) -> Response:
