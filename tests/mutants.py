@@ -142,7 +142,7 @@ def failing(module: str, text: str, *tests: str) -> list[str]:
     """The first test that fails in a copy with this text of a module, or all if pytest names none; [] if none fails."""
     with tempfile.TemporaryDirectory(prefix="pfs-mutants-") as folder:
         copy = pathlib.Path(folder, "pfs")
-        subprocess.run(["rsync", "-a", "--exclude=/.git", "--exclude=out/", f"{TOP}/", copy], check=True)
+        subprocess.run(["rsync", "-a", "-f- /.git", "-f- /crates", "-f- out/", f"{TOP}/", copy], check=True)
         (copy / PACKAGE.relative_to(TOP) / module).write_text(text)
         env = os.environ | {"PYTHONDONTWRITEBYTECODE": "1", "TMPDIR": folder, "CI": "false", "PFS_MUTANT": "1"}
         done = subprocess.run([*PYTEST, f"--basetemp={folder}/pytest", *tests], cwd=copy, env=env, text=True,
@@ -175,10 +175,13 @@ def chosen(modules: list[str], seed: int) -> Iterator[Change]:
 def main() -> int:
     parser = argparse.ArgumentParser(description=__doc__)
     parser.add_argument("count", nargs="?", type=int, default=300)
-    for name, default in (("seed", 1), ("jobs", len(os.sched_getaffinity(0))), ("least", 0)):
+    commits = subprocess.run(["git", "-C", TOP, "rev-list", "--count", "HEAD"], capture_output=True).stdout
+    for name, default in (("seed", int(commits or 1)), ("jobs", len(os.sched_getaffinity(0))), ("least", 0)):
         parser.add_argument(f"--{name}", type=int, default=default)
     parser.add_argument("--only", default="")
     given = parser.parse_args()
+    if not (TOP / "out/lines").exists():
+        parser.error("no out/lines: `make mutants` writes it")
     modules = [name for path in sorted(PACKAGE.rglob("*.py")) if given.only in (name := str(path.relative_to(PACKAGE)))]
     drawn, noted = list(itertools.islice(chosen(modules, given.seed), given.count)), Noted()
     tried, seen = Counter(change.module for change in drawn), Counter[str]()
@@ -187,8 +190,7 @@ def main() -> int:
             seen[change.module] += found
             if not found:
                 print(f"not found, line {change.place()[1]} of {change.shown()}\n", flush=True)
-    for name in sorted(tried):
-        print(f"{seen[name]:4} of {tried[name]:4}  {name}")
+    print("\n".join(f"{seen[name]:4} of {count:4}  {name}" for name, count in sorted(tried.items())))
     share = 100 * seen.total() / max(1, len(drawn))
     print(f"{seen.total():4} of {len(drawn):4}  in all: {share:.1f} %, seed {given.seed}")
     return int(share < given.least)
