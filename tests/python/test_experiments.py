@@ -815,8 +815,8 @@ LINES = [
     ("0.1", f"{SLEEP} & {SLEEP} > /dev/null 2>&1 & sleep 0.1; echo 1", "1 2"), ("0.1", "sleep 1; echo 2", "2 0"),
     ("0.2", f"({SPIN} &); sleep 1000", r"took too long: [01]\.\d\d s of processor time instead of 0.2 s"),
     ("0.05", "for each in $(seq 200); do (for at in $(seq 30000); do :; done); done; echo 3", "took too long: .*"),
-    ("0.01", "python3 -c 'import time\nwhile time.process_time() < 0.3: pass'; printf 4", "4 0"),
-    ("9", "kill -9 $$", "signal 9"), ("9", "echo first >&2; echo ' a   b ' >&2; exit 3", "exit 3, a b"),
+    ("0.01", "python3 -c 'import time\nwhile time.process_time() < 0.3: pass'; printf '4\\377'", "4\ufffd 0"),
+    ("9", "kill -9 $$", "signal 9"), ("9", "printf 'first\\n a  \\377 ' >&2; exit 3", "exit 3, a \ufffd"),
     ("9", "printf '%0999d b\n' 0 >&2; exit 3", "exit 3, 0{200}"),
     ("9", "head -c 2000000 /dev/zero; sleep 2; touch late", "more than 1,048,576 bytes printed"),
 ]
