@@ -1,20 +1,128 @@
 // plain WHAT LAYOUT BLOCK FILE [NUMBER ..]: computes on a block of an instance file what pfs or its library for C does,
 // and prints the same. It is written from the definitions, over flat tables of integers. WHAT, with its numbers:
 //
-//   value, value-locals: the makespan of the order in which the jobs are numbered, as `pfs value`. The reader updates
-//     its fields for each byte, or has the line's state in local variables.
+//   value: the makespan of the order in which the jobs are numbered, as `pfs value`
 //   solve32, solve64 ROUNDS TAKE SEED PASSES: NEH's order, and rounds of iterated greedy, as `pfs solve --cells`. A
 //     TAKE of 0 is the smaller of 4 and the number of jobs. The lengths have 32 or 64 bits, which must be enough.
-//   insert32, insert64 COUNT: this many insertions, as `library insert` of library.c makes them
-//   two, lanes COUNT: the makespans of the same 1,000 orders this many times, as `library makespans`: two orders in a
-//     loop, or sixteen in the lanes of vectors of 16 bits, which is rejected if a makespan is above 32,766
-#include "block_reader.hpp"
-
+//   two, lanes COUNT: the makespans of the same 1,000 orders this many times, as library.c: two orders in a loop, or
+//     sixteen in the lanes of vectors of 16 bits, which is rejected if a makespan is above 32,766
+#include <algorithm>
+#include <cstddef>
+#include <cstdint>
+#include <cstdio>
 #include <cstdlib>
 #include <emmintrin.h>
-#include <fcntl.h>
 #include <numeric>
 #include <string>
+#include <vector>
+
+struct Instance {
+    uint64_t jobs = 0;
+    uint64_t machines = 0;
+    std::vector<uint32_t> times;  // job by job
+
+    uint32_t time(size_t job, size_t machine) const { return times[job * machines + machine]; }
+};
+
+// Reads the blocks of a file by the rules of docs/FORMATS.md.
+class BlockReader {
+public:
+    BlockReader(const char* path, bool is_orlib) : file(std::fopen(path, "rb")), is_orlib(is_orlib) {}
+
+    // Reads the next block; returns whether the file has one without a fault.
+    bool read(Instance& shop) { return read_sizes(shop) && read_times(shop); }
+
+private:
+    // Returns whether the file has more bytes within the limit.
+    bool has_more() {
+        if (at == end && file != nullptr) {
+            at = piece;
+            end = at + std::fread(piece, 1, std::min(sizeof piece, left), file);
+            left -= (size_t)(end - at);
+        }
+        return at < end;
+    }
+
+    // Reads a line, and calls `take` with each number; returns whether the line has a byte of a word.
+    template <typename Take>
+    bool read_line(Take take) {
+        bool has_word = false, in_number = false;
+        uint64_t value = 0;
+        while (has_more()) {
+            for (const char* next = at; next < end; ++next) {
+                uint32_t digit = (uint32_t)(*next - '0');
+                if (digit < 10) {
+                    value = std::min(value * 10 + digit, MOST_NOTE + 1);
+                    in_number = true;
+                    continue;
+                }
+                if (in_number) {
+                    take(value);
+                    value = 0;
+                    in_number = false;
+                }
+                if (*next == '\n') {
+                    at = next + 1;
+                    return has_word;
+                }
+                has_word = has_word || (*next != ' ' && *next != '\t' && *next != '\r');
+            }
+            at = end;
+        }
+        if (in_number) {
+            take(value);
+        }
+        return has_word;
+    }
+
+    // Reads up to the first line of numbers.
+    bool read_sizes(Instance& shop) {
+        while (has_more()) {
+            uint64_t values[5] = {}, count = 0;
+            bool has_word = read_line([&](uint64_t value) { values[std::min<uint64_t>(count++, 4)] = value; });
+            if (count > 0 && !has_word) {
+                shop.jobs = values[0], shop.machines = values[1];
+                return count == (is_orlib ? 2 : 5) && 1 <= shop.jobs && shop.jobs <= MOST_JOBS && 1 <= shop.machines
+                       && shop.machines <= MOST_MACHINES && std::max({values[2], values[3], values[4]}) <= MOST_NOTE;
+            }
+        }
+        return false;
+    }
+
+    bool read_times(Instance& shop) {
+        const size_t size = shop.jobs * shop.machines, due = is_orlib ? 2 * size : size;
+        shop.times.assign(size, 0);
+        size_t count = 0, job = 0, machine = 0;
+        bool is_right = true;
+        while (count < due && is_right && has_more()) {
+            size_t before = count;
+            bool has_word = read_line([&](uint64_t value) {
+                if (count >= due) {
+                    is_right = false;
+                } else if (is_orlib && count % 2 == 0) {
+                    is_right = is_right && value == machine;
+                } else {
+                    is_right = is_right && value <= LONGEST_TIME;
+                    shop.times[job * shop.machines + machine] = (uint32_t)value;
+                    size_t &inner = is_orlib ? machine : job, &outer = is_orlib ? job : machine;
+                    inner = inner + 1 == (is_orlib ? shop.machines : shop.jobs) ? 0 : inner + 1;
+                    outer += inner == 0;
+                }
+                ++count;
+            });
+            is_right = is_right && !(has_word && count > before);
+        }
+        return is_right && count == due;
+    }
+
+    static constexpr uint64_t MOST_JOBS = 5000, MOST_MACHINES = 200, LONGEST_TIME = 1000000000, MOST_NOTE = 4294967295,
+                              LONGEST_INPUT = 67108864;
+    std::FILE* file;
+    bool is_orlib;
+    size_t left = LONGEST_INPUT;
+    char piece[4096];
+    const char *at = piece, *end = piece;
+};
 
 using Jobs = std::vector<uint32_t>;
 
@@ -84,7 +192,7 @@ public:
     // Puts the job at the earliest place of the partial order that gives the least makespan.
     uint64_t insert(Jobs& order, uint32_t job) {
         Placed placed = best(order, job);
-        order.insert(order.begin() + (ptrdiff_t)placed.place, job);
+        order.insert(order.begin() + (std::ptrdiff_t)placed.place, job);
         return placed.makespan;
     }
 
@@ -235,24 +343,6 @@ static int search(const Instance& shop, uint64_t rounds, uint64_t take, uint64_t
     return 0;
 }
 
-// Makes this many insertions, of each job in turn into the others in the order of their numbers, and prints the sum of
-// the places and the makespans.
-template <typename Length>
-static int insertions(const Instance& shop, uint64_t count) {
-    Inserter<Length> inserter(shop);
-    uint64_t sum = 0;
-    for (uint64_t made = 0; made < count; ++made) {
-        uint32_t job = (uint32_t)(made % shop.jobs);
-        Jobs order(shop.jobs);
-        std::iota(order.begin(), order.end(), 0);
-        order.erase(order.begin() + job);
-        sum += inserter.insert(order, job);
-        sum += (uint64_t)(std::find(order.begin(), order.end(), job) - order.begin());
-    }
-    std::printf("%llu insertions, sum %llu\n", (unsigned long long)count, (unsigned long long)sum);
-    return 0;
-}
-
 constexpr size_t ORDERS = 1000, WIDTH = 16;
 
 // As library.c draws them.
@@ -383,11 +473,13 @@ int main(int count, char** words) {
         return 3;
     }
     std::string what = words[1];
-    Layout layout = words[2] == std::string("orlib") ? Layout::OrLib : Layout::Taillard;
+    BlockReader reader(words[4], words[2] == std::string("orlib"));
     Instance shop;
-    int file = open(words[4], O_RDONLY);
-    if (!read_block(file, layout, std::strtoull(words[3], nullptr, 10), what == "value-locals", shop)) {
-        return 2;
+    for (uint64_t block = std::strtoull(words[3], nullptr, 10); block > 0; --block) {
+        if (!reader.read(shop)) {
+            std::fprintf(stderr, "plain: no block\n");
+            return 2;
+        }
     }
     uint64_t numbers[4] = {};
     for (int at = 5; at < std::min(count, 9); ++at) {
@@ -398,12 +490,6 @@ int main(int count, char** words) {
     }
     if (what == "solve64") {
         return search<int64_t>(shop, numbers[0], numbers[1], numbers[2], numbers[3]);
-    }
-    if (what == "insert32") {
-        return insertions<uint32_t>(shop, numbers[0]);
-    }
-    if (what == "insert64") {
-        return insertions<int64_t>(shop, numbers[0]);
     }
     if (what == "two" || what == "lanes") {
         return makespans(shop, numbers[0], what == "lanes");

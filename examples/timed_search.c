@@ -1,8 +1,8 @@
-/* Continues an iterated greedy search for SECONDS seconds and prints the order found, as an order file. STATE holds the
- * number of rounds made so far and that order. If there is no such file, the search starts at NEH's order. Calls with
- * the same seed find what one search of all their rounds finds.
+/* Iterated greedy for SECONDS seconds, with a look at the clock after each 10 rounds, and up to ROUNDS rounds in all.
+ * Prints the order found, as an order file. It begins with NEH's order, or continues after DONE rounds from an order
+ * file: calls with the same seed find what one search of all their rounds finds.
  *
- * usage: timed_search INSTANCE STATE SEED SECONDS [ROUNDS]    (Taillard's layout; at most ROUNDS more rounds) */
+ * usage: timed_search INSTANCE SEED SECONDS ROUNDS [DONE ORDER]    (Taillard's layout) */
 #include <inttypes.h>
 #include <pfs.h>
 #include <stdio.h>
@@ -23,75 +23,45 @@ static void check(const char *what, int number) {
         fail(what, pfs_message(number), 2);
 }
 
-/* Reads and prepares an instance. Returns the number of its jobs. */
-static size_t read_instance(const char *path, struct pfs_instance *instance, size_t *machines) {
-    struct pfs_block block;
-    uint64_t place;
+/* Reads a file into `bytes`. */
+static size_t read_file(const char *path) {
     FILE *file = fopen(path, "rb");
     if (file == NULL)
         fail(path, "cannot open", 4);
     size_t length = fread(bytes, 1, sizeof bytes, file);
     if (ferror(file) || fclose(file))
         fail(path, "cannot read", 4);
-    check(path, pfs_read(bytes, length, PFS_TAILLARD, 1, &block, times, sizeof times / sizeof *times, &place));
-    check(path, pfs_prepare(times, block.jobs * block.machines, block.jobs, block.machines, instance));
-    *machines = block.machines;
-    return block.jobs;
-}
-
-/* Reads the rounds made so far, and the order into `order`. Returns 0 if there is no such file. */
-static int read_state(const char *path, size_t jobs, size_t machines, uint32_t *rounds) {
-    size_t of_jobs, of_machines;
-    uint64_t makespan, place;
-    FILE *file = fopen(path, "rb");
-    if (file == NULL)
-        return 0;
-    if (fscanf(file, "%" SCNu32 "\n", rounds) != 1)
-        fail(path, "not a state of timed_search", 2);
-    size_t length = fread(bytes, 1, sizeof bytes, file);
-    if (ferror(file) || fclose(file))
-        fail(path, "cannot read", 4);
-    check(path, pfs_read_order(bytes, length, order, PFS_MOST_JOBS, &of_jobs, &of_machines, &makespan, &place));
-    if (of_jobs != jobs || of_machines != machines)
-        fail(path, "the order of another instance", 2);
-    return 1;
-}
-
-/* Replaces the state by a new file, so that an interruption leaves the old one or the new one. */
-static void write_state(const char *path, uint32_t rounds, size_t length) {
-    char beside[4096];
-    if ((size_t)snprintf(beside, sizeof beside, "%s.new", path) >= sizeof beside)
-        fail(path, "the name is too long", 3);
-    FILE *file = fopen(beside, "wb");
-    if (file == NULL)
-        fail(beside, "cannot open", 4);
-    int is_written = fprintf(file, "%" PRIu32 "\n", rounds) > 0 && fwrite(bytes, 1, length, file) == length;
-    if (fclose(file) || !is_written || rename(beside, path))
-        fail(path, "cannot write", 4);
+    return length;
 }
 
 int main(int count, char **words) {
-    if (count < 5 || count > 6)
-        return fputs("usage: timed_search INSTANCE STATE SEED SECONDS [ROUNDS]\n", stderr), 3;
-    clock_t end = clock() + (clock_t)(strtod(words[4], NULL) * CLOCKS_PER_SEC);
-    uint64_t seed = strtoull(words[3], NULL, 10), makespan, cells;
-    uint32_t rounds = 0;
-    struct pfs_instance instance = {NULL};
-    size_t machines, length, jobs = read_instance(words[1], &instance, &machines);
-    if (!read_state(words[2], jobs, machines, &rounds))
-        check("NEH", pfs_neh(&instance, order, jobs, &makespan, &cells));
-    uint32_t last = count == 6 ? rounds + (uint32_t)strtoul(words[5], NULL, 10) : PFS_MOST_ROUNDS;
-    struct pfs_rounds_options options = {.seed = seed, .take = jobs < 4 ? jobs : 4, .passes = 0};
+    if (count != 5 && count != 7)
+        return fputs("usage: timed_search INSTANCE SEED SECONDS ROUNDS [DONE ORDER]\n", stderr), 3;
+    clock_t end = clock() + (clock_t)(strtod(words[3], NULL) * CLOCKS_PER_SEC);
+    uint32_t last = (uint32_t)strtoul(words[4], NULL, 10);
+    struct pfs_instance shop = {NULL};
+    struct pfs_block block;
+    size_t length = read_file(words[1]), jobs, machines;
+    uint64_t makespan, cells, place;
+    check(words[1], pfs_read(bytes, length, PFS_TAILLARD, 1, &block, times, sizeof times / sizeof *times, &place));
+    check(words[1], pfs_prepare(times, block.jobs * block.machines, block.jobs, block.machines, &shop));
+    struct pfs_rounds_options options = {.seed = strtoull(words[2], NULL, 10), .take = block.jobs < 4 ? block.jobs : 4};
+    if (count == 7) {
+        options.first = (uint32_t)strtoul(words[5], NULL, 10);
+        length = read_file(words[6]);
+        check(words[6], pfs_read_order(bytes, length, order, PFS_MOST_JOBS, &jobs, &machines, &makespan, &place));
+        if (jobs != block.jobs || (machines != 0 && machines != block.machines))
+            fail(words[6], "the order of another instance", 2);
+    } else
+        check("NEH", pfs_neh(&shop, order, block.jobs, &makespan, &cells));
     do {
-        options.first = rounds;
-        options.count = last - rounds < 10 ? last - rounds : 10;
-        check("rounds", pfs_rounds(&instance, &options, order, jobs, &makespan, &cells));
-        rounds += options.count;
-    } while (rounds < last && clock() < end);
-    pfs_release(&instance);
-    check("order", pfs_write_order(order, jobs, machines, makespan, bytes, sizeof bytes, &length));
-    write_state(words[2], rounds, length);
-    fprintf(stderr, "%" PRIu32 " rounds, makespan %" PRIu64 "\n", rounds, makespan);
+        options.first += options.count;
+        options.count = last <= options.first ? 0 : last - options.first < 10 ? last - options.first : 10;
+        check("rounds", pfs_rounds(&shop, &options, order, block.jobs, &makespan, &cells));
+    } while (options.count > 0 && clock() < end);
+    pfs_release(&shop);
+    check("order", pfs_write_order(order, block.jobs, block.machines, makespan, bytes, sizeof bytes, &length));
+    fprintf(stderr, "%" PRIu32 " rounds, makespan %" PRIu64 "\n", options.first + options.count, makespan);
     if (fwrite(bytes, 1, length, stdout) != length || fflush(stdout))
         fail("standard output", "cannot write", 4);
     return 0;

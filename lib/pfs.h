@@ -14,10 +14,10 @@
  *     pfs_release(&instance);
  *
  * Each function validates its arguments, and returns PFS_OK or the number of a fault; of several faults, the one that
- * its description lists first. Each list is a pointer and a length. A length that follows from other arguments is
- * validated too, so that no list of another instance is read or written (PFS_LENGTH). If a function does not return
- * PFS_OK, every output is unchanged, except the sizes that it sets with PFS_ROOM and the place of a fault. Only
- * pfs_release returns nothing, as it cannot fail.
+ * its description lists first. Each list is a pointer and a length, as sequence and sequence_length. A length that
+ * follows from other arguments is validated too, so that no list of another instance is read or written (PFS_LENGTH);
+ * an order has the number of jobs. If a function does not return PFS_OK, every output is unchanged, except the sizes
+ * that it sets with PFS_ROOM and the place of a fault. Only pfs_release returns nothing, as it cannot fail.
  *
  * A pointer may be NULL only if the length that belongs to it is 0, as that of an empty std::vector is, or if its
  * description says so. No output may overlap another argument, and no list may change during a call. One thread at a
@@ -172,8 +172,7 @@ struct pfs_instance {
  * and searches. If it held another instance, the function releases that one, unless it fails. It allocates what the
  * struct holds, which pfs_release frees.
  *
- * @param[in] times processing times, job by job: times[job * machines + machine]
- * @param[in] times_length number of times, which is jobs * machines
+ * @param[in] times processing times, job by job: times[job * machines + machine], jobs * machines of them
  * @param[in] jobs number of jobs
  * @param[in] machines number of machines
  * @param[in,out] instance a struct that holds an instance or none; unless the function returns PFS_OK, it holds what it
@@ -207,7 +206,6 @@ int pfs_sizes(struct pfs_instance *instance, size_t *jobs, size_t *machines) PFS
  * Calls that return PFS_JOB or PFS_REPEATED do not say which job it is; this one does.
  *
  * @param[in] jobs the list
- * @param[in] jobs_length number of jobs in the list
  * @param[out] place place of that job, from 0; the length of the list if each of its jobs is valid
  * @return PFS_OK, or the first of PFS_NOT_PREPARED (instance), PFS_JOB or PFS_REPEATED (the job at this place)
  */
@@ -218,7 +216,6 @@ int pfs_faulty_job(struct pfs_instance *instance, const uint32_t *jobs, size_t j
  * The sequence need not contain all jobs. The makespan of no jobs is 0.
  *
  * @param[in] sequence distinct jobs, in the order in which they are processed
- * @param[in] sequence_length number of jobs in the sequence
  * @param[out] makespan makespan of the sequence
  * @return PFS_OK, or the first of PFS_NOT_PREPARED (instance), PFS_JOB or PFS_REPEATED (the jobs from the left)
  */
@@ -231,11 +228,9 @@ int pfs_makespan(struct pfs_instance *instance, const uint32_t *sequence, size_t
  * sequence that begins at sequences[index * length]. A sequence need not contain all jobs. If one sequence is invalid,
  * no makespan is written.
  *
- * @param[in] sequences the sequences, one after the other
- * @param[in] sequences_length number of all their jobs, which is makespans_length * length
+ * @param[in] sequences the sequences, one after the other: makespans_length * length jobs
  * @param[in] length number of jobs in each sequence
  * @param[out] makespans makespan of each sequence
- * @param[in] makespans_length number of sequences
  * @return PFS_OK, or the first of PFS_NOT_PREPARED (instance), PFS_LENGTH (sequences_length), PFS_JOB or PFS_REPEATED
  *     (the jobs of the first sequence from the left, then those of the second, and so on)
  */
@@ -258,11 +253,8 @@ int pfs_bound(struct pfs_instance *instance, uint64_t *bound) PFS_CHECKED;
  * Entry place * machines + machine belongs to the job at this place of the order, on this machine.
  *
  * @param[in] order all jobs, in the order in which they are processed
- * @param[in] order_length length of the order, which is the number of jobs
- * @param[out] starts start of each operation
- * @param[in] starts_length number of starts, which is jobs * machines
- * @param[out] ends end of each operation
- * @param[in] ends_length number of ends, which is jobs * machines
+ * @param[out] starts start of each operation, jobs * machines of them
+ * @param[out] ends end of each operation, jobs * machines of them
  * @return PFS_OK, or the first of PFS_NOT_PREPARED (instance), PFS_LENGTH (order_length, starts_length, ends_length),
  *     PFS_JOB or PFS_REPEATED (the jobs from the left), PFS_MEMORY
  */
@@ -274,8 +266,7 @@ int pfs_table(struct pfs_instance *instance, const uint32_t *order, size_t order
  * NEH takes the jobs by decreasing total processing time, of equal totals the lower job first, and inserts each at its
  * best place, of equally good places the first. Best places are found by heads and tails (Taillard 1990).
  *
- * @param[out] order NEH's order
- * @param[in] order_length length of the order, which is the number of jobs
+ * @param[out] order NEH's order, of all jobs
  * @param[out] makespan makespan of the order
  * @param[out] cells number of table cells that were computed, 2 * machines * jobs * jobs; or NULL
  * @return PFS_OK, or the first of PFS_NOT_PREPARED (instance), PFS_LENGTH (order_length)
@@ -307,7 +298,6 @@ struct pfs_rounds_options {
  *
  * @param[in] options which rounds to make
  * @param[in,out] order all jobs; the order to start from, then the order after the rounds
- * @param[in] order_length length of the order, which is the number of jobs
  * @param[out] makespan makespan of the order after the rounds
  * @param[out] cells number of table cells that these rounds computed, or NULL
  * @return PFS_OK, or the first of PFS_NOT_PREPARED (instance), PFS_LENGTH (order_length), PFS_JOB or PFS_REPEATED (the
@@ -329,7 +319,6 @@ int pfs_rounds(struct pfs_instance *instance, const struct pfs_rounds_options *o
  *
  * @param[in,out] instance the instance, of at most 256 jobs and 64 machines
  * @param[in,out] order all jobs; the order to start from, then the best order found, which is no longer
- * @param[in] order_length length of the order, which is the number of jobs
  * @param[in] nodes the greatest number of nodes
  * @param[out] makespan makespan of the best order found
  * @param[out] bound no order of all jobs has a makespan below it; at least that of pfs_bound
@@ -381,15 +370,11 @@ struct pfs_iterate_options {
  *
  * @param[in] options which rounds to make
  * @param[in] accept chances of longer orders
- * @param[in] accept_length number of chances
  * @param[in] stay for each job 0, or another number if it keeps its place in relation to the others that do
- * @param[in] stay_length number of jobs in this list
  * @param[in,out] current all jobs; the order to start from, then the current order after the rounds
- * @param[in] current_length length of the current order, which is the number of jobs
  * @param[out] current_makespan makespan of the current order after the rounds
  * @param[in,out] best all jobs, first the held ones of the current order; then the best order after the rounds. At the
  *     start of a search it is a copy of the current order.
- * @param[in] best_length length of the best order, which is the number of jobs
  * @param[out] best_makespan makespan of the best order after the rounds
  * @return PFS_OK, or the first of PFS_NOT_PREPARED (instance), PFS_LENGTH (current_length, best_length), PFS_JOB or
  *     PFS_REPEATED (the jobs of the current and then of the best order, from the left), PFS_TAKE (take), PFS_HELD
@@ -405,7 +390,6 @@ int pfs_iterate(struct pfs_instance *instance, const struct pfs_iterate_options 
  * after the last job. A call is faster if its sequence differs only in a few places from the one before.
  *
  * @param[in] sequence distinct jobs, without the job to insert
- * @param[in] sequence_length number of jobs in the sequence
  * @param[in] job the job to insert
  * @param[out] place the best place, from 0 to sequence_length
  * @param[out] makespan makespan with the job at this place
@@ -422,7 +406,6 @@ int pfs_insert(struct pfs_instance *instance, const uint32_t *sequence, size_t s
  *
  * @param[in] ties PFS_TIES_FIRST or PFS_TIES_IDLE
  * @param[in] sequence distinct jobs, without the job to insert
- * @param[in] sequence_length number of jobs in the sequence
  * @param[in] job the job to insert
  * @param[out] place the best place, from 0 to sequence_length
  * @param[out] makespan makespan with the job at this place
@@ -437,10 +420,8 @@ int pfs_insert_ties(struct pfs_instance *instance, uint32_t ties, const uint32_t
  * the job after the last one. The first place with the least of them is the one that pfs_insert finds.
  *
  * @param[in] sequence distinct jobs, without the job to insert
- * @param[in] sequence_length number of jobs in the sequence
  * @param[in] job the job to insert
- * @param[out] makespans makespan with the job at each place
- * @param[in] makespans_length number of makespans, which is sequence_length + 1
+ * @param[out] makespans makespan with the job at each place, sequence_length + 1 of them
  * @return PFS_OK, or the first of PFS_NOT_PREPARED (instance), PFS_LENGTH (makespans_length), PFS_JOB or PFS_REPEATED
  *     (the jobs of the sequence from the left), PFS_JOB or PFS_REPEATED (job)
  */
@@ -454,11 +435,8 @@ int pfs_insertions(struct pfs_instance *instance, const uint32_t *sequence, size
  * operation to the end of the sequence. Both include the time of the operation.
  *
  * @param[in] sequence distinct jobs, in the order in which they are processed
- * @param[in] sequence_length number of jobs in the sequence
- * @param[out] heads head of each operation
- * @param[in] heads_length number of heads, which is sequence_length * machines
- * @param[out] tails tail of each operation
- * @param[in] tails_length number of tails, which is sequence_length * machines
+ * @param[out] heads head of each operation, sequence_length * machines of them
+ * @param[out] tails tail of each operation, sequence_length * machines of them
  * @return PFS_OK, or the first of PFS_NOT_PREPARED (instance), PFS_LENGTH (heads_length, tails_length), PFS_JOB or
  *     PFS_REPEATED (the jobs from the left)
  */
@@ -471,11 +449,8 @@ int pfs_heads_tails(struct pfs_instance *instance, const uint32_t *sequence, siz
  * the function finds NEH's order.
  *
  * @param[in] sequence distinct jobs, to which the others are added
- * @param[in] sequence_length number of jobs in the sequence
  * @param[in] more jobs to insert, in this order; they are distinct, and not in the sequence
- * @param[in] more_length number of jobs to insert
- * @param[out] order the sequence with all of these jobs
- * @param[in] order_length length of the order, which is sequence_length + more_length
+ * @param[out] order the sequence with all of these jobs, sequence_length + more_length of them
  * @param[out] makespan makespan of the order
  * @return PFS_OK, or the first of PFS_NOT_PREPARED (instance), PFS_LENGTH (order_length), PFS_JOB or PFS_REPEATED (the
  *     jobs of the sequence from the left, then those to insert)
@@ -490,11 +465,8 @@ int pfs_construct(struct pfs_instance *instance, const uint32_t *sequence, size_
  *
  * @param[in] ties PFS_TIES_FIRST or PFS_TIES_IDLE
  * @param[in] sequence distinct jobs, to which the others are added
- * @param[in] sequence_length number of jobs in the sequence
  * @param[in] more jobs to insert, in this order; they are distinct, and not in the sequence
- * @param[in] more_length number of jobs to insert
- * @param[out] order the sequence with all of these jobs
- * @param[in] order_length length of the order, which is sequence_length + more_length
+ * @param[out] order the sequence with all of these jobs, sequence_length + more_length of them
  * @param[out] makespan makespan of the order
  * @return PFS_OK, or the first fault that pfs_construct returns, or PFS_TIES (ties)
  */
@@ -508,10 +480,8 @@ int pfs_construct_ties(struct pfs_instance *instance, uint32_t ties, const uint3
  * The result is never longer than the sequence. A list of all jobs from 0 on makes the passes of a round of pfs_rounds.
  *
  * @param[in] list distinct jobs of the sequence, in the order in which they are removed and inserted
- * @param[in] list_length number of jobs in the list
  * @param[in] passes number of passes, from 0 to PFS_MOST_PASSES
  * @param[in,out] sequence distinct jobs; the sequence to start from, then the sequence after the passes
- * @param[in] sequence_length number of jobs in the sequence
  * @param[out] makespan makespan of the sequence after the passes
  * @return PFS_OK, or the first of PFS_NOT_PREPARED (instance), PFS_JOB or PFS_REPEATED (the jobs of the sequence from
  *     the left), PFS_JOB or PFS_REPEATED (those of the list), PFS_JOB (a job of the list that is not in the sequence),
@@ -531,10 +501,8 @@ int pfs_local_search(struct pfs_instance *instance, const uint32_t *list, size_t
  *
  * @param[in] ties PFS_TIES_FIRST or PFS_TIES_IDLE
  * @param[in] list distinct jobs of the sequence, in the order in which they are removed and inserted
- * @param[in] list_length number of jobs in the list
  * @param[in] passes the most passes, from 0 to PFS_MOST_PASSES
  * @param[in,out] sequence distinct jobs; the sequence to start from, then the sequence after the passes
- * @param[in] sequence_length number of jobs in the sequence
  * @param[out] makespan makespan of the sequence after the passes
  * @return PFS_OK, or the first fault that pfs_local_search returns, or PFS_TIES (ties)
  */
@@ -576,7 +544,6 @@ int pfs_write(struct pfs_instance *instance, const struct pfs_notes *notes, uint
  * @param[in] seed seed of the random words
  * @param[in] first the first word, counted from 0
  * @param[out] words the words from `first` on
- * @param[in] words_length number of words
  * @return PFS_OK
  */
 int pfs_random(uint64_t seed, uint64_t first, uint32_t *words, size_t words_length) PFS_CHECKED;
@@ -589,8 +556,7 @@ int pfs_random(uint64_t seed, uint64_t first, uint32_t *words, size_t words_leng
  * @param[in] jobs number of jobs
  * @param[in] machines number of machines
  * @param[in] seed seed of Taillard's generator
- * @param[out] times processing times, job by job
- * @param[in] times_length number of times, which is jobs * machines
+ * @param[out] times processing times, job by job, jobs * machines of them
  * @return PFS_OK, or the first of PFS_SIZE (jobs, machines), PFS_SEED (seed), PFS_LENGTH (times_length), PFS_MEMORY
  */
 int pfs_generate(size_t jobs, size_t machines, uint64_t seed, uint32_t *times, size_t times_length) PFS_CHECKED;
@@ -609,7 +575,6 @@ struct pfs_block {
  * size line, so PFS_MEMORY says nothing about the bytes after it.
  *
  * @param[in] bytes the file
- * @param[in] bytes_length number of bytes in the file
  * @param[in] layout PFS_TAILLARD or PFS_ORLIB
  * @param[in] block number of the block, counted from 1
  * @param[out] found the sizes and notes of the block
@@ -628,7 +593,6 @@ int pfs_read(const uint8_t *bytes, size_t bytes_length, uint32_t layout, size_t 
  * The makespan is the one that the file states, right or wrong. Since version 1.0.0.
  *
  * @param[in] bytes the file
- * @param[in] bytes_length number of bytes in the file
  * @param[out] order the order, in the front of the list; its jobs count from 0
  * @param[in] room length of the list `order`
  * @param[out] jobs number of jobs
@@ -645,7 +609,6 @@ int pfs_read_order(const uint8_t *bytes, size_t bytes_length, uint32_t *order, s
  * The file is of version 1 if machines is 0, otherwise of version 2. Since version 1.0.0.
  *
  * @param[in] order all jobs, counted from 0
- * @param[in] order_length number of jobs
  * @param[in] machines number of machines, at most PFS_MOST_MACHINES, or 0 to state none
  * @param[in] makespan the makespan to state, which is not checked
  * @param[out] text the file, in the front of the list

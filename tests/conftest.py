@@ -172,12 +172,10 @@ def folder(tmp_path: pathlib.Path) -> pathlib.Path:
 @pytest.fixture
 def untraced() -> Iterator[None]:
     """Nothing notes which lines run, for a test of times."""
-    noting = sys.modules["coverage"].Coverage.current() if "coverage" in sys.modules else None
-    if noting:
-        noting.stop()
+    noting = sys.gettrace()
+    sys.settrace(None)
     yield
-    if noting:
-        noting.start()
+    sys.settrace(noting)
 
 
 @pytest.fixture(scope="session")

@@ -7,61 +7,51 @@ repeats the case, and stores its files in a folder.
 
 usage: tests/fuzz.py [--seconds N] [--seed N] [--program PATH] [--case N]"""
 import argparse
-import collections
 import dataclasses
+import fcntl
 import itertools
 import os
 import pathlib
 import re
 import shlex
-import subprocess
+import struct
 import sys
 import tempfile
+import termios
+import threading
 import time
 from collections.abc import Iterable, Sequence
 from random import Random
-from typing import IO, Any
 
 sys.dont_write_bytecode = True
 from support import second_program
-from support.lines import KINDS, kind_of
-from support.pipes import unread
-from support.second_program import COMMANDS, LONGEST_INPUT, UNREADABLE, Contents, Instance, Stop
+from support.program import Program, Ran
+from support.second_program import COMMANDS, NEEDED, UNREADABLE, Contents, Instance, Stop
 
 TOP = pathlib.Path(__file__).resolve().parent.parent
 PROGRAM = TOP / "crates" / "pfs" / "out" / "pfs"
 # A search of more rounds is too long for the second program.
 MOST_ROUNDS = 40
 MOST_PASSES = 20
-MIB = 1 << 20
 # A pipe holds more than a piece.
 LONGEST_PIECE = 16_384
-# The time limit of a program.
-MOST_SECONDS = 60
-
-# Standard output, standard error and exit status; no status is that of a program that hangs.
-Answer = tuple[bytes, bytes, int | None]
 
 
 @dataclasses.dataclass
 class Case:
     """Words, files by their names, and standard input. `pieces` has for a file (standard input is `stdin`) the lengths
-    of the pieces in which the program gets it through a pipe; the others lie there whole. `is_full`: standard output
-    takes no byte."""
+    of the pieces in which the program gets it through a pipe; the others lie there whole."""
     words: list[bytes]
     files: dict[bytes, Contents]
     stdin: bytes = b""
     pieces: dict[bytes, list[int]] = dataclasses.field(default_factory=dict)
-    is_full: bool = False
 
-    def changed(self, **changes: Any) -> "Case":
-        return dataclasses.replace(self, **changes)
+    def texts(self) -> dict[bytes, Contents]:
+        """All files that it needs."""
+        return {b"stdin": self.stdin} | {name: text for name, text in self.files.items() if name != b"/dev/null"}
 
-    def wanted(self) -> Answer:
-        text, got, status = second_program.answer(self.words, self.stdin, self.files)
-        if self.is_full and text:
-            return b"", b"pfs: write failed after 0 bytes\n", 4
-        return text, got, status
+    def wanted(self) -> Ran:
+        return Ran(*second_program.answer(self.words, self.stdin, self.files))
 
     def is_quick(self) -> bool:
         """Whether the second program is fast on this case."""
@@ -75,96 +65,58 @@ class Case:
         rounds, passes = [int(options.get(name, 0)) for name in (b"--rounds", b"--passes")]
         return rounds <= MOST_ROUNDS and rounds * passes <= MOST_PASSES
 
-    def has_great_files(self) -> bool:
-        return any(text is not None and len(text) > MIB for text in self.files.values())
-
 
 # Running a case
 
-class Feeder:
-    """Writes pieces into a pipe, the next once the last has been read, and then closes it."""
-
-    def __init__(self, descriptor: int, text: bytes, lengths: list[int]) -> None:
-        self.descriptor: int | None = descriptor
-        self.pieces = cut(text, lengths)
-
-    def step(self) -> bool:
-        """Does what can be done now, and tells whether that was something."""
-        if self.descriptor is None or unread(self.descriptor):
-            return False
-        if self.pieces:
-            os.write(self.descriptor, self.pieces.pop(0))
-        else:
-            self.close()
-        return True
-
-    def close(self) -> None:
-        if self.descriptor is not None:
-            os.close(self.descriptor)
-            self.descriptor = None
+def unread(descriptor: int) -> int:
+    """How many bytes of a pipe haven't been read."""
+    count: int = struct.unpack("i", fcntl.ioctl(descriptor, termios.FIONREAD, b"\0" * 4))[0]
+    return count
 
 
-def cut(text: bytes, lengths: list[int]) -> list[bytes]:
-    """Pieces of these lengths, and the rest in pieces that any pipe holds, so that no write waits."""
-    pieces, start = [], 0
-    for length in lengths:
-        pieces.append(text[start:start + length])
-        start += length
-    pieces += [text[at:at + LONGEST_PIECE] for at in range(start, len(text), LONGEST_PIECE)]
-    return [piece for piece in pieces if piece]
+def feed(pipe: pathlib.Path, text: bytes, lengths: list[int], ended: threading.Event) -> None:
+    """Write a text into a named pipe in pieces of these lengths, and the rest in pieces that any pipe holds: the next
+    once the last has been read, until the program ends."""
+    ends = [0, *itertools.accumulate(lengths)]
+    ends += range(ends[-1] + LONGEST_PIECE, len(text) + LONGEST_PIECE, LONGEST_PIECE)
+    # Open for reading too, so that neither this nor the program's opening waits.
+    with open(os.open(pipe, os.O_RDWR), "wb", buffering=0) as end:
+        for start, stop in itertools.pairwise(ends):
+            end.write(text[start:stop])
+            while unread(end.fileno()):
+                if ended.wait(0.00005):
+                    return
 
 
-def lay_files(case: Case, folder: pathlib.Path) -> list[Feeder]:
-    """Makes the files of a case and its standard input, and feeders for those that are pipes."""
-    feeders = []
-    texts: dict[bytes, Contents] = {b"stdin": case.stdin, **case.files}
-    for name, text in texts.items():
-        if name.startswith(b"/"):
-            continue
+def lay_files(case: Case, folder: pathlib.Path) -> None:
+    """Make the files of a case and its standard input; those that it gets in pieces as pipes."""
+    for name, text in case.texts().items():
         path = folder / os.fsdecode(name)
         if text is None:
             os.mkdir(path)
         elif name in case.pieces:
             os.mkfifo(path)
-            # Open for reading too, so that neither this nor the program's opening waits.
-            feeders.append(Feeder(os.open(path, os.O_RDWR), text, case.pieces[name]))
         else:
             path.write_bytes(text)
-    return feeders
 
 
-def run(program: pathlib.Path, case: Case) -> Answer:
-    """What the program writes to standard output and to standard error, and its status."""
+def run(program: Program, case: Case) -> Ran:
+    """What the program prints and reports, and its status."""
+    ended = threading.Event()
     with tempfile.TemporaryDirectory(prefix="fuzz-") as name:
         folder = pathlib.Path(name)
-        output, errors = pathlib.Path("/dev/full") if case.is_full else folder / "stdout", folder / "stderr"
-        feeders = lay_files(case, folder)
+        lay_files(case, folder)
+        feeders = [threading.Thread(target=feed, args=(folder / os.fsdecode(name), text, case.pieces[name], ended))
+                   for name, text in case.texts().items() if name in case.pieces]
+        for feeder in feeders:
+            feeder.start()
         try:
-            with (open(folder / "stdin", "rb", buffering=0) as stdin, open(output, "wb") as stdout,
-                  open(errors, "wb") as stderr):
-                status = run_fed([os.fsencode(program)] + case.words, folder, stdin, stdout, stderr, feeders)
+            with open(folder / "stdin", "rb", buffering=0) as stdin:
+                return program.run(case.words, folder, stdin)
         finally:
+            ended.set()
             for feeder in feeders:
-                feeder.close()
-        return b"" if case.is_full else output.read_bytes(), errors.read_bytes(), status
-
-
-def run_fed(words: list[bytes], folder: pathlib.Path, stdin: IO[bytes], stdout: IO[bytes], stderr: IO[bytes],
-            feeders: list[Feeder]) -> int | None:
-    """The status of a program that is fed, or None where it doesn't end."""
-    end = time.monotonic() + MOST_SECONDS
-    child = subprocess.Popen(words, cwd=folder, stdin=stdin, stdout=stdout, stderr=stderr)
-    while feeders and child.poll() is None and time.monotonic() < end:
-        if not any([feeder.step() for feeder in feeders]):
-            time.sleep(0.00005)
-        if all(feeder.descriptor is None for feeder in feeders):
-            break
-    try:
-        return child.wait(max(0, end - time.monotonic()))
-    except subprocess.TimeoutExpired:
-        child.kill()
-        child.wait()
-        return None
+                feeder.join()
 
 
 # Random instance files
@@ -209,10 +161,9 @@ class Writer:
         most_jobs, most_machines = self.random.choice(great if self.is_great else small)
         jobs, machines = self.random.randint(1, most_jobs), self.random.randint(1, most_machines)
         shop = Instance(jobs, machines, [self.random.choice(NOTES) for _ in range(3)])
-        most = self.random.choice([1, 9, 99, 3_000, 1_000_000_000])
-        for row in shop.times:
-            for job in range(jobs):
-                row[job] = self.random.choice(TIMES) if self.chance(0.05) else self.random.randint(0, most)
+        most = self.random.choice([0, 1, 3, 9, 99, 3_000, 65_534, 65_535, 65_536, 1_000_000_000])
+        times = self.random.choice([range(most + 1), [0, 0, 1, most], TIMES])
+        shop.times = [self.random.choices(times, k=jobs) for _ in range(machines)]
         return shop
 
     def block(self, shop: Instance) -> list[bytes]:
@@ -271,19 +222,9 @@ def mutated(random: Random, text: bytes) -> bytes:
     for _ in range(random.choice([1, 1, 1, 2, 3, 8])):
         start = random.randint(0, len(text))
         end = min(len(text), start + random.choice([0, 1, 1, 2, 5, 40]))
-        kind = random.randrange(7)
-        if kind == 0:
-            text = text[:start]
-        elif kind == 1:
-            text = text[:start] + text[end:]
-        elif kind == 2:
-            text = text[:start] + random.choice(BYTES) + text[start + 1:]
-        elif kind == 3:
-            text = text[:end] + text[start:]
-        elif kind == 4:
-            text = text[:start] + random.choice(INSERTED) + text[start:]
-        else:
-            text = with_number_changed(random, text, start)
+        front, rest = text[:start], text[start:]
+        text = random.choice([front, front + text[end:], text[:end] + rest, front + random.choice(BYTES) + rest[1:],
+                              front + random.choice(INSERTED) + rest, *[with_number_changed(random, text, start)] * 2])
     return text
 
 
@@ -294,17 +235,6 @@ def with_number_changed(random: Random, text: bytes, start: int) -> bytes:
     value = second_program.value_of(match.group())
     value = max(0, random.choice([value - 1, value + 1, value * 10, 0, 5_000, 5_001, 200, 201, 1_000_000_001, 2**32]))
     return text[:match.start()] + b"%d" % value + text[match.end():]
-
-
-def near_the_limit(random: Random, text: bytes) -> bytes:
-    """The text with plain bytes or zeros put in, so that it ends near the greatest number of bytes."""
-    missing = LONGEST_INPUT - len(text) + random.choice([-1, 0, 1, 1, 2])
-    place = random.choice([0] + [match.end() for match in re.finditer(rb"\n", text)])
-    filler = random.choice([b" ", b"x", b"0", b"x" * 99_999 + b"\n"])
-    last = b"" if filler == b"0" else b"\n"
-    many, rest = divmod(missing - len(last), len(filler))
-    # Each operation copies 64 MiB.
-    return b"".join([text[:place], filler * many, filler[:rest], last, text[place:]])
 
 
 # Random command lines
@@ -336,45 +266,29 @@ class Line:
     def option(self, name: bytes, value: bytes) -> list[bytes]:
         return [name + b"=" + value] if self.random.random() < 0.4 else [name, value]
 
-    def block(self) -> list[list[bytes]]:
-        if self.random.random() < 0.5:
-            return []
-        block = self.random.choice([1, 1, 1, 2, 2, 3, 4, 1_000, 1_001, 0])
-        return [self.option(b"--block", self.number(block))]
-
-    def layout(self, layout: bytes) -> bytes:
-        chance = self.random.random()
-        return layout if chance < 0.93 else b"x" if chance < 0.94 else self.random.choice([b"taillard", b"orlib"])
-
-    def search(self, jobs: int) -> list[list[bytes]]:
-        """Options of a search of this many jobs."""
-        options = []
-        if self.random.random() < 0.6:
-            rounds = self.random.choice([0, 1, 2, 3, 10, MOST_ROUNDS, 1_000_001])
-            options.append(self.option(b"--rounds", self.number(rounds)))
-        if self.random.random() < 0.5:
-            take = self.random.choice([1, 2, 3, 4, jobs, jobs + 1, self.random.randint(1, jobs), 5_000, 5_001, 0])
-            options.append(self.option(b"--take", self.number(take)))
-        if self.random.random() < 0.6:
-            seed = self.random.choice(SEEDS + [self.random.randrange(2**64)] * 4)
-            options.append(self.option(b"--seed", self.number(seed)))
-        if self.random.random() < 0.4:
-            passes = self.random.choice([0, 1, 1, 2, 3, 100, 101])
-            options.append(self.option(b"--passes", self.number(passes)))
-        return options + ([[b"--cells"]] if self.random.random() < 0.6 else [])
+    def value(self, name: bytes, layout: bytes, jobs: int) -> bytes:
+        """A value of an option, for a file in a layout and a search of this many jobs."""
+        if name == b"--to":
+            layout = self.random.choice([b"taillard", b"orlib"])
+        if name in (b"--layout", b"--from", b"--to"):
+            return self.random.choice([layout] * 30 + [b"x", b"taillard", b"orlib"])
+        return self.number(self.random.choice({
+            b"--block": [1, 1, 1, 2, 2, 3, 4, 1_000, 1_001, 0],
+            b"--rounds": [0, 1, 2, 3, 10, MOST_ROUNDS, 1_000_001],
+            b"--take": [1, 2, 3, 4, jobs, jobs + 1, self.random.randint(1, jobs), 5_000, 5_001, 0],
+            b"--seed": SEEDS + [self.random.randrange(2**64)] * 4,
+            b"--passes": [0, 1, 1, 2, 3, 100, 101],
+        }[name]))
 
     def mixed(self, command: bytes, options: list[list[bytes]], paths: list[bytes]) -> list[bytes]:
         """The options in any order before, between and after the paths. The paths may follow `--`, and do if they look
         like options."""
-        random = self.random
-        random.shuffle(options)
-        if random.random() < 0.1 or any(path.startswith(b"--") for path in paths):
+        if self.random.random() < 0.1 or any(path.startswith(b"--") for path in paths):
+            self.random.shuffle(options)
             return [command] + sum(options, []) + [b"--"] + paths
-        parts = options + [[path] for path in paths]
-        places = sorted(random.sample(range(len(parts)), len(paths)))
-        rest = iter(options)
-        parts = [[paths[places.index(at)]] if at in places else next(rest) for at in range(len(parts))]
-        return [command] + sum(parts, [])
+        parts, rest = options + [[]] * len(paths), iter(paths)
+        self.random.shuffle(parts)
+        return [command] + sum((part or [next(rest)] for part in parts), [])
 
     def generate(self) -> list[bytes]:
         sizes = [self.random.randint(1, 60), self.random.randint(1, 20)]
@@ -389,40 +303,23 @@ class Line:
         command = self.random.choice(commands + [b"check"] + [b"solve"] * (not is_great))
         if command == b"generate":
             return self.generate()
-        layouts = {b"--layout": layout, b"--from": layout, b"--to": self.random.choice([b"taillard", b"orlib"])}
         options, paths = COMMANDS[command]
-        given = [self.option(name, self.layout(name_of)) for name, name_of in layouts.items() if name in options]
-        given += self.block() + (self.search(jobs) if command == b"solve" else [])
+        given = []
+        for name, (read, default) in options.items():
+            if default is NEEDED or self.random.random() < 0.5:
+                given.append([name] if read is None else self.option(name, self.value(name, layout, jobs)))
         return self.mixed(command, given, self.names[:len(paths)])
 
     def mutated(self, words: Sequence[bytes]) -> list[bytes]:
         words = list(words)
         for _ in range(self.random.choice([1, 1, 2])):
             place = self.random.randint(0, len(words))
-            kind = self.random.randrange(4)
-            if kind == 0:
-                words[place:place] = [self.random.choice(ODD_WORDS)]
-            elif kind == 1:
-                del words[place:place + 1]
-            elif kind == 2:
-                words[place:place + 1] = [self.random.choice(ODD_WORDS)]
-            else:
-                words[place:place] = words[max(0, place - 1):place]
+            new: list[list[bytes]] = [[], [self.random.choice(ODD_WORDS)], words[place:place + 1] * 2]
+            words[place:place + self.random.randrange(2)] = self.random.choice(new)
         return words
 
 
 # Random cases
-
-def lengths_of_pieces(random: Random, text: bytes) -> list[int]:
-    """Lengths of at most some sixty pieces."""
-    most = random.choice([1, 2, 3, 10, 100, 5_000])
-    lengths: list[int] = []
-    left = len(text)
-    while left > 0 and len(lengths) < 60:
-        lengths.append(random.randint(1, most))
-        left -= lengths[-1]
-    return lengths
-
 
 def instance_text(random: Random, text: bytes) -> bytes:
     """The text of an instance file, or what may become of it."""
@@ -431,7 +328,7 @@ def instance_text(random: Random, text: bytes) -> bytes:
         return mutated(random, text)
     if kind < 0.43:
         return b"".join(random.choice(BYTES) for _ in range(random.randint(0, 60)))
-    return near_the_limit(random, text) if kind < 0.435 else text
+    return text
 
 
 def order_text(random: Random, text: bytes) -> bytes:
@@ -459,73 +356,55 @@ def random_case(random: Random) -> Case:
     if random.random() < 0.01:
         del files[random.choice(names)]
     files.setdefault(b"/dev/null", b"")
-    case = Case(words, files, b"" if words else text, is_full=random.random() < 0.02)
-    return case if case.has_great_files() else in_pieces(random, case)
+    return in_pieces(random, Case(words, files, b"" if words else text))
 
 
 def in_pieces(random: Random, case: Case) -> Case:
     """The case with some of its files in pieces. A file that is named twice, and an empty one, lies there whole."""
-    texts: dict[bytes, Contents] = {b"stdin": case.stdin, **case.files}
     pieces = {}
-    for name, text in texts.items():
+    for name, text in case.texts().items():
         is_read = case.words.count(name) == 1 if name != b"stdin" else not case.words
         if is_read and text and random.random() < 0.5:
-            pieces[name] = lengths_of_pieces(random, text)
-    return case.changed(pieces=pieces)
+            most = random.choice([1, 2, 3, 10, 100, 5_000])
+            pieces[name] = [random.randint(1, most) for _ in range(60)]
+    return dataclasses.replace(case, pieces=pieces)
 
 
 # Telling of a failing case
 
-def tell(program: pathlib.Path, case: Case) -> None:
-    """Keeps the files of the case in a folder and prints how to run it."""
+def tell(program: Program, case: Case) -> None:
+    """Keep the files of the case in a folder and print how to run it."""
     folder = pathlib.Path(tempfile.mkdtemp(prefix="pfs-differs-"))
-    lay_files(case.changed(pieces={}), folder)
+    lay_files(dataclasses.replace(case, pieces={}), folder)
     words = " ".join(shlex.quote(os.fsdecode(word)) for word in case.words)
-    output = " > /dev/full" if case.is_full else ""
-    print(f"in a shell: cd {folder} && {program} {words} < stdin{output}".encode(errors="replace").decode())
+    print(f"in a shell: cd {folder} && {program.path} {words} < stdin".encode(errors="replace").decode())
     if case.pieces:
         print(f"with files through pipes, in pieces of these lengths: {case.pieces}")
     print(f"wanted {shown(case.wanted())}\ngot    {shown(run(program, case))}", flush=True)
 
 
-def shown(answer: Answer) -> str:
-    text, got, status = answer
-    return f"{text[:600]!r}, {got[:600]!r}, {status}"
+def shown(ran: Ran) -> str:
+    return f"{ran.stdout[:600]!r}, {ran.stderr[:600]!r}, {ran.status}"
 
 
-def search(program: pathlib.Path, seed: int, seconds: float, numbers: Iterable[int], has_great_files: bool) -> bool:
-    """Runs the cases of these numbers for so long, or until the two programs differ. Tells whether they agree, on one
+def search(program: Program, seed: int, seconds: float, numbers: Iterable[int]) -> bool:
+    """Run the cases of these numbers for so long, or until the two programs differ. Return whether they agree, on one
     case at least. A case is made from the seed and its number, so a machine's speed changes how many there are, and no
     case."""
-    start = time.monotonic()
-    kinds: collections.Counter[str] = collections.Counter()
-    for number in numbers:
-        if time.monotonic() >= start + seconds:
-            break
+    end, count = time.monotonic() + seconds, 0
+    for number in itertools.takewhile(lambda _: time.monotonic() < end, numbers):
         case = random_case(Random(f"{seed} {number}"))
-        if not case.is_quick() or (case.has_great_files() and not has_great_files):
+        if not case.is_quick():
             continue
-        wanted = case.wanted()
-        kinds[kind_of(*wanted[:2])] += 1
-        if run(program, case) != wanted:
-            spent = time.monotonic() - start
-            print(f"seed {seed}, case {number}, after {spent:.1f} s: the programs differ", flush=True)
-            print(f"to repeat it: {TOP}/tests/fuzz.py --program {program} --seed {seed} --case {number}", flush=True)
+        count += 1
+        if run(program, case) != case.wanted():
+            print(f"seed {seed}, case {number}: the programs differ")
+            words = f"{TOP}/tests/fuzz.py --program {program.path} --seed {seed} --case {number}"
+            print(f"to repeat it: {words}", flush=True)
             tell(program, case)
             return False
-    print(f"seed {seed}: {kinds.total()} cases in {seconds:g} s, on which both programs agree")
-    return kinds.total() > 0 and are_known(kinds)
-
-
-def are_known(kinds: collections.Counter[str]) -> bool:
-    """Whether all these kinds of output are known. Print those that aren't, and those that didn't occur."""
-    missing = sorted(KINDS.keys() - kinds.keys() - {"no memory"})
-    if missing:
-        print(f"kinds of output that did not occur: {missing}")
-    unknown = sorted(kinds.keys() - KINDS.keys())
-    if unknown:
-        print(f"kinds of answers that are not known: {unknown}")
-    return not unknown
+    print(f"seed {seed}: {count} cases in {seconds:g} s, on which both programs agree")
+    return count > 0
 
 
 def main() -> int:
@@ -536,7 +415,7 @@ def main() -> int:
     parser.add_argument("--case", type=int, help="runs the case of this number alone")
     given = parser.parse_args()
     numbers = itertools.count(1) if given.case is None else [given.case]
-    return 0 if search(given.program.resolve(), given.seed, given.seconds, numbers, True) else 1
+    return 0 if search(Program(given.program.resolve()), given.seed, given.seconds, numbers) else 1
 
 
 if __name__ == "__main__":

@@ -1,152 +1,196 @@
 #!/usr/bin/python3
-"""Changes one place of the package for Python at a time, in a copy of the checkout, and runs the tests that share the
-most words with its function: does one fail, and pass without the change? Prints the changes that no test finds, and the
-share that is found, in all and by module. tests/equivalent.txt lists changes that mean the same, each with its reason.
-They aren't tried.
-
-usage: tests/mutants.py [--seed N] [--jobs N] [--least PERCENT] [--only WORD] [COUNT]"""
+"""Changes one place of the package for Python at a time, in a copy of the checkout, and runs the tests that run this
+place, the quickest first: does one fail, and pass without the change? Prints the changes that no test finds, and the
+share that is found by module. tests/equivalent.txt lists changes that mean the same, each with its reason; they aren't
+tried. `make mutants` notes first which test runs which lines."""
 import argparse
+import ast
 import concurrent.futures
+import difflib
 import functools
+import itertools
 import os
 import pathlib
-import queue
 import random
 import re
-import resource
 import subprocess
 import sys
 import tempfile
 from collections import Counter, defaultdict
 from collections.abc import Iterator
+from typing import Any, NamedTuple
+from xml.etree import ElementTree
 
-sys.dont_write_bytecode = True
-from support.changes import PACKAGE, TOP, Change, Source
-from support.likely import Likely
+import coverage
 
-# Processor seconds, more than all likely tests of a change take without it, and bytes of memory of a process.
-MOST_SECONDS, MOST_MEMORY = 150, 12 << 30
-# The exit status of pytest without a test.
-NO_TEST = 5
-FAILED = re.compile(r"^(?:FAILED|ERROR) (\S+\.py::\w+)", re.MULTILINE)
+TOP = pathlib.Path(__file__).resolve().parents[1]
+PACKAGE = TOP / "python" / "src" / "pfs"
+REST = re.compile(r"(@[^]|]*)?(\|\w+)?$")  # what follows the name of a test: its group, and what is run of it
+SHARE = 0.05  # of the time of all tests, which those of a change take at most
+# All processes end with the first one, where the system permits that.
+APART = ["unshare", "--pid", "--fork", "--kill-child", "--mount-proc", "sh", "-c", '"$@"; exit $?', "sh"]
+PYTEST = [*(APART if subprocess.run([*APART, "true"], capture_output=True).returncode == 0 else []), "prlimit",
+          "--cpu=120", f"--as={12 << 30}", "/usr/bin/python3", "-m", "pytest", "-q", "-x", "-n0", "--timeout=60",
+          f"--pfs={TOP}/crates/pfs/out/pfs", f"--libpfs={TOP}/lib/out/libpfs.so.1"]
+SIGNS = [getattr(ast, name) for name in ("Lt LtE Gt GtE Eq NotEq In NotIn Is IsNot And Or Add Sub Mult FloorDiv Div "
+                                         "Mod BitOr BitAnd").split()]  # each two may be confused
 
 
-def copied(folder: pathlib.Path) -> pathlib.Path:
-    """A copy of the checkout, without what is built."""
-    leaving = (f"--exclude={name}" for name in ("/.git", "out/", "__pycache__/"))
-    subprocess.run(["rsync", "-a", *leaving, f"{TOP}/", folder], check=True)
-    return folder
+class Change(NamedTuple):
+    """What is in the place of the last of these nodes, each of which is in the one before; None if it is left out."""
+    module: str
+    nodes: tuple[Any, ...]
+    field: str
+    at: int
+    new: Any
+
+    @functools.cache
+    def text(self) -> str:
+        """The module with this change, or nothing if that isn't a program."""
+        parent, before, new = self.nodes[-2], getattr(self.nodes[-2], self.field), self.new
+        if isinstance(before, list):
+            new = [*before[:self.at], *([new] if new else []), *before[self.at + 1:]]
+        setattr(parent, self.field, new)
+        try:
+            compile(text := ast.unparse(self.nodes[0]), self.module, "exec")
+        except (SyntaxError, ValueError):
+            text = ""
+        setattr(parent, self.field, before)
+        return text
+
+    def shown(self) -> str:
+        """As equivalent.txt has it: the function, and the lines before and after."""
+        names = [each.name for each in self.nodes if isinstance(each, ast.FunctionDef | ast.ClassDef)]
+        lines = difflib.ndiff(ast.unparse(self.nodes[0]).splitlines(), self.text().splitlines())
+        return "\n".join([".".join([self.module[:-3], *names]), *(line for line in lines if line[0] in "-+")])
+
+    def place(self) -> tuple[str, int, bool]:
+        """Its module, the first line of its statement, and whether this is in a function."""
+        *outer, statement = (each for each in self.nodes if isinstance(each, ast.stmt | ast.ExceptHandler))
+        return self.module, statement.lineno, any(isinstance(each, ast.FunctionDef) for each in outer)
+
+
+def changes(module: str, nodes: tuple[Any, ...], field: str = "", at: int = 0) -> Iterator[Change]:
+    """The changes of the last of these nodes and of those in it, but for types and docstrings."""
+    match nodes[-1]:
+        case ast.Expr(ast.Constant()) | ast.If(ast.Name("TYPE_CHECKING")) | ast.AnnAssign(_, ast.Name("TypeAlias")):
+            return
+    yield from (Change(module, nodes, field, at, new) for new in others(nodes, field, at))
+    for field, value in ast.iter_fields(nodes[-1]):
+        for at, node in enumerate(value if isinstance(value, list) else [value]):
+            if isinstance(node, ast.AST) and field not in ("annotation", "returns"):
+                yield from changes(module, (*nodes, node), field, at)
+
+
+def others(nodes: tuple[Any, ...], field: str, at: int) -> Iterator[ast.AST | None]:
+    """What may be in the place of the last of these nodes, which is in this field of the one before."""
+    match [*nodes[-2:], field]:
+        case [_, node, "test" | "ifs"]:
+            yield ast.UnaryOp(ast.Not(), node)
+        case [ast.Slice(), node, _] | [ast.Call(ast.Name("range")), node, "args"]:
+            yield from (ast.BinOp(node, sign(), ast.Constant(1)) for sign in (ast.Add, ast.Sub))
+        case [ast.Call(), _, "args" | "keywords"] if at > 0 or field == "keywords":
+            yield None
+        case [ast.Return(), _, _]:
+            function = [each for each in nodes if isinstance(each, ast.FunctionDef)][-1]
+            yield from [None, *(each.value for each in ast.walk(function) if isinstance(each, ast.Return))]
+    match nodes[-1]:
+        case node if type(node) in SIGNS:
+            yield SIGNS[SIGNS.index(type(node)) ^ 1]()
+        case ast.Constant(bool(value)):
+            yield ast.Constant(not value)
+        case ast.Constant(int(value) | float(value)):
+            yield from (ast.Constant(value + step) for step in (1, -1))
+        case ast.Constant(str(value) | bytes(value)):
+            yield ast.Constant(value[:-1] or "x")
+        case ast.ExceptHandler(kind, name):
+            yield ast.ExceptHandler(kind, name, [ast.Pass()])
+        case ast.Expr() | ast.Assign() | ast.AugAssign() | ast.Raise() | ast.Break() | ast.Continue():
+            yield ast.Pass()
+        case (ast.UnaryOp(_, inner) | ast.Call(ast.Attribute(inner, "copy"), [])
+              | ast.Call(ast.Name("list" | "tuple" | "dict" | "set" | "sorted"), [inner], [])):
+            yield inner
+        case ast.Call(call, [one, other, *rest], words) if ast.unparse(call) not in ("max", "min", "math.gcd"):
+            yield ast.Call(call, [other, one, *rest], words)
+
+
+class Noted:
+    """Which tests run a line, and how many seconds each takes."""
+
+    def __init__(self) -> None:
+        data, cases = coverage.CoverageData(str(TOP / "out/lines")), ElementTree.parse(TOP / "out/tests.xml")
+        data.read()
+        self.lines = {str(pathlib.Path(file).relative_to(PACKAGE)): data.contexts_by_lineno(file)
+                      for file in data.measured_files()}
+        self.seconds = {REST.sub("", f"{each.attrib['classname'].replace('.', '/')}.py::{each.attrib['name']}"):
+                        float(each.attrib["time"]) for each in cases.iter("testcase") if len(each) == 0}
+
+    def tests_of(self, change: Change) -> list[str]:
+        """Those that run its line, the quickest first. Where none is noted (as in `python3 -I -S`) or the line runs
+        before tests, those that run other lines of the module."""
+        (_, line, in_function), lines = change.place(), self.lines.get(change.module, {})
+        for contexts in ([lines.get(line, [])] * in_function, lines.values()):
+            if found := {REST.sub("", each) for each in {*itertools.chain(*contexts)}} & self.seconds.keys():
+                break
+        tests = sorted(found, key=lambda test: (self.seconds[test], test))
+        before = itertools.accumulate((self.seconds[test] for test in tests), initial=0.0)
+        return [test for test, seconds in zip(tests, before) if seconds < SHARE * sum(self.seconds.values())]
 
 
 @functools.cache
-def apart() -> list[str]:
-    """Words before a command by which all processes end with it, where the system permits that."""
-    words = ["unshare", "--pid", "--fork", "--kill-child", "--mount-proc", "sh", "-c", '"$@"; exit $?', "sh"]
-    return words if subprocess.run([*words, "true"], capture_output=True).returncode == 0 else []
+def failing(module: str, text: str, *tests: str) -> list[str]:
+    """The first test that fails in a copy with this text of a module, or all if pytest names none; [] if none fails."""
+    with tempfile.TemporaryDirectory(prefix="pfs-mutants-") as folder:
+        copy = pathlib.Path(folder, "pfs")
+        subprocess.run(["rsync", "-a", "--exclude=/.git", "--exclude=out/", f"{TOP}/", copy], check=True)
+        (copy / PACKAGE.relative_to(TOP) / module).write_text(text)
+        env = os.environ | {"PYTHONDONTWRITEBYTECODE": "1", "TMPDIR": folder, "CI": "false", "PFS_MUTANT": "1"}
+        done = subprocess.run([*PYTEST, f"--basetemp={folder}/pytest", *tests], cwd=copy, env=env, text=True,
+                              errors="replace", stdin=subprocess.DEVNULL, capture_output=True, start_new_session=True)
+    lines = [f"{line} " for line in re.findall(r"^(?:FAILED|ERROR) (\S+\.py.*)", done.stdout, re.MULTILINE)]
+    named = [test for test in tests for line in lines if line.startswith((f"{test} ", f"{test.split('::')[0]} "))]
+    return [] if done.returncode in (0, 5) else named[:1] or [*tests]  # 5: no test
 
 
-def run_tests(copy: pathlib.Path, *words: str, seconds: int = resource.RLIM_INFINITY) -> tuple[int, str]:
-    """The exit status and the output of pytest in a copy."""
-    env = os.environ | {"PYTHONDONTWRITEBYTECODE": "1", "TMPDIR": f"{copy}.tmp", "CI": "false", "PFS_MUTANT": "1"}
-    pathlib.Path(f"{copy}.tmp").mkdir(exist_ok=True)
-    options = ["-q", f"--basetemp={copy}.tmp/pytest", f"--pfs={TOP}/crates/pfs/out/pfs",
-               f"--libpfs={TOP}/lib/out/libpfs.so.1"]
-
-    def limit() -> None:
-        for kind, most in ((resource.RLIMIT_CPU, seconds), (resource.RLIMIT_AS, MOST_MEMORY)):
-            resource.setrlimit(kind, (most, most))
-
-    done = subprocess.run([*apart(), "/usr/bin/python3", "-m", "pytest", *options, *words], cwd=copy, env=env,
-                          stdin=subprocess.DEVNULL, stdout=subprocess.PIPE, stderr=subprocess.STDOUT, text=True,
-                          errors="replace", start_new_session=True, preexec_fn=limit)
-    return done.returncode, done.stdout
+def is_found(change: Change, tests: list[str]) -> bool:
+    """Whether a test fails by a change and passes without it."""
+    while tests and (failed := failing(change.module, change.text(), *tests)):
+        if not failing(change.module, ast.unparse(change.nodes[0]), *failed):
+            return True
+        tests = [test for test in tests if test not in failed]
+    return False
 
 
-def failing(source: Source, change: Change, tests: list[str], copy: pathlib.Path) -> str:
-    """The test that fails by a change in a copy; nothing if none does."""
-    path = copy / PACKAGE.relative_to(TOP) / change.file
-    path.write_bytes(source.changed(change))
-    try:
-        status, output = run_tests(copy, "-x", "-n0", *tests, seconds=MOST_SECONDS)
-    finally:
-        path.write_bytes(source.text)
-    failed = FAILED.search(output)
-    return "" if status in (0, NO_TEST) else failed[1] if failed else tests[0]
-
-
-def equivalent() -> set[str]:
-    """The changes that mean the same."""
-    blocks = (TOP / "tests/equivalent.txt").read_text().split("\n\n")[1:]
-    return {block.partition("\n# ")[0] for block in blocks}
-
-
-def chosen(files: list[Source], seed: int, count: int) -> list[tuple[Source, Change]]:
-    """Changes of as many lines, drawn at random."""
-    same, rng, places = equivalent(), random.Random(seed), defaultdict(list)
-    for source in files:
-        for change in source.changes:
-            places[change.file, source.text.count(b"\n", 0, change.start)].append((source, change))
-    drawn = [rng.choice(places[place]) for place in rng.sample(sorted(places), len(places))]
-    good = (pair for pair in drawn if pair[0].is_program(pair[1]) and pair[0].shown(pair[1]) not in same)
-    return [pair for pair, _ in zip(good, range(count))]
-
-
-def commits() -> int:
-    """The number of commits, which is the usual seed, or 1 without a repository."""
-    done = subprocess.run(["git", "-C", TOP, "rev-list", "--count", "HEAD"], capture_output=True, text=True)
-    return int(done.stdout) if done.returncode == 0 else 1
-
-
-def results(pairs: list[tuple[Source, Change]], jobs: int) -> Iterator[tuple[Source, Change, str]]:
-    """The changes, each with a test that it makes fail, or nothing. Those whose test also fails without a change are
-    tried again without this test."""
-    likely, copies, unsound = Likely(), queue.SimpleQueue[pathlib.Path](), set[str]()
-
-    def run(pair: tuple[Source, Change]) -> tuple[Source, Change, str]:
-        copy = copies.get()
-        tests = [test for test in likely.tests(*pair) if test.partition("[")[0] not in unsound]
-        failed = failing(*pair, tests, copy) if tests else ""
-        copies.put(copy)
-        return *pair, failed
-
-    with (tempfile.TemporaryDirectory(prefix="pfs-mutants-") as folder,
-          concurrent.futures.ThreadPoolExecutor(jobs) as workers):
-        for number in range(jobs):
-            copies.put(copy := copied(pathlib.Path(folder) / str(number)))
-        while pairs:
-            found = list[tuple[Source, Change, str]]()
-            for result in workers.map(run, pairs):
-                if result[2]:
-                    found.append(result)
-                else:
-                    yield result
-            status, output = run_tests(copy, f"-n{jobs}", *{failed for *_, failed in found}) if found else (0, "")
-            if status > 1:
-                sys.exit(f"mutants: without a change the tests don't run: {output}")
-            unsound.update(FAILED.findall(output))
-            yield from (result for result in found if result[2] not in unsound)
-            pairs = [result[:2] for result in found if result[2] in unsound]
+def chosen(modules: list[str], seed: int) -> Iterator[Change]:
+    """Changes of different statements, drawn at random."""
+    same = {block.partition("\n# ")[0] for block in (TOP / "tests/equivalent.txt").read_text().split("\n\n")[1:]}
+    rng, places = random.Random(seed), defaultdict(list)
+    for module in modules:
+        for change in changes(module, (ast.parse((PACKAGE / module).read_bytes()),)):
+            places[change.place()].append(change)
+    drawn = (rng.choice(places[place]) for place in rng.sample(sorted(places), len(places)))
+    return (each for each in drawn if each.text() not in ("", ast.unparse(each.nodes[0])) and each.shown() not in same)
 
 
 def main() -> int:
-    parser = argparse.ArgumentParser(usage="".join(__doc__.partition("usage: ")[2]))
+    parser = argparse.ArgumentParser(description=__doc__)
     parser.add_argument("count", nargs="?", type=int, default=300)
-    for name, default in (("seed", commits()), ("jobs", len(os.sched_getaffinity(0))), ("least", 0)):
+    for name, default in (("seed", 1), ("jobs", len(os.sched_getaffinity(0))), ("least", 0)):
         parser.add_argument(f"--{name}", type=int, default=default)
     parser.add_argument("--only", default="")
     given = parser.parse_args()
-    files = [Source(path) for path in sorted(PACKAGE.rglob("*.py")) if given.only in str(path.relative_to(PACKAGE))]
-    tried, seen = Counter[str](), Counter[str]()
-    for source, change, failed in results(chosen(files, given.seed, given.count), given.jobs):
-        tried[source.name] += 1
-        seen[source.name] += bool(failed)
-        if not failed:
-            line = source.text.count(b"\n", 0, change.start) + 1
-            print(f"not found, line {line} of\n{source.shown(change)}\n", flush=True)
+    modules = [name for path in sorted(PACKAGE.rglob("*.py")) if given.only in (name := str(path.relative_to(PACKAGE)))]
+    drawn, noted = list(itertools.islice(chosen(modules, given.seed), given.count)), Noted()
+    tried, seen = Counter(change.module for change in drawn), Counter[str]()
+    with concurrent.futures.ThreadPoolExecutor(given.jobs) as workers:
+        for change, found in zip(drawn, workers.map(is_found, drawn, map(noted.tests_of, drawn))):
+            seen[change.module] += found
+            if not found:
+                print(f"not found, line {change.place()[1]} of {change.shown()}\n", flush=True)
     for name in sorted(tried):
         print(f"{seen[name]:4} of {tried[name]:4}  {name}")
-    share = 100 * seen.total() / max(1, tried.total())
-    print(f"{seen.total():4} of {tried.total():4}  in all: {share:.1f} %, seed {given.seed}")
+    share = 100 * seen.total() / max(1, len(drawn))
+    print(f"{seen.total():4} of {len(drawn):4}  in all: {share:.1f} %, seed {given.seed}")
     return int(share < given.least)
 
 

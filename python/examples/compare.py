@@ -1,29 +1,14 @@
 #!/usr/bin/env python3
-"""Compares your own method with NEH and iterated greedy on ten of Taillard's instances. A starting point for a study.
-Writes compare.csv and compare.png into a folder.
+"""Runs your own method, NEH and iterated greedy on ten of Taillard's instances, and prints a CSV of their makespans,
+which `pfs-experiments report` compares and draws. A starting point for a study.
 
-usage: compare.py [FOLDER]"""
-import pathlib
+usage: compare.py > compare.csv && pfs-experiments report compare.csv report"""
 import random
-import sys
 from collections.abc import Callable
-
-import matplotlib.figure
-import pandas
 
 import pfs
 
 ROUNDS = 1_000
-
-
-def neh(shop: pfs.Instance) -> pfs.Solution:
-    """Return NEH's order."""
-    return shop.neh()
-
-
-def iterated_greedy(shop: pfs.Instance) -> pfs.Solution:
-    """Improve NEH's order by 1,000 rounds of iterated greedy."""
-    return shop.solve(ROUNDS, seed=1)
 
 
 def random_insertions(shop: pfs.Instance) -> pfs.Solution:
@@ -43,49 +28,21 @@ def random_insertions(shop: pfs.Instance) -> pfs.Solution:
 
 
 METHODS: dict[str, Callable[[pfs.Instance], pfs.Solution]] = {
-    "NEH": neh,
+    "NEH": pfs.Instance.neh,
     "random insertions": random_insertions,
-    "iterated greedy": iterated_greedy,
+    "iterated greedy": lambda shop: shop.solve(ROUNDS, seed=1),
 }
 
 
-def compare() -> pandas.DataFrame:
-    """Return the makespan of each instance and method, and its gap to the published bound in percent."""
-    rows = []
-    for number in range(1, 11):
-        shop = pfs.taillard(number)
+def main() -> None:
+    """Print the makespan of each instance and method."""
+    print("instance,method,makespan")
+    for shop in map(pfs.taillard, range(1, 11)):
         for name, method in METHODS.items():
             found = method(shop)
             # Never trust the makespan that a method claims.
             assert shop.makespan(found.order) == found.makespan
-            rows.append((shop.name, name, found.makespan, 100 * (found.makespan / shop.lower - 1)))
-    return pandas.DataFrame(rows, columns=["instance", "method", "makespan", "gap"])
-
-
-def draw(results: pandas.DataFrame, path: pathlib.Path) -> None:
-    """Draw the gaps, with a group of bars for each instance."""
-    figure = matplotlib.figure.Figure(figsize=(9, 3.6), layout="constrained")
-    axis = figure.subplots()
-    results.pivot(index="instance", columns="method", values="gap")[list(METHODS)].plot.bar(
-        ax=axis, rot=0, width=0.8, color=["#b0b0b0", "#e69f00", "#0072b2"])
-    axis.set_xlabel("")
-    axis.set_ylabel("% above the published bound")
-    axis.spines[["top", "right"]].set_visible(False)
-    axis.legend(loc="upper right", frameon=False, title="")
-    figure.savefig(path, dpi=150)
-
-
-def main() -> None:
-    """Compare the methods, and print and write the results."""
-    folder = pathlib.Path(sys.argv[1] if len(sys.argv) > 1 else ".")
-    folder.mkdir(parents=True, exist_ok=True)
-    results = compare()
-    results.to_csv(folder / "compare.csv", index=False, float_format="%.3f")
-    draw(results, folder / "compare.png")
-    print(results.pivot(index="instance", columns="method", values="makespan")[list(METHODS)].to_string())
-    print()
-    gaps = results.groupby("method")["gap"].mean()[list(METHODS)]
-    print(gaps.map("mean gap {:.2f} %".format).to_string(header=False))
+            print(f"{shop.name},{name},{found.makespan}")
 
 
 if __name__ == "__main__":

@@ -136,29 +136,25 @@ def shop(folder: pathlib.Path) -> pathlib.Path:
 
 
 def test_a_search_in_parts(built: pathlib.Path, pfs: Program, shop: pathlib.Path) -> None:
-    for rounds in (7, 20, 0, 13):
-        found = run(built, "timed_search", "shop", "state", "7", "1000", str(rounds), cwd=shop)
-        assert found.status == 0
-    whole = pfs.run("solve --layout taillard --rounds 40 --seed 7 shop", shop).stdout
-    assert found.stdout.encode() == whole
-    assert (shop / "state").read_bytes() == b"40\n" + whole
-    assert {path.name for path in shop.iterdir()} == {"shop", "state"}
-    assert run(built, "timed_search", "shop", "other", "7", "0", cwd=shop).stderr.startswith("10 rounds, ")
+    done: list[str] = []
+    for rounds in ("7", "27", "27", "40"):
+        found = run(built, "timed_search", "shop", "7", "1000", rounds, *done, cwd=shop)
+        assert (found.status, found.stderr.split(",")[0]) == (0, f"{rounds} rounds")
+        (shop / "order").write_text(found.stdout)
+        done = [rounds, "order"]
+    assert found.stdout.encode() == pfs.run("solve --layout taillard --rounds 40 --seed 7 shop", shop).stdout
+    assert run(built, "timed_search", "shop", "7", "0", "40", cwd=shop).stderr.startswith("10 rounds, ")
 
 
-@pytest.mark.parametrize(("state", "why"), [
-    (b"", "not a state of timed_search"), (b"no number\n", "not a state of timed_search"),
-    (b"3\n", "not an order file"), (b"3\npfs-order 1\njobs 2\n", "not an order file"),
-    (b"3\n" + second_program.order_text([1, 0], 5, 7), "the order of another instance"),
-    (b"3\n" + second_program.order_text([*range(20)], 4, 7), "the order of another instance"),
-    (b"2000000\n" + second_program.order_text([*range(20)], 5, 7), "rounds"),
-])
-def test_a_search_rejects_other_states(built: pathlib.Path, shop: pathlib.Path, state: bytes, why: str) -> None:
-    """And leaves them as they are."""
-    (shop / "state").write_bytes(state)
-    got = run(built, "timed_search", "shop", "state", "7", "1", "10", cwd=shop)
+@pytest.mark.parametrize(("done", "order", "why"), [
+    ("0", b"", "not an order file"), ("1000001", second_program.order_text([*range(20)], 5, 7), "rounds"),
+    ("0", second_program.order_text([1, 0], 5, 7), "the order of another instance"),
+    ("0", second_program.order_text([*range(20)], 4, 7), "the order of another instance")])
+def test_a_search_rejects_other_orders(built: pathlib.Path, shop: pathlib.Path, done: str, order: bytes,
+                                       why: str) -> None:
+    (shop / "order").write_bytes(order)
+    got = run(built, "timed_search", "shop", "7", "1", "10", done, "order", cwd=shop)
     assert (got.status, got.stdout) == (2, "") and got.stderr.startswith("timed_search: ") and why in got.stderr
-    assert (shop / "state").read_bytes() == state and not (shop / "state.new").exists()
 
 
 def test_a_search_with_temperature(built: pathlib.Path, pfs: Program, shop: pathlib.Path) -> None:
@@ -197,36 +193,25 @@ def test_a_plan_runs_and_audits_the_search_with_temperature(built: pathlib.Path,
 
 
 def test_files_that_cannot_be_opened_read_or_written(built: pathlib.Path, shop: pathlib.Path) -> None:
-    got = run(built, "timed_search", "none", "state", "7", "0", cwd=shop)
+    got = run(built, "timed_search", "none", "7", "0", "0", cwd=shop)
     assert got == Done(4, "", "timed_search: none: cannot open\n")
-    got = run(built, "timed_search", "shop", "none/state", "7", "0", cwd=shop)
-    assert got == Done(4, "", "timed_search: none/state.new: cannot open\n")
+    got = run(built, "timed_search", "shop", "7", "0", "1", "0", ".", cwd=shop)
+    assert got == Done(4, "", "timed_search: .: cannot read\n")
     got = run(built, "ig_temperature", "none", "1", "1", cwd=shop)
     assert got == Done(4, "", "ig_temperature: none: cannot read\n")
     assert run(built, "audit_orders", "none", "x", cwd=shop) == Done(4, "", "audit_orders: none: cannot open\n")
     assert run(built, "audit_orders", "shop", "none", cwd=shop) == Done(4, "", "audit_orders: none: cannot open\n")
     (shop / "empty").write_bytes(b"")
-    got = run(built, "timed_search", "empty", "state", "7", "0", cwd=shop)
+    got = run(built, "timed_search", "empty", "7", "0", "0", cwd=shop)
     assert got == Done(2, "", "timed_search: empty: the file ends before the block\n")
 
 
-@pytest.mark.parametrize("words", [["timed_search", "shop", "state", "7", "0"], ["neh_ties", "5", "2", "1"],
+@pytest.mark.parametrize("words", [["timed_search", "shop", "7", "0", "0"], ["neh_ties", "5", "2", "1"],
                                    ["ig_temperature", "shop", "7", "0"], ["audit_orders", "shop", "shop"]])
 def test_a_full_device_is_reported(built: pathlib.Path, shop: pathlib.Path, words: list[str]) -> None:
     with open("/dev/full", "wb") as full:
         done = subprocess.run([built / words[0], *words[1:]], cwd=shop, stdout=full, stderr=subprocess.PIPE, text=True)
     assert done.returncode == 4 and done.stderr.endswith("cannot write\n")
-
-
-def test_a_state_stays_if_no_other_can_be_written(built: pathlib.Path, shop: pathlib.Path) -> None:
-    """On a full device: it is replaced once the new one is whole."""
-    assert run(built, "timed_search", "shop", "state", "7", "0", cwd=shop).status == 0
-    before = (shop / "state").read_bytes()
-    (shop / "state.new").symlink_to("/dev/full")
-    got = run(built, "timed_search", "shop", "state", "7", "0", cwd=shop)
-    assert got == Done(4, "", "timed_search: state: cannot write\n")
-    assert not (shop / "state").is_symlink(), "the old state is replaced by one that isn't written"
-    assert (shop / "state").read_bytes() == before
 
 
 def test_audits(built: pathlib.Path, folder: pathlib.Path) -> None:

@@ -1,6 +1,6 @@
-"""The library for C: its header, its manual page and the symbols of its files; each function on each invalid argument
-(support/library_calls.c), also with failing allocations, under valgrind and with gcc's sanitizers; and on random
-instances and files against a second implementation (support/second_library.py)."""
+"""The library for C: its header, its manual page, where it runs, and the symbols of its files; each function on each
+invalid argument (support/library_calls.c), also with failing allocations, under valgrind and with gcc's sanitizers; and
+on random instances and files against a second implementation (support/second_library.py)."""
 import ctypes
 import pathlib
 import re
@@ -8,6 +8,7 @@ import subprocess
 import threading
 from collections.abc import Callable
 from random import Random
+from typing import Any
 
 import fuzz
 import pytest
@@ -19,7 +20,7 @@ from support.needs import tool
 from support.program import Program, Ran
 from support.second_library import ITERATE_OPTIONS, OPTIONS, by_job
 from support.second_program import Instance, generated, makespan
-from support.tools import csv_rows, output_of
+from support.tools import csv_rows, output_of, run_tool
 
 CALLS = SUPPORT / "library_calls.c"
 # The functions that allocate nothing once their instance is prepared, those that do, and those that need none.
@@ -160,14 +161,28 @@ def test_the_manual_page_has_each_function() -> None:
     assert set(re.findall(r"^\.Fn (\w+)", MANUAL.read_text(), re.MULTILINE)) == NAMES
 
 
-def test_the_examples_of_the_pages_print_their_makespan(libpfs: Library, top: pathlib.Path,
-                                                        folder: pathlib.Path) -> None:
-    lines = MANUAL.read_text().partition(".Bd -literal -offset indent\n")[2].partition(".Ed\n")[0].replace("\\e", "\\")
-    page, = re.findall(r"^```c\n(.*?)^```$", (top / "docs" / "LIBRARY.md").read_text(), re.MULTILINE | re.DOTALL)
-    for source, printed in ((lines, b"10\n"), (page, b"makespan 10\n")):
-        (folder / "example.c").write_text(source)
-        program = compiled(folder / "example", [folder / "example.c"], libpfs)
-        assert program.run([], folder) == Ran(printed, b"", 0)
+def example(libpfs: Library, folder: pathlib.Path, *words: str, **how: Any) -> Program:
+    """The example of the page."""
+    page = (HEADER.parent.parent / "docs" / "LIBRARY.md").read_text()
+    (folder / "example.c").write_text(re.findall(r"^```c\n(.*?)^```$", page, re.MULTILINE | re.DOTALL)[0])
+    return compiled(folder / "example", [folder / "example.c"], libpfs, *words, **how)
+
+
+@pytest.mark.parametrize(("compiler", "is_static", "words"), [
+    ("gcc", False, []), ("musl-gcc", False, []), ("musl-gcc", True, []), ("musl-gcc", True, ["-static"])])
+def test_the_example_of_the_page_prints_its_makespan(libpfs: Library, folder: pathlib.Path, compiler: str,
+                                                     is_static: bool, words: list[str]) -> None:
+    program = example(libpfs, folder, *words, compiler=compiler, is_static=is_static)
+    assert program.run([], folder) == Ran(b"makespan 10\n", b"", 0)
+
+
+@pytest.mark.parametrize("is_static", [False, True])
+def test_an_old_processor_is_reported(libpfs: Library, folder: pathlib.Path, is_static: bool) -> None:
+    """The page says so: an emulated processor without the instructions of x86-64-v2, and one with them."""
+    made = example(libpfs, folder, is_static=is_static).path
+    assert output_of([tool("qemu-x86_64"), "-cpu", "Nehalem", made], folder) == "makespan 10\n"
+    old = run_tool([tool("qemu-x86_64"), "-cpu", "qemu64", made], folder)
+    assert (old.status, old.stdout) == (127, "") and "CPU ISA level is lower than required" in old.stderr
 
 
 def test_the_table_of_calls_of_the_page_has_each_function(top: pathlib.Path) -> None:
@@ -187,7 +202,9 @@ def test_the_library_exports_only_the_names_of_the_header(libpfs: Library) -> No
 
 
 def test_the_library_needs_only_the_c_library(libpfs: Library) -> None:
-    got = output_of([tool("readelf"), "--dynamic", "--wide", libpfs.path], libpfs.path.parent)
+    """And no executable stack."""
+    got = output_of([tool("readelf"), "--dynamic", "--segments", "--wide", libpfs.path], libpfs.path.parent)
+    assert re.findall(r"^ *GNU_STACK(?: +0x\w+){5} +([RWE]+)", got, re.MULTILINE) == ["RW"]
     assert re.findall(r"\(NEEDED\).*\[(.*)\]", got) == ["libc.so.6"]
     assert re.findall(r"\(SONAME\).*\[(.*)\]", got) == ["libpfs.so.1"]
     assert "TEXTREL" not in got
@@ -284,13 +301,9 @@ Call = tuple[str, Arguments]
 
 def shop_of(random: Random) -> Instance:
     """A random instance, often one with many equal sums."""
-    most_jobs, most_machines = random.choice([(9, 5), (9, 5), (12, 26)])
-    notes = [random.choice(fuzz.NOTES) for _ in range(3)]
-    shop = Instance(random.randint(1, most_jobs), random.randint(1, most_machines), notes)
-    most = random.choice([0, 1, 3, 9, 99, 3_000, 65_534, 65_535, 65_536, 1_000_000_000])
-    times = random.choice([range(most + 1), [0, 0, 1, most]])
-    shop.times = [random.choices(times, k=shop.jobs) for _ in range(shop.machines)]
-    return shop
+    writer = fuzz.Writer(random)
+    writer.is_great = False
+    return writer.shop()
 
 
 def given(shop: Instance) -> Arguments:

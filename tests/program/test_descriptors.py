@@ -1,6 +1,7 @@
 """Unusual descriptors and files: closed descriptors, pipes whose other end is closed or waits, folders, devices,
 signals, and the longest command lines that Linux allows. Each run is checked for its exact output, errors and
 status."""
+import fcntl
 import os
 import pathlib
 import resource
@@ -9,14 +10,17 @@ import socket
 from collections.abc import Iterator
 
 import pytest
+from fuzz import unread
 from support.files import FILES, THREE_JOBS, USAGE
 from support.lines import ANSWERS, CHECK, EACH, SHORT, SOLVE, VALUE, WITH_INSTANCE, WITH_ORDER, refused, unwritten
-from support.pipes import PAGE, opened_for_writing, page_pipe, unread, wait_for
 from support.program import Program, Ran, Words, ended
+from support.tools import wait_until
 
 ELEVEN = ANSWERS[VALUE]
 # The longest word that Linux passes on, without its end, and how many words are many.
 LONGEST_WORD = 131_071
+# The least size of a pipe.
+PAGE = 4_096
 MANY = 100_000
 
 # The signals that kill a program by default.
@@ -69,26 +73,6 @@ def test_an_odd_input(pfs: Program, folder: pathlib.Path, path: str, flags: int,
     os.close(descriptor)
 
 
-@pytest.fixture
-def pipe() -> Iterator[tuple[int, int]]:
-    """The ends of a pipe, which are closed after the test."""
-    ends = os.pipe()
-    yield ends
-    for end in ends:
-        os.close(end)
-
-
-def test_a_pipe_that_has_nothing_yet(pfs: Program, folder: pathlib.Path, pipe: tuple[int, int]) -> None:
-    """A read that would have to wait and doesn't fails."""
-    os.set_blocking(pipe[0], False)
-    assert pfs.run([], folder, pipe[0]) == refused("read failed")
-
-
-def test_a_pipe_that_stays_open(pfs: Program, folder: pathlib.Path, pipe: tuple[int, int]) -> None:
-    os.write(pipe[1], THREE_JOBS)
-    assert pfs.run([], folder, pipe[0]) == ELEVEN
-
-
 # Files that are named by the descriptors that the program was started with
 
 @pytest.mark.parametrize("path", ["/dev/stdin", "/dev/fd/0", "/proc/self/fd/0"])
@@ -96,16 +80,6 @@ def test_a_pipe_that_stays_open(pfs: Program, folder: pathlib.Path, pipe: tuple[
 def test_a_path_of_the_input(pfs: Program, worked: pathlib.Path, line: str, name: str, path: str) -> None:
     with open(worked / name, "rb") as file:
         assert pfs.run(line.replace(name, path), worked, file) == ANSWERS[line]
-
-
-def test_a_pipe_by_its_number(pfs: Program, folder: pathlib.Path, pipe: tuple[int, int]) -> None:
-    os.write(pipe[1], THREE_JOBS)
-    line = VALUE.replace("three", f"/dev/fd/{pipe[0]}")
-    assert pfs.run(line, folder, pass_fds=(pipe[0],)) == ELEVEN
-
-
-def test_a_number_that_is_not_open(pfs: Program, folder: pathlib.Path) -> None:
-    assert pfs.run(VALUE.replace("three", "/dev/fd/99"), folder) == refused("cannot open")
 
 
 # Paths of files that aren't regular
@@ -181,52 +155,33 @@ def test_a_pipe_without_a_reader_is_a_failed_write(pfs: Program, worked: pathlib
     assert pfs.run(line, worked, stdout=unread_end, restore_signals=restores) == unwritten(0)
 
 
-def test_no_reader_of_errors(pfs: Program, worked: pathlib.Path, unread_end: int) -> None:
-    assert pfs.run("value --layout taillard mixed", worked, stderr=unread_end) == Ran(b"", b"", 2)
-
-
 @BOTH_WAYS
 def test_a_reader_that_leaves(pfs: Program, folder: pathlib.Path, restores: bool) -> None:
     """The reader leaves once the pipe is full: what the pipe holds went out."""
-    read_end, write_end = page_pipe()
+    read_end, write_end = os.pipe()
+    assert fcntl.fcntl(write_end, fcntl.F_SETPIPE_SZ, PAGE) == PAGE
     child = pfs.start("generate 500 20 1", folder, stdout=write_end, restore_signals=restores)
     os.close(write_end)
-    wait_for("the pipe is full", lambda: unread(read_end) == PAGE)
+    wait_until(lambda: unread(read_end) == PAGE, "the pipe is full")
     os.close(read_end)
     assert ended(child) == unwritten(PAGE)
-
-
-def test_a_pipe_that_does_not_wait(pfs: Program, folder: pathlib.Path) -> None:
-    """No write is repeated."""
-    read_end, write_end = page_pipe()
-    os.set_blocking(write_end, False)
-    assert pfs.run("generate 500 20 1", folder, stdout=write_end) == unwritten(PAGE)
-    os.close(read_end)
-    os.close(write_end)
 
 
 # Named pipes
 
 @pytest.fixture
-def piped(worked: pathlib.Path) -> pathlib.Path:
-    """The worked files and a named pipe."""
+def piped(worked: pathlib.Path) -> Iterator[int]:
+    """The end of a named pipe among the worked files, which stays open."""
     os.mkfifo(worked / "pipe")
-    return worked
+    end = os.open(worked / "pipe", os.O_RDWR)
+    yield end
+    os.close(end)
 
 
-def test_a_named_pipe_that_stays_open(pfs: Program, piped: pathlib.Path) -> None:
+def test_a_named_pipe_that_stays_open(pfs: Program, worked: pathlib.Path, piped: int) -> None:
     """The program ends after the block, and doesn't wait for the end of the file."""
-    child = pfs.start("value --layout taillard pipe", piped)
-    writer = opened_for_writing(piped / "pipe")
-    os.write(writer, THREE_JOBS + b"what follows isn't looked at")
-    assert ended(child) == ELEVEN
-    os.close(writer)
-
-
-def test_a_named_pipe_with_nothing(pfs: Program, piped: pathlib.Path) -> None:
-    child = pfs.start("value --layout taillard pipe", piped)
-    os.close(opened_for_writing(piped / "pipe"))
-    assert ended(child) == refused("no block, found 0", 2)
+    os.write(piped, THREE_JOBS + b"what follows isn't looked at")
+    assert pfs.run("value --layout taillard pipe", worked) == ELEVEN
 
 
 # Signals
@@ -243,15 +198,13 @@ def no_core() -> None:
 
 
 @pytest.mark.parametrize("number", [*ENDING, signal.SIGKILL], ids=lambda number: str(number.name))
-def test_a_signal_kills_the_program(pfs: Program, piped: pathlib.Path, number: signal.Signals) -> None:
+def test_a_signal_kills_the_program(pfs: Program, worked: pathlib.Path, piped: int, number: signal.Signals) -> None:
     """A program that waits is killed and prints nothing."""
-    child = pfs.start("value --layout taillard pipe", piped, preexec_fn=as_usual)
-    writer = opened_for_writing(piped / "pipe")
-    os.write(writer, THREE_JOBS[:100])
-    wait_for("the pipe is read", lambda: unread(writer) == 0)
+    child = pfs.start("value --layout taillard pipe", worked, preexec_fn=as_usual)
+    os.write(piped, THREE_JOBS[:100])
+    wait_until(lambda: unread(piped) == 0, "the pipe is read")
     child.send_signal(number)
     assert ended(child) == Ran(b"", b"", -number)
-    os.close(writer)
 
 
 @pytest.mark.parametrize("restores, answer", [(False, unwritten(5)), (True, Ran(b"", b"", -signal.SIGXFSZ))],

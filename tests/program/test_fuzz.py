@@ -23,8 +23,7 @@ ENV = {name: value for name, value in os.environ.items() if name not in ("MAKEFL
 @pytest.mark.parametrize("share", range(SHARES), ids=lambda share: f"share {share}")
 def test_the_programs_agree_on_random_cases(pfs: Program, share: int, capsys: pytest.CaptureFixture[str]) -> None:
     numbers = itertools.count(1 + share, SHARES)
-    agree = fuzz.search(pfs.path, 1, SECONDS, numbers, True)
-    assert agree, capsys.readouterr().out
+    assert fuzz.search(pfs, 1, SECONDS, numbers), capsys.readouterr().out
 
 
 def run_fuzzer(folder: pathlib.Path, *words: str) -> Ran:

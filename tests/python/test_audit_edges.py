@@ -12,6 +12,7 @@ import numpy as np
 import pandas
 import pfs
 import pytest
+from pfs._causes import Causes, Stated
 from pfs._orders import order_in
 from pfs.experiments import ExperimentError
 from pfs.experiments.__main__ import command_line
@@ -127,7 +128,7 @@ def test_one_reader_of_orders(order: str, tmp_path: pathlib.Path) -> None:
 @pytest.mark.parametrize("order", [[2, 1, 3], (2.0, 1.0, 3.0), np.array([2.0, 1.0, 3.0]), np.array([2, 1, 3], np.uint8),
                                    ["J2", "J1", "J3"], pandas.Series([2, 1, 3]), iter([2, 1, 3])])
 def test_lists_of_jobs(order: Any) -> None:
-    assert pfs.audit(rows_of(order), [SMALL])[0].valid
+    assert pfs.audit(rows_of(order), [SMALL]) == [(0, "small", "", 10, 10, 10, True, "valid and optimal", "", "")]
 
 
 @pytest.mark.parametrize("order", [*UNREADABLE, {2, 1, 3}, {2: 1}, b"213", [2.5, 1, 3], [True, 0, 3], [[2, 1, 3]],
@@ -416,6 +417,17 @@ def test_orders_of_another_size_are_tried_on_instances_of_that_size() -> None:
     assert found.verdict == "wrong size"
     assert found.why == f"20 jobs, but the instance has 50; the order takes {stated} on ta001"
     assert "; the order" not in pfs.audit([row("ta031", [0] * 20, stated), table[1]], first=1)[0].why
+
+
+def test_how_many_causes_are_sought() -> None:
+    """Three hints, 50 other instances, 5,000 pairs of an order and 500,000 of all."""
+    rows = [Stated(f"row {at}", f"i{at}", "", 60, pfs.Instance([[at], [60 - at]])) for at in range(53)]
+    causes = Causes(rows)
+    assert causes.of(rows[0], [0, 1], 70) == [f"the order takes 60 on i{at}" for at in (1, 2, 3)]
+    assert len([*causes.on_others(rows[0], [0, 1])]) == 50
+    many = [Stated("", "", "", count, pfs.Instance([[1]] * count)) for count in (100, 101)]
+    assert [len(causes.pairs(row, [*range(row.makespan)])) for row in many] == [4_950, 100]
+    assert causes.orders == 500_000 - 4_950
 
 
 @pytest.mark.seconds(8)

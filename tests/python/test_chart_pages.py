@@ -636,13 +636,17 @@ def test_the_sheet_of_a_day_has_its_jobs(chromium: str, tmp_path: pathlib.Path) 
 
 
 def test_the_lists_are_there_without_scripts(tmp_path: pathlib.Path) -> None:
-    """Names are escaped, and nothing hides them but a script."""
-    plan(["<b>", *NAMES[1:]]).plot(tmp_path / "chart.html", calendar=DATES, title="KW <48>")
+    """Names are escaped by `lists_of`, and nothing hides the lists but a script."""
+    shop = pfs.Instance([[60, 0], [120, 90]], job_names=["<b>", "c"], machine_names=["saw", "drill"], unit="min")
+    calendar = pfs.Calendar("2026-11-30T12:30", "06:00-14:00")
+    shop.schedule([1, 0]).plot(tmp_path / "chart.html", calendar=calendar, title="KW <48>")
     text = (tmp_path / "chart.html").read_text("utf-8")
     lists = text[text.index('<div id="lists">'):text.index('<script type="application/json"')]
-    assert lists.count("<table>") == 3 and "<td>&lt;b&gt;<" in lists and "hidden" not in lists
-    rows = re.findall(r"<tr>(?:<td[^>]*>([^<]*))(?:<td[^>]*>([^<]*))(?:<td[^>]*>([^<]*))(?:<td[^>]*>([^<]*))", lists)
-    assert rows[0] == ("1", "&lt;b&gt;", "06:00", "Sat 2026-12-05 08:40")
+    assert lists.count("<table>") == lists.count("</tbody></table>") == 2 and "hidden" not in lists
+    assert [part for part in re.split(r"<[^>]*>|\n", lists) if part] == [
+        "Machine saw", "place", "job", "start", "end", "Mon 2026-11-30", "1", "c", "12:30", "Tue 2026-12-01 06:30",
+        "Tue 2026-12-01", "2", "&lt;b&gt;", "06:30", "07:30",
+        "Machine drill", "place", "job", "start", "end", "Tue 2026-12-01", "1", "c", "06:30", "08:00"]
     assert '<div id="drawn" hidden>' in text and "<noscript>" in text and "<h1>KW &lt;48&gt;</h1>" in text
 
 

@@ -129,9 +129,55 @@ def test_width_dpi_title_and_axes_of_ones_own(tmp_path: pathlib.Path) -> None:
         a_schedule().plot("chart.html", ax=axes[0])
 
 
-def test_the_narrowest_scale_has_marks() -> None:
-    axis, = pfs.Instance([[90]], unit="h:mm").schedule([0]).plot(width=2, title=False).axes
-    assert [mark.get_text() for mark in axis.get_xticklabels()] == ["0:00"]
+def test_the_lines_of_a_picture() -> None:
+    """How wide they are, in points, and which of them cover others. No text is a formula."""
+    calendar = pfs.Calendar("2026-11-30T06:00", shifts="06:00-10:00,11:00-16:00")
+    shop = pfs.Instance([[600, 60], [60, 600]], unit="min", job_names=["$a$", "b"], machine_names=["$x$", "$y$"])
+    figure = shop.schedule([0, 1]).plot(critical=True, bound=True, calendar=calendar, title="$t$")
+    axis, = figure.axes
+    due: dict[str, tuple[Any, ...]] = {
+        **{f"strip-{at}": (1, True, 0, True) for at in (1, 2)},
+        **{f"machine-{at}": (1, True, 1, 0.5, True) for at in (1, 2)},
+        **{f"critical-{at}": (3, False, 0, 2, True) for at in (1, 2)},
+        "days": (2.5, True, 0, 0.9, True), "shifts": (2.5, True, 0, 0.6, False)}
+    assert {each.get_gid(): (each.get_zorder(), each.get_clip_on(), *each.get_edgecolor()[:, 0], *each.get_linewidth(),
+                             each.get_linestyle()[0][1] is None) for each in axis.collections} == due
+    right, = axis.child_axes
+    texts = [*axis.texts[:-1], axis.title, axis.xaxis.label, *axis.get_yticklabels(), *figure.texts]
+    assert not any(text.get_parse_math() for text in texts) and axis.title._linespacing == 1.3
+    assert {(text.get_zorder(), text.get_clip_on()) for text in axis.texts[:-1]} == {(4, True)}
+    assert [text.get_size() for text in (axis.xaxis.label, axis.yaxis.label, axis.texts[-1])] == [9, 9, 9]
+    assert [name for each in (axis, right) for name, spine in each.spines.items() if spine.get_visible()] == ["bottom"]
+    assert [each.yaxis.get_major_ticks()[0].tick1line.get_markersize() for each in (axis, right)] == [0, 0]
+
+
+@pytest.mark.parametrize(("key", "length", "label"), [
+    (True, 82, ("", 7)), (True, 83, ("1", 7)), (True, 465, ("1", 7)), (True, 466, ("1 abcd\u2026", 7)),
+    (True, 763, ("1 abcdefgh\u2026", 7)), (True, 764, ("abcdefghij", 8)), (False, 642, ("", 7)),
+    (False, 643, ("abcdefghij", 7))])
+def test_what_fits_a_bar(key: bool, length: int, label: tuple[str, int]) -> None:
+    """Letters of 8 points are 0.66 of this wide, those of 7 points 0.64. An inch has 72 points, and is 1,000 units."""
+    chart = _drawing.Chart([1], np.array([[0]]), np.array([[10_500]]), ["abcdefghij"], ["saw"], key=key)
+    assert chart.label_of(0, length) == label
+
+
+@pytest.mark.parametrize(("width", "jobs", "name", "item", "rows", "columns"), [
+    (12, 12, "x" * 24, f"12 {'x' * 24}", 2, 6), (12, 12, "x" * 25, f"12 {'x' * 25}", 3, 4),
+    (2, 2, "x" * 40, f"2 {'x' * 18}\u2026", 2, 1)])
+def test_what_fits_a_key(width: int, jobs: int, name: str, item: str, rows: int, columns: int) -> None:
+    ends = np.arange(1, jobs + 1)[:, None]
+    chart = _drawing.Chart([*range(1, jobs + 1)], ends - 1, ends, [name] * jobs, ["y" * 15], width, key=True)
+    assert [len(column) for column in chart.key_columns] == [rows] * columns and chart.key_columns[-1][-1] == item
+    assert (chart.key_height, chart.beside) == pytest.approx((0.2 + 0.14 * rows, 1.85 if width == 12 else 1.5))
+
+
+def test_marks_of_hours_and_minutes() -> None:
+    cases = [(2, 90, 120), (100, 90, 2), (12, 9, 1), (12, 10, 2), (12, 18, 2), (12, 19, 5), (12, 45, 5), (12, 46, 10),
+             (12, 90, 10), (12, 91, 15), (12, 135, 15), (12, 136, 30), (12, 270, 30), (12, 271, 60), (12, 541, 120)]
+    for width, makespan, step in cases:
+        axis, = pfs.Instance([[makespan]], unit="h:mm").schedule([0]).plot(width=width, title=False, dpi=20).axes
+        assert [mark.get_text() for mark in axis.get_xticklabels()] == [
+            f"{at // 60}:{at % 60:02}" for at in range(0, makespan + 1, step)] and step in _chart.MINUTES, makespan
 
 
 def test_a_page_lists_so_many_operations() -> None:
@@ -156,7 +202,9 @@ def test_jupyter_shows_the_chart(monkeypatch: pytest.MonkeyPatch) -> None:
     ({"width": float("nan")}, ValueError, "width must be from 2 to 100 inches, not nan"),
     ({"width": "4"}, TypeError, "width must be a number of inches, not '4'"),
     ({"width": True}, TypeError, "width must be a number of inches, not True"),
-    ({"dpi": 10}, ValueError, "dpi must be from 20 to 2,400, not 10"),
+    ({"width": 100.1}, ValueError, "width must be from 2 to 100 inches, not 100.1"),
+    ({"dpi": 19}, ValueError, "dpi must be from 20 to 2,400, not 19"),
+    ({"dpi": 2401}, ValueError, "dpi must be from 20 to 2,400, not 2401"),
     ({"dpi": 99.5}, TypeError, "dpi must be an integer"),
     ({"title": 3}, TypeError, "title must be True, False or a text, not 3"),
     ({"ax": 3}, TypeError, "ax must be matplotlib axes, not 3")])
@@ -227,8 +275,6 @@ def test_pictures_without_a_key_and_with_names_that_are_cut_in_it() -> None:
     assert texts_of(many)[:2] == ({}, [])
     bars, key, _ = texts_of(plan(), ax=matplotlib.figure.Figure(figsize=(12, 3)).subplots())
     assert key == [] and {name for each in bars.values() for name in each} <= {*NAMES}, "no place without a key"
-    narrow = matplotlib.figure.Figure(figsize=(4, 3)).subplots()
-    assert texts_of(plan(["a table of oak for twelve", *NAMES[1:]]), ax=narrow)[0] == {}, "wider than their bars"
     names = ["x" * 300, *NAMES[1:]]
     _, key, figure = texts_of(plan(names), width=4)
     assert key[0].startswith("1 xxx") and key[0].endswith("x\u2026") and len(key[0]) < 100

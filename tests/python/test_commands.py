@@ -1,5 +1,4 @@
 """`python3 -m pfs search` and `python3 -m pfs plan`."""
-import csv
 import datetime
 import fcntl
 import hashlib
@@ -19,10 +18,11 @@ import time
 import types
 from collections.abc import Callable, Iterator
 from typing import Any
+from unittest import mock
 
 import pfs
 import pytest
-from pfs import _commands, _library, _rounds, _search, _state
+from pfs import _commands, _library, _rounds, _search, _state, _wording
 from pfs._cli import Misused, version
 from support import plainly
 from support.commands import ended, without_summary
@@ -70,7 +70,7 @@ def rounds_in(folder: pathlib.Path) -> int:
     if not path.exists():
         return -1
     text = path.read_text()
-    found = re.fullmatch(r'\{"state": .*"rounds": (\d+), .*\}\n', text)
+    found = re.fullmatch(r'\{"state": "pfs search 2", .*"rounds": (\d+), .*\}\n', text)
     assert found, f"a state that isn't whole: {text[:200]!r}"
     return int(found[1])
 
@@ -317,7 +317,8 @@ def test_progress_is_reported_on_a_terminal_only(folder: pathlib.Path) -> None:
 # and how long it still takes: by its own rounds, and not beyond the limit.
 LEFT: list[tuple[float | None, int | None, int, int, float, str]] = [
     (None, 400, 100, 200, 10.0, "0:00:20"), (5.0, None, 0, 7, 2.0, "0:00:03"), (3.0, 1_000_000, 0, 1, 1.0, "0:00:02"),
-    (3.0, 1_000_000, 0, 1, 2.5, "0:00:01"), (3.0, 1_000_000, 0, 1, 4.0, "0:00:00")]
+    (3.0, 1_000_000, 0, 1, 2.5, "0:00:01"), (3.0, 1_000_000, 0, 1, 4.0, "0:00:00"),
+    (10_000_002.0, None, 0, 1_007, 3.0, "2777:46:39"), (10_000_003.0, None, 0, 7, 3.0, "")]
 
 
 @pytest.mark.parametrize(("limit", "rounds", "begun", "done", "spent", "left"), LEFT)
@@ -325,7 +326,7 @@ def test_the_time_that_is_left(monkeypatch: pytest.MonkeyPatch, limit: float | N
                                done: int, spent: float, left: str) -> None:
     now, lines = [0.0], list[str]()
     monkeypatch.setattr(_commands, "time", types.SimpleNamespace(monotonic=lambda: now[0]))
-    search = _search.Search(pfs.taillard(1), None, begun, None, 0, 0)
+    search = _search.Search(pfs.Instance(pfs.taillard(1).times, unit="h:mm"), None, begun, None, 0, 0)
     progress = _commands.ProgressLine(search, rounds, limit)
     monkeypatch.setattr(progress, "shown", True)
     monkeypatch.setattr(progress, "show", lines.append)
@@ -334,7 +335,41 @@ def test_the_time_that_is_left(monkeypatch: pytest.MonkeyPatch, limit: float | N
     progress.update(done, 1278)
     assert limit or not lines[0].endswith("left"), "nothing is known of the time of a round yet"
     of = "" if rounds is None else f" of {rounds:,}"
-    assert lines[1].startswith(f"round {done}{of}, makespan ") and lines[1].endswith(f", {left} left"), lines
+    assert lines[1] == f"round {done:,}{of}, makespan 21:18, bound 0:00{left and f', {left} left'}"
+
+
+def test_the_progress_of_a_proof(monkeypatch: pytest.MonkeyPatch) -> None:
+    lines, asked = list[str](), list[Any]()
+    search, call = _search.Search(pfs.taillard(1), None, 0, None, 0, 0), getattr(_commands, "proved_for")
+    monkeypatch.setattr(_commands, "proved", lambda *given: asked.append((*given[:3], given[3]())))
+    monkeypatch.setattr(_commands, "time", types.SimpleNamespace(monotonic=iter([7.0, 7.0, 9.0]).__next__))
+    monkeypatch.setattr(_commands.ProgressLine, "show", lambda _, line: lines.append(line))
+    assert call(5, search, "best", [2]) == (None, None) and asked == [(search.shop, "best", 5, True)]
+    assert lines == ["proving that no order is shorter, 0:00:03 left", ""]
+
+
+def test_the_ending_of_a_schedule_says_how_it_is_written() -> None:
+    shop, calendar, best = mock.Mock(), pfs.Calendar("2026-11-30"), pfs.Solution([0], 1)
+    for path in ("a.XLSX", "b.ICS", "c.csv"):
+        _commands.write_schedule(shop, best, path, ";", True, calendar, "de")
+    same = {"calendar": calendar, "language": "de"}
+    assert shop.schedule.return_value.mock_calls == [
+        mock.call.to_xlsx("a.XLSX", **same), mock.call.to_ics("b.ICS", calendar),
+        mock.call.to_csv("c.csv", ";", mark=True, **same)]
+
+
+@pytest.mark.parametrize(("ending", "takes"), [
+    *((each, 2) for each in ("", ".csv", ".tsv", ".TXT", ".xlsx")), (".ics", 1),
+    *((each, 0) for each in (".cs", ".ts", ".tx", ".xls", ".ic"))])
+def test_the_endings_of_schedules_and_tables(tmp_path: pathlib.Path, ending: str, takes: int) -> None:
+    path = str(tmp_path / f"a{ending}")
+    for at, what in enumerate(("schedule", "table")):
+        outputs = [path][:1 - at], [path][:at]
+        if at < takes:
+            _commands.check_outputs([], outputs[0], [], outputs[1])
+            continue
+        with pytest.raises(ValueError, match=f"a{ending}: the name of a {what} ends with .csv"):
+            _commands.check_outputs([], outputs[0], [], outputs[1])
 
 
 def asked(folder: pathlib.Path, monkeypatch: pytest.MonkeyPatch, words: list[str]) -> dict[str, Any]:
@@ -342,6 +377,7 @@ def asked(folder: pathlib.Path, monkeypatch: pytest.MonkeyPatch, words: list[str
     found: dict[str, Any] = {}
 
     def searched(search: Any, rounds: int | None, seconds: float | None, *_: Any) -> tuple[pfs.Solution, None]:
+        assert search.first == 0
         found.update(take=search.take, passes=search.passes, seed=search.seed, rounds=rounds, seconds=seconds,
                      block=search.shop.to_text(), prove=0,
                      method="iterated-greedy" if search.more and search.more.partial else "solve")
@@ -751,6 +787,8 @@ REJECTED = [
     (f"{PLAN} --compare order.html --chart order.html", 3, f"order.html {READ}"),
     (f"{PLAN} --schedule out.ods", 3, "out.ods: the name of a schedule ends with .csv, .ics or .xlsx"),
     (f"{PLAN} --schedule out.html", 3, "out.html: the name of a schedule ends with .csv, .ics or .xlsx"),
+    (f"{PLAN} --schedule out.xlsx", 4,
+     "writing a workbook needs openpyxl (Debian: python3-openpyxl; pip install 'pfs[workbooks]')"),
     (f"{PLAN} --schedule none/out.csv", 4, "none/out.csv" + NOT_THERE),
     (f"{PLAN} --chart none/out.svg", 4, "none/out.svg" + NOT_THERE),
     (f"{PLAN} --chart ok.html --chart none/out.html", 4, "none/out.html" + NOT_THERE),
@@ -771,6 +809,8 @@ REJECTED = [
      f"argument --days: 'mo-fr' is not a day of the week such as mon, or days such as mon-fri {HELP}"),
     (f"{PLAN} {BEGIN} --closed 24.12.", 3,
      f"argument --closed: '24.12.' is not a date such as 2026-12-24, or dates such as 2026-12-24..2027-01-01 {HELP}"),
+    (f"{PLAN} --down drill", 3,
+     f"argument --down: 'drill' is not a machine and a time such as drill=2026-12-01T13:00 {HELP}"),
     (f"{PLAN} --shift 06:00-14:00", 3, "--shift needs --begin, which says when the work begins"),
     (f"{PLAN} --days mon-fri", 3, "--days needs --begin, which says when the work begins"),
     (f"{PLAN} --closed 2026-12-24", 3, "--closed needs --begin, which says when the work begins"),
@@ -788,10 +828,6 @@ BAD_TABLES = [
     ("job;saw\na;1.000\n", "", "cell B2, column 'saw': '1.000' may be 1000, or have decimals: leave out thousands "
      "separators, or say which decimal sign the table has (--decimal point or --decimal comma)"),
     ("job [min];saw\na;1\n", "--unit h", "cell A1: the times are in min, and --unit is h: use one unit"),
-    ("job [min];saw\na;1:30\n", "", "cell A1: times such as 1:30 may be hours and minutes, or minutes and "
-     "seconds: write [h:mm] instead of min, or numbers"),
-    ("job;saw;eta\na;1;soon\n", "", "cell C2, column 'eta': 'soon' isn't a time: leave the column out if it is no "
-     "machine, or say which columns are machines (--machines)"),
     ("job;saw;drill;all\na;1;2;3\nb;3;4;7\n", "", "cell D1: the column 'all' has the sums of the columns "
      "before: leave it out, or allow totals (--allow-totals)"),
 ]
@@ -805,9 +841,10 @@ CASES = [*((words, status, error, TABLE, "") for words, status, error in REJECTE
 @pytest.mark.parametrize(("words", "status", "error", "table", "order"), CASES)
 def test_what_is_rejected_before_the_search(folder: pathlib.Path, monkeypatch: pytest.MonkeyPatch, words: str,
                                             status: int, error: str, table: str, order: str) -> None:
-    """No file changes. There is no matplotlib here."""
+    """No file changes. There is no matplotlib here, and no openpyxl."""
     modules: dict[str, Any] = sys.modules
-    monkeypatch.setitem(modules, "matplotlib", None)
+    for name in ("matplotlib", "openpyxl"):
+        monkeypatch.setitem(modules, name, None)
     monkeypatch.setattr(_commands, "searched", None)
     (folder / "link.csv").symlink_to("times.csv")
     files = {"times.csv": table, "plain.csv": TABLE.replace(" [h]", ""), "order": order, "order.html": "table\n",
@@ -819,26 +856,20 @@ def test_what_is_rejected_before_the_search(folder: pathlib.Path, monkeypatch: p
     assert {path: path.read_bytes() for path in folder.iterdir()} == before
 
 
+def test_messages_name_options_and_controls_that_there_are() -> None:
+    options, controls = zip(*_wording.WORDS.values())
+    assert {option.split()[0] for option in options} <= _commands.plan_words()._option_string_actions.keys()
+    page = "".join((TOP / "python/src/pfs/web/static" / name).read_text() for name in ("page.html", "page.js"))
+    for name in (control.removesuffix(", above the table").strip('"') for control in controls):
+        assert re.search(rf'[>"]{name}[ <,"]', page) or name in ("the tick for sums", "the ticks above the columns")
+
+
 def test_what_the_messages_propose_is_taken(folder: pathlib.Path) -> None:
     for table, words in (("job;saw\na;1.000\n", "--decimal comma"), ("job [min];saw\na;1\n", "--unit minutes"),
                          ("job;saw;drill\na;1;2\nb;3;4\nc;4;6\n", "--allow-totals"), ("job [h:mm];saw\na;1:30\n", ""),
                          ("job;1;2\nb;20;5\n", ""), ("job;saw;eta\na;1;soon\n", "--machines saw")):
         (folder / "times.csv").write_text(table)
         run(["plan", "times.csv", "--rounds", "0", *words.split()], folder)
-
-
-def test_a_workbook_is_planned(folder: pathlib.Path) -> None:
-    """From its table to its schedule, which is an order too."""
-    openpyxl = pytest.importorskip("openpyxl")
-    book = openpyxl.Workbook()
-    for row in csv.reader(TABLE.replace(",", ".").splitlines(), delimiter=";"):
-        book.active.append([float(cell) if cell[0].isdigit() else cell for cell in row])
-    book.save(folder / "times.xlsx")
-    words = ["plan", "times.xlsx", "--schedule", "out.xlsx"]
-    printed = run(words, folder)
-    assert printed == run(["plan", "times.xlsx", "--order", "out.xlsx"], folder)
-    (folder / "times.csv").write_text(TABLE)
-    assert printed == run(["plan", "times.csv"], folder)
 
 
 def test_pages_and_searches_need_no_other_package(folder: pathlib.Path) -> None:
@@ -853,15 +884,6 @@ def test_pages_and_searches_need_no_other_package(folder: pathlib.Path) -> None:
     assert child.returncode == 0, f"a plan with a page needs an optional package: {got.decode()}"
     assert printed.startswith(b"makespan ") and (folder / "page.html").stat().st_size > 0
     assert (folder / "out.csv").stat().st_size > 0
-
-
-@pytest.mark.parametrize("names", [["lamp; red", "lamp; blue", "chair"], ["a\tb", "c\td", "e"], [" =1+1", "=2", "-a"],
-                                   ["a; b\nc", "d", "e; f; g"]])
-def test_a_schedule_is_read_back(folder: pathlib.Path, names: list[str]) -> None:
-    table = "job,saw,drill\n" + "".join(f'"{name}",{3 - at},{at}\n' for at, name in enumerate(names))
-    (folder / "times.csv").write_text(table)
-    printed = run(["plan", "times.csv", "--schedule", "out.csv"], folder)
-    assert run(["plan", "times.csv", "--order", "out.csv"], folder) == printed
 
 
 @pytest.mark.parametrize("kind", [OSError, MemoryError, ImportError, ValueError])

@@ -137,20 +137,15 @@ def test_the_command_lines_of_a_page(page: pathlib.Path, files: pathlib.Path, pr
 
 @pytest.mark.seconds(15)
 def test_the_examples(tmp_path: pathlib.Path) -> None:
-    pytest.importorskip("pandas")
-    pytest.importorskip("matplotlib")
-    done = plainly.python(TOP / "python" / "examples" / "compare.py", "out", cwd=tmp_path)
+    done = plainly.python(TOP / "python" / "examples" / "compare.py", cwd=tmp_path)
     assert (done.returncode, done.stderr) == (0, "")
-    rows = [line.split(",") for line in (tmp_path / "out" / "compare.csv").read_text().splitlines()]
-    assert rows[0] == ["instance", "method", "makespan", "gap"] and len(rows) == 31
-    for name, method, makespan, gap in rows[1:]:
+    rows = [line.split(",") for line in done.stdout.splitlines()]
+    assert rows[0] == ["instance", "method", "makespan"] and len(rows) == 31
+    for name, method, makespan in rows[1:]:
         shop = pfs.taillard(int(name[2:]))
         if method == "NEH":
             assert int(makespan) == shop.neh().makespan
         assert shop.neh().makespan >= int(makespan) >= shop.bound()
-        assert float(gap) == pytest.approx(100 * (int(makespan) / shop.lower - 1), abs=0.001)
-        assert re.search(rf"^{name}\b.*\b{makespan}\b", done.stdout, re.MULTILINE)
-    assert (tmp_path / "out" / "compare.png").read_bytes().startswith(b"\x89PNG")
     script, shop = TOP / "python" / "examples" / "ig_temperature.py", pfs.taillard(1)
     shop.write(tmp_path / "ta001")
     for words, most in (("ta001", "1", "0"), shop.neh().makespan), (("ta001", "1", "2"), shop.upper):

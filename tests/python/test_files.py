@@ -19,6 +19,7 @@ import pytest
 from hypothesis import given
 from hypothesis import strategies as st
 from pfs import _search, _state
+from pfs._orders import order_in
 from support import files, plainly
 from support.plainly import written
 
@@ -103,7 +104,7 @@ def test_reads_of_a_few_bytes(most: int) -> None:
         pfs.read_order(endless)
     assert len(endless.left) == 70_006 - 65_537, "no more is read than one byte above the limit"
     nothing: Any = types.SimpleNamespace(read=lambda _: None)
-    with pytest.raises(BlockingIOError):
+    with pytest.raises(BlockingIOError, match="^the file is non-blocking and has no data yet: use a blocking one$"):
         pfs.read(nothing, "orlib")
 
 
@@ -116,25 +117,17 @@ def test_blocks_their_names_and_the_end_of_the_file(tmp_path: pathlib.Path) -> N
         pfs.read(path, "orlib", block=3)
     assert (fault.value.name, fault.value.place, fault.value.text) == ("no block", 2, "pfs: no block, found 2")
     assert fault.value.hint == ""
-    file = io.BytesIO(b"+++\n instance car1\n+++\n Carlier 1x1 instance\n 1 1\n 0 7\n+++\n"
+    file = io.BytesIO(b"+++\n instance c\xe4r1\n+++\n Carlier 1x1 instance\n 1 1\n 0 7\n+++\n"
                       b"Instance x\nINSTANCE reC05 \r\nby instance z2 of\n1 1\n0 3\ninstance 7\n1 1\n0 5\n1 1\n0 9\n")
     file.name = "dir/flowshop1"
     shops = pfs.read_all(file, "orlib")
-    assert [shop.name for shop in shops] == ["car1", "reC05", "flowshop1 3", "flowshop1 4"]
+    assert [shop.name for shop in shops] == ["c\ufffdr1", "reC05", "flowshop1 3", "flowshop1 4"]
     assert [int(shop.times[0, 0]) for shop in shops] == [7, 3, 5, 9]
     with pytest.raises(pfs.FileFault, match="truncated after 0 times"):
         pfs.read_all(io.BytesIO((TWO_BLOCKS + "1 1\n").encode()), "orlib")
     with pytest.raises(pfs.FileFault, match="no block, found 0"):
         pfs.read_all(io.BytesIO(b"nothing\n"), "orlib")
     assert len(pfs.read_all(io.BytesIO(b"1 1\n0 7\n" * 1000), "orlib")) == 1000
-
-
-@pytest.mark.parametrize(("text", "first", "due"), [
-    ("2, 1, 3", 1, [1, 0, 2]), ("1 0 2", 0, [1, 0, 2]), ("[2;1;3]", 1, [1, 0, 2]), ("(2,1 , 3,)\n", 1, [1, 0, 2]),
-    ("  {01\t02\n3}  ", 1, [0, 1, 2]), ("0", 0, [0]), ("1", 1, [0])])
-def test_orders_of_papers(text: str, first: int, due: list[int]) -> None:
-    order = pfs.parse_order(text, first=first)
-    assert order.tolist() == due and order.dtype == "int64"
 
 
 @pytest.mark.parametrize(("text", "first", "kind", "why"), [
@@ -423,7 +416,7 @@ def test_a_fault_has_its_line_and_column(text: str, line: int, column: int, why:
     assert (fault.value.line, fault.value.column) == (line, column) and fault.value.text.startswith(why)
 
 
-def test_there_is_one_block_and_a_limit_of_bytes(monkeypatch: pytest.MonkeyPatch) -> None:
+def test_there_is_one_block_and_a_limit_of_bytes(tmp_path: pathlib.Path, monkeypatch: pytest.MonkeyPatch) -> None:
     with pytest.raises(ValueError, match="block must be from 1 to 1, not 2"):
         pfs.read(io.BytesIO(b"1 1\n7\n"), "matrix", 2)
     with pytest.raises(ValueError, match="layout must be 'taillard' or 'orlib', not 'matrix'"):
@@ -432,8 +425,12 @@ def test_there_is_one_block_and_a_limit_of_bytes(monkeypatch: pytest.MonkeyPatch
         pfs.read(io.BytesIO(b"1 1\n7\n"), "matrices")
     monkeypatch.setattr("pfs._library.LONGEST_INPUT", 8)
     assert matrix_of("1 1\n700\n") == pfs.Instance([[700]])
-    with pytest.raises(pfs.TableFault, match="the file has more than 8 bytes"):
+    with pytest.raises(pfs.TableFault, match="^: line 1, the file has more than 8 bytes$"):
         matrix_of("1 1\n7000\n")
+    shop = pfs.Instance([[1]], job_names=["the job"])
+    assert order_in(written(tmp_path, "the job\n"), shop).jobs == [0]
+    with pytest.raises(pfs.TableFault, match="file: line 1, the file has more than 8 bytes$"):
+        order_in(written(tmp_path, "the job\n\n"), shop)
 
 
 # Each file that the package writes is whole, the old one or the new one, and never written through a planted link

@@ -2,6 +2,7 @@
 job's number if that fits. The tests look at the figure that matplotlib saves. An invalid time table is rejected, and no
 file is left."""
 import itertools
+import math
 import os
 import pathlib
 import random
@@ -12,9 +13,11 @@ from unittest import mock
 
 import numpy
 import pytest
+from hypothesis import given
+from hypothesis import strategies as st
 from pfs import _drawing, _gantt
 from support import second_program
-from support.colours import contrast, hexadecimal, least_difference
+from support.colours import contrast, hexadecimal, least_difference, seen, turn
 from support.files import generated
 from support.large import run_limited
 from support.lines import TIME_TABLE
@@ -33,8 +36,6 @@ BEGINNINGS = {"svg": b"<?xml", "png": b"\x89PNG\r\n", "pdf": b"%PDF-"}
 Schedule = list[list[tuple[int, int]]]
 
 BAD = {
-    "an empty line": "\n",
-    "a verdict": "wrong size\norder 2\njobs 3\n",
     "another line after it": THREE + "makespan 10\n",
     "carriage returns": THREE.replace("\n", "\r\n"),
     "two blanks": THREE.replace(" 9 10", "  9 10"),
@@ -60,7 +61,6 @@ BAD_WORDS = {
     "no dots": ["--dpi", "0", "table", "picture.svg"],
     "more pixels than memory has room for": ["--width", "50", "--dpi", "2400", "table", "picture.svg"],
     "a unit with a line end": ["--unit", "a\nb", "table", "picture.svg"],
-    "a unit with a byte that XML doesn't have": ["--unit", "a\x01b", "table", "picture.svg"],
     "such an option": ["--x\x1b[2J", "table", "picture.svg"],
     "a name that is not UTF-8": ["table", os.fsdecode(b"ch\xe4rt.gif")],
 }
@@ -232,13 +232,6 @@ def colours_of(case: Case, picture: Picture) -> dict[int, set[str]]:
     return found
 
 
-def test_a_jobs_colour_is_that_of_its_number_and_not_of_its_place(folder: pathlib.Path) -> None:
-    times = [[3, 2], [2, 5], [4, 1], [1, 1]]
-    cases = [Case("", order, schedule_of([times[job - 1] for job in order])) for order in ([1, 2, 3, 4], [3, 1, 4, 2])]
-    found = [colours_of(case, case.drawn(folder)) for case in cases]
-    assert found[0] == found[1], "colours of the same jobs in another order"
-
-
 # How much the colours of jobs differ, as the page says.
 COLOURS = re.search(r"Any two of up to (\d+) jobs have colours that differ by ([\d.]+) or more \(CIEDE2000; of (\d+) "
                     r"jobs by ([\d.]+)\).* Of more jobs, neighbours in the order differ by ([\d.]+) or more",
@@ -272,6 +265,24 @@ def test_neighbours_of_many_jobs_are_distinguishable(jobs: int, folder: pathlib.
         least = min(map(least_difference, fills, fills[apart:]))
         assert least >= OF_NEIGHBOURS, f"colours of jobs that are {apart} apart differ by {least}"
     assert min(least_difference(fill, IDLE) for fill in fills) >= 5
+
+
+def test_many_jobs_have_each_hue_and_three_lightnesses() -> None:
+    fills = _drawing.colours(range(1, 321))
+    places = [place for place, fill in enumerate(fills) if 0 < min(fill) and max(fill) < 1]
+    assert len(places) > 160
+    for place in places:
+        lightness, red, yellow = seen(hexadecimal(fills[place]), "all cones")
+        assert lightness == pytest.approx((40, 75, 57)[place % 3], abs=0.3)
+        assert math.hypot(red, yellow) == pytest.approx(45, abs=0.8)
+        assert turn(math.degrees(math.atan2(yellow, red)), place) == pytest.approx(0, abs=0.8)
+
+
+@given(st.tuples(*[st.integers(0, 255)] * 3))
+def test_letters_have_a_contrast(fill: tuple[int, int, int]) -> None:
+    red, green, blue = (part / 255 for part in fill)
+    ink = {"black": "#000000", "white": "#ffffff"}[_drawing.ink((red, green, blue))]
+    assert contrast(ink, hexadecimal((red, green, blue))) > 4.57
 
 
 @pytest.mark.parametrize("width", ["12", "50"])
@@ -390,9 +401,8 @@ def test_a_png_has_the_requested_size(words: list[str], text: str, size: tuple[i
 def test_the_pages_state_the_defaults_and_the_exit_statuses(folder: pathlib.Path) -> None:
     """The same picture comes of it, and another one of another value."""
     items = re.findall(r"^\.It Fl -(\w+)[^\n]*\n(.*?)(?=^\.It|^\.El)", MANUAL, re.MULTILINE | re.DOTALL)
-    stated = {option: re.findall(r"^The default is (.*)\.$", text, re.MULTILINE) for option, text in items}
-    got = dict(re.findall(r"^\| `--(\w+) [^|]*\|[^|]*\| (\S+) \|$", PAGE, re.MULTILINE))
-    assert {option: value for option, [*values] in stated.items() for value in values} == got
+    got = {option: value for option, text in items
+           for value in re.findall(r"^The default is (.*)\.$", text, re.MULTILINE)}
     assert got.keys() == {"width", "dpi"}
     assert gantt(folder, "table", "usual.png") == Done(0, "", "")
     for option, value in got.items():
@@ -430,25 +440,22 @@ STEPS = Case("", [*range(1, 2001)], schedule_of([[600 if job == 1000 else 1, 1] 
 
 
 def test_a_pixel_of_an_image_has_the_mean_of_the_colours_at_its_time(folder: pathlib.Path) -> None:
-    """Grey where no operation is, one colour where one is, and none of these where there are several. With more pixels
-    the rows are bars."""
+    """Of idle time it is grey. Each row has white above and below. With more pixels the rows are bars."""
     said = ("pfs-gantt: 4,000 operations are too many or too short to draw one by one: the rows are an image of 100 "
             "dots per inch\n")
     image, = STEPS.drawn(folder, "--dpi", "100", said=said).axis.images
     assert tuple(image.get_extent()) == (0, 2600, 2.5, 0.5)
-    pixels = [[hexadecimal(pixel / 255) for pixel in line] for line in image.get_array()]
-    assert len(pixels[0]) == 1050, "pixels from left to right: 12 inches but for 1.5, at 100 an inch"
-    each = len(pixels) // 2
-    for machine in STEPS.machines():
-        for at, fill in enumerate(pixels[each * machine + each // 2]):
-            start, end = (2600 * edge / 1050 for edge in (at, at + 1))
-            busy = sum(min(last, end) - max(first, start) for _, first, last in STEPS.operations(machine)
-                       if first < end and start < last) / (end - start)
-            assert (fill == IDLE) == (busy < 1e-9), f"pixel {at} of machine {machine + 1}: {fill}, {busy:.3f} busy"
-    assert {fill for line in (pixels[0], pixels[each - 1], pixels[-1]) for fill in line} == {"#ffffff"}, "between rows"
-    long = {fill for at, fill in enumerate(pixels[each // 2]) if 1000 < 2600 * at / 1050 < 1595}
+    pixels, edges = image.get_array().astype(int), numpy.arange(1051)[:, None] * 2600 / 1050
+    assert pixels.shape == (20, 1050, 3), "pixels from left to right: 12 inches but for 1.5, at 100 an inch"
     bars = STEPS.drawn(folder, "--dpi", "300")
-    assert long == colours_of(STEPS, bars)[1001] and not bars.axis.images, "colours of the one long operation"
+    assert not bars.axis.images
+    for machine in STEPS.machines():
+        _, first, last = numpy.array(STEPS.operations(machine)).T
+        busy = (numpy.minimum(last, edges[1:]) - numpy.maximum(first, edges[:-1])).clip(0) * 1050 / 2600
+        fills = numpy.array([list(bytes.fromhex(bar.fill[1:])) for bar in bars.bars(f"machine-{machine + 1}")])
+        due = busy @ fills + 0xd9 * (1 - busy.sum(axis=1, keepdims=True))
+        rows = pixels[10 * machine:10 * machine + 10]
+        assert abs(rows[1:9] - due).max() < 1.1 and (rows[[0, 9]] == 255).all()
 
 
 def test_from_this_number_of_operations_on_the_rows_are_an_image() -> None:
@@ -480,7 +487,7 @@ def test_the_greatest_table_is_drawn_soon_and_small(ending: str, scripts: pathli
     """Within 20 seconds, 300 MB of memory and 20 MB of file."""
     picture = greatest / f"picture.{ending}"
     ran = run_limited(Program(scripts / "pfs-gantt"), ["--critical", "table", picture.name], greatest, 4_000_000_000)
-    assert ran.status == 0 and picture.read_bytes().startswith(BEGINNINGS[ending])
+    assert ran.ran.status == 0 and picture.read_bytes().startswith(BEGINNINGS[ending])
     assert (ran.seconds < 20, ran.resident < 300e6, picture.stat().st_size < 20e6) == (True,) * 3, ran
 
 
@@ -506,7 +513,7 @@ def test_a_full_disk_keeps_the_old_picture(scripts: pathlib.Path, folder: pathli
     (folder / "table").write_text(THREE)
     (folder / f"picture.{ending}").write_text("the old one")
     got = run_tool([tool("prlimit"), "--fsize=1000", scripts / "pfs-gantt", "table", f"picture.{ending}"], folder,
-                   env=os.environ | {"COVERAGE_PROCESS_START": ""})  # which writes a file too
+                   env=os.environ | {"COV_CORE_DATAFILE": ""})  # which writes a file too
     assert got == Done(4, "", f"pfs-gantt: picture.{ending}: File too large\n")
     assert (folder / f"picture.{ending}").read_text() == "the old one", "the picture was written in place"
     assert sorted(os.listdir(folder)) == [f"picture.{ending}", "table"]
@@ -537,10 +544,14 @@ def test_a_table_without_end(scripts: pathlib.Path, folder: pathlib.Path, matplo
     assert got == Done(2, "", "pfs-gantt: not a time table: longer than 67,108,864 bytes\n")
 
 
-@pytest.mark.parametrize("size", ["5001 1", "1 201", "5001 201", "20 1000", "100000 1"])
-def test_sizes_over_the_limits_are_rejected_at_once(folder: pathlib.Path, size: str) -> None:
-    got = gantt(folder, "table", "picture.svg", text=THREE.replace("3 2", size, 1))
-    assert got == Done(2, "", "pfs-gantt: a time table has at most 5,000 jobs and 200 machines\n")
+@pytest.mark.parametrize(("text", "said"), [
+    *((THREE.replace("3 2", size, 1), "a time table has at most 5,000 jobs and 200 machines")
+      for size in ("5001 1", "1 201", "5001 201", "20 1000", "100000 1")),
+    ("", "not a time table: the first line must be `table N M`"),
+    (THREE[:-1], "the time table is incomplete: its last line has no line end")])
+def test_sizes_over_the_limits_are_rejected_at_once(folder: pathlib.Path, text: str, said: str) -> None:
+    """And what is no table."""
+    assert gantt(folder, "table", "picture.svg", text=text) == Done(2, "", f"pfs-gantt: {said}\n")
 
 
 @pytest.mark.parametrize(("status", "words", "text"), [

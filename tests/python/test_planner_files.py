@@ -5,6 +5,7 @@ import pathlib
 import re
 import warnings
 from collections.abc import Sequence
+from typing import Any
 
 import pfs
 import pytest
@@ -31,13 +32,6 @@ def test_options_in_a_file(tmp_path: pathlib.Path) -> None:
     assert ended(["plan", "times.csv", "@none"], tmp_path)[:2] == (3, "")
 
 
-def test_a_date_without_a_time_of_day(tmp_path: pathlib.Path) -> None:
-    (tmp_path / "times.csv").write_text(TABLE)
-    words = ["plan", "times.csv", "--shift", "06:00-14:00", "--begin"]
-    assert ended([*words, "2026-11-30"], tmp_path) == ended([*words, "2026-11-30T00:00"], tmp_path)
-    assert ended([*words, "2026-11"], tmp_path)[0] == 3
-
-
 def test_machines_with_a_comma_in_their_names(tmp_path: pathlib.Path) -> None:
     book_of(tmp_path / "times.xlsx", ("job", "saw, left", "note", "drill"), ("table", 3, "x", 1))
     status, _, got = ended(["plan", "times.xlsx", "--machines", 'drill, "saw, left"'], tmp_path)
@@ -45,32 +39,19 @@ def test_machines_with_a_comma_in_their_names(tmp_path: pathlib.Path) -> None:
 
 
 @pytest.mark.parametrize(("cell", "hint"), [
-    ("-", "write 0 where a job skips a machine"), ("n/a", "write 0 where a job skips a machine"),
-    ("x", "write 0 where a job skips a machine"), ("3 of a lot", "write 0 where a job skips a machine"),
-    ("#REF!", "the formula has an error"),
-    ("#DIV/0!", "the formula has an error"), ("1:30", "other times of the table are numbers: write all of them like "
-                                                      "this, or none"),
+    ("3 of a lot", "write 0 where a job skips a machine"), ("#REF!", "the formula has an error"),
     ("12,5", "it is text that looks like a number: format the cell as a number, and write it again"),
-    ("2160:00", "a cell with the format of a time has a number of days: format it as a number, and write the time "
-                "again")])
-def test_hints_for_cells(tmp_path: pathlib.Path, cell: str, hint: str) -> None:
+    (datetime.datetime(1900, 3, 30), "a cell with the format of a time has a number of days: format it as a number, "
+     "and write the time again")])
+def test_hints_for_cells(tmp_path: pathlib.Path, cell: Any, hint: str) -> None:
+    """A spreadsheet counts days from 1900 on: 90 are 2160 hours."""
     path = book_of(tmp_path / "times.xlsx", ("job", "saw", "drill"), ("table", 3, 2), ("chair", 1, cell))
-    assert fault_of(path, machines=["saw", "drill"]) == (3, 3, f"{cell!r} isn't a time: {hint}")
-
-
-def test_a_number_in_a_cell_with_the_format_of_a_time(tmp_path: pathlib.Path, office: Office) -> None:
-    """And a workbook of LibreOffice's own format."""
-    path = book_of(tmp_path / "times.xlsx", ("job", "saw", "drill"), ("table", 3, 2), ("chair", 1, 90), ("lamp", 5, 4))
-    book = openpyxl.load_workbook(path)
-    book.active["C3"].number_format = "h:mm"
-    book.save(path)
-    assert fault_of(office(path, "xlsx"))[2].startswith("'2160:00' isn't a time: a cell with the format of a time")
-    assert fault_of(office(path, "ods")) == (
-        1, 0, "isn't a workbook that openpyxl reads (it is of LibreOffice's own format: save it as .xlsx)")
+    assert fault_of(path, machines=["saw", "drill"]) == (
+        3, 3, f"{cell if isinstance(cell, str) else '2160:00'!r} isn't a time: {hint}")
 
 
 def test_what_another_plan_says_of_its_end(tmp_path: pathlib.Path) -> None:
-    """It had another calendar: the slip by a holiday is seen."""
+    """By `stated_end`: it had another calendar, and the slip by a holiday is seen."""
     (tmp_path / "times.csv").write_text(TABLE)
     words = ["plan", "times.csv", "--begin", "2026-11-30T06:00", "--shift", "06:00-14:00"]
     (tmp_path / "monday.txt").write_text(ended([*words, "--schedule", "monday.csv"], tmp_path)[1])
@@ -79,12 +60,12 @@ def test_what_another_plan_says_of_its_end(tmp_path: pathlib.Path) -> None:
         got = ended([*words, "--closed", "2026-12-01", "--order", "monday.txt", "--compare", name], tmp_path)[2]
         both = "makespan 850 min, end 2026-12-02 12:10"
         assert got == f"{name}: says {said}\n{name}: {both}; the plan: {both}\n"
-    # Written again by a spreadsheet, and with parts of seconds.
     text = (tmp_path / "monday.csv").read_text("utf-8-sig")
     (tmp_path / "dos.csv").write_text(re.sub("([^;\n]+)", r'"\1"', text).replace("\n", "\r\n"), "utf-8", newline="")
-    (tmp_path / "parts.csv").write_text(text.replace("12:10", "12:10:00,5"), "utf-8")
-    for name, said in (("dos.csv", end), ("parts.csv", f"{end}:00,5")):
-        assert f"{name}: says {said}\n" in ended([*words, "--compare", name], tmp_path)[2]
+    assert f"dos.csv: says {end}\n" in ended([*words, "--compare", "dos.csv"], tmp_path)[2]
+    for new, said in (("12:10:00,5", "12:10:00,5"), ("12:10:00", "12:10"), ("12:00", "12:00")):
+        (tmp_path / "parts.csv").write_text(text.replace("12:10", new), "utf-8")
+        assert f"says end 2026-12-01 {said}\n" in ended([*words, "--compare", "parts.csv"], tmp_path)[2]
     (tmp_path / "names").write_text("table\nchair\n")
     assert "says" not in ended([*words, "--compare", "names"], tmp_path)[2]
 
@@ -109,7 +90,7 @@ def with_options(path: pathlib.Path, *options: Sequence[object], name: str = "pf
 @pytest.mark.parametrize(("name", "at"), [("pfs", 1), ("PFS", 0)])
 def test_options_on_a_sheet(tmp_path: pathlib.Path, name: str, at: int) -> None:
     book_of(tmp_path / "plain.xlsx", *ROWS)
-    with_options(tmp_path / "times.xlsx", ["# each week"], ["begin", datetime.datetime(2026, 11, 30, 6)], [],
+    with_options(tmp_path / "times.xlsx", ["# each week", 1, 2], ["begin", datetime.datetime(2026, 11, 30, 6)], [],
                  ["--shift", "fri:06:00-12:00"], ["closed", datetime.datetime(2026, 12, 4)], ["take", 2], ["report"],
                  name=name, at=at)
     words = ["--begin", "2026-11-30T06:00", "--shift", "fri:06:00-12:00", "--closed", "2026-12-04", "--take", "2",

@@ -28,6 +28,7 @@ def test_a_report_by_hand(folder: pathlib.Path) -> None:
     report = pfs.read_csv(folder / "times.csv").schedule([0, 1, 2]).report()
     assert [tuple(each) for each in report.machines] == MACHINES
     assert ([tuple(each) for each in report.jobs], report.bottleneck) == (JOBS, "drill")
+    assert pfs.Instance([[3, 2], [0, 0]]).schedule([0, 1]).report().jobs[1] == ("1", 3, 3), "a job without work"
 
 
 @given(plainly.shops_and_orders())
@@ -71,7 +72,8 @@ def test_a_workbook_has_the_report(folder: pathlib.Path) -> None:
     openpyxl = pytest.importorskip("openpyxl")
     assert ended(["plan", "times.csv", "--order", "order", "--schedule", "plan.xlsx"], folder)[0] == 0
     book = openpyxl.load_workbook(folder / "plan.xlsx")
-    assert [*book["machines"].values][1:] == MACHINES and [*book["jobs"].values][1:] == JOBS
+    assert [*book["machines"].values][1:] == MACHINES and [*book["jobs"].values] == [("job", "start", "end"), *JOBS]
+    assert [*book["saw"].values] == [("place", "job", "start", "end"), (1, "table", 0, 30), (2, "lamp", 30, 40)]
     pfs.Instance([[90, 5]], unit="h:mm").schedule([0]).to_xlsx(folder / "plan.xlsx")
     assert openpyxl.load_workbook(folder / "plan.xlsx")["machines"]["B2"].number_format == "[h]:mm"
 

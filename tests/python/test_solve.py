@@ -697,6 +697,11 @@ def test_held_jobs_stay_where_they_are(case: tuple[plainly.Table, list[int], lis
                 passes=passes, ties="first", temperature=0, seed=seed, staying=stay)[1]
         begun = shop.solve(0, **words, hold=hold, move=moved)
         assert not hold and moved is None or begun.order.tolist() == start
+    own = pfs.Solution(order, shop.makespan(order))
+    own.current = np.array(order[::-1])
+    later: Any = shop.solve(3, method="iterated-greedy", start=own, move=move)
+    assert [[job for job in each if job not in move] for each in (later.order, later.current)] == [
+        [job for job in order if job not in move]] * 2
 
 
 @given(plainly.shops())

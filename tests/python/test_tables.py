@@ -1,5 +1,6 @@
 """Tables of times: what is read, and that nothing is read as another plan."""
-import datetime
+import csv
+import io
 import pathlib
 import pickle
 import sys
@@ -8,6 +9,9 @@ from typing import Any
 
 import pfs
 import pytest
+from hypothesis import given
+from hypothesis import strategies as st
+from pfs import _tables
 from pfs._orders import order_in
 from support.plainly import written
 
@@ -23,10 +27,9 @@ UNITS = "the times of '{}' are in {}, and others are in {}: use one unit"
 ADD = "were missing: add it, or write `job` into the first cell of the table"
 GROUPED = ("'{}' may be {}, or have decimals: leave out thousands separators, or say which decimal sign the table has "
            "(`decimal`)")
+NO_NAME = "the machine has no name"
 NO_ROW = f"the names of the machines are numbers, as if the row of names {ADD}"
 NO_COLUMN = f"the names of the jobs are numbers, as if the column of names {ADD}"
-UNGROUPED = "isn't a time: leave out thousands separators"
-MINUTES = "times such as 1:30 may be hours and minutes, or minutes and seconds: write [h:mm] instead of {}, or numbers"
 ROUND = "round it, or say how many decimals to keep (`decimals`)"
 # Ways to write one table.
 TABLES = [
@@ -42,7 +45,6 @@ FILES = [*map(str.encode, TABLES), *("\ufeffjob\tsaw\tdrill\r\ntable\t3\t2\r\nch
 BAD_TABLES: dict[str, tuple[str | bytes, int, int, str]] = {
     "nothing": ("", 1, 0, "the table is empty"),
     "one line": ("job,saw\n", 1, 0, "0 jobs: there may be 1 to 5,000"),
-    "one line of other words": ("x,saw\n", 1, 0, "0 jobs: there may be 1 to 5,000"),
     "no machine": ("job\na\n", 1, 0, "0 machines: there may be 1 to 200"),
     "many machines": ("job" + "".join(f",m{at}" for at in range(201)) + "\na" + ",1" * 201, 1, 0,
                       "201 machines: there may be 1 to 200"),
@@ -55,9 +57,6 @@ BAD_TABLES: dict[str, tuple[str | bytes, int, int, str]] = {
     "a word": ("job,saw\n\na,x\n", 3, 2, f"'x' isn't a time: {NO_MACHINE}"),
     "a date": ("job,saw\na,4.12.2026\nb,5.12.\n", 2, 2,
                f"'4.12.2026' isn't a time: {NO_MACHINE} (and 1 more cell of the column)"),
-    "a number with a word": ("job,saw\na,10 pieces\n", 2, 2,
-                             "'10 pieces' isn't a time: write the unit in brackets into the first cell of the table"),
-    "a minus": ("job,saw\na,-1\n", 2, 2, "'-1' isn't a time"),
     "a digit of another script": ("job,saw\na,\u0663\n", 2, 2, "'\u0663' isn't a time"),
     "no time": ("job,saw,drill\na,3,\n", 2, 3, MISSING),
     "a short row": ("job,saw,drill\na,3\n", 2, 3, MISSING),
@@ -66,8 +65,8 @@ BAD_TABLES: dict[str, tuple[str | bytes, int, int, str]] = {
     "a long row": ("job,saw\na,3,4\n", 1, 3, TITLE),
     "a decimal comma": ('job,saw\na,"3,5"\n', 2, 2, "'3,5' isn't a time"),
     "ten decimals": ("job,saw\na,0.0123456789\n", 2, 2, f"'0.0123456789' has more than 9 decimals: {ROUND}"),
-    "a time too long with decimals": ("job,saw\na,1000000\nb,0.0001\nc,0.0003\n", 3, 2, "'0.0001' has 4 decimals, in "
-                                      f"which the time in B2 is above 1,000,000,000: {ROUND}"),
+    "a time too long with decimals": ("job,saw\na,1000000000\nb,0.0001\nc,0.0003\n", 3, 2, "'0.0001' has 4 decimals, "
+                                      f"in which the time in B2 is above 1,000,000,000: {ROUND}"),
     "a fault after cells of many lines": ('"job\n\n",saw\n\n"a\r\nb",3\r\n"c\n",3\nd,-1\n', 5, 2, "'-1' isn't a time"),
     "a fault after a spreadsheet's first line": ("sep=;\njob;saw\na;-1\n", 2, 2, "'-1' isn't a time"),
     "a name twice after a cell of two lines": ('job,saw\n"a\nb",3\nc,1\nc,1\n', 4, 1, "the job 'c' is in A3 too"),
@@ -78,6 +77,7 @@ BAD_TABLES |= {f"the time {cell}": (f"job,saw\na,{cell}\n", 2, 2, "the time is a
 BAD_TABLES |= {
     "an older workbook": (b"\xd0\xcf\x11\xe0\xa1\xb1\x1a\xe1", 1, 0,
                           f"is a spreadsheet's own file: {SAVE_AS}, or as .xlsx"),
+    "bytes that begin like those of one": (b"\xd0\xcf\x11,saw\na,3\n", 1, 0, f"isn't text in UTF-8: {SAVE_AS}"),
     "another encoding": (b"job,saw\nb\xe4r,3\n", 2, 0, f"isn't text in UTF-8: {SAVE_AS}"),
     "a byte of no letter": (b"job,saw\nb\x81r,3\n", 2, 0, f"isn't text in UTF-8: {SAVE_AS}")}
 # Tables that would be read as another plan, and where and why they are rejected; perhaps with options.
@@ -105,29 +105,14 @@ WRONG_TABLES: dict[str, tuple[Any, ...]] = {
     "another table below": ("job;saw\na;3\n\njob;drill;paint\nb;3;4\n", 1, 3, TITLE),
     "no row of names": ("a;3;12\nb;20;5\n", 1, 2, NO_ROW),
     "no column of names": ("saw;drill\n3;12\n20;5\n", 2, 1, NO_COLUMN),
-    "no names": ("3,2\n1.5,4\n", 1, 2, NO_ROW),
+    "no names of both": ("3,2\n1.5,4\n", 1, 2, NO_ROW),
     "no row of names above hours": ("a;3:00;1:12\nb;0:20;5:00\n", 1, 2, NO_ROW),
-    "no row of names, and times that count from 1": ("a;1;2\nb;20;5\n", 1, 2, NO_ROW),
-    "no row of names, and times that count from 0": ("a;0;1\nb;20;5\n", 1, 2, NO_ROW),
     "no row of names, and a job in brackets": ("chair (red);1;2\nb;20;5\n", 1, 2, NO_ROW),
-    "no column of names, and times that count from 1": ("saw;drill\n1;12\n2;5\n", 2, 1, NO_COLUMN),
-    "minutes and seconds": ("job [min];saw\na;1:30\n", 1, 1, MINUTES.format("min")),
-    "minutes and seconds in German": ("job;saw [Minuten]\na;1:30\n", 1, 1, MINUTES.format("Minuten")),
-    "hours, minutes and seconds": ("job;saw\na;1:30:10\n", 2, 2,
-                                   "'1:30:10' isn't a time: write hours and minutes, as 1:30, or a number"),
-    "hours and minutes with a letter": ("job;saw\na;3h30\n", 2, 2,
-                                        "'3h30' isn't a time: write hours and minutes as 1:30"),
-    "both signs in a number": ("job;saw\na;1.250,5\n", 2, 2, "'1.250,5' isn't a time: leave out thousands separators, "
-                               "or say which decimal sign the table has (`decimal`)"),
+    "minutes and seconds": ("job [min];saw\na;1:30\n", 1, 1, "times such as 1:30 may be hours and minutes, or minutes "
+                            "and seconds: write [h:mm] instead of min, or numbers"),
     "hours, minutes and seconds beside others": (
         "job;saw\na;1:30\nb;1:30:10\n", 3, 2,
         "'1:30:10' isn't hours and minutes, as other times of the table are: leave out the seconds"),
-    "thousands with apostrophes": ("job;saw\na;1'000\n", 2, 2, f'"1\'000" {UNGROUPED}'),
-    "thousands with typographic apostrophes": ("job;saw\na;1\u2019000,5\n", 2, 2, f"'1\u2019000,5' {UNGROUPED}"),
-    "thousands with blanks": ("job;saw\na;12 345 678\n", 2, 2, f"'12 345 678' {UNGROUPED}"),
-    "thousands with fixed blanks": ("job;saw\na;1\xa0000\n", 2, 2, f"'1\\xa0000' {UNGROUPED}"),
-    "a unit at a time": ("job;saw\na;1,5 h\n", 2, 2,
-                         "'1,5 h' isn't a time: write the unit in brackets into the first cell of the table"),
     "two units": ("job;saw [min];drill [h]\na;3;2\n", 1, 3, UNITS.format("drill", "h", "min")),
     "minutes beside hours and minutes": ("job [h:mm];saw [min]\na;1:30\n", 1, 2, UNITS.format("saw", "min", "h:mm")),
     "a machine without a unit": ("job;saw [min];drill\na;3;2\n", 1, 3,
@@ -136,16 +121,16 @@ WRONG_TABLES: dict[str, tuple[Any, ...]] = {
                                    UNITS.format("drill", "min", "h")),
     "a table turned round": ("Maschine [min];A;B\nsaw;1;2\ndrill;3;4\n", 1, 1, "'Maschine [min]' says that the rows "
                              "are machines, but a row is a job: turn the table round, or write `job` here"),
-    "machines without names": ("job;;\na;1;2\nb;3;4\n", 1, 2, "the machine has no name"),
-    "a machine without a name": ("job [h];\na;1\nb;5\n", 1, 2, "the machine has no name"),
-    "machines without names, and another word": ("Auftrag;;\na;1;2\nb;3;4\n", 1, 2, "the machine has no name"),
+    "machines without names": ("job;;\na;1;2\nb;3;4\n", 1, 2, NO_NAME),
+    "a machine without a name": ("job [h];\na;1\nb;5\n", 1, 2, NO_NAME),
     "a title, and no machines": ("Plan;;\na;1;2\nb;3;4\n", 2, 2, NO_ROW),
-    "two units in German": ("job;saw [Stunden];drill [Minuten]\na;3;2\n", 1, 3,
-                            UNITS.format("drill", "Minuten", "Stunden")),
-    "two units in French": ("job;saw (heures);drill (minutes)\na;3;2\n", 1, 3,
-                            UNITS.format("drill", "minutes", "heures")),
     "hours beside numbers": ("job;saw\na;1:30\nb;2\n", 3, 2,
                              "'2' isn't hours and minutes, as other times of the table are"),
+    "no time among hours": ("job;saw;drill\na;1:30;2:00\nb;1:00;\n", 3, 3, MISSING),
+    "a column without a name": ("job,saw,\na,1,x\n", 1, 0, "no column is named ' ': this row has saw (`machines`)",
+                                {"machines": [" "]}),
+    "no names": ("job\na\n", 1, 0, "no column is named 'x': this row has no other names (`machines`)",
+                 {"machines": ["x"]}),
     "61 minutes": ("job;saw\na;1:30\nb;1:61\n", 3, 2,
                    "'1:61' isn't hours and minutes, as other times of the table are"),
     "numbers in hours and minutes": ("job [h:mm];saw\na;0\nb;2,5\n", 3, 2,
@@ -163,6 +148,7 @@ WRONG_TABLES |= {f"{cell} with {decimal}": (f"job;saw\na;{cell}\n", 2, 2, f"{cel
 # Tables that look a little like the ones above and are right: what makes them so, and their times.
 
 RIGHT_TABLES = {
+    "a name that begins like an archive": ("PK\x03;saw\na;3\n", [[3]]),
     "a semicolon in half of the lines": ('job,saw\n"a;b",3\n', [[3]]),
     "three decimals": ("job;saw;drill\na;0,125;2\nb;1,5;1,125\n", [[125, 2000], [1500, 1125]]),
     "a fraction of one": ("job;saw\na;0.125\n", [[125]]),
@@ -173,10 +159,7 @@ RIGHT_TABLES = {
     "one job": ("job;saw;drill;paint\na;1;2;3\n", [[1, 2, 3]]),
     "no work": ("job;saw;drill;paint\na;0;0;0\nb;0;0;0\nc;0;0;0\n", [[0, 0, 0]] * 3),
     "names that begin like a total": ("job;saw;Summer\na;1;2\nMeansteel;3;4\nTotally;4;7\n", [[1, 2], [3, 4], [4, 7]]),
-    "numbers of orders below a usual name": ("Fertigungsauftrags-Nr.;saw;drill\n4711;3;12\n4713;20;5\n",
-                                             [[3, 12], [20, 5]]),
     "numbers of orders in the US": ("Work order #,saw,drill\n4711,3,12\n4713,20,5\n", [[3, 12], [20, 5]]),
-    "numbers of orders in France": ("N\u00b0 OF;saw;drill\n4711;3;12\n4713;20;5\n", [[3, 12], [20, 5]]),
     "a date beside the title": ("Plan;;30.11.2026\nAuftrag;saw;drill\na;3;2\n", [[3, 2]]),
     "a title above some machines": ("Week;;minutes;;\nOF;saw;drill;paint\na;3;2;1\n", [[3, 2, 1]]),
     "an empty second column": ("job;;saw\na;;3\n", [[3]]),
@@ -195,7 +178,6 @@ RIGHT_TABLES = {
     "empty columns at the right": ("job;saw;;\na;3;;\nb;2\n;;;\n", [[3], [2]]),
     "a title above numbered machines": ("Plan\njob;1;2\na;3;2\nb;1;4\n", [[3, 2], [1, 4]]),
     "titles": ("Plan, week 48\nof the workshop;;\njob;saw;drill\na;3;2\nb;1;4\n", [[3, 2], [1, 4]]),
-    "hours and minutes": ("job;saw;drill\na;1:30;0:05\n", [[90, 5]]),
 }
 
 
@@ -211,7 +193,8 @@ def test_tables(tmp_path: pathlib.Path, content: bytes) -> None:
 @pytest.mark.parametrize("case", RIGHT_TABLES)
 def test_tables_that_look_wrong_and_are_right(tmp_path: pathlib.Path, case: str) -> None:
     text, times = RIGHT_TABLES[case]
-    assert pfs.read_csv(written(tmp_path, text)).times.tolist() == times
+    shop = pfs.read_csv(written(tmp_path, text))
+    assert shop.times.tolist() == times and (shop.unit == "h:mm") == (":" in text)
 
 
 @pytest.mark.parametrize(("head", "given_unit", "unit"), [
@@ -254,6 +237,10 @@ def test_totals_that_are_allowed(tmp_path: pathlib.Path, case: str) -> None:
     assert shop.jobs == WRONG_TABLES[case][0].count("\n") - 1
 
 
+# How many more faults these tables have.
+MORE = {"thousands with points": 1, "another table below": 2, "no names of both": 1}
+
+
 @pytest.mark.parametrize("case", [*BAD_TABLES, *WRONG_TABLES])
 def test_tables_that_are_rejected(tmp_path: pathlib.Path, case: str) -> None:
     cases: dict[str, tuple[Any, ...]] = {**BAD_TABLES, **WRONG_TABLES}
@@ -262,6 +249,8 @@ def test_tables_that_are_rejected(tmp_path: pathlib.Path, case: str) -> None:
     with pytest.raises(pfs.TableFault) as fault:
         pfs.read_csv(tmp_path / "file", **dict(*words))
     assert (fault.value.line, fault.value.column, fault.value.text) == (line, column, why)
+    assert bool(fault.value.head) == (line > 1 and column > 1 and case != "a title, and no machines")
+    assert len(fault.value.others) == MORE.get(case, 0)
     place = f"cell {'ABCDE'[column - 1]}{line}{f', column {fault.value.head!r}' if fault.value.head else ''}: "
     assert str(fault.value).split("\n")[0] == f"{tmp_path / 'file'}: {place if column else f'line {line}, '}{why}"
     assert pickle.loads(pickle.dumps(fault.value)).text == why
@@ -342,7 +331,7 @@ def test_half_a_letter_of_utf_16_is_the_only_fault(tmp_path: pathlib.Path) -> No
 def test_columns_that_are_machines(tmp_path: pathlib.Path) -> None:
     """They are found by their names in the first row that has all of them, and are machines in the given order."""
     path = written(tmp_path, MESSY.replace("1.250,5;;", "1.250,5;22;").replace("Summe", "A-1003"))
-    shop = pfs.read_csv(path, machines=["Fr\u00e4sen", " drehen"], decimal=",")
+    shop = pfs.read_csv(path, machines=iter(["Fr\u00e4sen", " drehen"]), decimal=",")
     assert (shop.machine_names, shop.decimals) == (("Fr\u00e4sen", "Drehen"), 1)
     assert shop.times.tolist() == [[0, 300], [220, 12505], [0, 12805]]
     units = written(tmp_path, "job;saw [min];drill [min];qty\na;1;2;3\n", "units")
@@ -361,50 +350,6 @@ def test_columns_that_are_machines(tmp_path: pathlib.Path) -> None:
         "Termin, Bemerkung (`machines`)")
 
 
-def test_workbooks_are_read_and_written(tmp_path: pathlib.Path) -> None:
-    """Numbers have points, times of day and lengths of time are hours and minutes, and rows count as in the sheet."""
-    openpyxl = pytest.importorskip("openpyxl")
-    book = openpyxl.Workbook()
-    rows: list[list[object]] = [["Week 49"], [], ["Job [h]", "saw", None, "drill"], ["a, 1", 1.1 + 2.2, None, 1250],
-                                ["b\n2", 0.125, None, 0]]
-    for row in rows:
-        book.active.append(row)
-    book.save(tmp_path / "numbers.xlsx")
-    shop = pfs.read_csv(tmp_path / "numbers.xlsx")
-    assert (shop.job_names, shop.machine_names, shop.unit) == (("a, 1", "b\n2"), ("saw", "drill"), "h")
-    assert (shop.times.tolist(), shop.decimals) == ([[3300, 1250000], [125, 0]], 3)
-    book.active["D5"] = "soon"
-    book.save(tmp_path / "numbers.xlsx")
-    with pytest.raises(pfs.TableFault, match="cell D5, column 'drill': 'soon' isn't a time"):
-        pfs.read_csv(tmp_path / "numbers.xlsx")
-    book = openpyxl.Workbook()
-    hours: list[list[object]] = [["job", "saw", "drill"], ["a", datetime.time(1, 30), datetime.timedelta(days=70)],
-                                 ["b", 0, datetime.time(0, 5)],
-                                 ["c", datetime.timedelta(hours=30), 0]]
-    for row in hours:
-        book.active.append(row)
-    book.save(tmp_path / "hours.xlsx")
-    assert pfs.read_csv(tmp_path / "hours.xlsx").times.tolist() == [[90, 100800], [0, 5], [1800, 0]]
-    book.active["B2"] = datetime.time(1, 30, 20)
-    book.save(tmp_path / "hours.xlsx")
-    with pytest.raises(pfs.TableFault, match="cell B2, column 'saw': '1:30:20' isn't hours and minutes"):
-        pfs.read_csv(tmp_path / "hours.xlsx")
-    shop = pfs.Instance([[15, 10]], job_names=["=1+1"], machine_names=["saw", "a\x1b"], unit="h", decimals=1)
-    shop.schedule([0]).to_xlsx(tmp_path / "out.xlsx")
-    sheet = openpyxl.load_workbook(tmp_path / "out.xlsx").active
-    assert list(sheet.values) == [("job", "machine", "start", "end"), ("=1+1", "saw", 0, 1.5),
-                                  ("=1+1", "a\\x1b", 1.5, 2.5)]
-    assert sheet["A2"].data_type == "s"
-    shop.schedule([0]).to_xlsx(tmp_path / "out.xlsx", calendar=pfs.Calendar("2026-11-30T06:00"))
-    sheet = openpyxl.load_workbook(tmp_path / "out.xlsx").active
-    assert [cell.value for cell in sheet[3][2:]] == [datetime.datetime(2026, 11, 30, 7, 30),
-                                                     datetime.datetime(2026, 11, 30, 8, 30)]
-    clock = pfs.Instance([[90]], unit="h:mm")
-    clock.schedule([0]).to_xlsx(tmp_path / "out.xlsx")
-    cell = openpyxl.load_workbook(tmp_path / "out.xlsx").active["D2"]
-    assert (cell.value, cell.number_format) == (datetime.timedelta(minutes=90), "[h]:mm")
-
-
 @pytest.mark.parametrize("content", [b"PK\x03\x04\x14\0rest", "bomb"])
 def test_archives_that_are_no_workbooks(tmp_path: pathlib.Path, content: bytes | str) -> None:
     pytest.importorskip("openpyxl")
@@ -416,7 +361,7 @@ def test_archives_that_are_no_workbooks(tmp_path: pathlib.Path, content: bytes |
                 for _ in range(300):
                     part.write(bytes(2**20))
     why = "File is not a zip file" if isinstance(content, bytes) else "its parts are too large"
-    with pytest.raises(pfs.TableFault, match=f"isn't a workbook that openpyxl reads .{why}.: save it as CSV UTF-8$"):
+    with pytest.raises(pfs.TableFault, match=f"openpyxl reads .{why}.: save it as .xlsx or as CSV UTF-8$"):
         pfs.read_csv(tmp_path / "file")
 
 
@@ -434,10 +379,23 @@ def test_workbooks_need_openpyxl(tmp_path: pathlib.Path, monkeypatch: pytest.Mon
 
 @pytest.mark.parametrize("more", [0, 1])
 def test_a_row_may_have_as_many_cells_as_a_spreadsheet(tmp_path: pathlib.Path, more: int) -> None:
-    path = tmp_path / "table.csv"
-    path.write_text("job,saw" + "," * (16_382 + more) + "\nchair,3\n")
+    path = written(tmp_path, 'job,"saw\n"\nchair,3' + "," * (16_382 + more) + "\n")
     if more:
-        with pytest.raises(pfs.TableFault, match="line 1, the row has more than 16,384 cells"):
+        with pytest.raises(pfs.TableFault, match="line 3, the row has more than 16,384 cells"):
             pfs.read_csv(path)
     else:
         assert pfs.read_csv(path).times.tolist() == [[3]]
+
+
+@given(st.text("ab,;\"\r\n", max_size=20))
+def test_lines_of_a_text(text: str) -> None:
+    """As Python's files have them, also the last one without an end."""
+    assert [*_tables.lines_of(text)] == [*io.StringIO(text, newline="")]
+
+
+@given(st.sampled_from(",;\t"), st.lists(st.tuples(*[st.text(",;\t\"\n =a", max_size=4)] * 2), min_size=1))
+def test_the_delimiter_of_a_text(delimiter: str, rows: list[tuple[str, str]]) -> None:
+    text = io.StringIO()
+    csv.writer(text, delimiter=delimiter, quoting=csv.QUOTE_ALL).writerows(rows)
+    assert _tables.delimiter_of(text.getvalue()) == delimiter
+    assert _tables.delimiter_of(f"\nsep=| \r\n{text.getvalue()}") == "|"

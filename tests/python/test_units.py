@@ -13,7 +13,7 @@ from unittest import mock
 import numpy as np
 import pfs
 import pytest
-from pfs import _cli, _drawing, _library, _tables, _workbooks
+from pfs import _cli, _drawing, _gantt, _library, _tables, _workbooks
 from pfs._calendar import DAYS
 from pfs._commands import words
 from pfs._names import seconds_in
@@ -49,13 +49,12 @@ def test_the_help_has_no_word_that_is_nowhere_else() -> None:
                                   for ending in ("md", "1", "py") for path in (TOP / folder).rglob(f"*.{ending}")
                                   if path.suffix != ".py" or folder == "tests")]
     known = {word for page in pages for word in re.findall(r"[a-z]{2,}", page.read_text().lower())}
-    parsers = [words(), command_line()]
-    for parser in parsers:
-        commands = next(each.choices for each in parser._actions if each.dest in ("command", "==SUPPRESS==")
-                        and isinstance(each.choices, dict))
+    for parser in (words(), _gantt.words(), command_line()):
+        commands: dict[str, Any] = next((each.choices for each in parser._actions
+                                         if isinstance(each.choices, dict)), {})
         for text in (parser.format_help(), *(each.format_help() for each in commands.values())):
             assert set(re.findall(r"[a-z]{2,}", re.sub("-\n *", "-", text).lower())) <= known, text
-    shown = " ".join(parsers[1].format_help().split())
+    shown = " ".join(parser.format_help().split())
     assert [each for each in commands.values() if each.description not in shown or each.description[-1] != "."] == []
     for name in ("run", "slurm"):
         assert command_line().parse_known_args([name, "p", "c", "--ret"])[1] == ["--ret"], "of another program"
@@ -201,26 +200,32 @@ def test_runs_that_were_lost_come_last(tmp_path: pathlib.Path, monkeypatch: pyte
 
 # Tables and workbooks
 
+SKIPS = "write 0 where a job skips a machine"
+NO_MACHINE = "leave the column out if it is no machine, or say which columns are machines (`machines`)"
+DAYS_OF_24 = "a cell with the format of a time has a number of days: format it as a number, and write the time again"
+HOURS = "other times of the table are numbers: write all of them like this, or none"
+UNGROUPED = "leave out thousands separators"
+EITHER = f"{UNGROUPED}, or say which decimal sign the table has (`decimal`)"
+UNIT = "write the unit in brackets into the first cell of the table"
+
+
 @pytest.mark.parametrize(("cell", "hint"), [
-    *((cell, _tables.SKIPS) for cell in ("-", "\u2012", "\u2013", "\u2015", "n/a", "N/A", "na", "NA", "n.a.", "N.A")),
+    *((cell, SKIPS) for cell in ("-", "\u2012", "\u2013", "\u2015", "n/a", "N/A", "na", "NA", "n.a.", "N.A")),
     *((cell, "the formula has an error") for cell in ("#DIV/0!", "#N/A", "#NAME?")),
-    ("24:00", "a cell with the format"), ("96:00", "a cell with the format"), ("1200:00", "a cell with the format"),
-    ("23:00", "other times of the table are numbers"), ("12:30", "other times of the table are numbers"),
+    ("24:00", DAYS_OF_24), ("96:00", DAYS_OF_24), ("1200:00", DAYS_OF_24), ("23:00", HOURS), ("12:30", HOURS),
     ("1:30:15", "write hours and minutes, as 1:30, or a number"), ("1 h 30", "write hours and minutes as 1:30"),
-    ("2h05", "write hours and minutes as 1:30"), ("1'000", "leave out thousands separators"),
-    ("12 000,5", "leave out thousands separators"), ("1.000,5", "leave out thousands separators, or say which"),
-    ("1,000.5", "leave out thousands separators, or say which"), ("3 min.", "write the unit in brackets"),
-    ("3,5 h", "write the unit in brackets"), ("oak", _tables.NO_MACHINE), ("4.12.", _tables.NO_MACHINE),
-    ("4/12/2026 8:00", _tables.NO_MACHINE), ("5abc5", _tables.NO_MACHINE), ("3x3", ""), ("-3", ""), ("5.", "")])
+    ("2h05", "write hours and minutes as 1:30"), ("1'000", UNGROUPED), ("12 000,5", UNGROUPED),
+    ("12 345 678", UNGROUPED), ("1\u2019000", UNGROUPED), ("1\u02bc000", UNGROUPED), ("1.000,5", EITHER),
+    ("1,000.5", EITHER), ("3 min.", UNIT), ("3,5 h", UNIT), ("oak", NO_MACHINE), ("4.12.", NO_MACHINE),
+    ("4/12/2026 8:00", NO_MACHINE), ("5abc55", NO_MACHINE), ("3x3", ""), ("-3", ""), ("5.", "")])
 def test_what_to_write_instead_of_what_is_no_time(tmp_path: pathlib.Path, cell: str, hint: str) -> None:
     """Of a column that was named as a machine, it is a job that skips it."""
     (tmp_path / "times").write_text(f"job;saw;drill\na;1;5\nb;2,5;{cell}\nc;3;7\n")
     for machines in (None, ["drill", "saw"]):
         with pytest.raises(pfs.TableFault) as fault:
             pfs.read_csv(tmp_path / "times", machines=machines)
-        due = _tables.SKIPS if machines and hint == _tables.NO_MACHINE else hint
-        assert fault.value.text.startswith(f"{cell!r} isn't a time{f': {due}' if due else ''}"), fault.value
-        assert due or fault.value.text == f"{cell!r} isn't a time"
+        due = SKIPS if machines and hint == NO_MACHINE else hint
+        assert fault.value.text == f"{cell!r} isn't a time{f': {due}' if due else ''}"
 
 
 TOTALS = ("Total,SUBTOTAL,Grand total,Summe,Summen,Sum,sums,Zwischensumme,Gesamt,Gesamtzeit,Somme,Suma,Totale,"
@@ -297,7 +302,8 @@ def archive_of(**parts: bytes) -> zipfile.ZipFile:
     ({"worksheets/a_xml": b"<x:row/>" + b"<c>" * 5, "worksheets/b_xml": b"<row>" + b"<c>" * 5 + b"<row><c>"},
      "it has too many cells"),
     ({"a_xml": b" " * 400}, ""), ({"a_xml": b" " * 401}, "its parts are too large"),
-    ({"mimetype": b""}, "it is of LibreOffice's own format: save it as .xlsx")])
+    ({"worksheets_xml": b"<" * 11}, "its part worksheets.xml is too large"),
+    ({"mimetype": b""}, "it is of LibreOffice's own format")])
 def test_the_largest_parts_of_workbooks(parts: dict[str, bytes], why: str, monkeypatch: pytest.MonkeyPatch) -> None:
     for name, most in (("MOST_TAGS", 10), ("MOST_STYLES", 8), ("MOST_IN_ROW", 5), ("MOST_CELLS", 10)):
         monkeypatch.setattr(_workbooks, name, most)
@@ -343,14 +349,21 @@ def test_more_jobs_than_pixels_of_a_row_are_an_image() -> None:
 
 
 def test_a_page_has_what_its_script_reads(tmp_path: pathlib.Path) -> None:
-    """And nothing else: each field of the data by its name, with dates and without."""
+    """And nothing else: each field of the data by its name, with dates and without. Colours are by job numbers."""
     script = TOP.joinpath("python/src/pfs/chart.html").read_text()
     calendar = pfs.Calendar("2026-11-30T12:00", shifts="06:00-14:00", closed="2026-12-02")
     made = pfs.Instance([[300, 30], [20, 500]], unit="min").schedule([1, 0])
     for given in (None, calendar):
-        made.plot(tmp_path / "chart.html", calendar=given)
+        made.plot(tmp_path / "chart.html", critical=True, bound=540, calendar=given)
         data = json.loads(re.findall(r'id="data">(.*?)</script>', (tmp_path / "chart.html").read_text())[0])
         assert data.keys() == {*re.findall(r"\btable\.(\w+)", script)}
+        plain = dict.fromkeys(("words", "dates", "breaks", "steps")) | {
+            "jobs": ["1", "0"], "machines": ["0", "1"], "starts": [[0, 20], [20, 520]], "ends": [[20, 320], [520, 550]],
+            "makespan": 550, "bound": 540, "critical": [[0, 0, 0], [1, 0, 1]], "shares": ["42 %", "4 %"], "unit": "min",
+            "decimals": 0, "fills": ["#5a7800", "#326ebe"], "inks": ["white"] * 2, "idle": "#d9d9d9", "isNamed": False,
+            "sign": "#"}
+        assert data | dict.fromkeys(("words", "dates", "breaks", "steps")) == plain
+        assert given or (data["dates"], data["breaks"], data["steps"]) == (None, [], [])
     named = {*re.findall(r"\btable\.dates\.(\w+)", script)}
     for fields in re.findall(r"const \{([^}]*)\} = table\.dates", script):
         named |= {*fields.split(", ")}
@@ -363,11 +376,17 @@ def test_a_page_has_what_its_script_reads(tmp_path: pathlib.Path) -> None:
     assert data["words"] == {text: text for text in {*said, *(day.title() for day in DAYS)}}
 
 
-@pytest.mark.parametrize(("width", "size", "marks"), [(6, 9, 5), (6.1, 11, "auto")])
-def test_narrow_pictures_have_smaller_titles_and_fewer_marks(width: float, size: int, marks: int | str) -> None:
+@pytest.mark.parametrize(("width", "size", "marks", "letters"), [
+    (2, 9, 5, 20), (6, 9, 5, 72), (6.1, 11, "auto", 60), (12, 11, "auto", 129)])
+def test_narrow_pictures_have_smaller_titles_and_fewer_marks(width: float, size: int, marks: int | str,
+                                                             letters: int) -> None:
+    """And these have lines of as many letters."""
     pytest.importorskip("matplotlib")
-    axis = _drawing.draw(chart_of(30, 2, width=width)).axes[0]
-    assert axis.title.get_fontsize() == size and axis.xaxis.get_major_locator()._nbins == marks
+    for more in (0, 1):
+        chart = chart_of(30, 2, width=width, title=f"a {'b' * (letters - 2 + more)}")
+        axis = _drawing.draw(chart).axes[0]
+        assert axis.title.get_fontsize() == size and axis.xaxis.get_major_locator()._nbins == marks
+        assert axis.title.get_text().count("\n") == more
 
 
 # The server for planners, and calendar files

@@ -1,4 +1,5 @@
 """Workbooks of people: those that LibreOffice makes and opens, and those that would be read as another table."""
+import datetime
 import pathlib
 import re
 import resource
@@ -7,6 +8,7 @@ import warnings
 import zipfile
 from collections.abc import Sequence
 from typing import Any
+from unittest import mock
 
 import pfs
 import pytest
@@ -34,14 +36,39 @@ def fault_of(path: pathlib.Path, **words: Any) -> tuple[int, int, str]:
     return fault.value.line, fault.value.column, fault.value.text
 
 
-# Times in hours, most of which are made of minutes.
-HOURS = (("job [h]", "saw", "drill"), ("table", 3.5, 0.75), ("chair", 1.5, "=50/60"), ("shelf", "=B2/3", 1.25))
+def test_workbooks_are_read_and_written(tmp_path: pathlib.Path) -> None:
+    """Numbers have points, times of day and lengths of time are hours and minutes, and rows count as in the sheet."""
+    rows: list[list[object]] = [["Week 49"], [], ["Job [h]", "saw", None, "drill"], ["a, 1", 1.1 + 2.2, None, 1250],
+                                ["b\n2", 0.125, None, 0]]
+    shop = pfs.read_csv(book_of(tmp_path / "numbers.xlsx", *rows))
+    assert (shop.job_names, shop.machine_names, shop.unit) == (("a, 1", "b\n2"), ("saw", "drill"), "h")
+    assert (shop.times.tolist(), shop.decimals) == ([[3300, 1250000], [125, 0]], 3)
+    with pytest.raises(pfs.TableFault, match="cell D5, column 'drill': 'soon' isn't a time"):
+        pfs.read_csv(book_of(tmp_path / "numbers.xlsx", *rows[:4], ["b", 1, None, "soon"]))
+    hours = book_of(tmp_path / "hours.xlsx", ["job", "saw", "drill"],
+                    ["a", datetime.time(1, 30), datetime.timedelta(days=70)], ["b", 0, datetime.time(0, 5)])
+    assert pfs.read_csv(hours).times.tolist() == [[90, 100800], [0, 5]]
+    shop = pfs.Instance([[15, 10]], job_names=["=1+1"], machine_names=["saw", "a\x1b"], unit="h", decimals=1)
+    shop.schedule([0]).to_xlsx(tmp_path / "out.xlsx")
+    sheet = openpyxl.load_workbook(tmp_path / "out.xlsx").active
+    assert list(sheet.values) == [("job", "machine", "start", "end"), ("=1+1", "saw", 0, 1.5),
+                                  ("=1+1", "a\\x1b", 1.5, 2.5)]
+    assert sheet["A2"].data_type == "s"
+    clock = pfs.Instance([[90]], unit="h:mm")
+    clock.schedule([0]).to_xlsx(tmp_path / "out.xlsx")
+    cell = openpyxl.load_workbook(tmp_path / "out.xlsx").active["D2"]
+    assert (cell.value, cell.number_format) == (datetime.timedelta(minutes=90), "[h]:mm")
+
+
+# Times in hours, most of which are made of minutes, and a row that is prepared for a job to come.
+HOURS = (("job [h]", "saw", "drill"), ("table", 3.5, 0.75), ("chair", 1.5, "=50/60"), ("shelf", "=B2/3", 1.25),
+         ('=IF(B9="","",B9)', '=IF(B9="","",B9)'))
 
 
 def test_formulas_that_a_spreadsheet_computes(tmp_path: pathlib.Path, office: Office) -> None:
     """Without values they are rejected, and told what to do. With values of many decimals they are rounded."""
     path = book_of(tmp_path / "times.xlsx", *HOURS)
-    assert fault_of(path) == (3, 3, "has a formula without a value (and 1 more): open the workbook in a spreadsheet "
+    assert fault_of(path) == (3, 3, "has a formula without a value (and 3 more): open the workbook in a spreadsheet "
                                     "and save it")
     path = office(path, "xlsx")
     assert fault_of(path) == (3, 3, "'0.833333333' has 9 decimals, in which the time in B2 is above 1,000,000,000: "
@@ -59,33 +86,13 @@ def test_formulas_that_a_spreadsheet_computes(tmp_path: pathlib.Path, office: Of
     (",", "1.500", [[1125, 2500], [1_500_000, 750_000]]), (".", "1.500", [[1125, 2500], [1500, 750_000]])])
 def test_a_decimal_sign_is_that_of_texts(tmp_path: pathlib.Path, decimal: str | None, cell: str,
                                          times: list[list[int]]) -> None:
-    """A number has none."""
-    path = book_of(tmp_path / "times.xlsx", ("job", "saw", "drill"), ("table", 1.125, 2.5), ("chair", cell, 750))
+    """A number has none. A text that may have thousands needs one, and a name doesn't."""
+    path = book_of(tmp_path / "times.xlsx", ("job", "saw", "drill"), ("1.500", 1.125, 2.5), ("chair", cell, 750))
     shop = pfs.read_csv(path, decimal=decimal)
     assert (shop.times.tolist(), shop.decimals) == (times, 3)
-
-
-def test_a_text_that_may_have_thousands(tmp_path: pathlib.Path) -> None:
-    """A name may look like it, and a number with three decimals has none."""
-    path = book_of(tmp_path / "times.xlsx", ("job", "saw", "drill"), ("1.500", 1.125, 2.5), ("chair", "1.500", 750))
-    assert fault_of(path) == (3, 2, "'1.500' may be 1500, or have decimals: leave out thousands separators, or say "
-                                    "which decimal sign the table has (`decimal`)")
-
-
-@pytest.mark.parametrize("rows", [
-    [("job [min]", "saw"), ("table", 3), ("=Orders!A3", "=Orders!B3"), ("chair", 2)],
-    [("job [min]", "saw", "=Machines!A2"), ("table", 3, "=B2"), ("chair", 2, "=B3")],
-    [("job [min]", "saw"), ("table", 3), ("chair", "=B2")]], ids=["a job", "a machine", "a time"])
-def test_no_formula_without_a_value_is_left_out(tmp_path: pathlib.Path, rows: list[Sequence[object]]) -> None:
-    text = fault_of(book_of(tmp_path / "times.xlsx", *rows))[2]
-    assert text.startswith("has a formula without a value") and text.endswith("in a spreadsheet and save it")
-
-
-def test_a_formula_may_have_an_empty_text(tmp_path: pathlib.Path, office: Office) -> None:
-    """As in rows that are prepared for jobs to come."""
-    path = book_of(tmp_path / "times.xlsx", HOURS[0], HOURS[1], ('=IF(B9="","",B9)', '=IF(B9="","",B9)'))
-    assert fault_of(path)[2].startswith("has a formula without a value (and 1 more)")
-    assert pfs.read_csv(office(path, "xlsx")).job_names == ("table",)
+    if cell == "1.500":
+        assert fault_of(path) == (3, 2, "'1.500' may be 1500, or have decimals: leave out thousands separators, or say "
+                                        "which decimal sign the table has (`decimal`)")
 
 
 def test_orders_of_workbooks(tmp_path: pathlib.Path) -> None:
@@ -94,7 +101,7 @@ def test_orders_of_workbooks(tmp_path: pathlib.Path) -> None:
     shop.schedule(range(3_999, -1, -1)).to_xlsx(tmp_path / "plan.xlsx")
     assert order_in(tmp_path / "plan.xlsx", shop) == ([*range(3_999, -1, -1)], {})
     path = book_of(tmp_path / "order.xlsx", ("job",), ("2",), ("=A2",))
-    with pytest.raises(pfs.TableFault, match="cell A3: has a formula without a value"):
+    with pytest.raises(pfs.TableFault, match="order.xlsx: cell A3: has a formula without a value"):
         order_in(path, shop)
 
 
@@ -150,9 +157,6 @@ NO_ROWS, WIDE = "<sheetData.*</sheetData>|<sheetData ?/>", '<row r="{0}"><c r="X
 # What a small workbook may have very many of.
 LARGE = {
     "cells in the last column": ("sheet1.xml", NO_ROWS, WIDE, 4_000, "it has too many cells"),
-    "empty cells": ("sheet1.xml", NO_ROWS, "<row>" + "<c/>" * 16_384 + "</row>", 200, "it has too many cells"),
-    "cells of a row": ("sheet1.xml", NO_ROWS, "<row>" + "<c/>" * 16_385 + "</row>", 1,
-                       "it has too many cells"),
     "rows": ("sheet1.xml", NO_ROWS, '<row r="1048577"><c><v>1</v></c></row>', 1, "it has too many cells"),
     "styles": ("styles.xml", "</cellXfs>", "<xf/>", 400_000, "its part xl/styles.xml is too large")}
 
@@ -165,9 +169,49 @@ def test_small_workbooks_with_large_parts(tmp_path: pathlib.Path, case: str, unt
     new = f"<sheetData>{new}</sheetData>" if "sheetData" in old else f"{new}{old}"
     path = changed(book_of(tmp_path / "times.xlsx"), part, old, new)
     before, begun = (resource.getrusage(resource.RUSAGE_SELF) for _ in range(2))
-    assert fault_of(path)[2] == f"isn't a workbook that openpyxl reads ({why}): save it as CSV UTF-8"
+    assert fault_of(path)[2] == f"isn't a workbook that openpyxl reads ({why}): save it as .xlsx or as CSV UTF-8"
     after = resource.getrusage(resource.RUSAGE_SELF)
     assert after.ru_utime - begun.ru_utime < 4 and after.ru_maxrss - before.ru_maxrss < 120_000
+
+
+DATE = datetime.datetime
+
+
+@pytest.mark.parametrize(("value", "text"), [
+    (7, "7"), (2.0, "2"), (0.1 + 0.2, "0.3"), (1250.0, "1250"), (0.0000000006, "0.000000001"), ("a ", "a "),
+    (datetime.time(1, 30), "1:30"), (datetime.time(0, 0, 30), "0:00:30"), (datetime.timedelta(hours=30), "30:00"),
+    (datetime.timedelta(seconds=3689.6), "1:01:30"), (DATE(1900, 1, 1, 1, 30), "25:30"), (DATE(1900, 2, 28), "1416:00"),
+    (DATE(1900, 3, 1), "1464:00"), (DATE(1900, 12, 31), "8784:00"), (DATE(1901, 1, 1), "1901-01-01 00:00:00")])
+def test_the_text_of_a_cell(value: object, text: str) -> None:
+    """Of a date as a number of hours the days count as in Excel, whose year 1900 has a February 29."""
+    assert _workbooks.text_in(value) == text
+
+
+def test_the_rows_of_a_sheet(tmp_path: pathlib.Path, monkeypatch: pytest.MonkeyPatch) -> None:
+    """Up to the second one that isn't empty, with what looks like a number, and what of it is hidden."""
+    monkeypatch.setattr(_workbooks, "MOST_CELLS", 12)
+    book = _workbooks.Workbook(book_of(tmp_path / "a.xlsx", ("job",)).read_bytes(), "a.xlsx")
+    rows = [("a", 1.5, None, 2), (None,) * 4, (None, "1.000.5 ", 3.0, None), ("1,2", "x")]
+    sheet = mock.Mock(iter_rows=lambda values_only: rows)
+    text = book.text_of_rows(sheet, 2, ",", {1, 2, 3, 4}, {1, 4, 5})
+    assert (text, book.texts, book.hidden) == ('sep=,\na,"1,5",,2\r\n\r\n,1.000.5 ,3\r\n', {(3, 2)}, [2, 2])
+    with pytest.raises(ValueError, match="^it has too many cells$"):
+        book.text_of_rows(sheet, 2, ",", {1, 2, 3, 4}, {1, 4, 5})
+    monkeypatch.setattr(_workbooks, "check_parts", mock.Mock(side_effect=MemoryError))
+    with pytest.raises(MemoryError):
+        pfs.read_csv(tmp_path / "a.xlsx")
+
+
+SHEET = b"""<s xmlns="n"><cols><col min="2" max="3" hidden="1"/><col min="9" max="16390" hidden="true"/><col min="5"
+max="5"/><col max="1" hidden="1"/><col min="7" hidden="1"/></cols><row hidden="1"><c r="B1"><f/></c><c><f>1</f><v></v>
+</c><c r="C1"><f/><v>0</v></c></row><row r="4" hidden="true"><c r="D1" t="str"><f/></c><c r="E1"><v/></c></row>
+<row r="5" hidden="0"/></s>"""
+
+
+def test_what_openpyxl_does_not_say_of_a_sheet() -> None:
+    rows, columns = _workbooks.hidden_in(SHEET)
+    assert rows - {0} == {4} and columns == {1, 2, 3, *range(9, 16_385)}
+    assert [*_workbooks.formulas_without_values(SHEET)] == ["B1", "A1"]
 
 
 def test_rows_after_the_last_one_of_a_table_are_not_read(tmp_path: pathlib.Path,
@@ -196,7 +240,12 @@ def test_a_schedule_is_shown_whole(tmp_path: pathlib.Path, office: Office) -> No
                                "a" * 31, "A" * 27 + " (2)"]
     assert [list(row)[:2] for row in book["S\u00e4ge"].values] == [["place", "job"], [1, "A-1001 Welle"]]
     assert [row[1] for row in book["schedule (2)"].values] == ["job", "A-1002", "A-1001 Welle"]
-    assert all((sheet.freeze_panes, sheet.auto_filter.ref) == ("A2", sheet.dimensions) for sheet in book)
+    assert [book["schedule"].column_dimensions[column].width for column in "ABCD"] == [15, 40, 19, 19]
+    assert all((sheet.freeze_panes, sheet.auto_filter.ref, sheet.print_title_rows, sheet.page_setup.fitToHeight,
+                sheet.sheet_properties.pageSetUpPr.fitToPage, sheet.oddHeader.center.text) == (
+                    "A2", sheet.dimensions, "1:1", 0, True, "&A") for sheet in book)
+    fonts = [[(cell.font.name, cell.font.sz, cell.font.b) for cell in row] for row in book["jobs"]["A1:C2"]]
+    assert fonts == [[("Calibri", 11, is_bold)] * 3 for is_bold in (True, False)]
     pdf = office(path, "pdf")
     text = subprocess.run([tool("pdftotext"), "-layout", pdf, "-"], capture_output=True, text=True, check=True).stdout
     assert "###" not in text and text.count("\f") == 8
@@ -207,8 +256,8 @@ def test_a_schedule_shows_seconds_where_there_are_some(tmp_path: pathlib.Path) -
     schedule = pfs.Instance([[90], [30]], unit="s").schedule([0, 1])
     schedule.to_xlsx(tmp_path / "plan.xlsx", calendar=pfs.Calendar("2026-11-30T06:00"))
     cells = [row[2:] for row in openpyxl.load_workbook(tmp_path / "plan.xlsx")["schedule"].iter_rows(2)]
-    assert [cell.number_format for row in cells for cell in row] == [
-        f"yyyy-mm-dd hh:mm{seconds}" for seconds in ("", ":ss", ":ss", "")]
+    assert [(cell.value.second, cell.number_format) for row in cells for cell in row] == [
+        (0, "yyyy-mm-dd hh:mm"), (30, "yyyy-mm-dd hh:mm:ss"), (30, "yyyy-mm-dd hh:mm:ss"), (0, "yyyy-mm-dd hh:mm")]
 
 
 def test_all_schedules_are_written(tmp_path: pathlib.Path) -> None:

@@ -107,16 +107,14 @@ def clauses(part: str) -> str:
     return "\n".join(shown)
 
 
-def cited(crates: pathlib.Path, passed_over: str = "") -> set[Definition]:
-    """The definitions that contracts of public functions cite, but for those of files of this name."""
+def cited(crates: pathlib.Path) -> set[Definition]:
+    """The definitions that contracts of public functions cite."""
     found = set()
     for crate in sorted(crates.iterdir()):
         if not (crate / "src" / "lib.rt").exists() or crate.name in OF_TESTS:
             continue
         modules, names = exported(crate)
         for path in crate.glob("src/**/*.rt"):
-            if path.name == passed_over:
-                continue
             whole = path.relative_to(crate / "src").with_suffix("").parts[0] in modules
             imports = imports_of(path.read_text())
             for part in public_parts(path, whole, names):

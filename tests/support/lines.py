@@ -1,7 +1,6 @@
 """Command lines over the worked files and what the program prints for each, and texts of instance files and order files
-with what it prints for these. Also what each command prints of a great instance of equal times."""
+with what it prints for these."""
 import re
-from collections.abc import Callable, Iterator
 
 from support.files import BEST, BEST2, THREE_JOBS, THREE_JOBS_BY_JOB, TWO_BLOCKS, USAGE, WITH_NOTES, generated, taillard
 from support.program import Ran
@@ -280,43 +279,3 @@ TEXTS = [
     *((line, text[:length], next(answer for most, answer in answers if length <= most))
       for line, text, answers in FIRST_BYTES for length in range(len(text) + 1)),
 ]
-
-
-# What the commands print of jobs that all take as long on each machine
-
-def equal_value(jobs: int, machines: int, time: int) -> Iterator[bytes]:
-    yield b"makespan %d\n" % (time * (jobs + machines - 1))
-
-
-def equal_solve(jobs: int, machines: int, time: int) -> Iterator[bytes]:
-    """All places are equal, so each job, the lowest numbers first, is inserted at the first place."""
-    yield b"order2 %d %d\n" % (jobs, machines)
-    yield b" ".join(b"%d" % job for job in range(jobs, 0, -1)) + b"\n"
-    yield b"makespan %d\n" % (time * (jobs + machines - 1))
-
-
-def equal_check(jobs: int, machines: int, time: int) -> Iterator[bytes]:
-    """All jobs take `jobs` times on each machine, plus one time on each machine before and after it."""
-    length = time * (jobs + machines - 1)
-    yield b"valid\nmakespan %d\nbound %d\noptimal\n" % (length, length)
-
-
-def equal_table(jobs: int, machines: int, time: int) -> Iterator[bytes]:
-    yield b"table %d %d\n" % (jobs, machines)
-    for row in range(jobs):
-        spans = b"".join(b" %d %d" % (time * (row + at), time * (row + at + 1)) for at in range(machines))
-        yield b"%d" % (jobs - row) + spans + b"\n"
-    yield b"makespan %d\n" % (time * (jobs + machines - 1))
-
-
-def equal_convert(jobs: int, machines: int, time: int) -> Iterator[bytes]:
-    yield b"flow shop instance\n%d %d\n" % (jobs, machines)
-    row = b" ".join(b"%d %d" % (machine, time) for machine in range(machines)) + b"\n"
-    for _ in range(jobs):
-        yield row
-
-
-# By command, for those over an instance.
-EQUAL: dict[str, Callable[[int, int, int], Iterator[bytes]]] = {
-    "value": equal_value, "solve": equal_solve, "check": equal_check, "table": equal_table, "convert": equal_convert,
-}

@@ -48,8 +48,10 @@ def prepare_process() -> None:
 
 
 def tool(command: str) -> str:
-    """The path of a command, without which the test is skipped."""
+    """The path of a command, without which the test is skipped. No browser starts while changes are tried."""
     path = shutil.which(command)
+    if command == "chromium" and "PFS_MUTANT" in os.environ:
+        missing("tests/mutants.py starts no browser")
     return not_installed(command) if path is None else path
 
 

@@ -10,9 +10,7 @@
 #include <unistd.h>
 
 extern void *__libc_malloc(size_t);
-extern void *__libc_calloc(size_t, size_t);
 extern void *__libc_realloc(void *, size_t);
-extern void *__libc_memalign(size_t, size_t);
 
 static long growths;
 
@@ -30,21 +28,7 @@ static int is_refused(void) {
 
 void *malloc(size_t size) { return is_refused() ? NULL : __libc_malloc(size); }
 
-void *calloc(size_t count, size_t size) { return is_refused() ? NULL : __libc_calloc(count, size); }
-
 void *realloc(void *old, size_t size) { return is_refused() ? NULL : __libc_realloc(old, size); }
-
-void *memalign(size_t align, size_t size) { return is_refused() ? NULL : __libc_memalign(align, size); }
-
-void *aligned_alloc(size_t align, size_t size) { return memalign(align, size); }
-
-int posix_memalign(void **made, size_t align, size_t size) {
-    void *memory = memalign(align, size);
-    if (memory == NULL)
-        return ENOMEM;
-    *made = memory;
-    return 0;
-}
 
 ssize_t write(int descriptor, const void *bytes, size_t size) {
     const char *tell = getenv("COUNT_TELL");

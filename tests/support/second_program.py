@@ -3,6 +3,7 @@ errors and exit status. It is written from docs/COMMANDS.md and docs/FORMATS.md 
 validates whole lines of whole texts, checks for each prefix of an order file whether a text of the grammar begins with
 it, and evaluates the whole order for each place of an insertion. So it is for small instances only. Tests call the
 function `answer`, or the functions below it."""
+import itertools
 import re
 from collections.abc import Callable, Iterable, Iterator, Mapping, Sequence
 from typing import Any
@@ -513,10 +514,8 @@ def tabled(shop: Instance, jobs: list[int], machines: int | None) -> tuple[bytes
     if wrong := misfit(shop, jobs, machines):
         return wrong, 1
     order = [job - 1 for job in jobs]
-    text = b"table %d %d\n" % (shop.jobs, shop.machines)
-    for job, spans in zip(order, spans_of(shop, order)):
-        text += numbers([job + 1] + [it for span in spans for it in span])
-    return text + b"makespan %d\n" % makespan(shop, order), 0
+    rows = [numbers([job + 1, *itertools.chain(*spans)]) for job, spans in zip(order, spans_of(shop, order))]
+    return b"table %d %d\n%smakespan %d\n" % (shop.jobs, shop.machines, b"".join(rows), makespan(shop, order)), 0
 
 
 # The program

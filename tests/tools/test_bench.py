@@ -6,6 +6,7 @@ import pathlib
 import re
 import shutil
 import subprocess
+from collections.abc import Iterable
 
 import pytest
 from support.tools import with_path, write_script
@@ -15,66 +16,34 @@ pytestmark = [pytest.mark.long, pytest.mark.seconds(20), pytest.mark.xdist_group
 BELOW = ["pfs_base", "pfs_order", "pfs_audit", "pfs_insert", "pfs_wave"]
 # The functions, each with its error.
 REFUSED = {
-    "adds_lengths": ("""/// The sum of two lengths.
-pub fn sum<B: Bench>(_bench: &mut B, a: B::Span, b: B::Span) -> B::Span {
-    a + b
-}
-""", "error[invalid-operand-type]: `+` cannot be applied to `<B as Bench>::Span`"),
-    "takes_a_length_for_a_number": ("""/// A length as a number.
-pub fn number<B: Bench>(_bench: &B, a: B::Span) -> u64 {
-    u64::from(a)
-}
-""", "error[unsatisfied-bound]: the trait bound `u64: From<<B as Bench>::Span>` is not satisfied"),
-    "reveals_a_length": ("""/// A length as a number.
-pub fn number<B: Bench>(bench: &B, a: B::Span) -> u64 {
-    bench.reveal(a)
-}
-""", "error[unknown-method]: no method named `reveal` found for type `B`"),
-    "reads_a_time": ("""/// The time of the first job on the first machine.
-pub fn time<B: Bench>(bench: &B) -> u32 {
-    bench.times[0]
-}
-""", "error[unknown-field]: no field `times` on type `&B`"),
-    "copies_the_bench": ("""/// A copy of the bench.
-pub fn copy<B: Bench>(bench: &B) -> B {
-    *bench
-}
-""", "error[move-out-of-place]: cannot move out of `*bench` which is behind a shared reference"),
-    "clones_the_bench": ("""/// A copy of the bench.
-pub fn copy<B: Bench>(bench: &B) -> Result<B, std::alloc::AllocError> {
-    Clone::clone(bench)
-}
-""", "error[unsatisfied-bound]: the trait bound `B: Clone` is not satisfied"),
+    "pub fn sum<B: Bench>(_bench: &mut B, a: B::Span, b: B::Span) -> B::Span { a + b }":
+        "error[invalid-operand-type]: `+` cannot be applied to `<B as Bench>::Span`",
+    "pub fn number<B: Bench>(_bench: &B, a: B::Span) -> u64 { u64::from(a) }":
+        "error[unsatisfied-bound]: the trait bound `u64: From<<B as Bench>::Span>` is not satisfied",
+    "pub fn revealed<B: Bench>(bench: &B, a: B::Span) -> u64 { bench.reveal(a) }":
+        "error[unknown-method]: no method named `reveal` found for type `B`",
+    "pub fn time<B: Bench>(bench: &B) -> u32 { bench.times[0] }":
+        "error[unknown-field]: no field `times` on type `&B`",
+    "pub fn copied<B: Bench>(bench: &B) -> B { *bench }":
+        "error[move-out-of-place]: cannot move out of `*bench` which is behind a shared reference",
+    "pub fn cloned<B: Bench>(bench: &B) -> Result<B, std::alloc::AllocError> { Clone::clone(bench) }":
+        "error[unsatisfied-bound]: the trait bound `B: Clone` is not satisfied",
 }
 # The same over a bench of lanes.
 REFUSED_LANES = {
-    "reads_lanes": ("""/// The tables of a bench.
-pub fn tables<'a>(bench: &'a MeteredLanes<'a>) -> &'a pfs_wave::LaneTables {
-    &bench.tables
-}
-""", "error[private-field]: field `tables` of struct `MeteredLanes` is private"),
-    "makes_a_permit": ("""/// A permit for a cell that nothing has counted.
-pub fn permit(_bench: &MeteredLanes) -> pfs_base::Permit {
-    pfs_base::Permit { cells: 1 }
-}
-""", "error[private-field]: field `cells` of struct `Permit` is private"),
+    "pub fn tables<'a>(bench: &'a MeteredLanes<'a>) -> &'a pfs_wave::LaneTables { &bench.tables }":
+        "error[private-field]: field `tables` of struct `MeteredLanes` is private",
+    "pub fn permit(_bench: &MeteredLanes) -> pfs_base::Permit { pfs_base::Permit { cells: 1 } }":
+        "error[private-field]: field `cells` of struct `Permit` is private",
 }
 # The same over a permit, with errors that come only where no other has.
 REFUSED_PERMITS = {
-    "drops_a_permit": ("""/// Computes nothing for a permit.
-pub fn lose(_bench: &MeteredLanes, permit: pfs_base::Permit) {}
-""", "error[linear-value-let-go]: `permit` is let go where its block ends, and `Permit` is not `Drop`"),
-    "spends_a_permit_twice": ("""/// Spends a permit on two tables.
-pub fn spend(_bench: &MeteredLanes, permit: pfs_base::Permit) {
-    permit.spend();
-    permit.spend();
+    "pub fn lost(_bench: &MeteredLanes, permit: pfs_base::Permit) {}":
+        "error[linear-value-let-go]: `permit` is let go where its block ends, and `Permit` is not `Drop`",
+    "pub fn spent(_bench: &MeteredLanes, permit: pfs_base::Permit) { permit.spend(); permit.spend(); }":
+        "error[borrow-e0382]: use of moved value: `permit`",
 }
-""", "error[borrow-e0382]: use of moved value: `permit`"),
-}
-LANES_HEAD = """//! A function over a bench of lanes.
-use pfs_wave::MeteredLanes;
-
-"""
+LANES_HEAD = "//! A function over a bench of lanes.\nuse pfs_wave::MeteredLanes;\n\n"
 
 # The root file of a crate that has such functions, and a test, so that `rt try` compiles it.
 ROOT = """//! Functions over any bench.
@@ -112,13 +81,21 @@ def errors_in(top: pathlib.Path, folder: pathlib.Path, modules: dict[str, str]) 
     return found
 
 
+def modules_of(head: str, functions: Iterable[str]) -> dict[str, str]:
+    """A module of each function, by its name."""
+    return {name_of(function): f"{head}/// A function that is rejected.\n{function}\n" for function in functions}
+
+
+def name_of(function: str) -> str:
+    return str(re.findall(r"fn (\w+)", function)[0])
+
+
 @pytest.fixture(scope="session")
 def errors(top: pathlib.Path, tmp_path_factory: pytest.TempPathFactory) -> dict[str, list[str]]:
     """The errors of all functions over a bench, each in a module, by the modules."""
     proved = (top / "crates" / "pfs_tests" / "src" / "any_bench.rt").read_text()
     head = proved[:proved.index("\n/// ") + 1]
-    modules = {"proved": proved, **{name: head + text for name, (text, _) in REFUSED.items()},
-               **{name: LANES_HEAD + text for name, (text, _) in REFUSED_LANES.items()}}
+    modules = {"proved": proved} | modules_of(head, REFUSED) | modules_of(LANES_HEAD, REFUSED_LANES)
     return errors_in(top, tmp_path_factory.mktemp("refused"), modules)
 
 
@@ -128,12 +105,11 @@ def test_a_sum_by_the_bench_has_no_error(errors: dict[str, list[str]], name: str
     assert errors[name] == []
 
 
-@pytest.mark.parametrize("name", [*REFUSED, *REFUSED_LANES])
-def test_a_function_over_any_bench_is_rejected(errors: dict[str, list[str]], name: str) -> None:
-    assert errors[name] == [{**REFUSED, **REFUSED_LANES}[name][1]]
+@pytest.mark.parametrize(("function", "error"), [*REFUSED.items(), *REFUSED_LANES.items()])
+def test_a_function_over_any_bench_is_rejected(errors: dict[str, list[str]], function: str, error: str) -> None:
+    assert errors[name_of(function)] == [error]
 
 
-@pytest.mark.parametrize("name", REFUSED_PERMITS)
-def test_a_permit_is_spent_once(top: pathlib.Path, tmp_path: pathlib.Path, name: str) -> None:
-    text, error = REFUSED_PERMITS[name]
-    assert errors_in(top, tmp_path, {name: LANES_HEAD + text}) == {"lib": [], name: [error]}
+@pytest.mark.parametrize(("function", "error"), REFUSED_PERMITS.items())
+def test_a_permit_is_spent_once(top: pathlib.Path, tmp_path: pathlib.Path, function: str, error: str) -> None:
+    assert errors_in(top, tmp_path, modules_of(LANES_HEAD, [function])) == {"lib": [], name_of(function): [error]}

@@ -109,7 +109,7 @@ COUNTING = {
     "pfs_base/src/permit.rt": ["spend"],  # in `pay`
     "pfs_c/src/kept.rt": ["metered"] * 7,  # each call's own
     "pfs_desk/src/engines/value.rt": ["metered"],
-    "pfs_iterate/src/places.rt": ["metered"] * 2,  # a search that counts nothing
+    "pfs_iterate/src/places.rt": ["metered"],  # a search that counts nothing
     "pfs_search/src/search.rt": ["metered", "pay"],  # in `new`, which computes nothing, and in `start`
     "pfs_search/src/solution.rt": ["metered"] * 3,  # of `solve`, of `improve`, and of the makespan that it begins with
     "pfs_wave/src/sums.rt": ["pay"],

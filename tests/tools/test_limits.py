@@ -29,12 +29,10 @@ NAMED = {
     "tests/support/second_library.py": r"^(MOST_\w+) = (\d+)$",
     "tests/support/second_program.py": r"^(\w+) = (\d+)$",
     "crates/pfs_c/src/texts/writing.rt": r"^const (\w+): u64 = (\d+);$",
-    "bench/block_reader.hpp": r"(LONGEST_INPUT) = (\d+);",
+    "bench/plain.cpp": r"\b([A-Z]+_[A-Z]+) = (\d+)\b",
 }
 # Texts that tell a limit, with any white space and digits in any groups.
 TOLD = {
-    "bench/block_reader.hpp": ["values[0] <= {MOST_JOBS}", "values[1] <= {MOST_MACHINES}",
-                               "if (value > {LONGEST_TIME})"],
     "docs/FORMATS.md": ["a numeral of 1 to {MOST_JOBS} without", "a numeral of 1 to {MOST_MACHINES} without",
                         "byte {BYTE_BEYOND} comes", "more than {LONGEST_ORDER_FILE} bytes",
                         "seed is not within 1 to {MOST_GENERATOR_SEED}",

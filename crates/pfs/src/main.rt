@@ -61,18 +61,11 @@ fn run_words(rt: &HostRuntime, words: &[String]) -> u8 {
 
 // Returns the arguments after the program's name. Arguments that aren't UTF-8 are invalid.
 fn words_of(rt: &HostRuntime) -> Result<Vec<String>, UsageFault> {
-    let args = match env::args(rt) {
-        Ok(args) => args,
-        Err(error) if is_out_of_memory(&error) => return Err(UsageFault::Memory),
-        Err(_) => return Err(UsageFault::Usage),
-    };
-    let mut words = Vec::new(rt.alloc());
-    for word in args.skip(1) {
-        if words.push(word).is_err() {
-            return Err(UsageFault::Memory);
-        }
+    match env::args(rt) {
+        Ok(args) => Vec::from_iter(rt.alloc(), args.skip(1)).or(Err(UsageFault::Memory)),
+        Err(error) if is_out_of_memory(&error) => Err(UsageFault::Memory),
+        Err(_) => Err(UsageFault::Usage),
     }
-    Ok(words)
 }
 
 // Returns whether an allocation failed.

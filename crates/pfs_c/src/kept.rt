@@ -231,7 +231,9 @@ impl Kept {
     {
         validate_insertion(self.instance.jobs(), sequence, job)?;
         let mut bench = self.instance.metered();
-        let best = self.search.best(&mut bench, sequence, job as usize);
+        let best = self
+            .search
+            .best(&mut bench, sequence, job as usize, &mut []);
         *place = best.place;
         *span = bench.reveal(best.span);
         Ok(())
@@ -312,8 +314,9 @@ impl Kept {
         validate(makespans.len() == sequence.len() + 1, CallFault::Length)?;
         validate_insertion(self.instance.jobs(), sequence, job)?;
         let mut bench = self.instance.metered();
-        self.search
-            .insertions(&mut bench, sequence, job as usize, makespans);
+        let _best = self
+            .search
+            .best(&mut bench, sequence, job as usize, makespans);
         Ok(())
     }
 
@@ -387,7 +390,7 @@ fn visit_once(instance: &Instance, search: &mut Search, seq: &mut Seq, list: &[u
     for job in list {
         let job = *job as usize;
         take_out(seq, job);
-        let best = search.best(&mut instance.metered(), seq.as_slice(), job);
+        let best = search.best(&mut instance.metered(), seq.as_slice(), job, &mut []);
         seq.insert_at(best.place, job);
     }
 }

@@ -5,31 +5,8 @@ ghost use Rattle.pfs_base.specs.Paths.{makespan};
 ghost use Rattle.pfs_order.specs.Sequence.{IsSequence};
 ghost use Rattle.pfs_c.specs.Private.Rows.{AreRows, IsRow, in_turn};
 
-use pfs_base::{Instance, MOST_MACHINES, SPAN_MAX};
-
-// The processing times of a job, machine by machine.
-#[inline(always)]
-fn times_of(instance: &Instance, job: usize) -> &[u32]
-    requires { job < instance.now.shop.jobs }
-    ensures long { length result.now ≡ instance.now.shop.machines }
-    ensures each { (machine : ℕ) → machine < instance.now.shop.machines
-        → slice_index result.now machine ≡ time_of instance.now.shop job machine }
-{
-    let machines = instance.machines();
-    let first = job * machines;
-    &instance.times()[first..first + machines]
-}
-
-// The greater of two lengths, plus a time. They are compared as signed numbers, since x86-64 selects by that order in
-// one step (`cmovg`), and by the order of unsigned numbers in two (`cmova`).
-#[inline(always)]
-fn end_after(a: u64, b: u64, time: u32) -> u64
-    requires { (a ≤ SPAN_MAX) × (b ≤ SPAN_MAX) }
-    ensures { result ≡ max a b + time }
-{
-    let start = if (a as i64) < (b as i64) { b } else { a };
-    start + u64::from(time)
-}
+use pfs_base::{Instance, MOST_MACHINES};
+use pfs_iterate::rows::{end_after, times_of};
 
 // The index, below `count`, that comes at a turn: they go from 0 on, or with `back` from the last one down.
 #[inline(always)]

@@ -1,10 +1,9 @@
 -- From the result of an engine to the result of its job.
-use Rattle.std.proofs.Common.{◌≡◌, ℕ, Bool, false, List, [], ◌∷◌, ◌++◌, Option, None, Some, Result, Ok, Err, IfErr}
-use Rattle.std.proofs.Common.{arith, length, inl, inr, sym, refl, ◌∙◌, append_assoc, append-nil}
+use Rattle.std.proofs.Common.{◌≡◌, ℕ, Bool, false, List, [], ◌∷◌, ◌++◌, Option, Some, Result, Ok, Err, IfErr}
+use Rattle.std.proofs.Common.{arith, inl, inr, sym, refl, ◌∙◌, append_assoc, append-nil}
 use Rattle.pfs_layout.specs.declared.layout.Layout.{Layout}
 use Rattle.pfs_layout.specs.declared.fault.LayoutFault.{LayoutFault}
 use Rattle.pfs_words.specs.declared.job.Job.{Job}
-use Rattle.pfs_words.specs.declared.job.Job.TheVariants.{Value}
 use Rattle.pfs_desk.specs.declared.fault.DeskFault.{DeskFault}
 use Rattle.pfs_desk.specs.declared.fault.DeskFault.TheVariants as faults
 use Rattle.pfs_desk.specs.declared.fault.Outcome.{Outcome}
@@ -16,7 +15,7 @@ use Rattle.pfs_desk.specs.Engine.{layout_fault_of, order_fault_of}
 use Rattle.pfs_desk.specs.Private.Ending.{ending, OpensBoth, OneFails}
 use Rattle.pfs_desk.specs.Program.{JobResult, prints, stops, layout_fault_in, order_fault_in, closing}
 use Rattle.pfs_desk.specs.Program.{StopsAtPath, ReadsFiles, IsResultOf, ReturnsOn, ReturnsOnBoth, ReturnsFor, RunsJob}
-use Rattle.pfs_desk.specs.Program.{Delivers, ReturnsValue}
+use Rattle.pfs_desk.specs.Program.{Delivers}
 use Rattle.pfs_desk.specs.Program.{paths_of, WritesResult, reports_write}
 use Rattle.pfs_desk.specs.ProgramText.{open_stop}
 use Rattle.pfs_desk.specs.FileState.{FileState, FileEvent, Logs, MayOpen, MayFail, opened, not_opened}

@@ -161,6 +161,11 @@ module _ (shop : FlowShop) (within : IsWithin limits shop) (jobs : List ℕ) (fe
       let small = λ (row m : ℕ). time_of-le shop within (get_or jobs row 0) m in
       omega (arith, end_is shop jobs machine, head_le (operation shop jobs) LONGEST_TIME small (length jobs) machine)
 
+  pub before_short : (machine : ℕ) → machine ≤ shop.machines
+      → end_before shop jobs machine ≤ (MOST_JOBS + MOST_MACHINES + 1) * LONGEST_TIME
+  before_short zero le = omega arith
+  before_short (suc machine) lt = end_short machine lt
+
   pub sum_short : (n : ℕ) → n ≤ shop.machines
       → sum_by (end_on shop jobs) (range_with_len 0 n) ≤ n * ((MOST_JOBS + MOST_MACHINES + 1) * LONGEST_TIME)
   sum_short zero le = omega arith

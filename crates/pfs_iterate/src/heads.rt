@@ -4,6 +4,7 @@ ghost use Rattle.pfs_order.specs.Sequence.{IsSequence};
 ghost use Rattle.pfs_iterate.specs.Private.Memory.{AreHeads, AreRows};
 ghost use Rattle.pfs_iterate.specs.Iterated.{ends, total_delay};
 
+use crate::rows::{end_after, times_of};
 use pfs_base::Instance;
 use std::alloc::{AllocError, Global};
 
@@ -84,10 +85,11 @@ fn add_row(instance: &Instance, jobs: &[u32], job: usize, rows: &mut [u64])
     ensures { AreRows instance.now.shop (jobs.now ++ job ∷ []) rows.new }
 {
     let machines = instance.machines();
+    let times = times_of(instance, job);
     let above = jobs.len() * machines;
     let mut end = 0;
     for machine in 0..machines {
-        end = rows[above + machine].max(end) + u64::from(instance.time(job, machine));
+        end = end_after(rows[above + machine], end, times[machine]);
         rows[above + machines + machine] = end;
     }
 }
@@ -99,11 +101,12 @@ fn delay_at_end(instance: &Instance, jobs: &[u32], rows: &[u64], job: usize) -> 
     ensures { result ≡ ends instance.now.shop (jobs.now ++ job ∷ []) - ends instance.now.shop jobs.now }
 {
     let machines = instance.machines();
+    let times = times_of(instance, job);
     let above = jobs.len() * machines;
     let (mut end, mut now, mut before) = (0, 0, 0);
     for machine in 0..machines {
         let ended = rows[above + machine];
-        end = ended.max(end) + u64::from(instance.time(job, machine));
+        end = end_after(ended, end, times[machine]);
         now += end;
         before += ended;
     }
@@ -119,13 +122,14 @@ fn delay_before(instance: &Instance, jobs: &[u32], rows: &[u64], job: usize, pla
         - ends instance.now.shop (front (place + 1) jobs.now) }
 {
     let machines = instance.machines();
+    let times = times_of(instance, job);
+    let next_times = times_of(instance, jobs[place] as usize);
     let above = place * machines;
-    let next = jobs[place] as usize;
     let (mut end, mut next_end, mut now, mut before) = (0, 0, 0, 0);
     for machine in 0..machines {
         let ended = rows[above + machines + machine];
-        end = rows[above + machine].max(end) + u64::from(instance.time(job, machine));
-        next_end = end.max(next_end) + u64::from(instance.time(next, machine));
+        end = end_after(rows[above + machine], end, times[machine]);
+        next_end = end_after(end, next_end, next_times[machine]);
         now += next_end;
         before += ended;
     }

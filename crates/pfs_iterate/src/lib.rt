@@ -11,6 +11,7 @@ pub mod laws;
 mod options;
 mod places;
 mod rounds;
+pub mod rows;
 mod stay;
 mod work;
 

@@ -1,9 +1,9 @@
 //! The makespans with a job at each place, and the best one of the places that may change.
-ghost use Rattle.std.specs.Prelude.{◌≡◌, ℕ, ◌+◌, ◌<◌, ◌≤◌, length, take as front, Contains, insert, slice_index};
-ghost use Rattle.std.specs.Prelude.{IfOk, IfSome};
+ghost use Rattle.std.specs.Prelude.{◌≡◌, ℕ, ◌+◌, ◌-◌, ◌<◌, ◌≤◌, length, take as front, Contains, insert};
+ghost use Rattle.std.specs.Prelude.{IfOk};
 ghost use Rattle.std.specs.List.{slice_index_or};
 ghost use Rattle.pfs_base.specs.Paths.{makespan};
-ghost use Rattle.pfs_insert.specs.Insertion.{makespan_with};
+ghost use Rattle.pfs_insert.specs.Insertion.{IsFirstLeast, makespan_with};
 ghost use Rattle.pfs_search.specs.Search.{IsSearchOf};
 ghost use Rattle.pfs_iterate.specs.Iterated.{chosen, total_delay};
 ghost use Rattle.pfs_iterate.specs.Private.Steps.{IsBestFrom, IsLeastFrom};
@@ -39,7 +39,7 @@ impl Places {
     }
 }
 
-// The first place of the least makespan, and a place after which there is no other one.
+// The first and the last place of the least makespan.
 #[derive(Clone, Copy)]
 struct Least {
     place: usize,
@@ -49,29 +49,49 @@ struct Least {
 
 // The first place of the least makespan, from a place on.
 #[inline(always)]
-fn least_from(spans: &[u64], held: usize) -> Least
+fn first_least(spans: &[u64], held: usize) -> Placed<u64>
     requires { held < length spans.now }
-    ensures least { IsLeastFrom (λ place. slice_index_or spans.now place 0) held (length spans.now) result.place result.last }
+    ensures least { IsLeastFrom (λ place. slice_index_or spans.now place 0) held (length spans.now) result.place
+        (length spans.now - 1) }
     ensures span { result.span ≡ slice_index_or spans.now result.place 0 }
 {
-    let mut found = Least {
+    let mut found = Placed {
         place: held,
-        last: held,
         span: spans[held],
     };
     for place in held + 1..spans.len() {
         let span = spans[place];
         if span < found.span {
-            found = Least {
-                place,
-                last: place,
-                span,
-            };
-        } else if span == found.span {
-            found.last = place;
+            found = Placed { place, span };
         }
     }
     found
+}
+
+// The first place of the least makespan, from a place on, and the last one. `best` is the first of all places.
+#[inline(always)]
+fn least_from(spans: &[u64], held: usize, best: Placed<u64>) -> Least
+    requires held { held < length spans.now }
+    requires best { IsFirstLeast (λ place. slice_index_or spans.now place 0) (length spans.now) best.place }
+    requires span { best.span ≡ slice_index_or spans.now best.place 0 }
+    ensures least { IsLeastFrom (λ place. slice_index_or spans.now place 0) held (length spans.now) result.place result.last }
+    ensures span { result.span ≡ slice_index_or spans.now result.place 0 }
+{
+    let Placed { place, span } = if held <= best.place {
+        best
+    } else {
+        first_least(spans, held)
+    };
+    for last in (place + 1..spans.len()).rev() {
+        if spans[last] == span {
+            return Least { place, last, span };
+        }
+    }
+    Least {
+        place,
+        last: place,
+        span,
+    }
 }
 
 // Of the places with the makespan of `best`, the first with the least total delay.
@@ -111,12 +131,13 @@ fn least_delay(
     found
 }
 
-// The best place of a job by the makespans at all places, and its makespan.
+// The best place of a job by the makespans at all places, of which `best` is the first of the least, and its makespan.
 #[inline(always)]
 fn choose(
     instance: &Instance,
     heads: &mut Heads,
     spans: &[u64],
+    best: Placed<u64>,
     seq: &Seq,
     job: usize,
     options: &Options,
@@ -126,15 +147,17 @@ fn choose(
     requires held { options.now.held ≤ length seq.now.jobs }
     requires job { job < instance.now.shop.jobs }
     requires spans { (place : ℕ) → place ≤ length seq.now.jobs
-        → slice_index spans.now place ≡ makespan_with instance.now.shop seq.now.jobs job place }
+        → slice_index_or spans.now place 0 ≡ makespan_with instance.now.shop seq.now.jobs job place }
     requires long { length spans.now ≡ length seq.now.jobs + 1 }
+    requires best { IsFirstLeast (makespan_with instance.now.shop seq.now.jobs job) (length seq.now.jobs + 1) best.place }
+    requires span { best.span ≡ makespan_with instance.now.shop seq.now.jobs job best.place }
     ensures chosen { result.place ≡ chosen instance.now.shop options.now seq.now.jobs job }
     ensures from { options.now.held ≤ result.place }
     ensures within { result.place ≤ length seq.now.jobs }
     ensures span { result.span ≡ makespan_with instance.now.shop seq.now.jobs job result.place }
     ensures heads { AreHeads instance.now.shop heads.new }
 {
-    let best = least_from(spans, options.held);
+    let best = least_from(spans, options.held, best);
     let span = best.span;
     if options.ties != TIES_IDLE || best.last == best.place {
         return Placed {
@@ -146,58 +169,36 @@ fn choose(
     Placed { place, span }
 }
 
-// Writes the makespans with a job at each place of a sequence.
-#[inline(always)]
-fn evaluate(instance: &Instance, search: &mut Search, seq: &Seq, job: usize, spans: &mut [u64])
-    requires search { IsSearchOf instance.now.shop search.old }
-    requires size { seq.now.size ≡ instance.now.shop.jobs }
-    requires job { job < instance.now.shop.jobs }
-    requires absent { Contains seq.now.jobs job → ⊥ }
-    requires room { length seq.now.jobs + 1 ≤ length spans.old }
-    ensures spans { (place : ℕ) → place ≤ length seq.now.jobs
-        → slice_index spans.new place ≡ makespan_with instance.now.shop seq.now.jobs job place }
-    ensures long { length spans.new ≡ length spans.old }
-    ensures search { IsSearchOf instance.now.shop search.new }
-{
-    let spans = &mut spans[..seq.len() + 1];
-    search.insertions(&mut instance.metered(), seq.as_slice(), job, spans);
-}
-
-// The best of all places, if it is after the held jobs and the rule for ties takes the first one. Few held jobs seldom
-// have the best place among them.
+// The first of all places with the least makespan. `spans` gets the makespans with the job at the first places, as many
+// as it has room for.
 #[inline(always)]
 fn best_of_all(
     instance: &Instance,
     search: &mut Search,
     seq: &Seq,
-    options: &Options,
     job: usize,
-) -> Option<Placed<u64>>
+    spans: &mut [u64],
+) -> Placed<u64>
     requires search { IsSearchOf instance.now.shop search.old }
     requires size { seq.now.size ≡ instance.now.shop.jobs }
     requires job { job < instance.now.shop.jobs }
     requires absent { Contains seq.now.jobs job → ⊥ }
-    ensures chosen { IfSome result (λ best. best.place ≡ chosen instance.now.shop options.now seq.now.jobs job) }
-    ensures from { IfSome result (λ best. options.now.held ≤ best.place) }
-    ensures within { IfSome result (λ best. best.place ≤ length seq.now.jobs) }
-    ensures span { IfSome result (λ best.
-        best.span ≡ makespan_with instance.now.shop seq.now.jobs job best.place) }
+    ensures best { IsFirstLeast (makespan_with instance.now.shop seq.now.jobs job) (length seq.now.jobs + 1) result.place }
+    ensures span { result.span ≡ makespan_with instance.now.shop seq.now.jobs job result.place }
+    ensures spans { (place : ℕ) → place ≤ length seq.now.jobs → place < length spans.old
+        → slice_index_or spans.new place 0 ≡ makespan_with instance.now.shop seq.now.jobs job place }
+    ensures long { length spans.new ≡ length spans.old }
     ensures search { IsSearchOf instance.now.shop search.new }
 {
     // Called for its contract, which says that no place before the best one is as good.
     pfs_insert::laws::best_place();
-    if options.ties != TIES_FIRST || options.held > seq.len() / FEW_HELD {
-        return None;
-    }
     let mut bench = instance.metered();
-    let best = search.best(&mut bench, seq.as_slice(), job);
-    if best.place < options.held {
-        return None;
-    }
-    Some(Placed {
+    let count = spans.len().min(seq.len() + 1);
+    let best = search.best(&mut bench, seq.as_slice(), job, &mut spans[..count]);
+    Placed {
         place: best.place,
         span: bench.reveal(best.span),
-    })
+    }
 }
 
 // The chosen place for a job, and the makespan with the job there.
@@ -223,13 +224,16 @@ fn find_place(
     ensures search { IsSearchOf instance.now.shop search.new }
     ensures places { IsPlacesFor instance.now.shop places.new }
 {
-    let len = seq.len();
-    if let Some(best) = best_of_all(instance, search, seq, options, job) {
-        return best;
+    // Few held jobs seldom have the best place among them.
+    if options.ties == TIES_FIRST && options.held <= seq.len() / FEW_HELD {
+        let best = best_of_all(instance, search, seq, job, &mut []);
+        if options.held <= best.place {
+            return best;
+        }
     }
-    evaluate(instance, search, seq, job, &mut places.spans);
-    let spans = &places.spans[..len + 1];
-    choose(instance, &mut places.heads, spans, seq, job, options)
+    let best = best_of_all(instance, search, seq, job, &mut places.spans);
+    let spans = &places.spans[..seq.len() + 1];
+    choose(instance, &mut places.heads, spans, best, seq, job, options)
 }
 
 /// Inserts a job at its best place, and returns the place and the makespan.
@@ -282,7 +286,7 @@ pub(crate) fn span_of(
     }
     let last = len - 1;
     let job = seq.remove_at(last);
-    evaluate(instance, search, seq, job, &mut places.spans);
+    let _best = best_of_all(instance, search, seq, job, &mut places.spans);
     seq.insert_at(last, job);
     places.spans[last]
 }

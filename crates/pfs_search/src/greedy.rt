@@ -57,6 +57,7 @@ pub(crate) fn play_round<B: Bench, I: Inserter<B>>(
 }
 
 // Copies an order, and removes the jobs that the random words name from the copy.
+#[inline(always)]
 fn take_jobs(order: &Seq, seq: &mut Seq, taken: &mut Vec<usize>, words: &[u32])
     requires ready { CanTake order.now seq.old words.now }
     requires room { length words.now ≤ vec_capacity taken.old }

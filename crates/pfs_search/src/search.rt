@@ -1,5 +1,6 @@
 //! All memory of an instance's searches.
-ghost use Rattle.std.specs.Prelude.{◌≡◌, ℕ, ◌+◌, ◌*◌, ◌<◌, ◌≤◌, ◌^◌, length, slice_index, Contains, IfOk, IfErr, IsSomeAnd};
+ghost use Rattle.std.specs.Prelude.{◌≡◌, ℕ, ◌+◌, ◌*◌, ◌<◌, ◌≤◌, ◌^◌, length, Contains, IfOk, IfErr, IsSomeAnd};
+ghost use Rattle.std.specs.List.{slice_index_or};
 ghost use Rattle.pfs_base.specs.Paths.{makespan};
 ghost use Rattle.pfs_insert.specs.Inserter.{IsBestPlace};
 ghost use Rattle.pfs_insert.specs.Insertion.{heads_tails_cost, makespan_with};
@@ -153,15 +154,24 @@ impl Search {
         bench
     }
 
-    /// The best place for a job that is not in a sequence, and the makespan with the job there. The bench counts the cells
-    /// of the insertion.
-    pub fn best(&mut self, bench: &mut Metered, jobs: &[u32], job: usize) -> Placed<Span>
+    /// The best place for a job that is not in a sequence, and the makespan with the job there. `spans` gets the makespans
+    /// with the job at the first places, as many as it has room for. The bench counts the cells of the insertion.
+    pub fn best(
+        &mut self,
+        bench: &mut Metered,
+        jobs: &[u32],
+        job: usize,
+        spans: &mut [u64],
+    ) -> Placed<Span>
         requires own { ⟦<Search as OfShop>⟧.is_of self.old (⟦<Metered<'static> as Bench>⟧.shop bench.old) }
         requires sequence { IsSequence (⟦<Metered<'static> as Bench>⟧.shop bench.old).jobs jobs.now }
         requires job { job < (⟦<Metered<'static> as Bench>⟧.shop bench.old).jobs }
         requires absent { Contains jobs.now job → ⊥ }
+        requires spans { length spans.old ≤ length jobs.now + 1 }
         requires room { ⟦<Metered<'static> as Bench>⟧.counted bench.old < 2 ^ 63 }
         ensures best { IsBestPlace (⟦<Metered<'static> as Bench>⟧.shop bench.old) jobs.now job result.place result.span }
+        ensures spans { (place : ℕ) → place < length spans.old
+            → slice_index_or spans.new place 0 ≡ makespan_with (⟦<Metered<'static> as Bench>⟧.shop bench.old) jobs.now job place }
         ensures kept { self.new.kept ≡ self.old.kept }
         ensures cells { self.new.cells ≡ self.old.cells }
         ensures counted { ⟦<Metered<'static> as Bench>⟧.counted bench.new ≡ ⟦<Metered<'static> as Bench>⟧.counted bench.old
@@ -170,33 +180,7 @@ impl Search {
         ensures still { ⟦<Search as OfShop>⟧.is_of self.new (⟦<Metered<'static> as Bench>⟧.shop bench.old) }
     {
         match &mut self.tables {
-            Some(tables) => tables.best(bench, jobs, job, &mut []),
-            None => unreachable!(),
-        }
-    }
-
-    /// Writes the makespan with a job at each place of a sequence. The job must not be in the sequence. The bench counts
-    /// the cells of the insertion.
-    pub fn insertions(&mut self, bench: &mut Metered, jobs: &[u32], job: usize, spans: &mut [u64])
-        requires own { ⟦<Search as OfShop>⟧.is_of self.old (⟦<Metered<'static> as Bench>⟧.shop bench.old) }
-        requires sequence { IsSequence (⟦<Metered<'static> as Bench>⟧.shop bench.old).jobs jobs.now }
-        requires job { job < (⟦<Metered<'static> as Bench>⟧.shop bench.old).jobs }
-        requires absent { Contains jobs.now job → ⊥ }
-        requires length { length spans.old ≡ length jobs.now + 1 }
-        requires room { ⟦<Metered<'static> as Bench>⟧.counted bench.old < 2 ^ 63 }
-        ensures spans { (place : ℕ) → place ≤ length jobs.now
-            → slice_index spans.new place ≡ makespan_with (⟦<Metered<'static> as Bench>⟧.shop bench.old) jobs.now job place }
-        ensures kept { self.new.kept ≡ self.old.kept }
-        ensures cells { self.new.cells ≡ self.old.cells }
-        ensures counted { ⟦<Metered<'static> as Bench>⟧.counted bench.new ≡ ⟦<Metered<'static> as Bench>⟧.counted bench.old
-            + heads_tails_cost (length jobs.now + 1) (⟦<Metered<'static> as Bench>⟧.shop bench.old).machines }
-        ensures shop { ⟦<Metered<'static> as Bench>⟧.shop bench.new ≡ ⟦<Metered<'static> as Bench>⟧.shop bench.old }
-        ensures still { ⟦<Search as OfShop>⟧.is_of self.new (⟦<Metered<'static> as Bench>⟧.shop bench.old) }
-    {
-        match &mut self.tables {
-            Some(tables) => {
-                let _best = tables.best(bench, jobs, job, spans);
-            }
+            Some(tables) => tables.best(bench, jobs, job, spans),
             None => unreachable!(),
         }
     }

@@ -8,7 +8,7 @@ from collections import defaultdict
 from collections.abc import Collection, Iterable, Iterator
 from datetime import date, datetime, timedelta
 from itertools import accumulate, count, islice, pairwise, takewhile
-from typing import TYPE_CHECKING
+from typing import TYPE_CHECKING, TypeAlias
 
 import numpy as np
 
@@ -36,8 +36,8 @@ MOST_DAYS, MOST_BREAKS = 3_660, 400
 UNIT_NEEDED = "write min, h, s or d in brackets into the first cell of the table, as in 'job [min]', or set `unit`"
 
 # From when to when there is work, in microseconds.
-Span = tuple[int, int]
-Shifts = dict[int | str, list[Span]]
+Span: TypeAlias = tuple[int, int]
+Shifts: TypeAlias = dict[int | str, list[Span]]
 
 
 class Calendar:

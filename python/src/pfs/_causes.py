@@ -4,7 +4,7 @@ from __future__ import annotations
 from collections import defaultdict
 from collections.abc import Iterable, Iterator
 from itertools import islice
-from typing import NamedTuple
+from typing import NamedTuple, TypeAlias
 
 import numpy as np
 
@@ -18,7 +18,7 @@ MOST_OTHERS = 50
 MOST_PAIRS, MOST_ORDERS = 5_000, 500_000
 
 # What identifies the times of an instance, whatever its names.
-Key = tuple[bytes, tuple[int, ...]]
+Key: TypeAlias = tuple[bytes, tuple[int, ...]]
 
 
 class Stated(NamedTuple):

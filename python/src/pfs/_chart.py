@@ -85,7 +85,6 @@ def plot(schedule: Schedule, path: str | os.PathLike[str] | None = None, *, crit
         chart.end = f"{day_of(end, say)} {text_of(end, digits).partition(' ')[2]}"
     elif chart.unit == CLOCK:
         step = next(step for step in MINUTES if step * most >= chart.makespan)
-        chart.scale = f"{say('time')} ({CLOCK})"
         chart.marks = [(time, chart.formatted(time)) for time in range(0, chart.makespan + 1, step)]
     if ending != "html":
         return drawn(chart, path, ending, ax)

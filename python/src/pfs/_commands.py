@@ -106,12 +106,12 @@ def clock(seconds: float) -> str:
 
 
 def searched(search: Search, rounds: int | None, seconds: float | None, caught: list[int],
-             keep: Callable[[Solution], None], early: float = 0) -> tuple[Solution, Exception | None]:
+             keep: Callable[[Solution], None], early: float | None = None) -> tuple[Solution, Exception | None]:
     """Search up to a round, or without one for some seconds or up to the bound, and call `keep` with the best order at
     first and after each part. Return the best order, and the error that ended the search early. Before, try for `early`
     seconds to find and prove an optimal order, as is possible at once for many small instances."""
     if early:
-        start = None if search.start is None else list(memoryview(search.start).cast("I"))
+        start = None if search.start is None else memoryview(search.start).cast("I")
         with contextlib.suppress(MemoryError):
             best = search.shop.optimum(early, start=start, stop=SimpleNamespace(is_set=lambda: bool(caught)))
             if best.optimal:
@@ -393,7 +393,11 @@ def checked(reader: Callable[[str], object]) -> Callable[[str], str]:
 
 
 def until_of(text: str) -> tuple[str, str]:
-    """Parse a machine and a date and time."""
+    """Parse a machine and a date and time.
+
+    >>> until_of("a = b=2026-12-01T13:00")
+    ('a = b', '2026-12-01T13:00')
+    """
     machine, sign, moment = text.rpartition("=")
     if not sign:
         raise argparse.ArgumentTypeError(f"{text!r} is not a machine and a time such as drill=2026-12-01T13:00")

@@ -11,7 +11,7 @@ import textwrap
 from collections.abc import Sequence
 from dataclasses import dataclass
 from functools import cached_property
-from typing import Any
+from typing import Any, TypeAlias
 
 from pfs._names import CLOCK, amount
 from pfs._words import ENGLISH, Say
@@ -46,11 +46,11 @@ PALETTE = """
     f0783c 9696f0 326ef0 96c8fa 00aac8 3296aa 64aa8c b41e32 32788c 32a06e aac8a0 3c78aa 509682 465a82 a0d278""".split()
 
 # Red, green and blue, each from 0 to 1.
-Colour = tuple[float, float, float]
+Colour: TypeAlias = tuple[float, float, float]
 # Figures and axes of matplotlib, and arrays of NumPy, which have no types here.
-Figure = Any
-Axis = Any
-Array = Any
+Figure: TypeAlias = Any
+Axis: TypeAlias = Any
+Array: TypeAlias = Any
 
 
 @dataclass
@@ -93,11 +93,11 @@ class Chart:
 
     @property
     def plot_width(self) -> float:
-        return max(0.5, self.width - self.beside)
+        return self.width - self.beside
 
     @property
     def row_height(self) -> float:
-        return min(0.42, max(0.05, HIGHEST_ROWS / len(self.machines)))
+        return min(0.42, HIGHEST_ROWS / len(self.machines))
 
     @property
     def height(self) -> float:
@@ -170,7 +170,7 @@ class Chart:
         """The places and names of all jobs, in columns of equal width; none if no bar has a place instead of a name."""
         if not self.key or all(letters == LETTERS for *_, letters in self.labels):
             return []
-        most = max(8, int((self.width - 0.4) / KEY_DIGIT) - 4)
+        most = int((self.width - 0.4) / KEY_DIGIT) - 4
         items = [shortened(f"{self.sign}{place} {name}", most) for place, name in enumerate(self.jobs, 1)]
         columns = max(1, min(len(items), int((self.width - 0.4) / (KEY_DIGIT * (4 + max(map(len, items)))))))
         rows = math.ceil(len(items) / columns)
@@ -197,7 +197,11 @@ def critical_path(starts: Array, ends: Array) -> list[tuple[int, int]]:
 
 
 def shortened(text: str, most: int) -> str:
-    """Return the text, cut if it is longer than this."""
+    """Return the text, cut if it is longer than this.
+
+    >>> shortened("drill", 5), shortened("drill 12", 7), shortened("drill 12", 6)
+    ('drill', 'drill…', 'drill…')
+    """
     return text if len(text) <= most else f"{text[:most - 1].rstrip()}\u2026"
 
 
@@ -217,22 +221,20 @@ def rgb_of(digits: str) -> Colour:
 
 
 def of_lightness(lightness: float, hue: float) -> Colour:
-    """Return the colour of this lightness (L* of CIELAB, 0 to 100) and this hue, in degrees."""
+    """Return the colour of this lightness (L* of CIELAB, 40 or more) and this hue, in degrees."""
     along, chroma = math.radians(hue), 45
     y = (lightness + 16) / 116
     x, z = y + chroma * math.cos(along) / 500, y - chroma * math.sin(along) / 200
-    x, y, z = (white * (part ** 3 if part > 6 / 29 else (part - 4 / 29) * 108 / 841)
-               for white, part in zip((0.9505, 1, 1.089), (x, y, z)))
+    x, y, z = 0.9505 * x ** 3, y ** 3, 1.089 * z ** 3
     linear = (3.2406 * x - 1.5372 * y - 0.4986 * z, -0.9689 * x + 1.8758 * y + 0.0415 * z,
               0.0557 * x - 0.2040 * y + 1.0570 * z)
-    red, green, blue = (12.92 * part if part <= 0.0031308 else 1.055 * part ** (1 / 2.4) - 0.055
-                        for part in (min(1, max(0, part)) for part in linear))
+    red, green, blue = (min(1, max(0, 1.055 * max(0, part) ** (1 / 2.4) - 0.055)) for part in linear)
     return red, green, blue
 
 
 def ink(background: Colour) -> str:
-    """Return black or white, whichever has the greater contrast, which is 4.58 or more (WCAG)."""
-    red, green, blue = (part / 12.92 if part <= 0.04045 else ((part + 0.055) / 1.055) ** 2.4 for part in background)
+    """Return black or white, whichever has the greater contrast, which is 4.57 or more (WCAG)."""
+    red, green, blue = (((part + 0.055) / 1.055) ** 2.4 for part in background)
     return "black" if (0.2126 * red + 0.7152 * green + 0.0722 * blue + 0.05) ** 2 > 0.05 * 1.05 else "white"
 
 

@@ -43,7 +43,7 @@ def bytes_of(source: Source, most: int) -> tuple[bytes, str]:
     if hasattr(source, "read"):
         return read_up_to(source.read, most + 1), str(getattr(source, "name", ""))
     with open(source, "rb") as file:
-        return read_up_to(file.read, most + 1), os.fspath(source)
+        return bytes_of(file, most)[0], os.fspath(source)
 
 
 def content_of(path: str, what: str = "file") -> bytes:
@@ -364,6 +364,8 @@ def parse_order(text: str, first: int = 0) -> Order:
     [1, 0, 2]
     >>> pfs.Instance([[3, 2], [2, 5], [4, 1]]).makespan(order)
     10
+    >>> pfs.parse_order("J1 J0 J2")
+    array([1, 0, 2])
     """
     if not isinstance(text, str):
         raise TypeError(f"text must be a str, not {text!r}")

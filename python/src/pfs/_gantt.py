@@ -71,7 +71,7 @@ def on_one_line(text: str) -> str:
     return text
 
 
-def parse_args() -> argparse.Namespace:
+def words() -> CommandLine:
     parser = CommandLine("pfs-gantt", usage=(__doc__ or "").partition("usage: ")[2])
     parser.add_argument("--critical", action="store_true", help="outline a critical path")
     parser.add_argument("--bound", type=number(0, 10 ** 18 - 1), help="draw a dashed line at this lower bound")
@@ -82,11 +82,11 @@ def parse_args() -> argparse.Namespace:
     parser.add_argument("--no-title", dest="title", action="store_false", help=argparse.SUPPRESS)
     parser.add_argument("table", nargs="?", metavar="TABLE")
     parser.add_argument("picture", metavar="PICTURE")
-    return parser.parse_args()
+    return parser
 
 
 def draw_picture() -> int:
-    given = vars(parse_args())
+    given = vars(words().parse_args())
     optional("numpy", "a picture")
     optional("matplotlib", "a picture").rcdefaults()  # no matplotlibrc of the current folder
     source, picture = given.pop("table"), given.pop("picture")

@@ -670,9 +670,7 @@ class Instance:
         >>> best.makespan, best.bound, best.optimal, shop.bound()
         (1278, 1278, True, 1232)
         """
-        limit = _search.limit_of(seconds, "seconds")
-        if limit is None:
-            raise TypeError("seconds must be a number of seconds, not None")
+        limit = _search.number_of(seconds, "seconds", 0, float("inf"), " seconds")
         return self.solve(0 if start is not None else 100, method="iterated-greedy", start=start, stop=stop,
                           time_limit=limit, target=self.bound(), prove=limit)
 

@@ -1,6 +1,7 @@
 """Tables of times, as spreadsheets export them."""
 from __future__ import annotations
 
+import codecs
 import csv
 import os
 import re
@@ -72,6 +73,8 @@ SAYS_JOB = re.compile(r"(?:(?:jobs?|(?:work)?orders?|wo(?:rk(?!order))?|(?:ferti
 SAYS_MACHINE = re.compile(r"(?:machines?|maschinen?|m\u00e1quinas?|macchin[ae])\b", re.IGNORECASE)
 # The first bytes of spreadsheets in their own formats, which are archives or compound documents.
 ARCHIVE, COMPOUND = b"PK\x03\x04", b"\xd0\xcf\x11\xe0"
+# Byte order marks.
+MARKS = codecs.BOM_UTF8, codecs.BOM_UTF16_LE, codecs.BOM_UTF16_BE
 TIMES_AS_NAMES = ("the names of the {what}s are numbers, as if the {part} of names were missing: add it, or write "
                   "`job` into the first cell of the table")
 SAVE_AS = "save it as CSV UTF-8 (Excel), or as CSV with the character set Unicode (UTF-8) (LibreOffice)"
@@ -106,19 +109,20 @@ class Cell(NamedTuple):
 class Rows:
     """A table: its rows that aren't empty, without titles and without empty columns, and its faults so far."""
 
-    def __init__(self, path: str, text: str, delimiter: str, faults: list[TableFault]) -> None:
+    def __init__(self, path: str, text: str, texts: set[tuple[int, int]], is_chosen: bool,
+                 faults: list[TableFault]) -> None:
         self.path = path
         self.text = text
-        self.delimiter = delimiter
+        self.delimiter = delimiter_of(text)
+        # The cells of a workbook that are texts, and look like numbers with a separator.
+        self.texts = texts
+        # Whether the machines were named.
+        self.is_chosen = is_chosen
         self.faults = faults
         # The cell above the jobs, the names of the machines, and those of the jobs.
-        self.corner = Cell(1, 1, "")
+        self.corner: Cell
         self.machines: list[Cell] = []
         self.jobs: list[Cell] = []
-        # The cells of a workbook that are texts, and look like numbers with a separator.
-        self.texts: set[tuple[int, int]] = set()
-        # Whether the machines were named.
-        self.is_chosen = False
         # The first cell of each column that isn't a time, and how many there are, for each cause.
         self.wrong: dict[tuple[int, str], tuple[TableFault, int]] = {}
 
@@ -263,10 +267,10 @@ def table_in(content: bytes, path: str, unit: str, decimal: str | None, allow_to
         text, note, texts = text_of(content, path, faults), "", set()
     if sheet is not None and not content.startswith(ARCHIVE):
         raise ValueError(f"{path} isn't a workbook (.xlsx), and has no sheet {sheet!r}")
-    table = rows_of(text, path, list(machines or ()), faults)
-    table.texts = texts
+    names = list(machines or ())
+    table = rows_of(Rows(path, text, texts, bool(names), faults), names)
     if not allow_totals:
-        leave_out_totals(table, machines is not None)
+        leave_out_totals(table)
     heads, found = without_units(table, unit)
     check_sizes(table)
     job_names, machine_names = names_in(table, table.jobs, "job"), names_in(table, heads, "machine")
@@ -278,8 +282,7 @@ def table_in(content: bytes, path: str, unit: str, decimal: str | None, allow_to
         reject_sums(table, times)
     shop = Instance(times, name=os.path.basename(path), job_names=job_names, machine_names=machine_names, unit=found,
                     decimals=decimals)
-    return Table(shop, table.delimiter, content.startswith((b"\xef\xbb\xbf", b"\xff\xfe", b"\xfe\xff")), note,
-                 sign.rounded())
+    return Table(shop, table.delimiter, content.startswith(MARKS), note, sign.rounded())
 
 
 def sheet_of(content: bytes, path: str, sheet: str | None, sign: str) -> tuple[str, str, set[tuple[int, int]]]:
@@ -307,7 +310,7 @@ def text_of(content: bytes, path: str, faults: list[TableFault] | None = None) -
         return book.csv_of(book.first)
     if content.startswith(COMPOUND):
         raise TableFault(path, 1, 0, f"is a spreadsheet's own file: {SAVE_AS}, or as .xlsx")
-    encoding = "utf-16" if content.startswith((b"\xff\xfe", b"\xfe\xff")) else "utf-8-sig"
+    encoding = "utf-16" if content.startswith(MARKS[1:]) else "utf-8-sig"
     try:
         return content.decode(encoding)
     except UnicodeDecodeError as error:
@@ -362,15 +365,14 @@ def records(text: str, path: str, delimiter: str) -> Iterator[tuple[int, list[st
         raise TableFault(path, reader.line_num, 0, f"isn't a row of a table: {error}") from None
 
 
-def rows_of(text: str, path: str, machines: list[str], faults: list[TableFault]) -> Rows:
+def rows_of(table: Rows, machines: list[str]) -> Rows:
     """Return the table: the rows from the first one on that has more than a first cell, or that names these machines.
     Those above it are titles."""
-    table = Rows(path, text, delimiter_of(text), faults)
-    table.is_chosen = bool(machines)
+    path = table.path
     head: list[str] = []
     titles: list[Cell] = []
     used: set[int] = set()
-    for line, row in records(text, path, table.delimiter):
+    for line, row in records(table.text, path, table.delimiter):
         if len(titles) + len(table.jobs) == MOST_ROWS:
             raise TableFault(path, line, 0, f"the table has more than {MOST_ROWS:,} rows")
         first = Cell(line, 1, row[0])
@@ -383,7 +385,7 @@ def rows_of(text: str, path: str, machines: list[str], faults: list[TableFault])
     if not titles and not used:
         raise TableFault(path, 1, 0, "the table is empty")
     if not used:
-        reject_columns(path, titles, machines, text, table.delimiter)
+        reject_columns(path, titles, machines, table.text, table.delimiter)
     line = table.corner.line
     columns = [the_column(table, head, name) for name in machines] or sorted(used)[1:]
     table.machines = [Cell(line, column, head[column - 1] if column <= len(head) else "") for column in columns]
@@ -446,11 +448,12 @@ def check_titles(table: Rows, titles: Sequence[Cell]) -> None:
         raise table.fault(table.machines[0], TIMES_AS_NAMES.format(what="machine", part="row"))
 
 
-def leave_out_totals(table: Rows, is_chosen: bool) -> None:
+def leave_out_totals(table: Rows) -> None:
     """Report rows and columns that are named as sums, means or quantities. Columns may be if they were chosen."""
     for cells, pattern, what in (
             (table.jobs, NO_JOB, "the row {!r} looks like a sum or a mean"),
-            ([] if is_chosen else table.machines, NO_TIMES, "the column {!r} looks like a sum, a mean or a quantity")):
+            ([] if table.is_chosen else table.machines, NO_TIMES,
+             "the column {!r} looks like a sum, a mean or a quantity")):
         for cell in [cell for cell in cells if pattern.match(cell.text)]:
             table.report(cell, f"{what.format(cell.text)}: leave it out, or allow totals (`allow_totals`)")
             cells.remove(cell)
@@ -613,7 +616,7 @@ class DecimalSign:
         self.worst: Cell | None = None
 
     def billionths_of(self, cell: Cell) -> int:
-        """Return a time in billionths, at most 2^62."""
+        """Return a time in billionths, at most the greatest int64."""
         text = self.without_groups(cell.text) if self.given else cell.text
         match = NUMBER.match(text)
         if not text:
@@ -634,7 +637,7 @@ class DecimalSign:
             raise self.table.fault(cell, f"{cell.text!r} has more than 9 decimals: {ROUND_IT}")
         if len(part) > self.decimals:
             self.decimals, self.longest = len(part), cell
-        return min(int(whole + part.ljust(9, "0")), 2**62)
+        return min(int(whole + part.ljust(9, "0")), np.iinfo(np.int64).max)
 
     def round(self, cell: Cell, time: int, most: int) -> tuple[str, str]:
         """Round a time, in units of 10^-20, and return its digits before and after the decimal sign."""
@@ -720,6 +723,8 @@ def described(shop: Instance) -> str:
 
     >>> described(Instance([[35, 20]], machine_names=["saw", "drill"], unit="min", decimals=1))
     '1 job, 2 machines (saw, drill), times in min with 1 decimal'
+    >>> described(Instance([[1] * 12]))[-33:], described(Instance([[1] * 13]))[-33:]
+    (' 9, 10, 11), times without a unit', '10, 11, ..), times without a unit')
     """
     names = [shop.machine_name(machine) for machine in range(shop.machines)]
     decimals = f" with {counted(shop.decimals, 'decimal')}" if shop.decimals else ""

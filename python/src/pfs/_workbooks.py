@@ -40,7 +40,7 @@ class Workbook:
     """A workbook: the names of its sheets, and of the table with which it opens."""
 
     def __init__(self, content: bytes, path: str) -> None:
-        openpyxl = optional("openpyxl", f"{path}: reading a workbook")
+        self.openpyxl = optional("openpyxl", f"{path}: reading a workbook")
         self.path = path
         # How many cells may still be read.
         self.cells = MOST_CELLS
@@ -51,11 +51,11 @@ class Workbook:
         with self.faults():
             with zipfile.ZipFile(io.BytesIO(content)) as archive:
                 check_parts(archive)
-            self.book = openpyxl.load_workbook(io.BytesIO(content), read_only=True, data_only=True)
+            self.book = self.openpyxl.load_workbook(io.BytesIO(content), read_only=True, data_only=True)
             self.names: list[str] = [sheet.title for sheet in self.book.worksheets]
             tables = [name for name in self.names if name.casefold() != OPTIONS_SHEET] or self.names
             # It may open with a chart.
-            opened = self.book.active.title if self.book.active else ""
+            opened = getattr(self.book.active, "title", None)
             self.first = opened if opened in tables else tables[0]
 
     @contextlib.contextmanager
@@ -68,9 +68,8 @@ class Workbook:
         except MemoryError:
             raise
         except Exception as error:
-            instead = "" if "save" in str(error) else ": save it as CSV UTF-8"
-            raise TableFault(self.path, 1, 0,
-                             f"isn't a workbook that openpyxl reads ({shown(str(error))}){instead}") from None
+            raise TableFault(self.path, 1, 0, f"isn't a workbook that openpyxl reads ({shown(str(error))}): save it as "
+                                              ".xlsx or as CSV UTF-8") from None
 
     def csv_of(self, name: str, most_rows: int = MOST_ROWS, sign: str = ".") -> str:
         """Return a sheet as CSV with commas, and numbers with this decimal sign. Of the rows that aren't empty, the
@@ -82,7 +81,7 @@ class Workbook:
             text = self.text_of_rows(sheet, most_rows, sign, *hidden_in(content))
         if empty:
             path = f"{self.path}, sheet {name}" if len(self.names) > 1 else self.path
-            line, column = optional("openpyxl", "").utils.cell.coordinate_to_tuple(empty[0])
+            line, column = self.openpyxl.utils.cell.coordinate_to_tuple(empty[0])
             more = f" (and {len(empty) - 1:,} more)" if len(empty) > 1 else ""
             raise TableFault(path, line, column, f"has a formula without a value{more}: open the workbook in a "
                                                  "spreadsheet and save it")
@@ -119,7 +118,7 @@ class Workbook:
 def check_parts(archive: zipfile.ZipFile) -> None:
     """Raise an error if the parts of a workbook would take much longer or much more memory than a large table."""
     if "mimetype" in archive.namelist():
-        raise ValueError("it is of LibreOffice's own format: save it as .xlsx")
+        raise ValueError("it is of LibreOffice's own format")
     if sum(part.file_size for part in archive.infolist()) > 4 * c.LONGEST_INPUT:
         raise ValueError("its parts are too large")
     cells = 0
@@ -157,8 +156,7 @@ def hidden_in(sheet: bytes) -> tuple[set[int], set[int]]:
                 rows.add(int(tag.get("r", 0)))
             elif tag.tag.endswith("}col"):
                 columns.update(range(int(tag.get("min", 1)), min(int(tag.get("max", 0)), MOST_IN_ROW) + 1))
-        if tag.tag.endswith("}row"):
-            tag.clear()
+        tag.clear()
     return rows, columns
 
 

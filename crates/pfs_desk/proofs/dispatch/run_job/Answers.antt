@@ -1,4 +1,4 @@
-use Rattle.std.proofs.Common.{[], ◌∷◌, ◌∙◌, ap, refl, sym, rules}
+use Rattle.std.proofs.Common.{[], ◌∙◌, ap, refl, sym, rules}
 use Rattle.pfs_words.specs.declared.job.Job.TheVariants.{Value}
 use Rattle.pfs_desk.specs.Engine.{layout_fault_of}
 use Rattle.pfs_desk.specs.Program.{paths_of}

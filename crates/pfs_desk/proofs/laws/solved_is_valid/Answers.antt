@@ -9,7 +9,6 @@ use Rattle.pfs_order.specs.Sequence.{StatedOrder}
 use Rattle.pfs_order.proofs.Published.OrderVerdicts.{one_file, written_file}
 use Rattle.pfs_audit.specs.Bound.{bound_of}
 use Rattle.pfs_audit.specs.Verdicts.{verdict_on}
-use Rattle.pfs_audit.specs.declared.verdicts.Verdict.{Verdict}
 use Rattle.pfs_audit.specs.declared.verdicts.Verdict.TheVariants.{Valid}
 use Rattle.pfs_words.specs.declared.solve_options.SolveOptions.{SolveOptions}
 use Rattle.pfs_desk.specs.Laws.{SolvedIsValid}

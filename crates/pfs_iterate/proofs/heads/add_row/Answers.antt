@@ -1,14 +1,27 @@
-use Rattle.std.proofs.Common.{◌≡◌, ◌<◌, ◌+◌, ◌*◌, ◌++◌, [], ◌∷◌, ◌∙◌, length, suc, sym, inl, inr, suc-mul, add-one, take_all, arith}
+use Rattle.std.proofs.Common.{◌≡◌, ℕ, List, ◌<◌, ◌+◌, ◌*◌, ◌++◌, [], ◌∷◌, ◌∙◌, length, get_or, suc, sym, ap, inl, inr, suc-mul, add-one, take_all, arith}
 use Rattle.std.proofs.lemmas.Bool.{cases_eq}
 use Rattle.std.proofs.lemmas.List.{get_or-set_same, get_or-set_other, length-append}
 use Rattle.std.proofs.Math.ListN.{length-set}
 use Rattle.pfs_iterate.specs.Iterated.{end_on}
-use Rattle.pfs_iterate.proofs.Ends.{end_before_more, end_short, next_end}
+use Rattle.pfs_base.specs.FlowShop.{FlowShop}
+use Rattle.pfs_iterate.specs.Private.Memory.{AreRows}
+use Rattle.pfs_iterate.proofs.Ends.{before_short, end_before_more, end_short, next_end}
 use Rattle.pfs_iterate.proofs.HeadRows.{row_index, rows_more}
 use Rattle.pfs_iterate.proofs.heads.add_row.Goals as goal
 
+-- the end above, in the row that the loop doesn't change
+above_is : (shop : FlowShop) (jobs first rows : List ℕ) (machine machines : ℕ) → AreRows shop jobs first
+    → ((index : ℕ) → index < length jobs * shop.machines + shop.machines → get_or rows index 0 ≡ get_or first index 0)
+    → machines ≡ shop.machines → machine < shop.machines
+    → get_or rows (length jobs * machines + machine) 0 ≡ end_on shop jobs machine
+above_is shop jobs first rows machine machines are kept all lt =
+    rw all (kept (length jobs * shop.machines + machine)
+    (row_index (length jobs) (length jobs) machine shop.machines (omega arith) lt)
+    ∙ are.each (length jobs) machine (omega arith) lt
+    ∙ ap (λ list. end_on shop list machine) (take_all (length jobs) jobs (omega arith)))
+
 -- the end that a step of the loop computes
-end_is : (c : goal.After-from) → c.max.result + c.from.result
+end_is : (c : goal.After-end_after-end) → c.end_after-end.result
     ≡ end_on c.args.instance.now.shop (c.args.jobs.now ++ c.args.job ∷ []) c.loop-machine.machine
 end_is c =
     let shop = c.args.instance.now.shop in
@@ -16,26 +29,29 @@ end_is c =
     let machine = c.loop-machine.machine in
     let machines = c.machines-machines.ensures.value in
     let lt : machine < shop.machines = omega (arith, machines, c.loop-machine-test.true) in
-    let value = rw machines at c.max.ensures in
-    let index = row_index (length jobs) (length jobs) machine shop.machines (omega arith) lt in
-    let old = c.loop-machine.invariant.kept (length jobs * shop.machines + machine) index
-    ∙ c.requires.rows.each (length jobs) machine (omega arith) lt in
-    let all = take_all (length jobs) jobs (omega arith) in
-    rw value (next_end shop jobs c.args.job machine _ c.loop-machine.end c.from.result (rw all at old)
-    c.loop-machine.invariant.end (c.from.ensures ∙ c.time.ensures.value))
+    c.end_after-end.ensures
+    ∙ next_end shop jobs c.args.job machine _ c.loop-machine.end _
+    (above_is shop jobs c.args.rows.now c.loop-machine.rows machine _ c.requires.rows c.loop-machine.invariant.kept machines lt)
+    c.loop-machine.invariant.end (c.times_of-times.ensures.each machine lt)
 
-pub overflow_add-end : goal.overflow_add-end
-overflow_add-end c =
+pub end_after-end-requires : goal.end_after-end-requires
+end_after-end-requires c =
     let shop = c.args.instance.now.shop in
     let jobs = c.args.jobs.now in
-    let job = c.args.job in
-    let few = length-append jobs (job ∷ []) in
-    omega (
-      arith,
-      end_is c,
-      end_short shop c.machines-machines.ensures.within (jobs ++ job ∷ []) (omega (arith, c.requires.few))
-          c.loop-machine.machine (omega (arith, c.machines-machines.ensures.value, c.loop-machine-test.true)),
-    )
+    let machine = c.loop-machine.machine in
+    let wide = c.machines-machines.ensures in
+    let lt : machine < shop.machines = omega (arith, wide.value, c.loop-machine-test.true) in
+    let above = above_is shop jobs c.args.rows.now c.loop-machine.rows machine _ c.requires.rows
+    c.loop-machine.invariant.kept wide.value lt in
+    let more = length-append jobs (c.args.job ∷ []) in
+    record {
+      0 = omega (arith, above, end_short shop wide.within jobs (omega (arith, c.requires.few)) machine lt);
+      1 = omega (
+        arith,
+        c.loop-machine.invariant.end,
+        before_short shop wide.within (jobs ++ c.args.job ∷ []) (omega (arith, c.requires.few, more)) machine (omega (arith, lt)),
+      );
+    }
 
 pub loop-machine-preserved : goal.loop-machine-preserved
 loop-machine-preserved c =
@@ -48,7 +64,7 @@ loop-machine-preserved c =
     let lt : machine < shop.machines = omega (arith, machines, c.loop-machine-test.true) in
     let next = length jobs * shop.machines + shop.machines in
     let at = next + machine in
-    let new = c.max.result + c.from.result in
+    let new = c.end_after-end.result in
     let below = row_index (suc (length jobs)) shop.jobs machine shop.machines c.requires.few lt in
     let inside : at < length rows = omega (
       arith,

@@ -3,11 +3,11 @@ use Rattle.std.proofs.lemmas.List.{length-append}
 use Rattle.pfs_base.specs.FlowShop.{FlowShop}
 use Rattle.pfs_base.specs.Lists.{below}
 use Rattle.pfs_iterate.specs.Iterated.{end_on}
-use Rattle.pfs_iterate.proofs.Ends.{end_before_more, end_short, later, next_end, sum_more, sum_short, sums_later}
+use Rattle.pfs_iterate.proofs.Ends.{before_short, end_before_more, end_short, later, next_end, sum_more, sum_short, sums_later}
 use Rattle.pfs_iterate.proofs.HeadRows.{end_above}
 use Rattle.pfs_iterate.proofs.heads.delay_at_end.Goals as goal
 
-module _ (c : goal.After-from) where
+module _ (c : goal.After-end_after-end) where
   abbrev shop : FlowShop
   shop = c.args.instance.now.shop
 
@@ -32,25 +32,40 @@ module _ (c : goal.After-from) where
   few : length more ≤ shop.jobs + 1
   few = omega (arith, c.requires.rows.few, length-append jobs (c.args.job ∷ []))
 
-  end_is : c.max.result + c.from.result ≡ end_on shop more machine
-  end_is = ap (λ greater. greater + c.from.result) c.max.ensures
-      ∙ next_end shop jobs c.args.job machine _ c.loop-machine.end c.from.result ended_is c.loop-machine.invariant.end
-      (c.from.ensures ∙ c.time.ensures.value)
+  end_is : c.end_after-end.result ≡ end_on shop more machine
+  end_is = c.end_after-end.ensures
+      ∙ next_end shop jobs c.args.job machine _ c.loop-machine.end _ ended_is c.loop-machine.invariant.end
+      (c.times_of-times.ensures.each machine lt)
 
-  now_is : c.loop-machine.now + (c.max.result + c.from.result) ≡ sum_by (end_on shop more) (below (machine + 1))
+  now_is : c.loop-machine.now + c.end_after-end.result ≡ sum_by (end_on shop more) (below (machine + 1))
   now_is = sum_more (end_on shop more) machine c.loop-machine.now _ c.loop-machine.invariant.now end_is
 
   before_is : c.loop-machine.before + get_or c.args.rows.now (length jobs * c.machines-machines.result + machine) 0
       ≡ sum_by (end_on shop jobs) (below (machine + 1))
   before_is = sum_more (end_on shop jobs) machine c.loop-machine.before _ c.loop-machine.invariant.before ended_is
 
-pub overflow_add-end : goal.overflow_add-end
-overflow_add-end c =
-    omega (
-      arith,
-      end_is c,
-      end_short (shop c) c.machines-machines.ensures.within (more c) (few c) (machine c) (lt c),
-    )
+pub end_after-end-requires : goal.end_after-end-requires
+end_after-end-requires c =
+    let shop = c.args.instance.now.shop in
+    let jobs = c.args.jobs.now in
+    let machine = c.loop-machine.machine in
+    let wide = c.machines-machines.ensures in
+    let few = c.requires.rows.few in
+    let lt : machine < shop.machines = omega (arith, wide.value, c.loop-machine-test.true) in
+    let ended = end_above shop jobs c.args.rows.now c.requires.rows (length jobs) machine _ wide.value (omega arith) lt in
+    record {
+      0 = omega (
+        arith,
+        rw (take_all (length jobs) jobs (omega arith)) at ended,
+        end_short shop wide.within jobs (omega (arith, few)) machine lt,
+      );
+      1 = omega (
+        arith,
+        c.loop-machine.invariant.end,
+        before_short shop wide.within (jobs ++ c.args.job ∷ [])
+            (omega (arith, few, length-append jobs (c.args.job ∷ []))) machine (omega (arith, lt)),
+      );
+    }
 
 pub overflow_add-now : goal.overflow_add-now
 overflow_add-now c =

@@ -1,13 +1,13 @@
-use Rattle.std.proofs.Common.{◌≡◌, ℕ, List, ◌<◌, ◌≤◌, ◌+◌, ◌*◌, ◌++◌, [], ◌∷◌, ◌∙◌, length, get_or, sym, ap, sum_by, take, arith}
+use Rattle.std.proofs.Common.{◌≡◌, ℕ, List, ◌<◌, ◌≤◌, ◌+◌, ◌*◌, ◌++◌, [], ◌∷◌, ◌∙◌, length, get_or, sym, sum_by, take, arith}
 use Rattle.std.proofs.lemmas.List.{length-append, length-take-le, take_more}
 use Rattle.pfs_base.specs.FlowShop.{FlowShop}
 use Rattle.pfs_base.specs.Lists.{below}
 use Rattle.pfs_iterate.specs.Iterated.{end_on}
-use Rattle.pfs_iterate.proofs.Ends.{end_before_more, end_short, later_before, next_end, sum_more, sum_short, sums_later}
+use Rattle.pfs_iterate.proofs.Ends.{before_short, end_before_more, end_short, later_before, next_end, sum_more, sum_short, sums_later}
 use Rattle.pfs_iterate.proofs.HeadRows.{end_above, end_below, few_with}
 use Rattle.pfs_iterate.proofs.heads.delay_before.Goals as goal
 
-module _ (c : goal.After-from-in-loop-machine) where
+module _ (c : goal.After-end_after-next_end) where
   abbrev shop : FlowShop
   shop = c.args.instance.now.shop
 
@@ -48,18 +48,18 @@ module _ (c : goal.After-from-in-loop-machine) where
   few_before : length (take (place + 1) jobs) ≤ shop.jobs + 1
   few_before = omega (arith, length-take-le (place + 1) jobs (omega (arith, c.requires.place)), c.requires.place, c.requires.rows.few)
 
-  end_is : c.max.result + c.from.result ≡ end_on shop with_job machine
-  end_is = ap (λ greater. greater + c.from.result) c.max.ensures
-      ∙ next_end shop (take place jobs) c.args.job machine _ c.loop-machine.end c.from.result
+  end_is : c.end_after-end.result ≡ end_on shop with_job machine
+  end_is = c.end_after-end.ensures
+      ∙ next_end shop (take place jobs) c.args.job machine _ c.loop-machine.end _
       (end_above shop jobs c.args.rows.now c.requires.rows place machine c.machines-machines.result
-      c.machines-machines.ensures.value within lt) c.loop-machine.invariant.end (c.from.ensures ∙ c.time.ensures.value)
+      c.machines-machines.ensures.value within lt) c.loop-machine.invariant.end (c.times_of-times.ensures.each machine lt)
 
-  next_is : c.max-in-loop-machine.result + c.from-in-loop-machine.result ≡ end_on shop more machine
-  next_is = ap (λ greater. greater + c.from-in-loop-machine.result) c.max-in-loop-machine.ensures
-      ∙ next_end shop with_job next machine _ c.loop-machine.next_end c.from-in-loop-machine.result end_is
-      c.loop-machine.invariant.next_end (c.from-in-loop-machine.ensures ∙ c.time-in-loop-machine.ensures.value)
+  next_is : c.end_after-next_end.result ≡ end_on shop more machine
+  next_is = c.end_after-next_end.ensures
+      ∙ next_end shop with_job next machine _ c.loop-machine.next_end _ end_is c.loop-machine.invariant.next_end
+      (c.times_of-next_times.ensures.each machine lt)
 
-  now_is : c.loop-machine.now + (c.max-in-loop-machine.result + c.from-in-loop-machine.result)
+  now_is : c.loop-machine.now + c.end_after-next_end.result
       ≡ sum_by (end_on shop more) (below (machine + 1))
   now_is = sum_more (end_on shop more) machine c.loop-machine.now _ c.loop-machine.invariant.now next_is
 
@@ -74,33 +74,65 @@ module _ (c : goal.After-from-in-loop-machine) where
   before_is = sum_more (end_on shop (take (place + 1) jobs)) machine c.loop-machine.before _
       c.loop-machine.invariant.before ended_is
 
-pub overflow_add-end : goal.overflow_add-end
-overflow_add-end c =
+pub end_after-end-requires : goal.end_after-end-requires
+end_after-end-requires c =
     let shop = c.args.instance.now.shop in
     let jobs = c.args.jobs.now in
     let place = c.args.place in
     let machine = c.loop-machine.machine in
-    let lt : machine < shop.machines = omega (arith, c.machines-machines.ensures.value, c.loop-machine-test.true) in
+    let wide = c.machines-machines.ensures in
+    let lt : machine < shop.machines = omega (arith, wide.value, c.loop-machine-test.true) in
     let within : place ≤ length jobs = omega (arith, c.requires.place) in
-    let above = end_above shop jobs c.args.rows.now c.requires.rows place machine c.machines-machines.result
-    c.machines-machines.ensures.value within lt in
-    let end_is = ap (λ greater. greater + c.from.result) c.max.ensures
-    ∙ next_end shop (take place jobs) c.args.job machine _ c.loop-machine.end c.from.result above
-    c.loop-machine.invariant.end (c.from.ensures ∙ c.time.ensures.value) in
-    omega (
-      arith,
-      end_is,
-      end_short shop c.machines-machines.ensures.within (take place jobs ++ c.args.job ∷ [])
-          (few_with shop jobs c.args.rows.now c.requires.rows place c.args.job within) machine lt,
-    )
+    let few = few_with shop jobs c.args.rows.now c.requires.rows place c.args.job within in
+    record {
+      0 = omega (
+        arith,
+        end_above shop jobs c.args.rows.now c.requires.rows place machine _ wide.value within lt,
+        end_short shop wide.within (take place jobs)
+            (omega (arith, length-take-le place jobs within, c.requires.rows.few)) machine lt,
+      );
+      1 = omega (
+        arith,
+        c.loop-machine.invariant.end,
+        before_short shop wide.within (take place jobs ++ c.args.job ∷ []) few machine (omega (arith, lt)),
+      );
+    }
 
-pub overflow_add-next_end : goal.overflow_add-next_end
-overflow_add-next_end c =
-    omega (
-      arith,
-      next_is c,
-      end_short (shop c) c.machines-machines.ensures.within (more c) (few c) (machine c) (lt c),
-    )
+pub end_after-next_end-requires : goal.end_after-next_end-requires
+end_after-next_end-requires c =
+    let shop = c.args.instance.now.shop in
+    let jobs = c.args.jobs.now in
+    let place = c.args.place in
+    let machine = c.loop-machine.machine in
+    let wide = c.machines-machines.ensures in
+    let lt : machine < shop.machines = omega (arith, wide.value, c.loop-machine-test.true) in
+    let within : place ≤ length jobs = omega (arith, c.requires.place) in
+    let with_job = take place jobs ++ c.args.job ∷ [] in
+    let end_is = c.end_after-end.ensures
+    ∙ next_end shop (take place jobs) c.args.job machine _ c.loop-machine.end _
+    (end_above shop jobs c.args.rows.now c.requires.rows place machine _ wide.value within lt) c.loop-machine.invariant.end
+    (c.times_of-times.ensures.each machine lt) in
+    record {
+      0 = omega (
+        arith,
+        end_is,
+        end_short shop wide.within with_job
+            (few_with shop jobs c.args.rows.now c.requires.rows place c.args.job within) machine lt,
+      );
+      1 = omega (
+        arith,
+        c.loop-machine.invariant.next_end,
+        before_short shop wide.within (with_job ++ get_or jobs place 0 ∷ [])
+            (omega (
+              arith,
+              length-take-le place jobs within,
+              c.requires.place,
+              c.requires.rows.few,
+              length-append (take place jobs) (c.args.job ∷ []),
+              length-append with_job (get_or jobs place 0 ∷ []),
+            )) machine (omega (arith, lt)),
+      );
+    }
 
 pub overflow_add-now : goal.overflow_add-now
 overflow_add-now c =

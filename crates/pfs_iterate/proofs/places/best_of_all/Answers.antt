@@ -1,28 +1,29 @@
-use Rattle.std.proofs.Common.{◌≡◌, ℕ, ◌+◌, length, refl, subst, arith}
+use Rattle.std.proofs.Common.{◌≡◌, ℕ, ◌<◌, ◌∙◌, drop, get_or, length, rules, subst, take}
+use Rattle.std.proofs.lemmas.List.{get_or_append_left}
 use Rattle.pfs_base.specs.FlowShop.{FlowShop}
 use Rattle.pfs_insert.specs.Inserter.{IsBestPlace}
 use Rattle.pfs_insert.specs.Insertion.{makespan_with}
 use Rattle.pfs_search.specs.Search.{IsSearchOf}
-use Rattle.pfs_iterate.specs.Iterated.{tie_break}
-use Rattle.pfs_iterate.proofs.Least.{behind_best, first_best_is}
 use Rattle.pfs_iterate.proofs.places.best_of_all.Goals as goal
 
-pub returns-clause-chosen : goal.returns-clause-chosen
-returns-clause-chosen c =
+pub returns-clause-best : goal.returns-clause-best
+returns-clause-best c =
     let shop = c.args.instance.now.shop in
-    let options = c.args.options.now in
     let jobs = c.args.seq.now.jobs in
     let job = c.args.job in
-    let place = c.best-best.result.place in
-    let value = makespan_with shop jobs job in
-    let tie = tie_break shop options.ties jobs job in
-    let is : IsBestPlace shop jobs job place c.best-best.result.span =
-    subst (λ (s : FlowShop). IsBestPlace s jobs job place c.best-best.result.span) c.metered-bench.ensures.shop
-    (rw c.as_slice.ensures.value at c.best-best.ensures.best) in
-    let none : (p : ℕ) → tie p ≡ 0 = λ p. rw c.if-options-ne-TIES_FIRST.false refl in
-    first_best_is value tie options.held (length jobs + 1) place
-    (behind_best value tie options.held (length jobs + 1) place
-    (rw is.place_is (c.best_place.ensures shop jobs job)) (omega arith) none)
+    let best = c.best-best in
+    let is : IsBestPlace shop jobs job best.result.place best.result.span =
+    subst (λ (s : FlowShop). IsBestPlace s jobs job best.result.place best.result.span) c.metered-bench.ensures.shop
+    (rw c.as_slice.ensures.value at best.ensures.best) in
+    rw is.place_is (c.best_place.ensures shop jobs job)
+
+pub returns-clause-spans : goal.returns-clause-spans
+returns-clause-spans c place among within =
+    let written = c.best-best.new.spans in
+    let is = subst (λ (s : FlowShop). (place : ℕ) → place < length (take c.min-count.result c.args.spans.now)
+    → get_or written place 0 ≡ makespan_with s c.args.seq.now.jobs c.args.job place)
+    c.metered-bench.ensures.shop (rw c.as_slice.ensures.value at c.best-best.ensures.spans) in
+    get_or_append_left written (drop c.min-count.result c.args.spans.now) 0 place (search rules) ∙ is place (search rules)
 
 pub returns-clause-search : goal.returns-clause-search
 returns-clause-search c =
