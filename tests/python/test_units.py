@@ -58,7 +58,6 @@ def test_the_help_has_no_word_that_is_nowhere_else() -> None:
     assert [each for each in commands.values() if each.description not in shown or each.description[-1] != "."] == []
     for name in ("run", "slurm"):
         assert command_line().parse_known_args([name, "p", "c", "--ret"])[1] == ["--ret"], "of another program"
-    assert command_line().parse_args(["check", "c", "--pf", "x"]).pfs == "x"
 
 
 IN_ASCII = """

@@ -555,9 +555,6 @@ def test_a_search_finds_what_the_package_finds(client: FlaskClient) -> None:
     assert sorted(found["order"]) == sorted(SHOP["jobs"]) and (found["makespan"], found["least"]) == ("15.5 h", 155)
 
 
-NAMES = ("method", "seed", "start", "hold", "time_limit", "prove")
-
-
 @pytest.mark.parametrize(("held", "options", "said"), [
     (1, {"seed": 2**53, "seconds": 10**6}, "iterated-greedy 9007199254740992 [3, 0, 1, 2] [3] 600 None"),
     (None, {}, "iterated-greedy 0 [3, 0, 1, 2] [] 0 1.0")])
@@ -566,7 +563,8 @@ def test_a_proof_is_tried_where_no_job_is_held(
         caplog: pytest.LogCaptureFixture) -> None:
     optimum = mock.Mock(return_value=SimpleNamespace(optimal=False))
     monkeypatch.setattr(pfs.Instance, "optimum", optimum)
-    monkeypatch.setattr(pfs.Instance, "solve", lambda _, **given: int(" ".join(str(given[name]) for name in NAMES)))
+    monkeypatch.setattr(pfs.Instance, "solve", lambda _, **given: int(" ".join(
+        str(given[name]) for name in ("method", "seed", "start", "hold", "time_limit", "prove"))))
     caplog.set_level("INFO")
     name = answer(client, "/api/search", {**PLAN, "held": held, **options})["search"]
     wait_until(lambda: "search: 4 jobs, 3 machines, 0 rounds\n" in caplog.text, "the log names the search")
