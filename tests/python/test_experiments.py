@@ -251,6 +251,7 @@ def test_each_order_is_kept_and_check_audits_it_again(made: Experiment) -> None:
     *wrong, last = got.stdout.splitlines()
     assert (got.status, got.stderr, last) == (1, "", "out.csv: 6 orders audited, 4 of them wrong")
     assert [re.findall(r"number-(\d+)", line)[:1] for line in wrong] == [["1"], ["2"], ["4"], []], wrong
+    assert re.search(r": wrong makespan stated 1 computed \d+, but the CSV has valid makespan \d+ bound \d+$", wrong[2])
     assert wrong[3].endswith(": the run has no order file"), wrong
     assert made.run() == ended(6), "which writes the orders again"
     assert made.script("check", "out.csv") == Done(0, "out.csv: 6 orders audited, 0 of them wrong\n", "")
