@@ -78,7 +78,7 @@ INVALID = {
     **{f"{key} is for pfs, not for a command": f'{MINE}{key} = {value}\ncommand = "a {{instance}}"\n'
        for key, value in (("rounds", [1]), ("takes", [1]), ("passes", [1]), ("search", '"solve"'))},
     "no file matches a": MINE + 'command = "./a {instance}"\n', "files needs command": MINE + 'files = ["shops/*"]\n',
-    "/etc/passwd": MINE + 'command = "a {instance}"\nfiles = ["/etc/passwd"]\n',
+    "/etc/passwd is not in the plan's folder": MINE + 'command = "a {instance}"\nfiles = ["/etc/passwd"]\n',
     "../": MINE + 'command = "a {instance}"\nfiles = ["../*/shops/a"]\n',
     "a name without control characters": ALL + 'method = "a\\nb"\n', "a name without": ALL + 'method = ""\n',
     **{f"methods must be tables: write [[methods]] before the keys of each{' ' * at}": f"{ALL}methods = {value}\n"
@@ -92,7 +92,7 @@ INVALID = {
            "grid = 3\n", "grid = []\n", "[grid]\n", "[grid]\nx = 1\n", "[grid]\nx = []\n",
            "[grid]\nx = [1, 1]\n", '[grid]\nx = [1, "1"]\n', "[grid]\nx = [true]\n", "[grid]\nx = [[1]]\n",
            '[grid]\nx = ["a\\nb"]\n'))},
-    "grid has y, so the command must contain {y}": GRID + "[grid]\nx = [1]\ny = [2]\n",
+    "grid has y, so the command must contain {y}, which has no other meaning": GRID + "[grid]\nx = [1]\ny = [2]\n",
     "grid has seed, so": GRID.replace("{x}", "{seed}") + "[grid]\nseed = [1]\n",
     "grid has x, so": ALL + "[grid]\nx = [1]\n", "command needs": GRID.replace("method", "#") + "[grid]\nx = [1]\n",
 }
@@ -139,11 +139,12 @@ def test_readme_has_the_keys_of_a_plan_with_their_defaults_the_columns_and_the_n
 
 NO_PFS = {"prints nothing": "#!/bin/sh\n", "prints its words": "#!/bin/sh\necho \"$@\"\n",
           "prints without end": "#!/bin/sh\nyes\n", "is a text": "some words\n", "is a binary": "\x7fELF"}
-PATHS = {"shops": 2, "plan.toml": 2, "shops/b": 2, "plan.toml/out.csv": 4, "x" * 255: 4, "\udcff.csv": 2}
+PATHS = {"shops": (2, "shops: Is a directory\n"), "plan.toml": (2, ""), "shops/b": (2, ""), "x" * 255: (4, ""),
+         "plan.toml/out.csv": (4, ""), "\udcff.csv": (2, "must be UTF-8 without control characters\n")}
 # The status, the arguments, what is said, the text of a program that isn't pfs, and variables.
 REFUSED: dict[str, tuple[int, str, str, str, dict[str, str]]] = {
-    **{f"the CSV {path[:20]!r}": (status, f"run plan.toml {path}", "", "", {}) for path, status in PATHS.items()},
-    **{f"a program that {what}": (2, "run plan.toml out.csv", "program is not pfs: ", text, {})
+    **{f"the CSV {path[:20]!r}": (how, f"run plan.toml {path}", said, "", {}) for path, (how, said) in PATHS.items()},
+    **{f"a program that {what}": (2, "run plan.toml out.csv", "generate 1 1 1` must print an instance\n", text, {})
        for what, text in NO_PFS.items()},
     **{f"a library that is {path}": (4, "run timed.toml out.csv", path, "", {"PFS_LIBRARY": path})
        for path in ("./none.so", "./plan.toml")},
@@ -195,7 +196,7 @@ def test_the_csv_is_what_pfs_gives_and_a_second_start_makes_nothing_again(experi
     (experiment.folder / "out.csv").unlink()
     assert experiment.run() == ended(12)
     for other, said in ((PLAN.replace("[10, 30]", "[30]"), "another plan"), (PLAN.replace("*", "a"), "another plan"),
-                        (PLAN + "layout = \"orlib\"\n", "another layout")):
+                        (PLAN + "layout = \"orlib\"\n", "started with another layout: use another CSV\n")):
         assert_refused(experiment.plan(other).run(), said)
     assert (experiment.folder / "out.csv").read_text() == first
     assert (experiment.folder / "victim").read_text() == "kept\n"
@@ -250,6 +251,7 @@ def test_each_order_is_kept_and_check_audits_it_again(made: Experiment) -> None:
     *wrong, last = got.stdout.splitlines()
     assert (got.status, got.stderr, last) == (1, "", "out.csv: 6 orders audited, 4 of them wrong")
     assert [re.findall(r"number-(\d+)", line)[:1] for line in wrong] == [["1"], ["2"], ["4"], []], wrong
+    assert re.search(r": wrong makespan stated 1 computed \d+, but the CSV has valid makespan \d+ bound \d+$", wrong[2])
     assert wrong[3].endswith(": the run has no order file"), wrong
     assert made.run() == ended(6), "which writes the orders again"
     assert made.script("check", "out.csv") == Done(0, "out.csv: 6 orders audited, 0 of them wrong\n", "")
@@ -373,7 +375,8 @@ def test_a_damaged_result_is_made_again_and_a_damaged_plan_is_reported(made: Exp
         (made.runs / "plan.json").write_bytes(data)
         if data == whole:
             stage.rename(made.folder / "elsewhere")
-        said = "no copy of the program" if data == whole else "plan.json is damaged"
+        said = ("/out.csv.d has no copy of the program: delete it" if data == whole else
+                "): delete the folder out.csv.d") + " to start again\n"
         assert_refused(made.plan(PLAN + "repetitions = 2\n").run(), said, "out.csv")
         assert (made.folder / "out.csv").read_text() == before
 
@@ -638,7 +641,8 @@ def test_a_plan_has_several_methods(experiment: Experiment) -> None:
     assert experiment.script("check", "out.csv").stdout.startswith(
         "instance shops/b, method other, seed 3, repetition 1: ")
     assert_refused(experiment.plan(grown.replace("{seed}", "7")).run(), "was started with another command")
-    assert_refused(experiment.plan(first).run(), "was started with another plan, which has block 1, method mine")
+    assert_refused(experiment.plan(first).run(), "was started with another plan, which has block 1, method mine, "
+                   "seed 3, repetition 1: use another CSV, or delete /")
 
 
 # Trajectories and grids
@@ -815,8 +819,8 @@ LINES = [
     ("0.1", f"{SLEEP} & {SLEEP} > /dev/null 2>&1 & sleep 0.1; echo 1", "1 2"), ("0.1", "sleep 1; echo 2", "2 0"),
     ("0.2", f"({SPIN} &); sleep 1000", r"took too long: [01]\.\d\d s of processor time instead of 0.2 s"),
     ("0.05", "for each in $(seq 200); do (for at in $(seq 30000); do :; done); done; echo 3", "took too long: .*"),
-    ("0.01", "python3 -c 'import time\nwhile time.process_time() < 0.3: pass'; printf 4", "4 0"),
-    ("9", "kill -9 $$", "signal 9"), ("9", "echo first >&2; echo ' a   b ' >&2; exit 3", "exit 3, a b"),
+    ("0.01", "python3 -c 'import time\nwhile time.process_time() < 0.3: pass'; printf '4\\377'", "4\ufffd 0"),
+    ("9", "kill -9 $$", "signal 9"), ("9", "printf 'first\\n a  \\377 ' >&2; exit 3", "exit 3, a \ufffd"),
     ("9", "printf '%0999d b\n' 0 >&2; exit 3", "exit 3, 0{200}"),
     ("9", "head -c 2000000 /dev/zero; sleep 2; touch late", "more than 1,048,576 bytes printed"),
 ]
@@ -1122,7 +1126,8 @@ def test_slurm_is_asked_for_an_array_of(plan: str, words: list[str], array: str,
     assert not (experiment.folder / "out.csv").exists()
     assert run_tool(["sh", "-c", got.stdout], experiment.folder, env=env).status == 0
     submitted = (experiment.runs / "submitted").read_text().split()
-    assert {f"--array={array}", "--wait", "--dependency=singleton", "--time=5"} <= {*submitted}
+    assert {f"--array={array}", "--wait", f"--job-name={submitted[-1]}", "--dependency=singleton", "--time=5",
+            "--output=slurm/%A-%a.log"} <= {*submitted}
     assert submitted[-2:] == [str(pathlib.Path(one.__file__).with_name("task")),
                               *(path.name for path in experiment.runs.glob("pfs-experiment-*"))]
 

@@ -19,6 +19,7 @@ from pfs._commands import words
 from pfs._names import seconds_in
 from pfs.experiments import ExperimentError, one, plan, run, stage
 from pfs.experiments.__main__ import command_line
+from pfs.web.__main__ import words as web_words
 from support import plainly
 from support.needs import require_module
 from support.tools import TOP
@@ -49,16 +50,14 @@ def test_the_help_has_no_word_that_is_nowhere_else() -> None:
                                   for ending in ("md", "1", "py") for path in (TOP / folder).rglob(f"*.{ending}")
                                   if path.suffix != ".py" or folder == "tests")]
     known = {word for page in pages for word in re.findall(r"[a-z]{2,}", page.read_text().lower())}
-    for parser in (words(), _gantt.words(), command_line()):
+    for parser in (words(), _gantt.words(), web_words(), command_line()):
         commands: dict[str, Any] = next((each.choices for each in parser._actions
                                          if isinstance(each.choices, dict)), {})
         for text in (parser.format_help(), *(each.format_help() for each in commands.values())):
             assert set(re.findall(r"[a-z]{2,}", re.sub("-\n *", "-", text).lower())) <= known, text
     shown = " ".join(parser.format_help().split())
     assert [each for each in commands.values() if each.description not in shown or each.description[-1] != "."] == []
-    for name in ("run", "slurm"):
-        assert command_line().parse_known_args([name, "p", "c", "--ret"])[1] == ["--ret"], "of another program"
-    assert command_line().parse_args(["check", "c", "--pf", "x"]).pfs == "x"
+    assert [parser.parse_known_args([name, "p", "c", "--ret"])[1] for name in ("run", "slurm")] == [["--ret"]] * 2
 
 
 IN_ASCII = """

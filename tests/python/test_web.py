@@ -23,6 +23,7 @@ import pytest
 from hypothesis import given
 from hypothesis import strategies as st
 from support.needs import require_module
+from support.tools import wait_until
 
 for module in ("flask", "waitress", "openpyxl"):
     require_module(module)
@@ -554,26 +555,22 @@ def test_a_search_finds_what_the_package_finds(client: FlaskClient) -> None:
     assert sorted(found["order"]) == sorted(SHOP["jobs"]) and (found["makespan"], found["least"]) == ("15.5 h", 155)
 
 
-NAMES = ("method", "seed", "start", "hold", "time_limit", "prove")
-
-
 @pytest.mark.parametrize(("held", "options", "said"), [
     (1, {"seed": 2**53, "seconds": 10**6}, "iterated-greedy 9007199254740992 [3, 0, 1, 2] [3] 600 None"),
     (None, {}, "iterated-greedy 0 [3, 0, 1, 2] [] 0 1.0")])
 def test_a_proof_is_tried_where_no_job_is_held(
         client: FlaskClient, held: int | None, options: dict[str, int], said: str, monkeypatch: pytest.MonkeyPatch,
         caplog: pytest.LogCaptureFixture) -> None:
-    """Before the search, and after it."""
     optimum = mock.Mock(return_value=SimpleNamespace(optimal=False))
     monkeypatch.setattr(pfs.Instance, "optimum", optimum)
-    monkeypatch.setattr(pfs.Instance, "solve", lambda _, **given: int(" ".join(str(given[name]) for name in NAMES)))
+    monkeypatch.setattr(pfs.Instance, "solve", lambda _, **given: int(" ".join(
+        str(given[name]) for name in ("method", "seed", "start", "hold", "time_limit", "prove"))))
     caplog.set_level("INFO")
     name = answer(client, "/api/search", {**PLAN, "held": held, **options})["search"]
-    time.sleep(0.2)
+    wait_until(lambda: "search: 4 jobs, 3 machines, 0 rounds\n" in caplog.text, "the log names the search")
     got = asked(client, f"/api/search/{name}", method="GET").json
     assert got and got["error"] == f"invalid literal for int() with base 10: '{said}'"
     assert [(*each.args, each.kwargs["start"]) for each in optimum.call_args_list] == [(0.1, [3, 0, 1, 2])] * (not held)
-    assert "search: 4 jobs, 3 machines, 0 rounds\n" in caplog.text
 
 
 def test_held_jobs_keep_their_places_and_new_ones_come_after_them(client: FlaskClient) -> None:
@@ -598,7 +595,7 @@ def test_a_search_that_fails_says_why(client: FlaskClient, monkeypatch: pytest.M
 
     monkeypatch.setattr(pfs.Instance, "solve", fails)
     name = answer(client, "/api/search", LONG)["search"]
-    time.sleep(0.2)
+    wait_until(lambda: asked(client, f"/api/search/{name}", method="GET").status_code != 200, "it has failed")
     assert refused(client, "/api/plan", {})[0] == 400
     got = asked(client, f"/api/search/{name}", method="GET")
     assert got.status_code == 422 and got.json and got.json["error"] == "no such search"

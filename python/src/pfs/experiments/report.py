@@ -556,8 +556,8 @@ def differences(shared: pd.DataFrame, width: float | None) -> Figure | None:
     for at, (axis, title) in enumerate(zip(axes, titles)):
         own = found[found["panel"] == title]
         axis.axvline(0, color="black", linewidth=1)
-        axis.errorbar(own["mean"], own["setting"].map(shown).map(labels_at), xerr=own["half"], fmt="o", markersize=5,
-                      capsize=4, color=colour(0.3), ecolor="black", elinewidth=1)
+        axis.errorbar(own["mean"], own["setting"].map(shown).map(labels_at), xerr=own["half"], fmt="o", capsize=4,
+                      color=colour(0.3), ecolor="black")
         axis.set_title(wrapped(title, 0.6 * width / columns))
         axis.set_yticks(range(len(lines)), lines, fontsize=8)
         axis.set_ylim(-0.5, len(lines) - 0.5)

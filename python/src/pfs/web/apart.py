@@ -59,7 +59,7 @@ class Apart:
             if here.poll(MOST_SECONDS):
                 return here.recv()
         except EOFError:
-            """The process has died."""
+            pass  # the process has died
         finally:
             process.kill()
             process.join()
@@ -74,6 +74,6 @@ def serve(there: Connection, call: Call, given: dict[str, Any], folder: str) -> 
     try:
         there.send(call(given, folder))
     except MemoryError:
-        """The pipe is closed without a result."""
+        pass  # the pipe is closed without a result
     except Exception as error:
         there.send(error)

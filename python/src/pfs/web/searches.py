@@ -123,5 +123,6 @@ class Searches:
         return {}
 
     def end_all(self) -> None:
-        for run in list(self.runs.values()):
-            run.ended.set()
+        with self.lock:
+            for run in self.runs.values():
+                run.ended.set()
