@@ -551,8 +551,7 @@ def test_a_table_without_end(scripts: pathlib.Path, folder: pathlib.Path, matplo
       for size in ("5001 1", "1 201", "5001 201", "20 1000", "100000 1")),
     ("", "not a time table: the first line must be `table N M`"),
     (THREE[:-1], "the time table is incomplete: its last line has no line end")])
-def test_sizes_over_the_limits_are_rejected_at_once(folder: pathlib.Path, text: str, said: str) -> None:
-    """And what is no table."""
+def test_sizes_over_the_limits_and_other_texts_are_rejected_at_once(folder: pathlib.Path, text: str, said: str) -> None:
     assert gantt(folder, "table", "picture.svg", text=text) == Done(2, "", f"pfs-gantt: {said}\n")
 
 
