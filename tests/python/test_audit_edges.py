@@ -425,9 +425,8 @@ def test_how_many_causes_are_sought() -> None:
     causes = Causes(rows)
     assert causes.of(rows[0], [0, 1], 70) == [f"the order takes 60 on i{at}" for at in (1, 2, 3)]
     assert len([*causes.on_others(rows[0], [0, 1])]) == 50
-    many = [Stated("", "", "", count, pfs.Instance([[1]] * count)) for count in (100, 101)]
-    assert [len(causes.pairs(row, [*range(row.makespan)])) for row in many] == [4_950, 100]
-    assert causes.orders == 500_000 - 4_950
+    two = [Stated("", "", "", count, pfs.Instance([[1]] * count)) for count in (100, 101)]
+    assert [len(causes.pairs(row, [*range(row.makespan)])) for row in two] == [4_950, 100] and causes.orders == 495_050
 
 
 @pytest.mark.seconds(8)

@@ -131,10 +131,10 @@ def test_width_dpi_title_and_axes_of_ones_own(tmp_path: pathlib.Path) -> None:
 
 def test_the_lines_of_a_picture() -> None:
     """How wide they are, in points, and which of them cover others. No text is a formula."""
-    calendar = pfs.Calendar("2026-11-30T06:00", shifts="06:00-10:00,11:00-16:00")
-    shop = pfs.Instance([[600, 60], [60, 600]], unit="min", job_names=["$a$", "b"], machine_names=["$x$", "$y$"])
+    calendar = pfs.Calendar("2026-11-30T06:00", "06:00-10:00,11:00-16:00")
+    shop = pfs.Instance([[600, 60], [60, 600]], unit="min", job_names=["$a$ of oak", "b"], machine_names=["$x$", "y"])
     figure = shop.schedule([0, 1]).plot(critical=True, bound=True, calendar=calendar, title="$t$")
-    axis, = figure.axes
+    (axis,), key = figure.axes, figure.texts
     due: dict[str, tuple[Any, ...]] = {
         **{f"strip-{at}": (1, True, 0, True) for at in (1, 2)},
         **{f"machine-{at}": (1, True, 1, 0.5, True) for at in (1, 2)},
@@ -142,13 +142,13 @@ def test_the_lines_of_a_picture() -> None:
         "days": (2.5, True, 0, 0.9, True), "shifts": (2.5, True, 0, 0.6, False)}
     assert {each.get_gid(): (each.get_zorder(), each.get_clip_on(), *each.get_edgecolor()[:, 0], *each.get_linewidth(),
                              each.get_linestyle()[0][1] is None) for each in axis.collections} == due
-    right, = axis.child_axes
-    texts = [*axis.texts[:-1], axis.title, axis.xaxis.label, *axis.get_yticklabels(), *figure.texts]
-    assert not any(text.get_parse_math() for text in texts) and axis.title._linespacing == 1.3
+    texts = [*axis.texts[:-1], axis.title, axis.xaxis.label, *axis.get_yticklabels(), *key]
+    assert len(key) == 4 and not any(text.get_parse_math() for text in texts) and axis.title._linespacing == 1.3
     assert {(text.get_zorder(), text.get_clip_on()) for text in axis.texts[:-1]} == {(4, True)}
     assert [text.get_size() for text in (axis.xaxis.label, axis.yaxis.label, axis.texts[-1])] == [9, 9, 9]
-    assert [name for each in (axis, right) for name, spine in each.spines.items() if spine.get_visible()] == ["bottom"]
-    assert [each.yaxis.get_major_ticks()[0].tick1line.get_markersize() for each in (axis, right)] == [0, 0]
+    axes = axis, *axis.child_axes
+    assert [name for each in axes for name, spine in each.spines.items() if spine.get_visible()] == ["bottom"]
+    assert [each.yaxis.get_major_ticks()[0].tick1line.get_markersize() for each in axes] == [0, 0]
 
 
 @pytest.mark.parametrize(("key", "length", "label"), [

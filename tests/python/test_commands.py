@@ -376,10 +376,9 @@ def asked(folder: pathlib.Path, monkeypatch: pytest.MonkeyPatch, words: list[str
     """What a command line asks for, which is not searched."""
     found: dict[str, Any] = {}
 
-    def searched(search: Any, rounds: int | None, seconds: float | None, *_: Any) -> tuple[pfs.Solution, None]:
-        assert search.first == 0
+    def searched(search: Any, rounds: int | None, seconds: float | None, *more: Any) -> tuple[pfs.Solution, None]:
         found.update(take=search.take, passes=search.passes, seed=search.seed, rounds=rounds, seconds=seconds,
-                     block=search.shop.to_text(), prove=0,
+                     block=search.shop.to_text(), prove=0, first=search.first, early=[*more, 0][2],
                      method="iterated-greedy" if search.more and search.more.partial else "solve")
         return search.solution(), None
 
@@ -465,6 +464,7 @@ def test_the_methods_of_a_plan(folder: pathlib.Path, monkeypatch: pytest.MonkeyP
     for words, due in cases.items():
         found = asked(folder, monkeypatch, ["plan", "times.csv", *words.split()])
         assert tuple(found[name] for name in ("method", "take", "passes", "seconds", "prove")) == due, words
+        assert (found["first"], found["early"]) == (0, 0.1 if found["prove"] == 1 else 0), words
 
 
 def test_a_proof_that_is_interrupted_or_fails_loses_no_order(folder: pathlib.Path,

@@ -427,10 +427,8 @@ def test_there_is_one_block_and_a_limit_of_bytes(tmp_path: pathlib.Path, monkeyp
     assert matrix_of("1 1\n700\n") == pfs.Instance([[700]])
     with pytest.raises(pfs.TableFault, match="^: line 1, the file has more than 8 bytes$"):
         matrix_of("1 1\n7000\n")
-    shop = pfs.Instance([[1]], job_names=["the job"])
-    assert order_in(written(tmp_path, "the job\n"), shop).jobs == [0]
     with pytest.raises(pfs.TableFault, match="file: line 1, the file has more than 8 bytes$"):
-        order_in(written(tmp_path, "the job\n\n"), shop)
+        order_in(written(tmp_path, "the job\n\n"), pfs.Instance([[1]]))
 
 
 # Each file that the package writes is whole, the old one or the new one, and never written through a planted link

@@ -57,11 +57,12 @@ BAD_WORDS = {
     "a bound above the makespan": ["--bound", "11", "table", "picture.svg"],
     "a bound that isn't a number": ["--bound", "x", "table", "picture.svg"],
     "a width that isn't a number": ["--width", "nan", "table", "picture.svg"],
-    "a width of 51 inches": ["--width", "51", "table", "picture.svg"],
-    "no dots": ["--dpi", "0", "table", "picture.svg"],
+    "a width of 1.99 inches": ["--width", "1.99", "table", "picture.svg"],
+    "a width of 50.1 inches": ["--width", "50.1", "table", "picture.svg"],
+    "19 dots": ["--dpi", "19", "table", "picture.svg"],
     "more pixels than memory has room for": ["--width", "50", "--dpi", "2400", "table", "picture.svg"],
     "a unit with a line end": ["--unit", "a\nb", "table", "picture.svg"],
-    "such an option": ["--x\x1b[2J", "table", "picture.svg"],
+    "an option with such bytes": ["--x\x1b[2J", "table", "picture.svg"],
     "a name that is not UTF-8": ["table", os.fsdecode(b"ch\xe4rt.gif")],
 }
 # What the system refuses.
@@ -387,7 +388,7 @@ def test_a_unit_is_text(unit: str, folder: pathlib.Path) -> None:
 
 
 @pytest.mark.parametrize(("words", "text", "size"), [
-    ([], THREE, (1320, 235)), (["--width", "3.5"], THREE, (385, 235)), (["--dpi", "300"], THREE, (3600, 642)),
+    ([], THREE, (1320, 235)), (["--width", "2"], THREE, (220, 235)), (["--dpi", "300"], THREE, (3600, 642)),
     (["--dpi", "20"], f"table 1 200\n1{' 0 0' * 200}\nmakespan 0\n", (240, 266)),
 ], ids=["usual", "narrow", "fine", "the most rows"])
 def test_a_png_has_the_requested_size(words: list[str], text: str, size: tuple[int, int], folder: pathlib.Path) -> None:
@@ -549,8 +550,7 @@ def test_a_table_without_end(scripts: pathlib.Path, folder: pathlib.Path, matplo
       for size in ("5001 1", "1 201", "5001 201", "20 1000", "100000 1")),
     ("", "not a time table: the first line must be `table N M`"),
     (THREE[:-1], "the time table is incomplete: its last line has no line end")])
-def test_sizes_over_the_limits_are_rejected_at_once(folder: pathlib.Path, text: str, said: str) -> None:
-    """And what is no table."""
+def test_sizes_over_the_limits_and_other_texts_are_rejected_at_once(folder: pathlib.Path, text: str, said: str) -> None:
     assert gantt(folder, "table", "picture.svg", text=text) == Done(2, "", f"pfs-gantt: {said}\n")
 
 

@@ -7,6 +7,7 @@ import pathlib
 import re
 import types
 import zipfile
+from itertools import pairwise
 from typing import Any
 from unittest import mock
 
@@ -45,16 +46,20 @@ def test_errors_of_a_program(error: BaseException, status: int, said: str, capsy
 
 
 def test_the_help_has_no_word_that_is_nowhere_else() -> None:
-    """In the pages, the manuals and the tests: no word is cut or misspelled."""
+    """In the pages, the manuals and the tests: no word is cut or misspelled. Texts of options also end with two words
+    that are there one after the other, or go on, default all, in TOML, and source, in inches, or no titles."""
     pages = [*TOP.glob("*.md"), *(path for folder in ("docs", "share", "python", "experiments", "tests")
                                   for ending in ("md", "1", "py") for path in (TOP / folder).rglob(f"*.{ending}")
                                   if path.suffix != ".py" or folder == "tests")]
-    known = {word for page in pages for word in re.findall(r"[a-z]{2,}", page.read_text().lower())}
+    pairs = {pair for page in pages for pair in pairwise(re.findall("[a-z0-9]+", page.read_text().lower()))}
+    known = {word for pair in pairs for word in pair}
     for parser in (words(), _gantt.words(), web_words(), command_line()):
         commands: dict[str, Any] = next((each.choices for each in parser._actions
                                          if isinstance(each.choices, dict)), {})
-        for text in (parser.format_help(), *(each.format_help() for each in commands.values())):
-            assert set(re.findall(r"[a-z]{2,}", re.sub("-\n *", "-", text).lower())) <= known, text
+        for each in (parser, *commands.values()):
+            assert {*re.findall(r"[a-z]{2,}", re.sub("-\n *", "-", each.format_help()).lower())} <= known, each.prog
+            ends = (re.findall("[a-z0-9]+", (action.help or "").lower())[-2:] for action in each._actions)
+            assert {(*end,) for end in ends if len(end) == 2} <= pairs, each.prog
     shown = " ".join(parser.format_help().split())
     assert [each for each in commands.values() if each.description not in shown or each.description[-1] != "."] == []
     assert [parser.parse_known_args([name, "p", "c", "--ret"])[1] for name in ("run", "slurm")] == [["--ret"]] * 2

@@ -25,7 +25,7 @@ def words() -> argparse.ArgumentParser:
     parser = CommandLine(prog="pfs-web", description="Serves a page on which planners plan a table of times.")
     add = parser.add_argument
     add("--version", action=ShowVersion)
-    add("--port", type=number(1, 65_535), default=8470, metavar="P", help="where it listens, else 8470")
+    add("--port", type=number(1, 65_535), default=8470, metavar="P", help="the port on which it listens, else 8470")
     add("--host", default="127.0.0.1", metavar="ADDRESS",
         help="the address at which it listens, else this machine alone; another one needs --name and --token-file")
     add("--name", action="append", default=[], metavar="NAME",
