@@ -61,11 +61,17 @@ fn run_words(rt: &HostRuntime, words: &[String]) -> u8 {
 
 // Returns the arguments after the program's name. Arguments that aren't UTF-8 are invalid.
 fn words_of(rt: &HostRuntime) -> Result<Vec<String>, UsageFault> {
-    match env::args(rt) {
-        Ok(args) => Vec::from_iter(rt.alloc(), args.skip(1)).or(Err(UsageFault::Memory)),
-        Err(error) if is_out_of_memory(&error) => Err(UsageFault::Memory),
-        Err(_) => Err(UsageFault::Usage),
+    let mut args = match env::args(rt) {
+        Ok(args) => args,
+        Err(error) if is_out_of_memory(&error) => return Err(UsageFault::Memory),
+        Err(_) => return Err(UsageFault::Usage),
+    };
+    args.next();
+    let mut words = Vec::with_capacity(rt.alloc(), args.len()).or(Err(UsageFault::Memory))?;
+    for word in args {
+        words.push(word).or(Err(UsageFault::Memory))?;
     }
+    Ok(words)
 }
 
 // Returns whether an allocation failed.
