@@ -103,7 +103,7 @@ def others(nodes: tuple[Any, ...], field: str, at: int) -> Iterator[ast.AST | No
             yield from (ast.Constant(value + step) for step in (1, -1))
         case ast.Constant(str(value) | bytes(value)):
             yield ast.Constant(value[:-1] or "x")
-        case ast.ExceptHandler(kind, name):
+        case ast.ExceptHandler(kind, name, [first, *_]) if not isinstance(first, ast.Expr):
             yield ast.ExceptHandler(kind, name, [ast.Pass()])
         case ast.Expr() | ast.Assign() | ast.AugAssign() | ast.Raise() | ast.Break() | ast.Continue():
             yield ast.Pass()

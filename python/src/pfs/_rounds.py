@@ -40,8 +40,8 @@ class Iterating(NamedTuple):
     partial: int
     ties: int
     accept: ctypes.Array[c_uint32]
-    held: int = 0
-    stay: bytes = b""
+    held: int
+    stay: bytes
 
 
 def accept_of(temperature: float, total: int, operations: int) -> ctypes.Array[c_uint32]:
