@@ -65,6 +65,27 @@ def test_the_help_has_no_word_that_is_nowhere_else() -> None:
     assert [parser.parse_known_args([name, "p", "c", "--ret"])[1] for name in ("run", "slurm")] == [["--ret"]] * 2
 
 
+@pytest.mark.parametrize(("program", "said"), [
+    (None, "pfs is not on the path: pass it with --pfs"), ("/etc/passwd", "/etc/passwd is not a program"),
+    ("/usr", "/usr is not a program"),
+    ("/bin/true", "/bin/true is not pfs: `/bin/true generate 1 1 1` must print an instance")])
+def test_what_is_not_pfs(program: str | None, said: str) -> None:
+    with pytest.raises(ExperimentError) as caught:
+        stage.find_pfs(program)
+    assert str(caught.value) == said
+
+
+@pytest.mark.parametrize(("text", "said"), [
+    ("a\n", "no rows"), ("a\n1,2\n", "a row has more cells than the first line"), ("b\n1\n", "no column a"),
+    ("a,a\n1,2\n", "two columns are named 'a'")])
+def test_a_csv_without_the_rows_that_are_needed(tmp_path: pathlib.Path, text: str, said: str) -> None:
+    path = tmp_path / "runs.csv"
+    path.write_text(text)
+    with pytest.raises(ExperimentError) as caught:
+        plan.rows_of(path, ["a"])
+    assert str(caught.value) == f"{path}: {said}"
+
+
 IN_ASCII = """
 import pathlib, pfs
 from pfs._commands import printed

@@ -141,8 +141,8 @@ def end_of_block(text: bytes, start: int, layout: int, times: int) -> int:
 def where(text: bytes, number: int, place: int) -> tuple[int, int]:
     """Return the line and the column of a fault.
 
-    >>> where(b"1 2\\n3 x\\n", MIXED_LINE, 6)
-    (2, 3)
+    >>> where(b"1 2\\n3 x\\n", MIXED_LINE, 6), where(b"1 2", TOO_LONG, 3)
+    ((2, 3), (0, 0))
     """
     if number in (MIXED_LINE, TIME_RANGE, MACHINE_NUMBER, EXTRA_NUMBER):
         return text.count(b"\n", 0, place) + 1, place - text.rfind(b"\n", 0, place)
