@@ -10,7 +10,7 @@ import re
 import shlex
 import sys
 from collections.abc import Callable, Iterable, Iterator
-from typing import Any, cast
+from typing import Any, TypeAlias, cast
 
 from pfs._benchmarks import canonical
 from pfs.experiments import ExperimentError
@@ -53,9 +53,9 @@ OF_ITERATED = ("partial", "ties", "temperature")
 OF_PFS = ("rounds", "takes", "passes", "search")
 OF_COMMAND = {"instance", "name", "jobs", "machines", "block", "seed", "seconds"}
 
-Row = dict[str, str]
+Row: TypeAlias = dict[str, str]
 # Of each instance a makespan and its source.
-Reference = dict[str, tuple[int, str]]
+Reference: TypeAlias = dict[str, tuple[int, str]]
 
 
 def parse_toml(path: str) -> dict[str, Any]:

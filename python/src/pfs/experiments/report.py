@@ -11,7 +11,7 @@ import re
 import sys
 import textwrap
 from collections.abc import Callable
-from typing import Any
+from typing import Any, TypeAlias
 
 import matplotlib
 import numpy as np
@@ -58,7 +58,7 @@ WAY = re.compile(r"[0-9]{1,9}(?:\.[0-9]{1,9})?:[0-9]{1,18}(?: [0-9]{1,9}(?:\.[0-
 WAY_POINTS = 300
 
 # Figures, axes and colours of matplotlib, which has no types.
-Axis = Any
+Axis: TypeAlias = Any
 
 
 def report(args: argparse.Namespace) -> int:

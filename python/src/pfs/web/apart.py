@@ -9,13 +9,13 @@ import threading
 from collections.abc import Callable
 from multiprocessing import forkserver
 from multiprocessing.connection import Connection
-from typing import Any
+from typing import Any, TypeAlias
 
 # Of a process: seconds of a processor and in all, and bytes of memory.
 MOST_WORK, MOST_SECONDS, MOST_MEMORY = 40, 60.0, 2 * 2**30
 # How many processes there are at once, and how many requests wait for them.
 AT_ONCE, MOST_WAITING = 2, 6
-Call = Callable[[dict[str, Any], str], Any]
+Call: TypeAlias = Callable[[dict[str, Any], str], Any]
 
 
 class Wrong(ValueError):
