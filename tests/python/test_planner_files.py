@@ -41,13 +41,13 @@ def test_machines_with_a_comma_in_their_names(tmp_path: pathlib.Path) -> None:
 @pytest.mark.parametrize(("cell", "hint"), [
     ("3 of a lot", "write 0 where a job skips a machine"), ("#REF!", "the formula has an error"),
     ("12,5", "it is text that looks like a number: format the cell as a number, and write it again"),
-    (datetime.datetime(1900, 3, 30), "a cell with the format of a time has a number of days: format it as a number, "
-     "and write the time again")])
+    *((datetime.datetime.fromisoformat(day), "a cell with the format of a time has a number of days: format it as a "
+       "number, and write the time again") for day in ("1900-03-30", "1900-02-28 06:00"))])
 def test_hints_for_cells(tmp_path: pathlib.Path, cell: Any, hint: str) -> None:
     """A spreadsheet counts days from 1900 on: 90 are 2160 hours."""
     path = book_of(tmp_path / "times.xlsx", ("job", "saw", "drill"), ("table", 3, 2), ("chair", 1, cell))
-    assert fault_of(path, machines=["saw", "drill"]) == (
-        3, 3, f"{cell if isinstance(cell, str) else '2160:00'!r} isn't a time: {hint}")
+    shown = {datetime.datetime(1900, 3, 30): "2160:00"}.get(cell, str(cell))
+    assert fault_of(path, machines=["saw", "drill"]) == (3, 3, f"{shown!r} isn't a time: {hint}")
 
 
 def test_what_another_plan_says_of_its_end(tmp_path: pathlib.Path) -> None:

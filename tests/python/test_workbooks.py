@@ -178,10 +178,11 @@ def test_small_workbooks_with_large_parts(tmp_path: pathlib.Path, case: str, unt
     (7, "7"), (2.0, "2"), (0.1 + 0.2, "0.3"), (1250.0, "1250"), (0.0000000006, "0.000000001"), ("a ", "a "),
     (datetime.time(1, 30), "1:30"), (datetime.time(0, 0, 30), "0:00:30"), (datetime.timedelta(hours=30), "30:00"),
     (datetime.timedelta(seconds=3689.6), "1:01:30"), *((datetime.datetime.fromisoformat(day), text) for day, text in (
-        ("1900-01-01 01:30", "25:30"), ("1900-02-28", "1416:00"), ("1900-03-01", "1464:00"), ("1900-12-31", "8784:00"),
-        ("1901-01-01", "1901-01-01 00:00:00")))])
+        ("1900-01-01 01:30", "25:30"), ("1900-02-27", "1392:00"), ("1900-03-01", "1464:00"), ("1900-12-31", "8784:00"),
+        ("1900-02-28 06:00", "1900-02-28 06:00:00"), ("1901-01-01", "1901-01-01 00:00:00")))])
 def test_the_text_of_a_cell(value: object, text: str) -> None:
-    """Of a date as a number of hours the days count as in Excel, whose year 1900 has a February 29."""
+    """Of a date as a number of hours the days count as in Excel, whose year 1900 has a February 29. For openpyxl this
+    is February 28 too."""
     assert _workbooks.text_in(value) == text
 
 

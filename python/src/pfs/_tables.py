@@ -43,8 +43,8 @@ SKIPS = "write 0 where a job skips a machine"
 HINTS = (
     (re.compile(r"#[A-Z0-9/]+[!?]?"), "the formula has an error"),
     (re.compile(r"[-\u2012-\u2015]|n\.?[/.]?a\.?", re.IGNORECASE), SKIPS),
-    (re.compile(r"(?:24|48|72|96|[1-9][0-9]{2,}):00"), "a cell with the format of a time has a number of days: format "
-     "it as a number, and write the time again"),
+    (re.compile(r"(?:24|48|72|96|[1-9][0-9]{2,}):00|1900-02-28 .*"), "a cell with the format of a time has a number of "
+     "days: format it as a number, and write the time again"),
     (HOURS, "other times of the table are numbers: write all of them like this, or none"),
     (SECONDS, "write hours and minutes, as 1:30, or a number"),
     (re.compile(r"[0-9]+\s*h\s*[0-9]{2}"), "write hours and minutes as 1:30"),

@@ -21,7 +21,9 @@ from pfs._names import CLOCK, NOT_IN_XML, printable, shown
 from pfs._optional import optional
 
 # Days count from the first date in workbooks, and from the other one up to February 1900, which had 29 days there.
+# openpyxl takes the last two of them for one.
 FIRST_DAY, FIRST_OF_1900 = datetime.datetime(1899, 12, 30), datetime.datetime(1899, 12, 31)
+TWO_DAYS = datetime.date(1900, 2, 28)
 # The most rows of a sheet in Excel.
 MOST_ROWS = 1_048_576
 # The most cells of all sheets, of all rows with the empty ones before their last ones, and of one row. The most tags of
@@ -164,7 +166,7 @@ def text_in(value: Any) -> str:
     """Return the text of a cell: a time of day and a length of time as hours and minutes, such as 1:30."""
     if isinstance(value, float):
         return f"{value:.9f}".rstrip("0").rstrip(".")
-    if isinstance(value, datetime.datetime) and value.year <= 1900:
+    if isinstance(value, datetime.datetime) and value.year <= 1900 and value.date() != TWO_DAYS:
         value -= FIRST_OF_1900 if value < datetime.datetime(1900, 3, 1) else FIRST_DAY
     if isinstance(value, datetime.time):
         value = datetime.datetime.combine(FIRST_DAY, value) - FIRST_DAY
