@@ -115,19 +115,19 @@ def others(nodes: tuple[Any, ...], field: str, at: int) -> Iterator[ast.AST | No
 
 
 class Noted:
-    """Which tests run a line, and how many seconds each takes."""
+    """Which tests of the package run a line, and how many seconds each takes."""
 
     def __init__(self) -> None:
         data, cases = coverage.CoverageData(str(TOP / "out/lines")), ElementTree.parse(TOP / "out/tests.xml")
         data.read()
         self.lines = {str(pathlib.Path(file).relative_to(PACKAGE)): data.contexts_by_lineno(file)
                       for file in data.measured_files()}
-        self.seconds = {REST.sub("", f"{each.attrib['classname'].replace('.', '/')}.py::{each.attrib['name']}"):
-                        float(each.attrib["time"]) for each in cases.iter("testcase") if len(each) == 0}
+        self.seconds = {REST.sub("", f"{case['classname'].replace('.', '/')}.py::{case['name']}"): float(case["time"])
+                        for case in (each.attrib for each in cases.iter("testcase") if len(each) == 0)
+                        if ".python." in case["classname"]}
 
     def tests_of(self, change: Change) -> list[str]:
-        """Those that run its line, the quickest first. Where none is noted (as in `python3 -I -S`) or the line runs
-        before tests, those that run other lines of the module."""
+        """Those that run its line, or if none is noted those that run other lines of its module, the quickest first."""
         (_, line, in_function), lines = change.place(), self.lines.get(change.module, {})
         for contexts in ([lines.get(line, [])] * in_function, lines.values()):
             if found := {REST.sub("", each) for each in {*itertools.chain(*contexts)}} & self.seconds.keys():
